@@ -1,0 +1,36 @@
+-- Points and pixels of the picture (docs/PROFILE.md, "From the world to the picture").
+use Rattle.std.specs.Prelude.{◌^◌, ℤ, pos, ◌+ℤ◌, ◌*ℤ◌}
+use Rattle.std.specs.Int.{int_div_euclid}
+use Rattle.geom.specs.Range.{IsBelow}
+
+-- a point of the picture, in sixteenths of a pixel from the upper left corner, right and down
+pub record DevicePoint : Type 0 where
+  pub x : ℤ
+  pub y : ℤ
+
+-- a pixel: its column and its row, both counted from the upper left corner and below 0 outside
+pub record PixelPlace : Type 0 where
+  pub i : ℤ
+  pub j : ℤ
+
+-- both coordinates have the sizes of device points
+pub record IsDevicePoint (p : DevicePoint) : Type 0 where
+  pub across : IsBelow (2 ^ 47) p.x
+  pub down : IsBelow (2 ^ 47) p.y
+
+-- column and row have the sizes of pixels
+pub record IsPixel (p : PixelPlace) : Type 0 where
+  pub column : IsBelow (2 ^ 44) p.i
+  pub row : IsBelow (2 ^ 44) p.j
+
+-- the pixel that a device point lies in: a sixteenth of both coordinates, rounded down
+abbrev pub pixel_of : DevicePoint → PixelPlace
+pixel_of p = record { i = int_div_euclid p.x (pos 16); j = int_div_euclid p.y (pos 16) }
+
+-- where the middle of a column or of a row lies
+abbrev pub centre : ℤ → ℤ
+centre k = pos 16 *ℤ k +ℤ pos 8
+
+-- the middle of the pixel in a column and a row
+abbrev pub middle : ℤ → ℤ → DevicePoint
+middle i j = record { x = centre i; y = centre j }

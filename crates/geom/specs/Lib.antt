@@ -1,0 +1,7 @@
+pub mod Decimal
+pub mod Device
+pub mod Edge
+pub mod EvenOdd
+pub mod Range
+pub mod Scale
+pub mod World

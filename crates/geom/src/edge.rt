@@ -1,0 +1,145 @@
+ghost use Rattle.std.specs.Prelude.{◌≡◌, ◌^◌, ◌-ℤ◌, ◌*ℤ◌, int_le};
+ghost use Rattle.geom.specs.Range.{IsBelow};
+
+use crate::Device;
+use std::marker::Model;
+
+/// An edge of a ring: the straight line from one device point to another.
+#[derive(Clone, Copy, Debug, PartialEq, Eq)]
+pub struct Edge {
+    from: Device,
+    to: Device,
+}
+
+impl Model for Edge {
+    ghost use Rattle.geom.specs.Edge.{EdgeEnds, IsDeviceEdge};
+
+    ghost Value = { EdgeEnds };
+
+    ghost view = { λ e. record { from = e.from; to = e.to } };
+
+    ghost invariant = { λ e. IsDeviceEdge (record { from = e.from; to = e.to }) };
+
+    ghost inverse = { λ e. record { from = e.from; to = e.to } };
+}
+
+impl Edge {
+    ghost use Rattle.geom.specs.Edge.{IsDeviceEdge, low_end, high_end, crosses_height, crosses_at_or_left, meets_at_or_left};
+
+    /// The edge from one point to another.
+    pub fn new(from: Device, to: Device) -> Self
+        ensures { result ≡ record { from = from; to = to } }
+    {
+        Edge { from, to }
+    }
+
+    // The end that lies higher up in the picture, the first of two equally high ones.
+    fn low_end(self) -> Device
+        ensures { result ≡ low_end self }
+    {
+        if self.from.y() <= self.to.y() {
+            self.from
+        } else {
+            self.to
+        }
+    }
+
+    // The other end.
+    fn high_end(self) -> Device
+        ensures { result ≡ high_end self }
+    {
+        if self.from.y() <= self.to.y() {
+            self.to
+        } else {
+            self.from
+        }
+    }
+
+    // Exactly one end has a y of at most the height.
+    fn crosses_height(self, height: i64) -> bool
+        ensures { result ≡ crosses_height self height }
+    {
+        (self.from.y() <= height) != (self.to.y() <= height)
+    }
+
+    // At the height of the point the edge's line is at it or left of it.
+    fn meets_at_or_left(self, point: Device) -> bool
+        ensures { result ≡ meets_at_or_left point self }
+    {
+        let low = self.low_end();
+        let high = self.high_end();
+        is_product_at_most(
+            difference(point.y(), low.y()),
+            difference(high.x(), low.x()),
+            difference(point.x(), low.x()),
+            difference(high.y(), low.y()),
+        )
+    }
+
+    /// Whether the edge crosses the height of the point, at the point or left of it. The even-odd
+    /// rule counts these crossings.
+    pub fn crosses_at_or_left(self, point: Device) -> bool
+        ensures { result ≡ crosses_at_or_left point self }
+    {
+        self.crosses_height(point.y()) && self.meets_at_or_left(point)
+    }
+}
+
+// The difference of two coordinates.
+fn difference(a: i64, b: i64) -> i128
+    requires a { IsBelow (2 ^ 47) a }
+    requires b { IsBelow (2 ^ 47) b }
+    ensures value { result ≡ a -ℤ b }
+    ensures range { IsBelow (2 ^ 48) result }
+{
+    i128::from(a - b)
+}
+
+// Whether the product of two differences is at most that of two others.
+fn is_product_at_most(a: i128, b: i128, c: i128, d: i128) -> bool
+    requires a { IsBelow (2 ^ 48) a }
+    requires b { IsBelow (2 ^ 48) b }
+    requires c { IsBelow (2 ^ 48) c }
+    requires d { IsBelow (2 ^ 48) d }
+    ensures { result ≡ int_le (a *ℤ b) (c *ℤ d) }
+{
+    a * b <= c * d
+}
+
+#[cfg(test)]
+mod tests {
+    use super::*;
+
+    // The ends of an edge, a point, and whether the edge crosses its height at it or left of it.
+    const CROSSINGS: [((i16, i16), (i16, i16), (i16, i16), bool); 10] = [
+        // upright, left of the point, through it, right of it
+        ((16, 0), (16, 64), (24, 24), true),
+        ((24, 0), (24, 64), (24, 24), true),
+        ((25, 0), (25, 64), (24, 24), false),
+        // the same upwards
+        ((24, 64), (24, 0), (24, 24), true),
+        // the upper end at the height counts, the lower end at it doesn't
+        ((0, 24), (0, 64), (24, 24), true),
+        ((0, 0), (0, 24), (24, 24), false),
+        // level edges never count
+        ((0, 24), (8, 24), (24, 24), false),
+        // slanted, a quarter of the way down at x = 16
+        ((0, 8), (64, 72), (16, 24), true),
+        ((0, 8), (64, 72), (15, 24), false),
+        // above and below the point
+        ((0, 32), (0, 64), (24, 24), false),
+    ];
+
+    fn point_at((x, y): (i16, i16)) -> Device {
+        Device::new(i64::from(x), i64::from(y))
+    }
+
+    #[test]
+    fn edges_cross_at_or_left_of_points(rt: HostRuntime) {
+        for (from, to, point, expected) in CROSSINGS {
+            let edge = Edge::new(point_at(from), point_at(to));
+            let crosses = edge.crosses_at_or_left(point_at(point));
+            assert_eq!(rt; crosses, expected, "{from:?} to {to:?} at {point:?}");
+        }
+    }
+}
