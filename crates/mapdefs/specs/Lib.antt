@@ -1,0 +1,11 @@
+pub mod Class
+pub mod ClassLimits
+pub mod FeatureLimits
+pub mod FontLimits
+pub mod LayerLimits
+pub mod MapLimits
+pub mod Name
+pub mod Nesting
+pub mod PictureLimits
+pub mod StyleLimits
+pub mod formers

@@ -1,0 +1,71 @@
+ghost use Rattle.std.specs.Prelude.{◌≡◌};
+
+use crate::Items;
+use std::marker::Model;
+
+/// The box of a bitmap: its sides in pixels, and how far its lower left corner lies right of the pen
+/// and above the base line.
+#[derive(Clone, Copy, Debug, PartialEq, Eq)]
+pub struct BitmapBox {
+    pub width: u8,
+    pub height: u8,
+    pub xoff: i8,
+    pub yoff: i8,
+}
+
+/// One character of a font.
+#[derive(Debug, Drop)]
+pub struct Glyph {
+    /// The character's number.
+    pub encoding: u32,
+    /// How many pixels the pen goes on behind the glyph.
+    pub advance: u8,
+    pub bounds: BitmapBox,
+    /// Its pixels row by row from the top, each row from the left: `true` is ink.
+    pub rows: Items<bool>,
+}
+
+/// What a font is made of: the box of all its characters, and its glyphs.
+#[derive(Debug, Drop)]
+pub struct FontFields {
+    pub bounds: BitmapBox,
+    pub glyphs: Items<Glyph>,
+}
+
+/// A bitmap font. Sides and offsets are at most `MAX_GLYPH_SIDE` in size, and it has at most
+/// `MAX_GLYPHS` glyphs.
+#[derive(Debug, Drop)]
+pub struct Font {
+    fields: FontFields,
+}
+
+impl Model for Font {
+    ghost use Rattle.mapdefs.specs.declared.font.FontFields.{FontFields};
+    ghost use Rattle.mapdefs.specs.FontLimits.{IsFontWithinLimits};
+
+    ghost Value = { FontFields };
+
+    ghost view = { λ f. f.fields };
+
+    ghost invariant = { λ f. IsFontWithinLimits f.fields };
+}
+
+impl Font {
+    ghost use Rattle.mapdefs.specs.FontLimits.{IsFontWithinLimits};
+
+    /// The font of the fields.
+    pub fn new(fields: FontFields) -> Self
+        requires { IsFontWithinLimits fields }
+        ensures { result ≡ fields }
+    {
+        Font { fields }
+    }
+
+    /// The fields.
+    pub fn get(&self) -> &FontFields
+        ensures value { result.now ≡ self.now }
+        ensures limits { IsFontWithinLimits result.now }
+    {
+        &self.fields
+    }
+}

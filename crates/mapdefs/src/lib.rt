@@ -1,0 +1,51 @@
+//! The types of a map, with the limits that each keeps, and the definitions that several crates cite.
+//!
+//! Proved: a value of each type is within its limits, since whoever makes it shows so (`new`) and
+//! whoever reads it may rely on it (`get`, clause `limits`). `Map::find` gives the first place of a
+//! name, and `Picture::at` the pixel of a column and a row.
+//!
+//! In a clause a map is a plain nested record: `Items` is a list, `Text` a list of bytes, `Boxed` the
+//! value in it, and `Map`, `Layer` and the others are their fields.
+//!
+//! Words: a *layer* holds *features* of one *kind*. Its *classes* are tried in order, and the first
+//! that is visible and whose *rule* holds is the feature's; its *styles* say how it is painted, its
+//! *label* how it is named. An *item* is an attribute of the features.
+#![tactic(auto)]
+
+mod boxed;
+mod class;
+mod colour;
+mod expr;
+mod feature;
+mod font;
+mod items;
+mod label;
+mod layer;
+mod limits;
+mod map;
+mod picture;
+mod style;
+mod symbol;
+#[cfg(test)]
+mod tests;
+mod text;
+
+pub use boxed::Boxed;
+pub use class::{Class, ClassFields, Rule};
+pub use colour::Rgb;
+pub use expr::{Comparison, Expr, Operand};
+pub use feature::{Feature, FeatureFields};
+pub use font::{BitmapBox, Font, FontFields, Glyph};
+pub use items::Items;
+pub use label::{Label, LabelFields, Position};
+pub use layer::{Kind, Layer, LayerFields};
+pub use limits::{
+    MAX_BUFFER, MAX_CLASSES, MAX_DISTANCE, MAX_FEATURES, MAX_GLYPH_SIDE, MAX_GLYPHS, MAX_ITEMS,
+    MAX_LAYERS, MAX_LINE_WIDTH, MAX_NESTING, MAX_PICTURE_SIDE, MAX_PRIORITY, MAX_SQUARE,
+    MAX_STYLES, MAX_SYMBOL_SIDE, MAX_SYMBOLS, MAX_TOLERANCE, MAX_VERTICES,
+};
+pub use map::{Map, MapFields};
+pub use picture::{Picture, PictureFields};
+pub use style::{Style, StyleFields};
+pub use symbol::{Pixmap, PixmapFields, Symbol};
+pub use text::Text;
