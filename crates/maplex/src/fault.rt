@@ -1,0 +1,35 @@
+use thiserror::Error;
+
+/// Why a source has no further token.
+#[derive(Clone, Copy, Debug, PartialEq, Eq, Error)]
+pub enum LexKind {
+    /// The source ends inside a Text. The line is that on which the Text begins.
+    #[error("the quoted text that begins here has no closing quote")]
+    OpenString,
+    /// A bracket outside of a Text, or in a token a control byte or a byte that is not UTF-8. The
+    /// line is that of the byte.
+    #[error("a bracket outside of quotes, a control character, or a byte that is not UTF-8")]
+    BadByte,
+    /// A token whose text has more than `TOKEN_LIMIT` bytes. The line is that on which it begins.
+    #[error("the word or quoted text that begins here is longer than 65,536 bytes")]
+    TooLong,
+}
+
+/// The first fault of a source.
+#[derive(Clone, Copy, Debug, PartialEq, Eq, Error)]
+#[error("line {line}: {kind}")]
+pub struct LexFault {
+    /// Its line, counted from 1.
+    pub line: u64,
+    /// What is wrong there.
+    pub kind: LexKind,
+}
+
+/// What stands behind the last token of a source.
+#[derive(Clone, Copy, Debug, PartialEq, Eq)]
+pub enum Tail {
+    /// The end of the source, with its line: 1 more than the LF bytes of the source.
+    Ends(u64),
+    /// The first fault.
+    Breaks(LexFault),
+}

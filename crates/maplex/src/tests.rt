@@ -1,0 +1,257 @@
+use crate::Shape::{Text, Word};
+use crate::{LexFault, LexKind, Shape, TOKEN_LIMIT, Tail, Tokens};
+use std::alloc::{AllocError, Global};
+use std::process::Abort;
+use std::test::Fail;
+
+// The source has these tokens and this tail, and after the tail nothing.
+fn assert_lexes(rt: &impl Abort, source: &[u8], tokens: &[(Shape, &str, u64)], tail: Tail) {
+    let mut left = Tokens::new(source);
+    for (shape, text, line) in tokens {
+        assert_eq!(rt; left.line(), *line, "before {text:?}");
+        match left.next() {
+            Some(Ok(token)) => {
+                let is_same = token.shape == *shape && token.text == *text && token.line == *line;
+                assert!(rt; is_same, "{token:?} in place of {text:?}");
+            }
+            other => panic!(rt; "{other:?} in place of {text:?}"),
+        }
+    }
+    let (fault, last) = match tail {
+        Tail::Ends(line) => (None, line),
+        Tail::Breaks(fault) => (Some(fault), fault.line),
+    };
+    if fault.is_some() {
+        let told = left.next().and_then(Result::err);
+        assert_eq!(rt; told, fault, "in {source:?}");
+    }
+    for _ in 0..2 {
+        assert!(rt; left.next().is_none(), "behind the tail of {source:?}");
+        assert_eq!(rt; left.line(), last, "at the tail of {source:?}");
+    }
+}
+
+fn breaks(line: u64, kind: LexKind) -> Tail {
+    Tail::Breaks(LexFault { line, kind })
+}
+
+// Sources of one line, and their tokens.
+const ON_ONE_LINE: [(&[u8], &[(Shape, &str, u64)]); 12] = [
+    (b"", &[]),
+    (b" \t\r\x0c", &[]),
+    (b"NAME 'a#b' # c", &[(Word, "NAME", 1), (Text, "a#b", 1)]),
+    (
+        b"a\x0cb\tc",
+        &[(Word, "a", 1), (Word, "b", 1), (Word, "c", 1)],
+    ),
+    // quotes and comments end a Word
+    (
+        b"a'b'c\"d\"e#f",
+        &[
+            (Word, "a", 1),
+            (Text, "b", 1),
+            (Word, "c", 1),
+            (Text, "d", 1),
+            (Word, "e", 1),
+        ],
+    ),
+    // a quote of the other kind, brackets and a backslash are ordinary in a Text
+    (
+        b"\"it's\" '\"(){}'",
+        &[(Text, "it's", 1), (Text, "\"(){}", 1)],
+    ),
+    (b"'a\\' \\b", &[(Text, "a\\", 1), (Word, "\\b", 1)]),
+    (b"'' \"\"x", &[(Text, "", 1), (Text, "", 1), (Word, "x", 1)]),
+    (b"'\t \r'", &[(Text, "\t \r", 1)]),
+    (
+        b"-1.5 [a]=/b/ \xc3\xa9",
+        &[(Word, "-1.5", 1), (Word, "[a]=/b/", 1), (Word, "\u{e9}", 1)],
+    ),
+    // a comment may hold a zero byte, bytes that are not UTF-8, and brackets
+    (b"a #\x00\xff(}'", &[(Word, "a", 1)]),
+    (b"#", &[]),
+];
+
+#[test]
+fn words_and_texts_are_cut(rt: HostRuntime) {
+    for (source, tokens) in ON_ONE_LINE {
+        assert_lexes(&rt, source, tokens, Tail::Ends(1));
+    }
+}
+
+// Sources, their tokens, and the line of their end.
+const ON_LINES: [(&[u8], &[(Shape, &str, u64)], u64); 8] = [
+    (b"\n", &[], 2),
+    (
+        b"a\nb\r\nc\r\n",
+        &[(Word, "a", 1), (Word, "b", 2), (Word, "c", 3)],
+        4,
+    ),
+    // a CR and a form feed end no line
+    (
+        b"a\rb\x0cc",
+        &[(Word, "a", 1), (Word, "b", 1), (Word, "c", 1)],
+        1,
+    ),
+    // a Text that spans lines has the line on which it begins
+    (b"\n\n'x\ny' z\n", &[(Text, "x\ny", 3), (Word, "z", 4)], 5),
+    (b"'\n\n' 'a'", &[(Text, "\n\n", 1), (Text, "a", 3)], 3),
+    // the line of a comment ends as any other
+    (
+        b"# one\n# two\r\nMAP # three\nEND",
+        &[(Word, "MAP", 3), (Word, "END", 4)],
+        4,
+    ),
+    (b"a #\x00\xff\nb", &[(Word, "a", 1), (Word, "b", 2)], 2),
+    (b"'#'\n#'\n'x'", &[(Text, "#", 1), (Text, "x", 3)], 3),
+];
+
+#[test]
+fn lines_are_counted_by_line_feeds(rt: HostRuntime) {
+    for (source, tokens, last) in ON_LINES {
+        assert_lexes(&rt, source, tokens, Tail::Ends(last));
+    }
+}
+
+// Sources, their tokens, and the line and the kind of their fault.
+const FAULTS: [(&[u8], &[(Shape, &str, u64)], u64, LexKind); 24] = [
+    (b"NAME \"a", &[(Word, "NAME", 1)], 1, LexKind::OpenString),
+    (b"\n 'a\n\n", &[], 2, LexKind::OpenString),
+    (b"\"it's", &[], 1, LexKind::OpenString),
+    (b"'a' '", &[(Text, "a", 1)], 1, LexKind::OpenString),
+    // a Word ends before a bracket
+    (b"FOO(", &[(Word, "FOO", 1)], 1, LexKind::BadByte),
+    (b"(", &[], 1, LexKind::BadByte),
+    (b"\n)", &[], 2, LexKind::BadByte),
+    (b"\n\n{ a", &[], 3, LexKind::BadByte),
+    (b"'}' }", &[(Text, "}", 1)], 1, LexKind::BadByte),
+    (b"a\nb\x00c", &[(Word, "a", 1)], 2, LexKind::BadByte),
+    (b"a \x7f b", &[(Word, "a", 1)], 1, LexKind::BadByte),
+    // a vertical tab is no separator
+    (b"a \x0b b", &[(Word, "a", 1)], 1, LexKind::BadByte),
+    (b"\x1f", &[], 1, LexKind::BadByte),
+    (b"'\x00'", &[], 1, LexKind::BadByte),
+    // in a Text the line is that of the byte
+    (b"'a\n\nb\xffc' d", &[], 3, LexKind::BadByte),
+    (b"\n'a\n\x7f\n'", &[], 3, LexKind::BadByte),
+    // a character that is cut short, one half of a pair of UTF-16, and a form that is too long
+    (b"'a\n\xe2\x82\n'", &[], 2, LexKind::BadByte),
+    (b"\xed\xa0\x80", &[], 1, LexKind::BadByte),
+    (b"a \xc0\xaf", &[(Word, "a", 1)], 1, LexKind::BadByte),
+    // of several bad bytes the first
+    (b"'a\n\x01\n\xff'", &[], 2, LexKind::BadByte),
+    (b"'a\n\xff\n\x01'", &[], 2, LexKind::BadByte),
+    // an open Text is told before its bad bytes
+    (b"'a\n\x00", &[], 1, LexKind::OpenString),
+    (b"\n'a\n\xff", &[], 2, LexKind::OpenString),
+    // a fault is told before one further on
+    (b"a\x00b 'c", &[], 1, LexKind::BadByte),
+];
+
+#[test]
+fn faults_have_worked_lines(rt: HostRuntime) {
+    for (source, tokens, line, kind) in FAULTS {
+        assert_lexes(&rt, source, tokens, breaks(line, kind));
+    }
+}
+
+// So many letters between two texts.
+fn letters(
+    alloc: Global,
+    before: &[u8],
+    count: usize,
+    after: &[u8],
+) -> Result<Vec<u8>, AllocError> {
+    let mut source = Vec::new(alloc);
+    source.extend_from_slice(before)?;
+    for _ in 0..count {
+        source.push(b'a')?;
+    }
+    source.extend_from_slice(after)?;
+    Ok(source)
+}
+
+#[test]
+fn texts_have_at_most_65536_bytes(rt: HostRuntime) -> Result<(), Fail> {
+    let rows: [(&[u8], usize, &[u8], Option<LexFault>); 6] = [
+        (b"\n'", 65_536, b"' b", None),
+        (
+            b"\n'",
+            65_537,
+            b"' b",
+            Some(LexFault {
+                line: 2,
+                kind: LexKind::TooLong,
+            }),
+        ),
+        (b"\n", 65_536, b" b", None),
+        (
+            b"\n",
+            65_537,
+            b" b",
+            Some(LexFault {
+                line: 2,
+                kind: LexKind::TooLong,
+            }),
+        ),
+        // a bad byte is told before the length, and an open Text before both
+        (
+            b"\n'",
+            65_537,
+            b"\n\x00'",
+            Some(LexFault {
+                line: 3,
+                kind: LexKind::BadByte,
+            }),
+        ),
+        (
+            b"\n'",
+            65_537,
+            b"\n\x00",
+            Some(LexFault {
+                line: 2,
+                kind: LexKind::OpenString,
+            }),
+        ),
+    ];
+    for (before, count, after, fault) in rows {
+        let source = letters(rt.alloc(), before, count, after)?;
+        let mut left = Tokens::new(&source);
+        match (left.next(), fault) {
+            (Some(Ok(token)), None) => {
+                assert_eq!(rt; token.text.len(), TOKEN_LIMIT);
+                assert_eq!(rt; token.line, 2);
+                assert!(rt; matches!(left.next(), Some(Ok(_))), "the token behind");
+            }
+            (Some(Err(told)), Some(fault)) => {
+                assert_eq!(rt; told, fault, "at {count} letters");
+                assert!(rt; left.next().is_none(), "behind the fault");
+            }
+            (other, _) => panic!(rt; "{other:?} at {count} letters"),
+        }
+    }
+    Ok(())
+}
+
+#[test]
+fn faults_are_printed_with_their_line(rt: HostRuntime) -> Result<(), Fail> {
+    let rows = [
+        (
+            LexKind::OpenString,
+            "line 7: the quoted text that begins here has no closing quote",
+        ),
+        (
+            LexKind::BadByte,
+            "line 7: a bracket outside of quotes, a control character, or a byte that is not UTF-8",
+        ),
+        (
+            LexKind::TooLong,
+            "line 7: the word or quoted text that begins here is longer than 65,536 bytes",
+        ),
+    ];
+    for (kind, message) in rows {
+        let printed = format!(in rt.alloc(); "{}", LexFault { line: 7, kind })?;
+        assert_eq!(rt; printed.as_str(), message);
+    }
+    Ok(())
+}

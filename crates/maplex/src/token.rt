@@ -1,0 +1,31 @@
+use std::marker::Model;
+
+/// The most bytes of a token's text.
+pub const TOKEN_LIMIT: usize = 65_536;
+
+/// The shape of a token.
+#[derive(Clone, Copy, Debug, PartialEq, Eq)]
+pub enum Shape {
+    /// Bytes up to a separator, a quote, `#` or a bracket.
+    Word,
+    /// Bytes between two quotes of one kind. A backslash among them is an ordinary byte.
+    Text,
+}
+
+/// A token. Contracts see the bytes of its text.
+#[derive(Debug, Drop)]
+pub struct Token<'a> {
+    pub shape: Shape,
+    /// Its text, a slice of the source: of a Text without the quotes.
+    pub text: &'a str,
+    /// The line on which it begins, counted from 1.
+    pub line: u64,
+}
+
+impl<'a> Model for Token<'a> {
+    ghost use Rattle.maplex.specs.Token.{TokenValue};
+
+    ghost Value = { TokenValue };
+
+    ghost view = { λ t. record { shape = t.shape; text = t.text.now; line = t.line } };
+}

@@ -1,0 +1,112 @@
+ghost use Rattle.std.specs.Prelude.{◌≡◌, ◌≤◌, length, IfSome, IfNone, IfOk, IfErr};
+ghost use Rattle.maplex.specs.declared.fault.Tail.TheVariants.{Ends, Breaks};
+ghost use Rattle.maplex.specs.Place.{further};
+ghost use Rattle.maplex.specs.Token.{front, Stops, Gives};
+
+use crate::cursor::Cursor;
+use crate::extent::extent_of;
+use crate::fault::LexFault;
+use crate::text::checked_text;
+use crate::token::{TOKEN_LIMIT, Token};
+use std::marker::Model;
+
+// What stands at a place without a gap: a token and how many bytes it takes, a fault, or nothing.
+fn front<'a>(at: &Cursor<'a>) -> Option<Result<(Token<'a>, usize), LexFault>>
+    ensures token { IfSome result (λ r. IfOk r (λ t. front at.now ≡ Gives t.0 (further t.1 at.now))) }
+    ensures within { IfSome result (λ r. IfOk r (λ t. t.1 ≤ length at.now.rest)) }
+    ensures limit { IfSome result (λ r. IfOk r (λ t. length t.0.text ≤ TOKEN_LIMIT)) }
+    ensures fault { IfSome result (λ r. IfErr r (λ f. front at.now ≡ Stops (Breaks f))) }
+    ensures end { IfNone result (front at.now ≡ Stops (Ends at.now.line)) }
+{
+    let rest = at.rest();
+    let line = at.line();
+    let [first, others @ ..] = rest else {
+        return None;
+    };
+    let extent = match extent_of(*first, others) {
+        Ok(extent) => extent,
+        Err(kind) => return Some(Err(LexFault { line, kind })),
+    };
+    let margin = extent.margin();
+    match checked_text(&rest[margin..margin + extent.size], line) {
+        Ok(text) => Some(Ok((
+            Token {
+                shape: extent.shape,
+                text,
+                line,
+            },
+            extent.size + 2 * margin,
+        ))),
+        Err(fault) => Some(Err(fault)),
+    }
+}
+
+/// The tokens of a source, one after another. Contracts see what is left: the tokens and their tail.
+///
+/// Reading takes no memory and looks at each byte a few times at most.
+#[derive(Debug, Drop)]
+pub struct Tokens<'a> {
+    at: Cursor<'a>,
+}
+
+impl<'a> Model for Tokens<'a> {
+    ghost use Rattle.std.specs.Prelude.{◌≡◌, false};
+    ghost use Rattle.maplex.specs.Place.{gap_len};
+    ghost use Rattle.maplex.specs.Lexed.{Lexed, lexed_from};
+
+    ghost Value = { Lexed };
+
+    ghost view = { λ t. lexed_from t.at };
+
+    // The gap before the next token is passed, so that the line is that of the token.
+    ghost invariant = { λ t. gap_len false t.at.rest ≡ 0 };
+}
+
+impl<'a> Tokens<'a> {
+    ghost use Rattle.maplex.specs.Lexed.{lexed, stopped, with_token, HasEnded, IsOnLine};
+
+    /// The tokens of the source, which may be any bytes of any length.
+    pub fn new(source: &'a [u8]) -> Self
+        ensures { result ≡ lexed source.now }
+    {
+        let mut at = Cursor::new(source);
+        at.skip_gap();
+        Tokens { at }
+    }
+
+    /// The next token, whose text is a slice of the source, or the fault that stands in its place.
+    /// `None` at the end of the source, and after a fault.
+    pub fn next(&mut self) -> Option<Result<Token<'a>, LexFault>>
+        ensures token { IfSome result (λ r. IfOk r (λ t. self.old ≡ with_token t self.new)) }
+        ensures limit { IfSome result (λ r. IfOk r (λ t. length t.text ≤ TOKEN_LIMIT)) }
+
+        // After a fault nothing is left.
+        ensures fault { IfSome result (λ r. IfErr r (λ f. self.old ≡ stopped (Breaks f))) }
+        ensures after_fault { IfSome result (λ r. IfErr r (λ f. self.new ≡ stopped (Ends f.line))) }
+        ensures end { IfNone result (HasEnded self.old) }
+        ensures after_end { IfNone result (self.new ≡ self.old) }
+    {
+        match front(&self.at) {
+            Some(Ok((token, count))) => {
+                self.at.pass(count);
+                self.at.skip_gap();
+                Some(Ok(token))
+            }
+            Some(Err(fault)) => {
+                self.at = Cursor::end(fault.line);
+                Some(Err(fault))
+            }
+            None => None,
+        }
+    }
+
+    /// The line on which reading stands, which is 1 more than the LF bytes that are passed: the line
+    /// of the next token, at the end of the source its last line, and after a fault the fault's.
+    pub fn line(&self) -> u64
+        ensures on_line { IsOnLine self.now.tokens self.now.tail result }
+        // The same at the end, as the equation that callers need.
+        ensures end { HasEnded self.now → self.now ≡ stopped (Ends result) }
+    {
+        self.at.line()
+    }
+}

@@ -1,0 +1,13 @@
+use Rattle.std.proofs.Common.{◌*◌, ◌^◌, arith, pos, ◌*ℤ◌}
+use Rattle.std.proofs.lemmas.Int.{ints}
+use Rattle.geom.specs.Range.{IsBelow}
+use Rattle.viewport.proofs.Quotients.{share-is, share-below, quotient-below, word-below}
+use Rattle.viewport.proofs.view.sixteenths.Goals as goal
+
+pub returns-clause-range : goal.returns-clause-range
+returns-clause-range c =
+    let share = share-below c.args.pixels c.args.part c.requires.pixels c.requires.part in
+    let below : IsBelow (2 ^ 47) c.div_euclid.result =
+    rw (c.div_euclid.ensures, c.from.ensures, share-is c.args.pixels c.args.part c.requires.pixels c.requires.part)
+    (quotient-below (2 ^ 47) (pos (16 * c.args.pixels) *ℤ c.args.part) _ (omega (arith, ints)) share) in
+    rw (word-below c.div_euclid.result below) below

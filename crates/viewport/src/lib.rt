@@ -1,0 +1,15 @@
+//! From the world to the picture: where a place lies on the picture that shows a part of the world.
+//!
+//! Proved: `View::device` gives the device point of a place, rounded down to a sixteenth of a pixel,
+//! and `View::pixel` the pixel that it lies in. `laws::sixteenths` says what rounded down means.
+//! A place outside of the area has its device point too, off the picture.
+//!
+//! Words: the *area* of a view is the part of the world that it shows, its *width* and *height* the
+//! sides of the picture in pixels, and its *scale* how many millionths of a degree its pixels show
+//! from left to right.
+#![tactic(auto)]
+
+pub mod laws;
+mod view;
+
+pub use view::{MAX_SIDE, View};
