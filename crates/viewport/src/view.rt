@@ -150,19 +150,23 @@ mod tests {
 
     // Four degrees by four degrees in four pixels by four pixels.
     fn square() -> View {
-        let (low, high) = (Micro::new(0), Micro::new(4_000_000));
+        let low = Micro::new(0);
+        let high = Micro::new(4_000_000);
         View::new(WorldBox::new(low, low, high, high), 4, 4)
     }
 
     // Three degrees by six in four pixels by two: a pixel is three quarters of a degree wide.
     fn oblong() -> View {
-        let (low, east, north) = (Micro::new(0), Micro::new(3_000_000), Micro::new(6_000_000));
+        let low = Micro::new(0);
+        let east = Micro::new(3_000_000);
+        let north = Micro::new(6_000_000);
         View::new(WorldBox::new(low, low, east, north), 4, 2)
     }
 
     // The smallest area in the largest picture.
     fn dot() -> View {
-        let (low, high) = (Micro::new(0), Micro::new(1));
+        let low = Micro::new(0);
+        let high = Micro::new(1);
         View::new(WorldBox::new(low, low, high, high), MAX_SIDE, MAX_SIDE)
     }
 

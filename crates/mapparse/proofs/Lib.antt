@@ -1,0 +1,4 @@
+mod FirstFault
+mod Joining
+mod Reading
+mod Within

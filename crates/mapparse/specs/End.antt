@@ -1,0 +1,68 @@
+-- What an END does, and what is checked at it (docs/MAPFILE.md, "Blocks and words").
+use Rattle.std.specs.Prelude.{ℕ, Bool, ◌==◌, if◌then◌else◌, List, [], ◌∷◌, ◌++◌, length, Option, Some, Result, Ok, Err}
+use Rattle.std.specs.List.{list_any}
+use Rattle.std.specs.Str.{bytes_eq}
+use Rattle.maplex.specs.Token.{TokenValue}
+use Rattle.mapdefs.specs.declared.layer.Kind.{Kind}
+use Rattle.mapparse.specs.declared.context.Block.{Block}
+use Rattle.mapparse.specs.declared.context.Block.TheVariants as block
+use Rattle.mapparse.specs.declared.fault.ParseKind.TheVariants.{MissingValue, DuplicateName}
+use Rattle.mapparse.specs.declared.tree.LayerTree.{LayerTree}
+use Rattle.mapparse.specs.declared.draft.Named.{Named}
+use Rattle.mapparse.specs.declared.draft.LayerDraft.{LayerDraft}
+use Rattle.mapparse.specs.declared.draft.Drafts.{Drafts}
+use Rattle.mapparse.specs.Fault.{Fault, refused, and_then}
+use Rattle.mapparse.specs.Parts.{with_part}
+use Rattle.mapparse.specs.Draft.{new_layer, new_class, new_style, new_feature}
+
+-- one of the layers has this name, byte by byte
+abbrev pub is_taken : List ℕ → List LayerTree → Bool
+is_taken name layers = list_any (λ (layer : LayerTree). bytes_eq layer.name name) layers
+
+-- a layer with its name and its kind, unless an earlier one has the name
+abbrev pub named_layer : Named → Kind → LayerDraft → List LayerTree → Result LayerTree Fault
+named_layer name kind layer earlier =
+    if is_taken name.text earlier then Err (record { line = name.line; kind = DuplicateName })
+    else Ok (record { name = name.text; kind = kind; classes = layer.classes; features = layer.features })
+
+-- a layer has a name and a kind
+abbrev pub finished_layer : Option Named → Option Kind → LayerDraft → List LayerTree → TokenValue → Result LayerTree Fault
+finished_layer (Some name) (Some kind) layer earlier t = named_layer name kind layer earlier
+finished_layer _ _ layer earlier t = refused MissingValue t
+
+-- at the END of a LAYER the map has it
+abbrev pub layer_end : Drafts → TokenValue → Result Drafts Fault
+layer_end d t = and_then (finished_layer d.layer.name d.layer.kind d.layer d.map.layers t) (λ layer.
+    Ok (record d { map = record d.map { layers = d.map.layers ++ layer ∷ [] }; layer = new_layer }))
+
+-- at the END of a CLASS the layer has it
+abbrev pub class_end : Drafts → Drafts
+class_end d = record d { layer = record d.layer { classes = d.layer.classes ++ d.class ∷ [] }; class = new_class }
+
+-- at the END of a STYLE the class has it
+abbrev pub style_end : Drafts → Drafts
+style_end d = record d { class = record d.class { styles = d.class.styles ++ d.style ∷ [] }; style = new_style }
+
+-- at the END of a FEATURE, which has parts, the layer has it
+abbrev pub feature_end : Drafts → TokenValue → Result Drafts Fault
+feature_end d t =
+    if length d.feature.parts.whole == 0 then refused MissingValue t
+    else Ok (record d {
+      layer = record d.layer { features = d.layer.features ++ record { parts = d.feature.parts.whole } ∷ [] };
+      feature = new_feature;
+    })
+
+-- at the END of POINTS, which have vertices, they are a part of the feature
+abbrev pub points_end : Drafts → TokenValue → Result Drafts Fault
+points_end d t =
+    if length d.feature.parts.next == 0 then refused MissingValue t
+    else Ok (record d { feature = record d.feature { parts = with_part d.feature.parts } })
+
+-- what the END of a block does: the parent has the block, and the next one of the kind begins anew
+abbrev pub ends : Block → Drafts → TokenValue → Result Drafts Fault
+ends block.Map d t = Ok d
+ends block.Layer d t = layer_end d t
+ends block.Class d t = Ok (class_end d)
+ends block.Style d t = Ok (style_end d)
+ends block.Feature d t = feature_end d t
+ends block.Points d t = points_end d t

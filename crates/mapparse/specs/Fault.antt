@@ -1,0 +1,56 @@
+-- Faults, and the numbers of their kinds (docs/MAPFILE.md, "Faults").
+use Rattle.std.specs.Prelude.{◌≡◌, ℕ, Result, Ok, Err}
+use Rattle.maplex.specs.declared.fault.LexFault.{LexFault}
+use Rattle.maplex.specs.declared.fault.Tail.{Tail}
+use Rattle.maplex.specs.declared.fault.Tail.TheVariants.{Ends, Breaks}
+use Rattle.maplex.specs.Token.{TokenValue}
+use Rattle.mapparse.specs.declared.fault.ParseKind.{ParseKind}
+use Rattle.mapparse.specs.declared.fault.ParseKind.TheVariants.{Lex, UnknownWord, WrongValue, MissingEnd, MissingValue, Limit, DuplicateName}
+use Rattle.mapparse.specs.declared.fault.ParseFault.{ParseFault}
+use Rattle.mapparse.specs.declared.fault.ParseFault.TheVariants.{At, NoMemory}
+
+-- the number of a kind
+abbrev pub number_of : ParseKind → ℕ
+number_of (Lex kind) = 1
+number_of UnknownWord = 2
+number_of WrongValue = 3
+number_of MissingEnd = 4
+number_of MissingValue = 5
+number_of Limit = 6
+number_of DuplicateName = 8
+
+-- a fault: its line, and what is wrong there
+pub record Fault : Type 0 where
+  pub line : ℕ
+  pub kind : ParseKind
+
+-- a fault of a kind at a token
+abbrev pub fault_of : ParseKind → TokenValue → Fault
+fault_of kind t = record { line = t.line; kind = kind }
+
+-- the source is refused at a token
+abbrev pub refused : {A : Type 0} → ParseKind → TokenValue → Result A Fault
+refused kind t = Err (fault_of kind t)
+
+-- the fault where a token has no reading
+abbrev pub lexical : LexFault → Fault
+lexical f = record { line = f.line; kind = Lex f.kind }
+
+-- the fault where a further token is wanted, by what stands behind the last one
+abbrev pub fault_at : Tail → Fault
+fault_at (Ends line) = record { line = line; kind = MissingEnd }
+fault_at (Breaks f) = lexical f
+
+-- what is given goes on, and the first fault is told
+abbrev pub and_then : {A B : Type 0} → Result A Fault → (A → Result B Fault) → Result B Fault
+and_then (Ok a) next = next a
+and_then (Err f) next = Err f
+
+-- a fault as a call tells it
+abbrev pub told : Fault → ParseFault
+told f = At f.line f.kind
+
+-- the call's error tells this reading's fault, or that memory was refused
+abbrev pub IsFaultOf : {A : Type 0} → Result A Fault → ParseFault → Type 0
+IsFaultOf reading (At line kind) = reading ≡ Err (record { line = line; kind = kind })
+IsFaultOf reading NoMemory = Unit {0}

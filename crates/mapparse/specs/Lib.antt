@@ -1,0 +1,14 @@
+pub mod Answer
+pub mod Colour
+pub mod Draft
+pub mod End
+pub mod Fault
+pub mod Keyword
+pub mod Mapping
+pub mod Meaning
+pub mod Number
+pub mod Parsed
+pub mod Parts
+pub mod Says
+pub mod Table
+pub mod Value

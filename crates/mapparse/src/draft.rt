@@ -1,0 +1,130 @@
+ghost use Rattle.std.specs.Prelude.{◌≡◌};
+ghost use Rattle.mapparse.specs.Draft.{fresh, new_layer, new_class, new_style, new_feature, sets, is_full};
+
+use crate::capped::Capped;
+use crate::context::{Block, ColourWord, TextWord};
+use crate::parts::PartsDraft;
+use crate::tree::{ClassTree, FeatureTree, LayerTree, MapTree, StyleTree};
+use crate::value::Value;
+use mapdefs::{Kind, MAX_CLASSES, MAX_FEATURES, Text};
+use std::alloc::Global;
+
+/// A name, and the line of the value that gives it.
+#[derive(Drop)]
+pub struct Named {
+    pub text: Text,
+    pub line: u64,
+}
+
+/// What a LAYER has said so far.
+#[derive(Drop)]
+pub struct LayerDraft {
+    pub name: Option<Named>,
+    pub kind: Option<Kind>,
+    pub classes: Capped<ClassTree, MAX_CLASSES>,
+    pub features: Capped<FeatureTree, MAX_FEATURES>,
+}
+
+/// What a FEATURE has said so far.
+#[derive(Drop)]
+pub struct FeatureDraft {
+    pub parts: PartsDraft,
+}
+
+/// What the open blocks have said so far. A block that isn't open has said nothing.
+#[derive(Drop)]
+pub struct Drafts {
+    pub map: MapTree,
+    pub layer: LayerDraft,
+    pub class: ClassTree,
+    pub style: StyleTree,
+    pub feature: FeatureDraft,
+}
+
+impl LayerDraft {
+    /// A LAYER that has said nothing.
+    pub fn new(alloc: Global) -> Self
+        ensures { result ≡ new_layer }
+    {
+        LayerDraft {
+            name: None,
+            kind: None,
+            classes: Capped::new(alloc),
+            features: Capped::new(alloc),
+        }
+    }
+}
+
+impl ClassTree {
+    /// A CLASS that has said nothing.
+    pub fn new(alloc: Global) -> Self
+        ensures { result ≡ new_class }
+    {
+        ClassTree {
+            styles: Capped::new(alloc),
+        }
+    }
+}
+
+impl StyleTree {
+    /// A STYLE that has said nothing.
+    pub fn new() -> Self
+        ensures { result ≡ new_style }
+    {
+        StyleTree { colour: None }
+    }
+}
+
+impl FeatureDraft {
+    /// A FEATURE that has said nothing.
+    pub fn new(alloc: Global) -> Self
+        ensures { result ≡ new_feature }
+    {
+        FeatureDraft {
+            parts: PartsDraft::new(alloc),
+        }
+    }
+}
+
+impl Drafts {
+    /// No block has said anything.
+    pub fn new(alloc: Global) -> Self
+        ensures { result ≡ fresh }
+    {
+        Drafts {
+            map: MapTree {
+                layers: Capped::new(alloc),
+            },
+            layer: LayerDraft::new(alloc),
+            class: ClassTree::new(alloc),
+            style: StyleTree::new(),
+            feature: FeatureDraft::new(alloc),
+        }
+    }
+
+    /// Notes a value of a line, in place of an earlier one of its word.
+    pub fn set(&mut self, value: Value, line: u64)
+        ensures { self.new ≡ sets value line self.old }
+    {
+        match value {
+            Value::Text(TextWord::LayerName, text) => {
+                self.layer.name = Some(Named { text, line });
+            }
+            Value::Kind(kind) => self.layer.kind = Some(kind),
+            Value::Colour(ColourWord::StyleColour, colour) => self.style.colour = colour,
+        }
+    }
+
+    /// Whether a further block of the kind is one more than a map may have.
+    pub fn is_full(&self, block: Block) -> bool
+        ensures { result ≡ is_full block self.now }
+    {
+        match block {
+            Block::Layer => self.map.layers.is_full(),
+            Block::Class => self.layer.classes.is_full(),
+            Block::Style => self.class.styles.is_full(),
+            Block::Feature => self.layer.features.is_full(),
+            _ => false,
+        }
+    }
+}

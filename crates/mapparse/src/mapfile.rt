@@ -1,0 +1,70 @@
+ghost use Rattle.std.specs.Prelude.{◌≡◌, Ok, IfOk, IfErr, MatchResult};
+ghost use Rattle.maplex.specs.Lexed.{lexed, stopped, with_token};
+ghost use Rattle.mapparse.specs.Fault.{IsFaultOf};
+ghost use Rattle.mapparse.specs.Meaning.{map_body};
+ghost use Rattle.mapparse.specs.Parsed.{said, parsed};
+
+use crate::fault::{ParseFault, ParseKind, missing, refused};
+use crate::keyword::Keyword;
+use crate::mapping::map_of;
+use crate::reader::Reader;
+use crate::tree::MapTree;
+use mapdefs::Map;
+use maplex::{Tail, Token, Tokens};
+use std::alloc::Global;
+
+// The next token, or what stands behind the last one.
+fn next<'a>(tokens: &mut Tokens<'a>) -> Result<Token<'a>, Tail>
+    ensures { MatchResult result
+        (λ token. tokens.old ≡ with_token token tokens.new)
+        (λ tail. tokens.old ≡ stopped tail) }
+{
+    match tokens.next() {
+        Some(Ok(token)) => Ok(token),
+        Some(Err(fault)) => Err(Tail::Breaks(fault)),
+        None => Err(Tail::Ends(tokens.line())),
+    }
+}
+
+// Reads the word MAP.
+fn begin(tokens: &mut Tokens) -> Result<(), ParseFault>
+    ensures { MatchResult result
+        (λ _. said tokens.old ≡ map_body tokens.new.tail tokens.new.tokens)
+        (IsFaultOf (said tokens.old)) }
+{
+    match next(tokens) {
+        Ok(token) if Keyword::Map.is_at(&token) => Ok(()),
+        Ok(token) => Err(refused(ParseKind::UnknownWord, &token)),
+        Err(tail) => Err(missing(tail)),
+    }
+}
+
+// What the tokens of the source say.
+fn read(source: &[u8], alloc: Global) -> Result<MapTree, ParseFault>
+    ensures { MatchResult result
+        (λ tree. said (lexed source.now) ≡ Ok tree)
+        (IsFaultOf (said (lexed source.now))) }
+{
+    let mut tokens = Tokens::new(source);
+    begin(&mut tokens)?;
+    let mut reader = Reader::new(alloc)?;
+    loop {
+        match next(&mut tokens) {
+            Ok(token) => reader.take(&token, alloc)?,
+            Err(tail) => return reader.finish(tail),
+        }
+    }
+}
+
+/// Reads a mapfile in one pass: the map that it describes, or its first fault with its line.
+///
+/// `parsed` gives either a map or a fault, so the two clauses say when each comes: unless memory is
+/// refused, which is `NoMemory`, the call gives the map or tells the fault that `parsed` has. The
+/// memory that it takes is in proportion to the map; a source that is refused leaves none behind.
+pub fn parse(alloc: Global, source: &[u8]) -> Result<Map, ParseFault>
+    ensures map { IfOk result (λ map. parsed source.now ≡ Ok map) }
+    ensures fault { IfErr result (IsFaultOf (parsed source.now)) }
+{
+    let tree = read(source, alloc)?;
+    Ok(map_of(tree, alloc)?)
+}
