@@ -1,15 +1,15 @@
 -- Quotients that are rounded down.
-use Rattle.std.proofs.Common.{◌≡◌, ℕ, ◌+◌, ◌*◌, ◌/◌, ◌^◌, ◌<◌, ◌≤◌, arith, sym, zero, suc}
-use Rattle.std.proofs.Math.Nat.{mul-div-le, lt-mul-div-succ, mul-le-mul_left, mul-le-mul_right, div-le_self}
+use Rattle.std.proofs.Common.{◌≡◌, ℕ, ◌+◌, ◌*◌, ◌^◌, ◌≤◌, arith, suc}
+use Rattle.std.proofs.Math.Nat.{mul-le-mul_right, div-le_self}
 use Rattle.std.proofs.lemmas.Int.{ints, by_lt_z}
 use borrow.Author.Differences.{up, down}
 use Rattle.std.specs.Int.{int_div_euclid}
-use lib.IntN.{ℤ, pos, negsuc, ◌+ℤ◌, ◌-ℤ◌, ◌*ℤ◌}
+use lib.IntN.{ℤ, pos, negsuc, ◌+ℤ◌, ◌*ℤ◌}
 use lib.Signed.{◌<ℤ◌, ◌≤ℤ◌}
 use mir.Syntax.{w64}
 use mir.Val.{to_z, of_z}
 use Rattle.geom.specs.Range.{IsBelow}
-use Rattle.viewport.specs.View.{sixteenths, IsRoundedDown, SixteenthsAreRoundedDown}
+use Rattle.viewport.specs.View.{sixteenths, SixteenthsAreRoundedDown}
 
 -- what i64 holds of a number below 2 ^ 47
 pub word-below : (z : ℤ) → IsBelow (2 ^ 47) z → to_z w64 (of_z w64 z) ≡ z

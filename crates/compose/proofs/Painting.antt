@@ -1,0 +1,121 @@
+-- Painting one thing after another.
+use Rattle.std.proofs.Common.{◌≡◌, ℕ, ◌+◌, ◌*◌, ◌/◌, ◌%◌, ◌<◌, Bool, true, false, List, [], ◌∷◌, ◌++◌, length, get_or, take, reverse, replicate, Option, None, Some, cond, refl, sym, ◌∙◌, ap, arith, take_all, subst}
+use Rattle.std.proofs.lemmas.Grind.{flat_map-append}
+use Rattle.std.proofs.lemmas.List.{reverse-append, append-nil, take_more, get_or-replicate, length-replicate}
+use Rattle.std.proofs.lemmas.List.Folds.{find-append}
+use Rattle.std.proofs.lemmas.Nat.{mod-mul-add, div-mul-add, mul-add-lt}
+use Rattle.std.proofs.lemmas.Option.{slice_get-get_or}
+use Rattle.std.specs.List.{flat_map, find}
+use Rattle.std.specs.Option.{option_map_or, option_or}
+use Rattle.geom.specs.Device.{DevicePoint}
+use Rattle.geom.specs.Edge.{EdgeEnds}
+use Rattle.geom.specs.EvenOdd.{edges}
+use Rattle.mapdefs.specs.declared.colour.Rgb.{Rgb}
+use Rattle.mapdefs.specs.declared.layer.LayerFields.{LayerFields}
+use Rattle.mapdefs.specs.declared.map.MapFields.{MapFields}
+use Rattle.mapdefs.specs.declared.picture.PictureFields.{PictureFields}
+use Rattle.viewport.specs.View.{ViewValue}
+use Rattle.compose.specs.Paint.{Thing, Fill, covers, colour_in, layer_things, place_things, paint_list}
+use Rattle.compose.specs.Painted.{IsPainted, AreFilled, black, colour_of}
+use Rattle.compose.specs.Picture.{colour_at, IsPictureOf}
+
+-- a default after two options, one behind the other
+map_or-option_or : {X Y : Type 0} (f : X → Y) (a b : Option X) (d : Y) → option_map_or f (option_or a b) d ≡ option_map_or f a (option_map_or f b d)
+map_or-option_or f None b d = refl
+map_or-option_or f (Some x) b d = refl
+
+-- a default after an option that a test gives
+map_or-cond : {X Y : Type 0} (f : X → Y) (b : Bool) (x : X) (d : Y) → option_map_or f (cond b (Some x) None) d ≡ cond b (f x) d
+map_or-cond f true x d = refl
+map_or-cond f false x d = refl
+
+-- where nothing is painted the background is seen
+pub colour_at-none : (background : Rgb) (i j : ℕ) → colour_at background [] i j ≡ background
+unfolding colour_at
+colour_at-none background i j = refl
+
+-- one thing is seen where it covers
+pub colour_at-one : (background : Rgb) (thing : Thing) (i j : ℕ) → colour_at background (thing ∷ []) i j ≡ cond (covers thing i j) (colour_in thing i j) background
+unfolding colour_at
+colour_at-one background thing i j = map_or-cond (λ (t : Thing). colour_in t i j) (covers thing i j) thing background
+
+-- what is painted later is painted over what was painted before
+pub colour_at-append : (background : Rgb) (xs ys : List Thing) (i j : ℕ) →
+    colour_at background (xs ++ ys) i j ≡ colour_at (colour_at background xs i j) ys i j
+unfolding colour_at
+colour_at-append background xs ys i j =
+    rw (reverse-append xs ys, find-append (λ t. covers t i j) (reverse ys) (reverse xs))
+    (map_or-option_or (λ (t : Thing). colour_in t i j) (find (λ t. covers t i j) (reverse ys)) (find (λ t. covers t i j) (reverse xs)) background)
+
+-- a picture that stays as it is, is painted over with nothing
+pub painted-none : (a : PictureFields) → IsPainted a a []
+painted-none a = record { width = refl; height = refl; area = refl; pixels = λ at h. sym (colour_at-none (colour_of a.pixels at) (at % a.width) (at / a.width)) }
+
+-- painting goes on
+pub painted-append : (a b c : PictureFields) (xs ys : List Thing) → IsPainted a b xs → IsPainted b c ys → IsPainted a c (xs ++ ys)
+painted-append a b c xs ys p q = record {
+  width = q.width ∙ p.width;
+  height = q.height ∙ p.height;
+  area = q.area ∙ p.area;
+  pixels = λ at h.
+      let inside : at < length b.pixels = omega (arith, p.area) in
+      q.pixels at inside
+      ∙ rw (p.width, p.pixels at h) (sym (colour_at-append (colour_of a.pixels at) xs ys (at % a.width) (at / a.width)));
+}
+
+-- a loop that paints what each element gives: one element more
+pub painted_next : {X : Type 0} (f : X → List Thing) (xs : List X) (i : ℕ) (x : X) (a b c : PictureFields) → i < length xs → x ≡ get_or xs i x →
+    IsPainted a b (flat_map f (take i xs)) → IsPainted b c (f x) → IsPainted a c (flat_map f (take (i + 1) xs))
+painted_next f xs i x a b c h e p q =
+    let here : get_or xs i x ∷ [] ≡ x ∷ [] = ap (λ y. y ∷ []) (sym e) in
+    rw (take_more xs i x h, here, flat_map-append f (take i xs) (x ∷ []), append-nil (f x)) (painted-append a b c (flat_map f (take i xs)) (f x) p q)
+
+-- a loop over all elements has painted what they give
+pub painted_end : {X : Type 0} (f : X → List Thing) (xs : List X) (i : ℕ) (a b : PictureFields) → i ≡ length xs →
+    IsPainted a b (flat_map f (take i xs)) → IsPainted a b (flat_map f xs)
+painted_end f xs i a b e p = rw (take_all i xs (omega arith)) at p
+
+-- a canvas of the background that is painted over with the paint list is the picture
+painted-canvas : (m : MapFields) (view : ViewValue) (chosen : List ℕ) (background : Rgb) (b : PictureFields) →
+    IsPainted (record { width = view.width; height = view.height; pixels = replicate (view.width * view.height) background }) b (paint_list view m chosen) →
+    IsPictureOf m view chosen background b
+painted-canvas m view chosen background b p = record {
+  width = p.width;
+  height = p.height;
+  area = p.area ∙ length-replicate (view.width * view.height) background ∙ rw (p.width, p.height);
+  pixels = λ i j left up.
+      let inside : j * view.width + i < view.width * view.height = omega (arith, mul-add-lt j view.width i view.height up left) in
+      let first : j * view.width + i < length (replicate (view.width * view.height) background) = omega (arith, length-replicate {A = Rgb}) in
+      let last : j * view.width + i < length b.pixels = omega (arith, p.area) in
+      let colour = rw (get_or-replicate (view.width * view.height) (j * view.width + i) background black inside, mod-mul-add j view.width i left, div-mul-add j view.width i left) at (p.pixels (j * view.width + i) first) in
+      slice_get-get_or b.pixels (j * view.width + i) black last ∙ ap Some colour;
+}
+
+-- the same of any canvas that is one of the background
+pub painted-picture : (m : MapFields) (view : ViewValue) (chosen : List ℕ) (background : Rgb) (a b : PictureFields) →
+    a ≡ record { width = view.width; height = view.height; pixels = replicate (view.width * view.height) background } →
+    IsPainted a b (paint_list view m chosen) → IsPictureOf m view chosen background b
+painted-picture m view chosen background a b e p =
+    painted-canvas m view chosen background b (subst (λ (x : PictureFields). IsPainted x b (paint_list view m chosen)) e p)
+
+-- pixels that have a colour where rings cover them, and else are as they were, are painted over with the rings
+pub painted-fill : (rings : List (List DevicePoint)) (sides : List EdgeEnds) (colour : Rgb) (a : PictureFields) (pixels : List Rgb) → edges rings ≡ sides →
+    length pixels ≡ length a.pixels →
+    AreFilled sides colour a.width a.pixels pixels →
+    IsPainted a (record a { pixels = pixels }) (Fill rings colour ∷ [])
+painted-fill rings sides colour a pixels e area filled = record {
+  width = refl;
+  height = refl;
+  area = area;
+  pixels = λ at h. filled at h ∙ rw (← e) (sym (colour_at-one (colour_of a.pixels at) (Fill rings colour) (at % a.width) (at / a.width)));
+}
+
+-- where no element gives anything, nothing is painted
+pub painted-nothing : {X : Type 0} (f : X → List Thing) (xs : List X) (a : PictureFields) → ((x : X) → f x ≡ []) → IsPainted a a (flat_map f xs)
+painted-nothing f [] a h = painted-none a
+painted-nothing f (x ∷ xs) a h = rw (h x) (painted-nothing f xs a h)
+
+-- what a layer paints is what its place in the map does
+pub painted-place : (view : ViewValue) (m : MapFields) (place : ℕ) (layer : LayerFields) (a b : PictureFields) → place < length m.layers →
+    layer ≡ get_or m.layers place layer → IsPainted a b (layer_things view layer) → IsPainted a b (place_things view m place)
+painted-place view m place layer a b h e p = rw (slice_get-get_or m.layers place layer h, ← e) p

@@ -1,0 +1,17 @@
+use Rattle.std.proofs.Common.{sym, ◌∙◌, ap, Some}
+use Rattle.mapdefs.specs.Class.{admits}
+use Rattle.compose.proofs.Finding.{find-here, find-behind}
+use Rattle.compose.proofs.classes.class_of.Goals as goal
+
+pub returns-then-admits : goal.returns-then-admits
+returns-then-admits c = λ scale feature.
+    let passes = rw c.get-class.ensures.value at (sym (c.admits.ensures scale c.args.layer.now feature) ∙ c.if-admits.true) in
+    ap Some c.get-class.ensures.value
+    ∙ sym (find-here (admits scale c.args.layer.now feature) c.as_slice-class-items.result.now c.loop-class.class-index _ c.loop-class-test.true c.class-item.is passes)
+    ∙ c.loop-class.invariant scale feature
+
+pub loop-class-preserved : goal.loop-class-preserved
+loop-class-preserved c = λ scale feature.
+    let fails = rw c.get-class.ensures.value at (sym (c.admits.ensures scale c.args.layer.now feature) ∙ c.if-admits.false) in
+    find-behind (admits scale c.args.layer.now feature) c.as_slice-class-items.result.now c.loop-class.class-index _ c.loop-class-test.true c.class-item.is fails
+    ∙ c.loop-class.invariant scale feature

@@ -1,0 +1,7 @@
+use Rattle.std.proofs.Common.{take}
+use Rattle.compose.specs.Paint.{paint_list}
+use Rattle.compose.specs.Painted.{IsPainted}
+use Rattle.compose.proofs.paint.picture.Given as goal
+
+abbrev pub invariant-loop-place : goal.invariant-loop-place
+invariant-loop-place l = IsPainted l.initial.canvas l.canvas (paint_list l.view l.map (take l.place-index l.chosen))

@@ -1,0 +1,3 @@
+pub mod Paint
+pub mod Painted
+pub mod Picture

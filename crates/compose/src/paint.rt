@@ -1,0 +1,112 @@
+ghost use Rattle.std.specs.Prelude.{◌<◌, All, IfOk, OnOk, length};
+ghost use Rattle.std.specs.List.{flat_map};
+ghost use Rattle.mapdefs.specs.declared.style.StyleFields.{StyleFields as StyleValue};
+ghost use Rattle.compose.specs.Paint.{fills, class_things, feature_things, layer_things};
+ghost use Rattle.compose.specs.Painted.{IsPainted, IsPaintedWithin};
+ghost use Rattle.compose.specs.Picture.{IsPictureOf};
+
+use crate::canvas::Canvas;
+use crate::classes::{class_of, is_visible};
+use crate::polygon::Polygon;
+use mapdefs::{ClassFields, Feature, Kind, LayerFields, Map, Picture, Rgb, Style, StyleFields};
+use std::alloc::{AllocError, Global};
+use viewport::View;
+
+/// The picture of the chosen layers in the view. They are named by their places in the map and painted
+/// in the order in which they are chosen, one that is chosen twice also twice, and whether they are
+/// switched on or not.
+///
+/// It takes memory for the picture, and for the edges of one feature at a time. `AllocError` comes only
+/// where that is refused.
+pub fn picture(
+    alloc: Global,
+    map: &Map,
+    view: View,
+    chosen: &[usize],
+    background: Rgb,
+) -> Result<Picture, AllocError>
+    requires { All (λ place. place < length map.now.layers) chosen.now }
+    ensures { IfOk result (IsPictureOf map.now view chosen.now background) }
+{
+    let layers = map.get().layers.as_slice();
+    let mut canvas = Canvas::new(alloc, view.width(), view.height(), background)?;
+    for place in chosen {
+        paint_layer(alloc, &mut canvas, view, layers[*place].get())?;
+    }
+    Ok(canvas.into_picture())
+}
+
+// Paints a layer, where it is visible.
+fn paint_layer(
+    alloc: Global,
+    canvas: &mut Canvas,
+    view: View,
+    layer: &LayerFields,
+) -> Result<(), AllocError>
+    ensures { OnOk result (IsPainted canvas.old canvas.new (layer_things view layer.now)) }
+{
+    if !is_visible(layer.min, layer.max) {
+        return Ok(());
+    }
+    for feature in layer.features.as_slice() {
+        paint_feature(alloc, canvas, view, layer, feature)?;
+    }
+    Ok(())
+}
+
+// Paints a feature of the layer, if it has a class.
+fn paint_feature(
+    alloc: Global,
+    canvas: &mut Canvas,
+    view: View,
+    layer: &LayerFields,
+    feature: &Feature,
+) -> Result<(), AllocError>
+    ensures { OnOk result (IsPainted canvas.old canvas.new (feature_things view layer.now feature.now)) }
+{
+    match class_of(layer) {
+        Some(class) => paint_class(alloc, canvas, view, layer.kind, feature, class),
+        None => Ok(()),
+    }
+}
+
+// Paints what the class paints of a feature of that kind. Only polygons are painted yet.
+fn paint_class(
+    alloc: Global,
+    canvas: &mut Canvas,
+    view: View,
+    kind: Kind,
+    feature: &Feature,
+    class: &ClassFields,
+) -> Result<(), AllocError>
+    ensures { OnOk result (IsPainted canvas.old canvas.new (class_things view kind feature.now class.now)) }
+{
+    match kind {
+        Kind::Polygon => {
+            let rings = feature.get().parts.as_slice();
+            let polygon = Polygon::new(alloc, view, rings)?;
+            fill_by_styles(canvas, &polygon, class.styles.as_slice());
+            Ok(())
+        }
+        Kind::Point | Kind::Line => Ok(()),
+    }
+}
+
+// Fills the polygon by each style, in order.
+fn fill_by_styles(canvas: &mut Canvas, polygon: &Polygon, styles: &[Style])
+    ensures { IsPaintedWithin polygon.now canvas.old canvas.new (λ rings.
+        flat_map (λ (style : StyleValue). fills rings style.colour) styles.now) }
+{
+    for style in styles {
+        fill_by_style(canvas, polygon, style.get());
+    }
+}
+
+// Fills the polygon, if the style has a colour.
+fn fill_by_style(canvas: &mut Canvas, polygon: &Polygon, style: &StyleFields)
+    ensures { IsPaintedWithin polygon.now canvas.old canvas.new (λ rings. fills rings style.now.colour) }
+{
+    if let Some(colour) = style.colour {
+        canvas.fill(polygon, colour);
+    }
+}

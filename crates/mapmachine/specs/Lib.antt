@@ -1,0 +1,4 @@
+pub mod Machine
+pub mod Netpbm
+pub mod Query
+pub mod Request

@@ -1,0 +1,291 @@
+ghost use Rattle.std.specs.Prelude.{◌≡◌, ◌<◌, ◌≤◌, length, Some, IfSome, codes};
+ghost use Rattle.std.specs.Option.{option_and_then, option_copied};
+ghost use Rattle.std.specs.List.{before_first, position_or_len};
+ghost use Rattle.geom.specs.Decimal.{digit_count};
+ghost use Rattle.geom.specs.World.{IsExtent, IsWorldNumber};
+ghost use Rattle.mapmachine.specs.Request.{value_at, is_at, are_fixed, is_comma, world_number, first_number, behind_comma, box_of, area_of, side_within, side_of, request_of};
+ghost use Rattle.mapdefs.specs.Name.{place_of};
+
+use crate::query::Parameter;
+use geom::{Micro, WORLD_LIMIT, WorldBox};
+use mapdefs::Map;
+use std::marker::Model;
+use viewport::{MAX_SIDE, View};
+
+/// The greatest side of a picture, in millionths of a pixel, as sides are read.
+const SIDE_LIMIT: u64 = 2_048_000_000;
+
+/// A request for a picture.
+#[derive(Clone, Copy, Debug, PartialEq, Eq)]
+pub struct Request {
+    layer: usize,
+    view: View,
+}
+
+impl Model for Request {
+    ghost use Rattle.mapmachine.specs.Request.{RequestValue};
+
+    ghost Value = { RequestValue };
+
+    ghost view = { λ r. record { layer = r.layer; view = r.view } };
+
+    ghost inverse = { λ r. record { layer = r.layer; view = r.view } };
+}
+
+impl Request {
+    // The place of the layer in the map.
+    pub fn layer(self) -> usize
+        ensures { result ≡ self.layer }
+    {
+        self.layer
+    }
+
+    // The part of the world, and the sides of the picture.
+    pub fn view(self) -> View
+        ensures { result ≡ self.view }
+    {
+        self.view
+    }
+}
+
+// The value of the parameter at a place, if it has this name.
+fn value_at<'a>(parameters: &'a [Parameter], place: usize, name: &str) -> Option<&'a str>
+    ensures { option_copied result ≡ value_at parameters.now place name.now }
+{
+    let parameter = parameters.get(place)?;
+    if parameter.name.as_str() == name {
+        Some(parameter.value.as_str())
+    } else {
+        None
+    }
+}
+
+// Whether the parameter at a place has this name and this value.
+fn is_at(parameters: &[Parameter], place: usize, name: &str, value: &str) -> bool
+    ensures { result ≡ is_at parameters.now place name.now value.now }
+{
+    match value_at(parameters, place, name) {
+        Some(found) => found == value,
+        None => false,
+    }
+}
+
+// Whether there are nine parameters, and those that may have only one value have it.
+fn are_fixed(parameters: &[Parameter]) -> bool
+    ensures { result ≡ are_fixed parameters.now }
+{
+    parameters.len() == 9
+        && is_at(parameters, 0, "VERSION", "1.3.0")
+        && is_at(parameters, 1, "REQUEST", "GetMap")
+        && is_at(parameters, 3, "STYLES", "")
+        && is_at(parameters, 4, "CRS", "CRS:84")
+        && is_at(parameters, 8, "FORMAT", "image/x-portable-pixmap")
+}
+
+// How many bytes stand before the first comma.
+fn comma_place(text: &[u8]) -> usize
+    ensures place { result ≡ position_or_len is_comma text.now }
+    ensures within { result ≤ length text.now }
+{
+    for (place, byte) in text.iter().enumerate() {
+        if *byte == b',' {
+            return place;
+        }
+    }
+    text.len()
+}
+
+// What stands before the first comma, and behind it.
+fn split_comma(text: &[u8]) -> (&[u8], &[u8])
+    ensures before { result.0.now ≡ before_first is_comma text.now }
+    ensures behind { result.1.now ≡ behind_comma text.now }
+{
+    let (before, rest) = text.split_at(comma_place(text));
+    match rest {
+        [] => (before, rest),
+        [_, behind @ ..] => (before, behind),
+    }
+}
+
+// The number of the world that a text means.
+fn world_number(text: &[u8]) -> Option<Micro>
+    ensures value { result ≡ world_number text.now }
+    ensures within { IfSome result IsWorldNumber }
+{
+    Micro::read(text, WORLD_LIMIT).ok()
+}
+
+// The box of four numbers, if it has an area.
+fn box_of(minx: Micro, miny: Micro, maxx: Micro, maxy: Micro) -> Option<WorldBox>
+    requires west { IsWorldNumber minx }
+    requires south { IsWorldNumber miny }
+    requires east { IsWorldNumber maxx }
+    requires north { IsWorldNumber maxy }
+    ensures value { result ≡ box_of (Some minx) (Some miny) (Some maxx) (Some maxy) }
+    ensures extent { IfSome result IsExtent }
+{
+    if minx < maxx && miny < maxy {
+        Some(WorldBox::new(minx, miny, maxx, maxy))
+    } else {
+        None
+    }
+}
+
+// The box of four numbers between commas.
+fn area_of(text: &[u8]) -> Option<WorldBox>
+    ensures value { result ≡ area_of text.now }
+    ensures extent { IfSome result IsExtent }
+{
+    let (minx, rest) = split_comma(text);
+    let (miny, rest) = split_comma(rest);
+    let (maxx, maxy) = split_comma(rest);
+    box_of(
+        world_number(minx)?,
+        world_number(miny)?,
+        world_number(maxx)?,
+        world_number(maxy)?,
+    )
+}
+
+// How many digits stand at the front of a text.
+fn digit_count(text: &[u8]) -> usize
+    ensures { result ≡ digit_count text.now }
+{
+    for (place, byte) in text.iter().enumerate() {
+        if !byte.is_ascii_digit() {
+            return place;
+        }
+    }
+    text.len()
+}
+
+// A number of pixels that a picture may have as a side.
+fn side_within(number: i64) -> Option<u16>
+    ensures value { result ≡ side_within number }
+    ensures some { IfSome result (λ side. 1 ≤ side) }
+    ensures most { IfSome result (λ side. side ≤ MAX_SIDE) }
+{
+    if number < 1 || number > i64::from(MAX_SIDE) {
+        return None;
+    }
+    Some(number as u16)
+}
+
+// The side that a text of digits alone means.
+fn side_of(text: &[u8]) -> Option<u16>
+    ensures value { result ≡ side_of text.now }
+    ensures some { IfSome result (λ side. 1 ≤ side) }
+    ensures most { IfSome result (λ side. side ≤ MAX_SIDE) }
+{
+    if digit_count(text) < text.len() {
+        return None;
+    }
+    side_within(Micro::read(text, SIDE_LIMIT).ok()?.whole())
+}
+
+// The place of the layer that the parameter of the layers names.
+fn layer_of(map: &Map, parameters: &[Parameter]) -> Option<usize>
+    ensures value { result ≡ option_and_then (λ name. place_of name map.now.layers) (value_at parameters.now 2 (codes "LAYERS")) }
+    ensures within { IfSome result (λ layer. layer < length map.now.layers) }
+{
+    map.find(value_at(parameters, 2, "LAYERS")?)
+}
+
+// The area that the parameter of the box says.
+fn area_parameter(parameters: &[Parameter]) -> Option<WorldBox>
+    ensures value { result ≡ option_and_then area_of (value_at parameters.now 5 (codes "BBOX")) }
+    ensures extent { IfSome result IsExtent }
+{
+    area_of(value_at(parameters, 5, "BBOX")?.as_bytes())
+}
+
+// The side that the parameter at a place says, which has this name.
+fn side_parameter(parameters: &[Parameter], place: usize, name: &str) -> Option<u16>
+    ensures value { result ≡ option_and_then side_of (value_at parameters.now place name.now) }
+    ensures some { IfSome result (λ side. 1 ≤ side) }
+    ensures most { IfSome result (λ side. side ≤ MAX_SIDE) }
+{
+    side_of(value_at(parameters, place, name)?.as_bytes())
+}
+
+/// The request that the parameters of a query make of the map; none where they make no other than
+/// an unread one.
+pub fn read(map: &Map, parameters: &[Parameter]) -> Option<Request>
+    ensures value { result ≡ request_of map.now parameters.now }
+    ensures layer { IfSome result (λ request. request.layer < length map.now.layers) }
+{
+    if !are_fixed(parameters) {
+        return None;
+    }
+    let layer = layer_of(map, parameters)?;
+    let area = area_parameter(parameters)?;
+    let width = side_parameter(parameters, 6, "WIDTH")?;
+    let height = side_parameter(parameters, 7, "HEIGHT")?;
+    Some(Request {
+        layer,
+        view: View::new(area, width, height),
+    })
+}
+
+#[cfg(test)]
+mod tests {
+    use super::*;
+
+    // Texts, and the sides that they mean.
+    const SIDES: [(&str, Option<u16>); 13] = [
+        ("1", Some(1)),
+        ("4", Some(4)),
+        ("2048", Some(2048)),
+        ("0004", Some(4)),
+        ("00000000000000000000000000000000002", Some(2)),
+        ("2049", None),
+        ("99999999999999999999999999999999999", None),
+        ("0", None),
+        ("", None),
+        ("+4", None),
+        ("-4", None),
+        ("4.0", None),
+        (" 4", None),
+    ];
+
+    #[test]
+    fn sides_are_digits_within_the_limit(rt: HostRuntime) {
+        for (text, side) in SIDES {
+            assert_eq!(rt; side_of(text.as_bytes()), side, "{text:?}");
+        }
+    }
+
+    // Texts, and the west, south, east and north sides that they mean, in millionths.
+    const BOXES: [(&str, Option<(i64, i64, i64, i64)>); 12] = [
+        ("0,0,4,4", Some((0, 0, 4_000_000, 4_000_000))),
+        (
+            "-1.5,2,.25,1000",
+            Some((-1_500_000, 2_000_000, 250_000, 1_000_000_000)),
+        ),
+        ("0,0,0,4", None),
+        ("0,4,4,4", None),
+        ("4,0,0,4", None),
+        ("0,0,4", None),
+        ("0,0,4,", None),
+        ("0,0,4,4,", None),
+        ("0,0,4,4,5", None),
+        ("0, 0,4,4", None),
+        ("0,0,1000.000001,4", None),
+        ("", None),
+    ];
+
+    #[test]
+    fn boxes_are_four_numbers_with_an_area(rt: HostRuntime) {
+        for (text, sides) in BOXES {
+            let found = area_of(text.as_bytes()).map(|area| {
+                (
+                    area.minx().millionths(),
+                    area.miny().millionths(),
+                    area.maxx().millionths(),
+                    area.maxy().millionths(),
+                )
+            });
+            assert_eq!(rt; found, sides, "{text:?}");
+        }
+    }
+}

@@ -1,0 +1,6 @@
+pub mod Commands
+pub mod HexLines
+pub mod Outgoing
+pub mod Playing
+pub mod Rests
+pub mod ScriptSteps

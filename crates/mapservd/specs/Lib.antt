@@ -1,0 +1,4 @@
+pub mod Script
+pub mod Sent
+pub mod Session
+pub mod Transcript
