@@ -171,50 +171,20 @@ fn letters(
     Ok(source)
 }
 
+// Words and Texts of so many letters between two texts, and the line and kind of their fault.
+const LONG_TEXTS: [(&[u8], usize, &[u8], Option<(u64, LexKind)>); 6] = [
+    (b"\n'", 65_536, b"' b", None),
+    (b"\n'", 65_537, b"' b", Some((2, LexKind::TooLong))),
+    (b"\n", 65_536, b" b", None),
+    (b"\n", 65_537, b" b", Some((2, LexKind::TooLong))),
+    // a bad byte is told before the length, and an open Text before both
+    (b"\n'", 65_537, b"\n\x00'", Some((3, LexKind::BadByte))),
+    (b"\n'", 65_537, b"\n\x00", Some((2, LexKind::OpenString))),
+];
+
 #[test]
 fn texts_have_at_most_65536_bytes(rt: HostRuntime) -> Result<(), Fail> {
-    let rows: [(&[u8], usize, &[u8], Option<LexFault>); 6] = [
-        (b"\n'", 65_536, b"' b", None),
-        (
-            b"\n'",
-            65_537,
-            b"' b",
-            Some(LexFault {
-                line: 2,
-                kind: LexKind::TooLong,
-            }),
-        ),
-        (b"\n", 65_536, b" b", None),
-        (
-            b"\n",
-            65_537,
-            b" b",
-            Some(LexFault {
-                line: 2,
-                kind: LexKind::TooLong,
-            }),
-        ),
-        // a bad byte is told before the length, and an open Text before both
-        (
-            b"\n'",
-            65_537,
-            b"\n\x00'",
-            Some(LexFault {
-                line: 3,
-                kind: LexKind::BadByte,
-            }),
-        ),
-        (
-            b"\n'",
-            65_537,
-            b"\n\x00",
-            Some(LexFault {
-                line: 2,
-                kind: LexKind::OpenString,
-            }),
-        ),
-    ];
-    for (before, count, after, fault) in rows {
+    for (before, count, after, fault) in LONG_TEXTS {
         let source = letters(rt.alloc(), before, count, after)?;
         let mut left = Tokens::new(&source);
         match (left.next(), fault) {
@@ -223,8 +193,8 @@ fn texts_have_at_most_65536_bytes(rt: HostRuntime) -> Result<(), Fail> {
                 assert_eq!(rt; token.line, 2);
                 assert!(rt; matches!(left.next(), Some(Ok(_))), "the token behind");
             }
-            (Some(Err(told)), Some(fault)) => {
-                assert_eq!(rt; told, fault, "at {count} letters");
+            (Some(Err(told)), Some((line, kind))) => {
+                assert_eq!(rt; told, LexFault { line, kind }, "at {count} letters");
                 assert!(rt; left.next().is_none(), "behind the fault");
             }
             (other, _) => panic!(rt; "{other:?} at {count} letters"),
