@@ -1,14 +1,15 @@
 -- The requests that are read of a query (docs/PROFILE.md, "Queries"; OGC 06-042, 7.3).
-use Rattle.std.specs.Prelude.{ℕ, ◌==◌, ◌&&◌, Bool, false, nat_eq, nat_le, if◌then◌else◌, List, [], length, slice_get, ℤ, pos, negsuc, int_lt, Option, None, Some, Result, Ok, Err, codes}
+use Rattle.std.specs.Prelude.{ℕ, ◌==◌, ◌&&◌, Bool, false, nat_eq, nat_le, if◌then◌else◌, List, [], length, slice_get, ℤ, pos, negsuc, int_lt, Option, None, Some, codes}
 use Rattle.std.specs.Option.{option_and_then, option_map_or}
 use Rattle.std.specs.List.{before_first, after_first}
 use Rattle.std.specs.Cmp.Lexicographic.{pointwise}
-use Rattle.geom.specs.Decimal.{reading, digit_count, whole_of}
+use Rattle.geom.specs.Decimal.{digit_count}
+use Rattle.geom.specs.Number.{world_number, count_of}
 use Rattle.geom.specs.World.{Area}
-use Rattle.geom.specs.declared.micro.NumberFault.{NumberFault}
 use Rattle.mapdefs.specs.declared.map.MapFields.{MapFields}
 use Rattle.mapdefs.specs.Name.{place_of}
 use Rattle.viewport.specs.View.{ViewValue}
+use Rattle.viewport.specs.declared.view.TheConstants.{MAX_SIDE}
 use Rattle.mapmachine.specs.declared.query.Parameter.{Parameter}
 
 -- a request for a picture: of one layer, by its place in the map, in a view
@@ -39,15 +40,6 @@ are_fixed parameters =
 abbrev pub is_comma : ℕ → Bool
 is_comma b = b == 44
 
--- the number of a number that could be read
-abbrev pub ok_number : Result ℤ NumberFault → Option ℤ
-ok_number (Ok number) = Some number
-ok_number (Err fault) = None
-
--- the number of the world that a text means
-abbrev pub world_number : List ℕ → Option ℤ
-world_number text = ok_number (reading text 1000000000)
-
 -- the number before the first comma
 abbrev pub first_number : List ℕ → Option ℤ
 first_number text = world_number (before_first is_comma text)
@@ -72,15 +64,13 @@ area_of text =
 
 -- a number of pixels that a picture may have as a side
 abbrev pub side_within : ℤ → Option ℕ
-side_within (pos n) = if nat_le 1 n && nat_le n 2048 then Some n else None
+side_within (pos n) = if nat_le 1 n && nat_le n MAX_SIDE then Some n else None
 side_within (negsuc n) = None
 
 -- the side that a text of digits alone means
 abbrev pub side_of : List ℕ → Option ℕ
 side_of text =
-    if digit_count text == length text
-    then option_and_then (λ number. side_within (whole_of number)) (ok_number (reading text 2048000000))
-    else None
+    if digit_count text == length text then option_and_then side_within (count_of text) else None
 
 -- the request for a layer, an area and two sides, if all are there
 abbrev pub request_for : Option ℕ → Option Area → Option ℕ → Option ℕ → Option RequestValue

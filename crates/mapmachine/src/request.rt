@@ -2,18 +2,16 @@ ghost use Rattle.std.specs.Prelude.{◌≡◌, ◌<◌, ◌≤◌, length, Some,
 ghost use Rattle.std.specs.Option.{option_and_then, option_copied};
 ghost use Rattle.std.specs.List.{before_first, position_or_len};
 ghost use Rattle.geom.specs.Decimal.{digit_count};
+ghost use Rattle.geom.specs.Number.{world_number};
 ghost use Rattle.geom.specs.World.{IsExtent, IsWorldNumber};
-ghost use Rattle.mapmachine.specs.Request.{value_at, is_at, are_fixed, is_comma, world_number, first_number, behind_comma, box_of, area_of, side_within, side_of, request_of};
+ghost use Rattle.mapmachine.specs.Request.{value_at, is_at, are_fixed, is_comma, first_number, behind_comma, box_of, area_of, side_within, side_of, request_of};
 ghost use Rattle.mapdefs.specs.Name.{place_of};
 
 use crate::query::Parameter;
-use geom::{Micro, WORLD_LIMIT, WorldBox};
+use geom::{Micro, NUMBER_LIMIT, WORLD_LIMIT, WorldBox};
 use mapdefs::Map;
 use std::marker::Model;
 use viewport::{MAX_SIDE, View};
-
-/// The greatest side of a picture, in millionths of a pixel, as sides are read.
-const SIDE_LIMIT: u64 = 2_048_000_000;
 
 /// A request for a picture.
 #[derive(Clone, Copy, Debug, PartialEq, Eq)]
@@ -180,7 +178,7 @@ fn side_of(text: &[u8]) -> Option<u16>
     if digit_count(text) < text.len() {
         return None;
     }
-    side_within(Micro::read(text, SIDE_LIMIT).ok()?.whole())
+    side_within(Micro::read(text, NUMBER_LIMIT).ok()?.whole())
 }
 
 // The place of the layer that the parameter of the layers names.

@@ -4,7 +4,7 @@ use Rattle.std.specs.Char.{digit_value}
 use Rattle.mapdefs.specs.declared.colour.Rgb.{Rgb}
 use Rattle.mapparse.specs.declared.colour.Shade.{Shade}
 use Rattle.mapparse.specs.declared.colour.Shade.TheVariants.{Level, Absent}
-use Rattle.mapparse.specs.Number.{count_of}
+use Rattle.geom.specs.Number.{count_of}
 
 -- a count from 0 to 255 is a level, and -1 says that there is no colour
 abbrev pub shade_of_count : ℤ → Option Shade

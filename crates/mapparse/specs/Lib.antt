@@ -6,7 +6,6 @@ pub mod Fault
 pub mod Keyword
 pub mod Mapping
 pub mod Meaning
-pub mod Number
 pub mod Parsed
 pub mod Parts
 pub mod Says

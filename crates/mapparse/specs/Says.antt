@@ -17,7 +17,7 @@ use Rattle.mapparse.specs.declared.draft.Drafts.{Drafts}
 use Rattle.mapparse.specs.declared.fault.ParseKind.TheVariants.{UnknownWord, WrongValue, MissingValue, Limit}
 use Rattle.mapparse.specs.Fault.{Fault, refused, and_then}
 use Rattle.mapparse.specs.Keyword.{keyword_at, is_end}
-use Rattle.mapparse.specs.Number.{world_number}
+use Rattle.geom.specs.Number.{world_number}
 use Rattle.mapparse.specs.Table.{takes_of}
 use Rattle.mapparse.specs.Value.{value_step}
 use Rattle.mapparse.specs.Parts.{vertex_count, with_vertex}

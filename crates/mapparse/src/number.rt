@@ -1,5 +1,5 @@
 ghost use Rattle.std.specs.Prelude.{◌≡◌};
-ghost use Rattle.mapparse.specs.Number.{world_number, count_of};
+ghost use Rattle.geom.specs.Number.{world_number, count_of};
 
 use geom::{Micro, NUMBER_LIMIT, WORLD_LIMIT};
 use std::marker::Model;
