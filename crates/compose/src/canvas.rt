@@ -3,7 +3,8 @@ ghost use Rattle.compose.specs.Paint.{Fill};
 ghost use Rattle.compose.specs.Painted.{AreFilled, IsPaintedWithin};
 
 use crate::polygon::Polygon;
-use mapdefs::{Items, MAX_PICTURE_SIDE, Picture, PictureFields, Rgb};
+use geom::MAX_PICTURE_SIDE;
+use mapdefs::{Items, Picture, PictureFields, Rgb};
 use std::alloc::{AllocError, Global};
 use std::marker::Model;
 

@@ -1,5 +1,6 @@
 -- Places and boxes of the world (docs/MAPFILE.md, "Numbers").
 use Rattle.std.specs.Prelude.{ℤ, ◌<ℤ◌}
+use Rattle.geom.specs.declared.micro.TheConstants.{WORLD_LIMIT}
 use Rattle.geom.specs.Range.{IsWithin}
 
 -- a point of the world, in millionths of a degree: longitude and latitude
@@ -16,7 +17,7 @@ pub record Area : Type 0 where
 
 -- a number of the world: at most 1,000 degrees on either side
 abbrev pub IsWorldNumber : ℤ → Type 0
-IsWorldNumber z = IsWithin 1000000000 z
+IsWorldNumber z = IsWithin WORLD_LIMIT z
 
 -- both coordinates are numbers of the world
 pub record IsPlace (p : Place) : Type 0 where

@@ -3,6 +3,9 @@ ghost use Rattle.geom.specs.Range.{IsBelow};
 
 use std::marker::Model;
 
+/// The most pixels on a side of a picture.
+pub const MAX_PICTURE_SIDE: u16 = 2_048;
+
 /// A device point: a point of the picture, in sixteenths of a pixel from the upper left corner, to
 /// the right and down. Both coordinates have sizes below 2^47.
 #[derive(Clone, Copy, Debug, PartialEq, Eq)]

@@ -16,7 +16,7 @@ pub mod laws;
 mod micro;
 mod world;
 
-pub use device::{Device, Pixel};
+pub use device::{Device, MAX_PICTURE_SIDE, Pixel};
 pub use edge::Edge;
 pub use micro::{Micro, NUMBER_LIMIT, NumberFault, WORLD_LIMIT};
 pub use world::{World, WorldBox};

@@ -1,8 +1,9 @@
 -- The sides of pictures and of pixmaps (docs/PROFILE.md, "Limits").
 use Rattle.std.specs.Prelude.{◌≡◌, ◌*◌, ◌≤◌, length}
+use Rattle.geom.specs.declared.device.TheConstants.{MAX_PICTURE_SIDE}
 use Rattle.mapdefs.specs.declared.picture.PictureFields.{PictureFields}
 use Rattle.mapdefs.specs.declared.symbol.PixmapFields.{PixmapFields}
-use Rattle.mapdefs.specs.declared.limits.TheConstants.{MAX_PICTURE_SIDE, MAX_SYMBOL_SIDE}
+use Rattle.mapdefs.specs.declared.limits.TheConstants.{MAX_SYMBOL_SIDE}
 
 -- the sides are within the limits, and each pixel has a colour
 pub record IsPictureWithinLimits (p : PictureFields) : Type 0 where

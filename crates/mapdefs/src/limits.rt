@@ -48,6 +48,3 @@ pub const MAX_GLYPH_SIDE: u8 = 64;
 
 /// The most glyphs of a font.
 pub const MAX_GLYPHS: usize = 65_536;
-
-/// The greatest side of a picture, in pixels.
-pub const MAX_PICTURE_SIDE: u16 = 2_048;

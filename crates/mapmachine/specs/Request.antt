@@ -3,13 +3,13 @@ use Rattle.std.specs.Prelude.{ℕ, ◌==◌, ◌&&◌, Bool, false, nat_eq, nat_
 use Rattle.std.specs.Option.{option_and_then, option_map_or}
 use Rattle.std.specs.List.{before_first, after_first}
 use Rattle.std.specs.Cmp.Lexicographic.{pointwise}
+use Rattle.geom.specs.declared.device.TheConstants.{MAX_PICTURE_SIDE}
 use Rattle.geom.specs.Decimal.{digit_count}
 use Rattle.geom.specs.Number.{world_number, count_of}
 use Rattle.geom.specs.World.{Area}
 use Rattle.mapdefs.specs.declared.map.MapFields.{MapFields}
 use Rattle.mapdefs.specs.Name.{place_of}
 use Rattle.viewport.specs.View.{ViewValue}
-use Rattle.viewport.specs.declared.view.TheConstants.{MAX_SIDE}
 use Rattle.mapmachine.specs.declared.query.Parameter.{Parameter}
 
 -- a request for a picture: of one layer, by its place in the map, in a view
@@ -64,7 +64,7 @@ area_of text =
 
 -- a number of pixels that a picture may have as a side
 abbrev pub side_within : ℤ → Option ℕ
-side_within (pos n) = if nat_le 1 n && nat_le n MAX_SIDE then Some n else None
+side_within (pos n) = if nat_le 1 n && nat_le n MAX_PICTURE_SIDE then Some n else None
 side_within (negsuc n) = None
 
 -- the side that a text of digits alone means

@@ -8,10 +8,10 @@ ghost use Rattle.mapmachine.specs.Request.{value_at, is_at, are_fixed, is_comma,
 ghost use Rattle.mapdefs.specs.Name.{place_of};
 
 use crate::query::Parameter;
-use geom::{Micro, NUMBER_LIMIT, WORLD_LIMIT, WorldBox};
+use geom::{MAX_PICTURE_SIDE, Micro, NUMBER_LIMIT, WORLD_LIMIT, WorldBox};
 use mapdefs::Map;
 use std::marker::Model;
-use viewport::{MAX_SIDE, View};
+use viewport::View;
 
 /// A request for a picture.
 #[derive(Clone, Copy, Debug, PartialEq, Eq)]
@@ -161,9 +161,9 @@ fn digit_count(text: &[u8]) -> usize
 fn side_within(number: i64) -> Option<u16>
     ensures value { result ≡ side_within number }
     ensures some { IfSome result (λ side. 1 ≤ side) }
-    ensures most { IfSome result (λ side. side ≤ MAX_SIDE) }
+    ensures most { IfSome result (λ side. side ≤ MAX_PICTURE_SIDE) }
 {
-    if number < 1 || number > i64::from(MAX_SIDE) {
+    if number < 1 || number > i64::from(MAX_PICTURE_SIDE) {
         return None;
     }
     Some(number as u16)
@@ -173,7 +173,7 @@ fn side_within(number: i64) -> Option<u16>
 fn side_of(text: &[u8]) -> Option<u16>
     ensures value { result ≡ side_of text.now }
     ensures some { IfSome result (λ side. 1 ≤ side) }
-    ensures most { IfSome result (λ side. side ≤ MAX_SIDE) }
+    ensures most { IfSome result (λ side. side ≤ MAX_PICTURE_SIDE) }
 {
     if digit_count(text) < text.len() {
         return None;
@@ -201,7 +201,7 @@ fn area_parameter(parameters: &[Parameter]) -> Option<WorldBox>
 fn side_parameter(parameters: &[Parameter], place: usize, name: &str) -> Option<u16>
     ensures value { result ≡ option_and_then side_of (value_at parameters.now place name.now) }
     ensures some { IfSome result (λ side. 1 ≤ side) }
-    ensures most { IfSome result (λ side. side ≤ MAX_SIDE) }
+    ensures most { IfSome result (λ side. side ≤ MAX_PICTURE_SIDE) }
 {
     side_of(value_at(parameters, place, name)?.as_bytes())
 }

@@ -12,4 +12,4 @@
 pub mod laws;
 mod view;
 
-pub use view::{MAX_SIDE, View};
+pub use view::View;

@@ -4,14 +4,11 @@ ghost use Rattle.geom.specs.Range.{IsBelow};
 ghost use Rattle.geom.specs.World.{IsWorldNumber, IsExtent};
 ghost use Rattle.viewport.specs.View.{sixteenths};
 
-use geom::{Device, Micro, Pixel, World, WorldBox};
+use geom::{Device, MAX_PICTURE_SIDE, Micro, Pixel, World, WorldBox};
 use std::marker::Model;
 
-/// The greatest side of a picture, in pixels.
-pub const MAX_SIDE: u16 = 2_048;
-
 /// A view: the part of the world that is shown, and the sides of the picture that shows it. The area
-/// is an extent of the world, and each side has 1 to `MAX_SIDE` pixels.
+/// is an extent of the world, and each side has 1 to `MAX_PICTURE_SIDE` pixels.
 #[derive(Clone, Copy, Debug, PartialEq, Eq)]
 pub struct View {
     area: WorldBox,
@@ -38,9 +35,9 @@ impl View {
     pub fn new(area: WorldBox, width: u16, height: u16) -> Self
         requires extent { IsExtent area }
         requires some_columns { 1 ≤ width }
-        requires columns { width ≤ MAX_SIDE }
+        requires columns { width ≤ MAX_PICTURE_SIDE }
         requires some_rows { 1 ≤ height }
-        requires rows { height ≤ MAX_SIDE }
+        requires rows { height ≤ MAX_PICTURE_SIDE }
         ensures { result ≡ record { area = area; width = width; height = height } }
     {
         View {
@@ -126,7 +123,7 @@ fn difference(a: Micro, b: Micro) -> i64
 // How far a part is of the whole, in sixteenths of a pixel, rounded down.
 #[tactic(auto, unfolding(crate::specs::View::sixteenths))]
 fn sixteenths(pixels: u16, part: i64, whole: i64) -> i64
-    requires pixels { pixels ≤ MAX_SIDE }
+    requires pixels { pixels ≤ MAX_PICTURE_SIDE }
     requires part { IsBelow (2 ^ 31) part }
     requires whole { pos 0 <ℤ whole }
     ensures value { result ≡ sixteenths pixels part whole }
@@ -167,7 +164,11 @@ mod tests {
     fn dot() -> View {
         let low = Micro::new(0);
         let high = Micro::new(1);
-        View::new(WorldBox::new(low, low, high, high), MAX_SIDE, MAX_SIDE)
+        View::new(
+            WorldBox::new(low, low, high, high),
+            MAX_PICTURE_SIDE,
+            MAX_PICTURE_SIDE,
+        )
     }
 
     // A place, its device point and its pixel, worked by hand: in the square 16 sixteenths are a
