@@ -1,10 +1,10 @@
 -- The requests that are read of a query (docs/PROFILE.md, "Queries"; OGC 06-042, 7.3).
 use Rattle.std.specs.Prelude.{ℕ, ◌==◌, ◌&&◌, Bool, false, nat_eq, nat_le, if◌then◌else◌, List, [], length, slice_get, ℤ, pos, negsuc, int_lt, Option, None, Some, codes}
 use Rattle.std.specs.Option.{option_and_then, option_map_or}
-use Rattle.std.specs.List.{before_first, after_first}
+use Rattle.std.specs.Char.{is_ascii_digit}
+use Rattle.std.specs.List.{before_first, after_first, list_all}
 use Rattle.std.specs.Cmp.Lexicographic.{pointwise}
 use Rattle.geom.specs.declared.device.TheConstants.{MAX_PICTURE_SIDE}
-use Rattle.geom.specs.Decimal.{digit_count}
 use Rattle.geom.specs.Number.{world_number, count_of}
 use Rattle.geom.specs.World.{Area}
 use Rattle.mapdefs.specs.declared.map.MapFields.{MapFields}
@@ -70,7 +70,7 @@ side_within (negsuc n) = None
 -- the side that a text of digits alone means
 abbrev pub side_of : List ℕ → Option ℕ
 side_of text =
-    if digit_count text == length text then option_and_then side_within (count_of text) else None
+    if list_all is_ascii_digit text then option_and_then side_within (count_of text) else None
 
 -- the request for a layer, an area and two sides, if all are there
 abbrev pub request_for : Option ℕ → Option Area → Option ℕ → Option ℕ → Option RequestValue

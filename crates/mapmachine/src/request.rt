@@ -1,7 +1,7 @@
 ghost use Rattle.std.specs.Prelude.{◌≡◌, ◌<◌, ◌≤◌, length, Some, IfSome, codes};
 ghost use Rattle.std.specs.Option.{option_and_then, option_copied};
-ghost use Rattle.std.specs.List.{before_first, position_or_len};
-ghost use Rattle.geom.specs.Decimal.{digit_count};
+ghost use Rattle.std.specs.Char.{is_ascii_digit};
+ghost use Rattle.std.specs.List.{before_first, list_all};
 ghost use Rattle.geom.specs.Number.{world_number};
 ghost use Rattle.geom.specs.World.{IsExtent, IsWorldNumber};
 ghost use Rattle.mapmachine.specs.Request.{value_at, is_at, are_fixed, is_comma, first_number, behind_comma, box_of, area_of, side_within, side_of, request_of};
@@ -80,37 +80,20 @@ fn are_fixed(parameters: &[Parameter]) -> bool
         && is_at(parameters, 8, "FORMAT", "image/x-portable-pixmap")
 }
 
-// How many bytes stand before the first comma.
-fn comma_place(text: &[u8]) -> usize
-    ensures place { result ≡ position_or_len is_comma text.now }
-    ensures within { result ≤ length text.now }
-{
-    for (place, byte) in text.iter().enumerate() {
-        if *byte == b',' {
-            return place;
-        }
-    }
-    text.len()
-}
-
 // What stands before the first comma, and behind it.
-fn split_comma(text: &[u8]) -> (&[u8], &[u8])
+fn split_comma(text: &str) -> (&str, &str)
     ensures before { result.0.now ≡ before_first is_comma text.now }
     ensures behind { result.1.now ≡ behind_comma text.now }
 {
-    let (before, rest) = text.split_at(comma_place(text));
-    match rest {
-        [] => (before, rest),
-        [_, behind @ ..] => (before, behind),
-    }
+    text.split_once(',').unwrap_or((text, ""))
 }
 
 // The number of the world that a text means.
-fn world_number(text: &[u8]) -> Option<Micro>
+fn world_number(text: &str) -> Option<Micro>
     ensures value { result ≡ world_number text.now }
     ensures within { IfSome result IsWorldNumber }
 {
-    Micro::read(text, WORLD_LIMIT).ok()
+    Micro::read(text.as_bytes(), WORLD_LIMIT).ok()
 }
 
 // The box of four numbers, if it has an area.
@@ -130,7 +113,7 @@ fn box_of(minx: Micro, miny: Micro, maxx: Micro, maxy: Micro) -> Option<WorldBox
 }
 
 // The box of four numbers between commas.
-fn area_of(text: &[u8]) -> Option<WorldBox>
+fn area_of(text: &str) -> Option<WorldBox>
     ensures value { result ≡ area_of text.now }
     ensures extent { IfSome result IsExtent }
 {
@@ -145,18 +128,6 @@ fn area_of(text: &[u8]) -> Option<WorldBox>
     )
 }
 
-// How many digits stand at the front of a text.
-fn digit_count(text: &[u8]) -> usize
-    ensures { result ≡ digit_count text.now }
-{
-    for (place, byte) in text.iter().enumerate() {
-        if !byte.is_ascii_digit() {
-            return place;
-        }
-    }
-    text.len()
-}
-
 // A number of pixels that a picture may have as a side.
 fn side_within(number: i64) -> Option<u16>
     ensures value { result ≡ side_within number }
@@ -169,13 +140,21 @@ fn side_within(number: i64) -> Option<u16>
     Some(number as u16)
 }
 
+// Whether there are only digits.
+fn are_digits(text: &[u8]) -> bool
+    ensures { result ≡ list_all is_ascii_digit text.now }
+{
+    text.iter().all(|byte| byte.is_ascii_digit())
+}
+
 // The side that a text of digits alone means.
-fn side_of(text: &[u8]) -> Option<u16>
+fn side_of(text: &str) -> Option<u16>
     ensures value { result ≡ side_of text.now }
     ensures some { IfSome result (λ side. 1 ≤ side) }
     ensures most { IfSome result (λ side. side ≤ MAX_PICTURE_SIDE) }
 {
-    if digit_count(text) < text.len() {
+    let text = text.as_bytes();
+    if !are_digits(text) {
         return None;
     }
     side_within(Micro::read(text, NUMBER_LIMIT).ok()?.whole())
@@ -194,7 +173,7 @@ fn area_parameter(parameters: &[Parameter]) -> Option<WorldBox>
     ensures value { result ≡ option_and_then area_of (value_at parameters.now 5 (codes "BBOX")) }
     ensures extent { IfSome result IsExtent }
 {
-    area_of(value_at(parameters, 5, "BBOX")?.as_bytes())
+    area_of(value_at(parameters, 5, "BBOX")?)
 }
 
 // The side that the parameter at a place says, which has this name.
@@ -203,7 +182,7 @@ fn side_parameter(parameters: &[Parameter], place: usize, name: &str) -> Option<
     ensures some { IfSome result (λ side. 1 ≤ side) }
     ensures most { IfSome result (λ side. side ≤ MAX_PICTURE_SIDE) }
 {
-    side_of(value_at(parameters, place, name)?.as_bytes())
+    side_of(value_at(parameters, place, name)?)
 }
 
 /// The request that the parameters of a query make of the map; none where they make no other than
@@ -249,7 +228,7 @@ mod tests {
     #[test]
     fn sides_are_digits_within_the_limit(rt: HostRuntime) {
         for (text, side) in SIDES {
-            assert_eq!(rt; side_of(text.as_bytes()), side, "{text:?}");
+            assert_eq!(rt; side_of(text), side, "{text:?}");
         }
     }
 
@@ -275,7 +254,7 @@ mod tests {
     #[test]
     fn boxes_are_four_numbers_with_an_area(rt: HostRuntime) {
         for (text, sides) in BOXES {
-            let found = area_of(text.as_bytes()).map(|area| {
+            let found = area_of(text).map(|area| {
                 (
                     area.minx().millionths(),
                     area.miny().millionths(),
