@@ -1,9 +1,13 @@
 -- Texts that go out one behind the other.
-use Rattle.std.proofs.Common.{ℕ, ◌+◌, List, ◌++◌, Option, length, take, arith, length-append}
-use Rattle.std.proofs.KnownBytes.{Appends-trans}
+use Rattle.std.proofs.Common.{ℕ, ◌+◌, List, [], ◌++◌, Option, length, take, refl, arith, length-append}
+use Rattle.std.proofs.KnownBytes.{Appends-nil, Appends-trans}
 use Rattle.std.proofs.lemmas.List.{take-append-le}
 use Rattle.std.proofs.Math.Seq.{take-append-add}
 use Rattle.mapservd.specs.Sent.{IsSent, IsPartlySent}
+
+-- nothing went out of the empty text
+pub nothing-sent : (a : Option (List ℕ)) → IsSent a a [] 0 0
+nothing-sent a = record { bytes = Appends-nil a; count = refl }
 
 -- a text and then another went out: both did
 pub sent-sent : (a b c : Option (List ℕ)) (s t : List ℕ) (n m k : ℕ) → IsSent a b s n m → IsSent b c t m k → IsSent a c (s ++ t) n k
@@ -16,8 +20,8 @@ sent-sent a b c s t n m k first second = record {
 pub partly-more : (a b : Option (List ℕ)) (s t : List ℕ) (n m : ℕ) → IsPartlySent a b s n m → IsPartlySent a b (s ++ t) n m
 partly-more a b s t n m p = record {
   part = p.part;
-  within = omega (arith, p.within, length-append s t);
-  bytes = rw (take-append-le p.part s t p.within) p.bytes;
+  short = omega (arith, p.short, length-append s t);
+  bytes = rw (take-append-le p.part s t (omega (arith, p.short))) p.bytes;
   count = p.count;
 }
 
@@ -25,7 +29,7 @@ partly-more a b s t n m p = record {
 pub sent-partly : (a b c : Option (List ℕ)) (s t : List ℕ) (n m k : ℕ) → IsSent a b s n m → IsPartlySent b c t m k → IsPartlySent a c (s ++ t) n k
 sent-partly a b c s t n m k first p = record {
   part = length s + p.part;
-  within = omega (arith, p.within, length-append s t);
+  short = omega (arith, p.short, length-append s t);
   bytes = rw (take-append-add s t p.part) (Appends-trans a b c s (take p.part t) first.bytes p.bytes);
   count = omega (arith, first.count, p.count);
 }

@@ -1,5 +1,5 @@
 -- What a session writes (docs/PROFILE.md, "Sessions").
-use Rattle.std.specs.Prelude.{◌≡◌, ℕ, ◌+◌, ◌≤◌, Bool, true, ◌&&◌, nat_eq, if◌then◌else◌, List, [], ◌∷◌, length, take, drop, Option, Result, Ok, Err, codes}
+use Rattle.std.specs.Prelude.{◌≡◌, ℕ, ◌+◌, Bool, true, ◌&&◌, nat_eq, if◌then◌else◌, List, [], ◌∷◌, ◌++◌, length, take, drop, Option, Result, Ok, Err, codes}
 use Rattle.std.specs.List.{before_first}
 use Rattle.std.specs.Cmp.Lexicographic.{pointwise}
 use Rattle.std.specs.Io.KnownBytes.{Appends}
@@ -16,7 +16,7 @@ pub record IsReplied (old : State) (event : Event) (new : State) (a b : Option (
   pub step : Steps old event reply new
   pub sent : IsSent a b (reply_text reply) before after
 
--- an event had a reply, of which a part went out
+-- an event had a reply, of which only the front went out
 pub record IsPartlyReplied (old : State) (event : Event) (new : State) (a b : Option (List ℕ)) (before after : ℕ) : Type 0 where
   pub reply : Reply
   pub step : Steps old event reply new
@@ -48,12 +48,32 @@ pub record HasPlayed (old : State) (script : List ℕ) (new : State) (before aft
   pub transcript : IsTranscript old script new text
   pub bytes : Appends before after text
 
--- exactly the first so many bytes of a transcript of the script went out
-pub record HasPartlyPlayed (old : State) (script : List ℕ) (new : State) (before after : Option (List ℕ)) (written : ℕ) : Type 0 where
+-- the events before one were played, and then this one, of whose reply only the front went out: so many bytes in all
+pub record HasStopped (old : State) (events : List Event) (new : State) (before after : Option (List ℕ)) (written : ℕ) : Type 0 where
+  pub done : List Event
+  pub event : Event
+  pub left : List Event
+  pub parts : events ≡ done ++ (event ∷ left)
+  pub middle : State
   pub text : List ℕ
-  pub transcript : IsTranscript old script new text
-  pub within : written ≤ length text
-  pub bytes : Appends before after (take written text)
+  pub played : IsPlayed old done middle text
+  pub held : Option (List ℕ)
+  pub bytes : Appends before held text
+  pub partly : IsPartlyReplied middle event new held after (length text) written
+
+-- nothing was played, and only the front of a script's fault went out
+pub record HasPartlyRefused (number : ℕ) (old new : State) (before after : Option (List ℕ)) (written : ℕ) : Type 0 where
+  pub state : new ≡ old
+  pub partly : IsPartlySent before after (script_fault number) 0 written
+
+-- where writing stopped, by what was read as a script
+abbrev pub HasStoppedIn : State → Result (List Event) ℕ → State → Option (List ℕ) → Option (List ℕ) → ℕ → Type 0
+HasStoppedIn old (Ok events) new before after written = HasStopped old events new before after written
+HasStoppedIn old (Err number) new before after written = HasPartlyRefused number old new before after written
+
+-- exactly the first so many bytes of what playing the script writes went out, and not all
+abbrev pub HasPartlyPlayed : State → List ℕ → State → Option (List ℕ) → Option (List ℕ) → ℕ → Type 0
+HasPartlyPlayed old script new before after written = HasStoppedIn old (script_of script) new before after written
 
 -- a line of exactly two percent signs stands at the front
 abbrev pub is_parting : List ℕ → Bool

@@ -8,7 +8,8 @@ use mapmachine::{Event, Machine, Sink, WriteFault};
 
 /// Plays a script on the machine, and writes the transcript of its replies; of an unreadable script it
 /// plays nothing and writes the fault. The error is that the writer failed: exactly the first `written`
-/// bytes of the transcript went out, and the machine stands where it stood then.
+/// bytes of what there was to write went out, and not all of them. The machine stands behind the event
+/// whose reply they end in, and played none after it.
 ///
 /// It takes no memory but in the machine.
 pub fn play<S: Sink>(machine: &mut Machine, script: &[u8], sink: &mut S) -> Result<(), WriteFault>

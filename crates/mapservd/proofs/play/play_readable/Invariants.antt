@@ -1,5 +1,5 @@
 use Rattle.std.proofs.Common.{◌≡◌, ℕ, ◌+◌, ◌*◌, ◌^◌, ◌≤◌, List, ◌++◌, Ok, length}
-use Rattle.mapmachine.specs.Machine.{State, Runs}
+use Rattle.mapmachine.specs.Machine.{Runs}
 use Rattle.mapmachine.specs.declared.reply.Event.{Event}
 use Rattle.mapmachine.specs.declared.reply.Reply.{Reply}
 use Rattle.mapservd.specs.Script.{script_of}
@@ -8,17 +8,17 @@ use Rattle.mapservd.specs.Transcript.{transcript}
 use Rattle.mapservd.proofs.ScriptSteps.{script_from}
 use Rattle.mapservd.proofs.play.play_readable.Given as goal
 
--- the events of the script, those that are left, and the replies so far: a run over what is left, behind them, is a run
--- over all; and they went out
+-- the events of the script that were played, and those that are left; the replies to the first led to the machine's
+-- state, and they went out
 abbrev pub invariant-loop-event : goal.invariant-loop-event
 invariant-loop-event g l = record {
-  events : List Event;
-  all : script_of l.script ≡ Ok events;
-  number : ℕ;
+  done : List Event;
   left : List Event;
+  all : script_of l.script ≡ Ok (done ++ left);
+  number : ℕ;
   reads : script_from number l.rest ≡ Ok left;
   replies : List Reply;
-  run : (more : List Reply) (new : State) → Runs l.machine left more new → Runs l.fn.machine events (replies ++ more) new;
+  run : Runs l.fn.machine done replies l.machine;
   sent : IsSent (g.S.Sink.held l.fn.sink) (g.S.Sink.held l.sink) (transcript replies) 0 l.written;
   flag : g.S.Sink.put_failed l.sink ≡ g.S.Sink.put_failed l.fn.sink;
   room : 7 * l.written + 2 ^ 66 * length l.rest ≤ 2 ^ 66 * length l.script;
