@@ -102,6 +102,13 @@ impl Drafts {
         }
     }
 
+    /// The map, as it has been said.
+    pub fn into_map(self) -> MapTree
+        ensures { result ≡ self.map }
+    {
+        self.map
+    }
+
     /// Notes a value of a line, in place of an earlier one of its word.
     pub fn set(&mut self, value: Value, line: u64)
         ensures { self.new ≡ sets value line self.old }

@@ -71,7 +71,7 @@ impl Reader {
         } = self;
         match tail {
             Tail::Ends(_) => match contexts.pop() {
-                None => Ok(drafts.map),
+                None => Ok(drafts.into_map()),
                 Some(_) => Err(missing(tail)),
             },
             Tail::Breaks(_) => Err(missing(tail)),
