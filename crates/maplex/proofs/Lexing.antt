@@ -156,6 +156,10 @@ at_front-line n p (Gives t next) fits = sym fits.0
 pub lexed_from-line : (p : Place) → gap_len false p.rest ≡ 0 → IsOnLine (lexed_from p).tokens (lexed_from p).tail p.line
 lexed_from-line p gapless = rw (lexed_from-front p gapless) (at_front-line (length p.rest) p (front p) (front-fits p))
 
+-- of what is lexed from a place behind its gap
+pub on-line : (left : Lexed) (p : Place) (line : ℕ) → line ≡ p.line → lexed_from p ≡ left → gap_len false p.rest ≡ 0 → IsOnLine left.tokens left.tail line
+on-line left p line is seen gapless = rw (is, ← seen) (lexed_from-line p gapless)
+
 -- at the end that is the line of the end
 pub ended-line : (left : Lexed) (line : ℕ) → IsOnLine left.tokens left.tail line → HasEnded left → left ≡ stopped (Ends line)
 ended-line left line on ended = ended.at_end ∙ ap (λ n. stopped (Ends n)) (sym (rw ended.at_end at on))
