@@ -41,8 +41,9 @@ struct Sketch<'a> {
     // at most four, with at most eight vertices each
     rings: &'a [&'a [Vertex]],
     colours: [Option<Rgb>; 2],
-    // the bound on the scale of the class
+    // the bounds on the scale of the class and of the layer
     max: Option<Micro>,
+    layer_max: Option<Micro>,
 }
 
 // A layer of one polygon in one colour.
@@ -52,6 +53,7 @@ fn filled<'a>(rings: &'a [&'a [Vertex]], colour: Rgb) -> Sketch<'a> {
         rings,
         colours: [Some(colour), None],
         max: None,
+        layer_max: None,
     }
 }
 
@@ -135,7 +137,7 @@ fn layer(alloc: Global, sketch: Sketch) -> Result<Layer, AllocError>
         queryable: false,
         tolerance: 0,
         min: None,
-        max: None,
+        max: sketch.layer_max,
         classes,
         features,
     }))
@@ -310,30 +312,52 @@ fn later_layers_lie_over_earlier_ones(rt: HostRuntime) -> Result<(), Fail> {
     Ok(())
 }
 
-// The kind of a layer, the colours of its styles, a bound on its class, and the square in the middle.
-const STYLES: [(Kind, [Option<Rgb>; 2], Option<i64>, &str); 6] = [
+// The kind of a layer, the colours of its styles, the bounds on its class and on itself, and the square
+// in the middle.
+const STYLES: [(Kind, [Option<Rgb>; 2], [Option<i64>; 2], &str); 7] = [
     (
         Kind::Polygon,
         [Some(RED), Some(BLUE)],
-        None,
+        [None, None],
         ".... .oo. .oo. ....",
     ),
     (
         Kind::Polygon,
         [None, Some(RED)],
-        None,
+        [None, None],
         ".... .##. .##. ....",
     ),
-    (Kind::Polygon, [None, None], None, ".... .... .... ...."),
+    (
+        Kind::Polygon,
+        [None, None],
+        [None, None],
+        ".... .... .... ....",
+    ),
     // not painted yet
     (
         Kind::Polygon,
         [Some(RED), None],
-        Some(1_000_000),
+        [Some(1_000_000), None],
         ".... .... .... ....",
     ),
-    (Kind::Line, [Some(RED), None], None, ".... .... .... ...."),
-    (Kind::Point, [Some(RED), None], None, ".... .... .... ...."),
+    (
+        Kind::Polygon,
+        [Some(RED), None],
+        [None, Some(1_000_000)],
+        ".... .... .... ....",
+    ),
+    (
+        Kind::Line,
+        [Some(RED), None],
+        [None, None],
+        ".... .... .... ....",
+    ),
+    (
+        Kind::Point,
+        [Some(RED), None],
+        [None, None],
+        ".... .... .... ....",
+    ),
 ];
 
 #[test]
@@ -350,12 +374,13 @@ fn background_is_seen_where_nothing_is_painted(rt: HostRuntime) -> Result<(), Fa
 #[test]
 fn styles_paint_in_order(rt: HostRuntime) -> Result<(), Fail> {
     let alloc = rt.alloc();
-    for (kind, colours, max, rows) in STYLES {
+    for (kind, colours, [max, layer_max], rows) in STYLES {
         let sketch = Sketch {
             kind,
             rings: MIDDLE,
             colours,
             max: max.map(Micro::new),
+            layer_max: layer_max.map(Micro::new),
         };
         let map = map_of_one(alloc, layer(alloc, sketch)?)?;
         let drawn = draw(alloc, &map, &[0], WHITE)?;

@@ -87,6 +87,26 @@ fn sessions_draw_their_pictures(rt: HostRuntime) -> Result<(), Fail> {
     Ok(())
 }
 
+// A layer with the square and two classes, the second of which would paint it blue.
+const TWO_CLASSES: &str =
+    "MAP LAYER NAME 'a' TYPE POLYGON CLASS STYLE COLOR 255 0 0 END END CLASS STYLE COLOR 0 0 255 END END FEATURE POINTS 1 1 3 1 3 3 1 3 END END END END";
+
+const WIDE_QUERY: &str =
+    "QUERY VERSION=1.3.0&REQUEST=GetMap&LAYERS=a&STYLES=&CRS=CRS:84&BBOX=0,0,4,4&WIDTH=4&HEIGHT=2&FORMAT=image/x-portable-pixmap\n";
+
+// The picture in 4 by 2 pixels, worked by hand. The middles of its rows are at the heights of the
+// square's upper and lower side: the upper side covers them, the lower one doesn't.
+const WIDE_TEXT: &str = "ANSWER image/x-portable-pixmap 35\n\
+50360a3420320a3235350affffffff0000ff0000ffffffffffffffffffffffff\n\
+ffffff\n";
+
+#[test]
+fn pictures_have_the_sides_that_are_asked_for(rt: HostRuntime) -> Result<(), Fail> {
+    let text = played(rt.alloc(), TWO_CLASSES, WIDE_QUERY)?;
+    assert_eq!(rt; text.as_slice(), WIDE_TEXT.as_bytes());
+    Ok(())
+}
+
 // Scripts, and what is written of them.
 const SCRIPTS: [(&str, &str); 10] = [
     ("", ""),
