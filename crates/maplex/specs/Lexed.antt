@@ -3,32 +3,32 @@ use Rattle.std.specs.Prelude.{◌≡◌, ℕ, zero, suc, ◌+◌, ◌≤◌, Lis
 use Rattle.maplex.specs.declared.fault.Tail.{Tail}
 use Rattle.maplex.specs.declared.fault.Tail.TheVariants.{Ends, Breaks}
 use Rattle.maplex.specs.declared.token.TheConstants.{TOKEN_LIMIT}
-use Rattle.maplex.specs.Place.{Place, start, line_ends, behind_gap}
-use Rattle.maplex.specs.Token.{TokenValue, margin, Stops, Gives, front}
+use Rattle.maplex.specs.Position.{Position, start, line_ends, after_blanks}
+use Rattle.maplex.specs.Token.{TokenValue, quote_len, Stops, Reads, step}
 
--- tokens, and what stands behind the last: the end of the source, or the first fault
+-- tokens, and what comes after the last: the end of the source, or the first fault
 pub record Lexed : Type 0 where
   pub tokens : List TokenValue
   pub tail : Tail
 
--- no token, and this behind it
+-- no token, but this tail
 abbrev pub stopped : Tail → Lexed
 stopped tail = record { tokens = []; tail = tail }
 
--- a token, and the others behind it
+-- a token, and what comes after it
 abbrev pub with_token : TokenValue → Lexed → Lexed
 with_token t others = record { tokens = t ∷ others.tokens; tail = others.tail }
 
--- what is lexed from a place on, in so many steps: behind the gap stands the tail, or a token before the others
-unfoldable pub lexed_within : ℕ → Place → Lexed
+-- what is lexed from a position on, in so many steps: after blanks and comments comes the tail, or a token before the others
+unfoldable pub lexed_within : ℕ → Position → Lexed
 lexed_within zero p = stopped (Ends p.line)
-lexed_within (suc n) p = elim (front (behind_gap p)) [
+lexed_within (suc n) p = elim (step (after_blanks p)) [
   | Stops tail ↦ stopped tail
-  | Gives t next ↦ with_token t (lexed_within n next)
+  | Reads t next ↦ with_token t (lexed_within n next)
 ]
 
--- what is lexed from a place on: a token takes a byte at least, so that as many steps as bytes are enough
-abbrev pub lexed_from : Place → Lexed
+-- what is lexed from a position on: a token takes a byte at least, so that as many steps as bytes are enough
+abbrev pub lexed_from : Position → Lexed
 lexed_from p = lexed_within (length p.rest) p
 
 -- what is lexed of a source
@@ -40,19 +40,19 @@ pub record HasEnded (left : Lexed) : Type 0 where
   pub line : ℕ
   pub at_end : left ≡ stopped (Ends line)
 
--- reading stands on a line: that of the next token, or of the end; a fault is on it or further down
+-- reading has reached a line: that of the next token, or of the end; a fault is on it or further down
 abbrev pub IsOnLine : List TokenValue → Tail → ℕ → Type 0
 IsOnLine (t ∷ ts) tail line = line ≡ t.line
 IsOnLine [] (Ends last) line = line ≡ last
 IsOnLine [] (Breaks f) line = line ≤ f.line
 
--- a token stands in a source: behind the lines above its own, its text a slice of the source, within the limit
+-- a token stands in a source: after the lines above its own, its text a slice of the source, within the limit
 pub record StandsIn (source : List ℕ) (t : TokenValue) : Type 0 where
   pub before : List ℕ
   pub opening : List ℕ
   pub after : List ℕ
   pub slice : source ≡ before ++ (opening ++ (t.text ++ after))
-  pub quote : length opening ≡ margin t.shape
+  pub quote : length opening ≡ quote_len t.shape
   pub line : t.line ≡ 1 + line_ends before
   pub limit : length t.text ≤ TOKEN_LIMIT
 
@@ -60,7 +60,7 @@ pub record StandsIn (source : List ℕ) (t : TokenValue) : Type 0 where
 abbrev pub TokensStandInSource : Type 0
 TokensStandInSource = (source : List ℕ) → All (StandsIn source) (lexed source).tokens
 
--- the law that the end is on the line behind all others
+-- the law that the end is on the last line
 abbrev pub EndIsOnLastLine : Type 0
 EndIsOnLastLine = (source : List ℕ) (line : ℕ) → (lexed source).tail ≡ Ends line → line ≡ 1 + line_ends source
 

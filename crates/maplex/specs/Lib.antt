@@ -1,4 +1,4 @@
 pub mod Byte
 pub mod Lexed
-pub mod Place
+pub mod Position
 pub mod Token

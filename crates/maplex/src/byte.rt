@@ -1,35 +1,35 @@
 ghost use Rattle.std.specs.Prelude.{◌≡◌};
 ghost use Rattle.maplex.specs.Byte.{is_separator, is_quote, is_bracket, ends_word, is_control};
 
-// Whether the byte separates tokens.
+/// Whether the byte separates tokens.
 pub fn is_separator(byte: u8) -> bool
     ensures { result ≡ is_separator byte }
 {
     matches!(byte, b' ' | b'\t' | b'\n' | b'\r' | b'\x0c')
 }
 
-// Whether the byte opens a Text.
+/// Whether the byte opens a quoted text.
 pub fn is_quote(byte: u8) -> bool
     ensures { result ≡ is_quote byte }
 {
     byte == b'"' || byte == b'\''
 }
 
-// Whether the byte is a bracket.
+/// Whether the byte is a bracket.
 pub fn is_bracket(byte: u8) -> bool
     ensures { result ≡ is_bracket byte }
 {
     matches!(byte, b'(' | b')' | b'{' | b'}')
 }
 
-// Whether a Word ends before the byte.
+/// Whether a bare word ends before the byte.
 pub fn ends_word(byte: u8) -> bool
     ensures { result ≡ ends_word byte }
 {
     is_separator(byte) || is_quote(byte) || byte == b'#' || is_bracket(byte)
 }
 
-// Whether the byte may stand in no token.
+/// Whether no token may have the byte.
 pub fn is_control(byte: u8) -> bool
     ensures { result ≡ is_control byte }
 {

@@ -1,10 +1,10 @@
 ghost use Rattle.std.specs.Prelude.{◌≡◌, ◌+◌, ◌^◌, ◌<◌, ◌≤◌, [], length, false};
-ghost use Rattle.maplex.specs.Place.{gap_len, line_ends};
+ghost use Rattle.maplex.specs.Position.{blank_len, line_ends};
 
 use crate::byte::is_separator;
 use std::marker::Model;
 
-// A place in a source: the bytes that are left, and the line on which they begin.
+/// A position in a source: the bytes that are left, and the line on which they begin.
 #[derive(Debug, Drop)]
 pub struct Cursor<'a> {
     rest: &'a [u8],
@@ -13,19 +13,19 @@ pub struct Cursor<'a> {
 
 impl<'a> Model for Cursor<'a> {
     ghost use Rattle.std.specs.Prelude.{◌+◌, ◌^◌, ◌<◌, length};
-    ghost use Rattle.maplex.specs.Place.{Place};
+    ghost use Rattle.maplex.specs.Position.{Position};
 
-    ghost Value = { Place };
+    ghost Value = { Position };
 
     ghost view = { λ p. record { rest = p.rest.now; line = p.line } };
 
-    // However many lines end in what is left, the line stays a number of 64 bits.
+    // However many lines end in what is left, the line fits 64 bits.
     ghost invariant = { λ p. p.line + length p.rest.now < 2 ^ 64 };
 }
 
-// How many bytes stand before the next token.
-fn gap_len(bytes: &[u8]) -> usize
-    ensures count { result ≡ gap_len false bytes.now }
+// How many bytes of blanks and comments stand before the next token.
+fn blank_len(bytes: &[u8]) -> usize
+    ensures count { result ≡ blank_len false bytes.now }
     ensures within { result ≤ length bytes.now }
 {
     let mut in_comment = false;
@@ -41,7 +41,7 @@ fn gap_len(bytes: &[u8]) -> usize
     bytes.len()
 }
 
-// How many lines end within the bytes.
+/// How many lines end within the bytes.
 pub fn line_ends(bytes: &[u8]) -> usize
     ensures count { result ≡ line_ends bytes.now }
     ensures within { result ≤ length bytes.now }
@@ -50,9 +50,9 @@ pub fn line_ends(bytes: &[u8]) -> usize
 }
 
 impl<'a> Cursor<'a> {
-    ghost use Rattle.maplex.specs.Place.{start, further, behind_gap};
+    ghost use Rattle.maplex.specs.Position.{start, further, after_blanks};
 
-    // The front of a source.
+    /// The start of a source.
     pub fn new(source: &'a [u8]) -> Self
         ensures { result ≡ start source.now }
     {
@@ -62,14 +62,14 @@ impl<'a> Cursor<'a> {
         }
     }
 
-    // A place on the line at which nothing is left.
+    /// A position on the line with nothing left.
     pub fn end(line: u64) -> Self
         ensures { result ≡ record { rest = []; line = line } }
     {
         Cursor { rest: &[], line }
     }
 
-    // The bytes that are left.
+    /// The bytes that are left.
     pub fn rest(&self) -> &'a [u8]
         ensures rest { result.now ≡ self.now.rest }
         ensures room { self.now.line + length self.now.rest < 2 ^ 64 }
@@ -77,14 +77,14 @@ impl<'a> Cursor<'a> {
         self.rest
     }
 
-    // The line on which they begin.
+    /// The line on which they begin.
     pub fn line(&self) -> u64
         ensures { result ≡ self.now.line }
     {
         self.line
     }
 
-    // Goes that many bytes further on.
+    /// Moves that many bytes further.
     pub fn pass(&mut self, count: usize)
         requires { count ≤ length self.old.rest }
         ensures { self.new ≡ further count self.old }
@@ -94,11 +94,11 @@ impl<'a> Cursor<'a> {
         self.rest = rest;
     }
 
-    // Goes behind the gap.
-    pub fn skip_gap(&mut self)
-        ensures { self.new ≡ behind_gap self.old }
+    /// Moves past blanks and comments.
+    pub fn skip_blanks(&mut self)
+        ensures { self.new ≡ after_blanks self.old }
     {
-        let count = gap_len(self.rest);
+        let count = blank_len(self.rest);
         self.pass(count);
     }
 }

@@ -3,10 +3,10 @@ use thiserror::Error;
 /// Why a source has no further token.
 #[derive(Clone, Copy, Debug, PartialEq, Eq, Error)]
 pub enum LexKind {
-    /// The source ends inside a Text. The line is that on which the Text begins.
+    /// The source ends inside a quoted text. The line is that on which the text begins.
     #[error("the quoted text that begins here has no closing quote")]
     OpenString,
-    /// A bracket outside of a Text, or in a token a control byte or a byte that is not UTF-8. The
+    /// A bracket outside of quotes, or in a token a control byte or a byte that is not UTF-8. The
     /// line is that of the byte.
     #[error("a bracket outside of quotes, a control character, or a byte that is not UTF-8")]
     BadByte,
@@ -25,7 +25,7 @@ pub struct LexFault {
     pub kind: LexKind,
 }
 
-/// What stands behind the last token of a source.
+/// What comes after the last token of a source.
 #[derive(Clone, Copy, Debug, PartialEq, Eq)]
 pub enum Tail {
     /// The end of the source, with its line: 1 more than the LF bytes of the source.

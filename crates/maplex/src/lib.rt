@@ -1,13 +1,14 @@
 //! Cuts the bytes of a mapfile into tokens.
 //!
-//! Proved: `Tokens::new` gives what the definition `lexed` has of the source, its tokens and its
-//! tail. `Tokens::next` takes the first token of what is left, by its clause `token`, or tells the
-//! fault that ends them, by `fault`, and is silent from then on. `laws` states that each text is a
-//! slice of the source and that lines are numbered by LF bytes.
+//! Proved: `Tokens::new` has the tokens and the tail that the definition `lexed` finds in the source.
+//! `Tokens::next` takes the first token that is left, by its clause `token`, or tells the fault that
+//! ends them, by `fault`. From then on it returns `None`. `laws` states that each text is a slice of
+//! the source and that lines are numbered by LF bytes.
 //!
-//! Words: a *separator* is a space, tab, LF, CR or form feed. A *gap* is what stands between tokens,
-//! separators and comments. A *Word* is a token without quotes and a *Text* one between quotes. The
-//! *tail* is what stands behind the last token, the end of the source or its first *fault*.
+//! Words: a *separator* is a space, tab, LF, CR or form feed. A *bare word* (`Shape::Word`) is a token
+//! without quotes, and a *quoted text* (`Shape::Text`) one between quotes. A *position* in a source is
+//! the bytes that are left there, and their line. The *tail* is what comes after the last token: the
+//! end of the source, or its first *fault*.
 #![tactic(auto)]
 
 mod byte;

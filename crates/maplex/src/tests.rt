@@ -12,9 +12,9 @@ fn assert_lexes(rt: &impl Abort, source: &[u8], tokens: &[(Shape, &str, u64)], t
         match left.next() {
             Some(Ok(token)) => {
                 let is_same = token.shape == *shape && token.text == *text && token.line == *line;
-                assert!(rt; is_same, "{token:?} in place of {text:?}");
+                assert!(rt; is_same, "{token:?}, not {text:?}");
             }
-            other => panic!(rt; "{other:?} in place of {text:?}"),
+            other => panic!(rt; "{other:?}, not {text:?}"),
         }
     }
     let (fault, last) = match tail {
@@ -26,7 +26,7 @@ fn assert_lexes(rt: &impl Abort, source: &[u8], tokens: &[(Shape, &str, u64)], t
         assert_eq!(rt; told, fault, "in {source:?}");
     }
     for _ in 0..2 {
-        assert!(rt; left.next().is_none(), "behind the tail of {source:?}");
+        assert!(rt; left.next().is_none(), "after the tail of {source:?}");
         assert_eq!(rt; left.line(), last, "at the tail of {source:?}");
     }
 }
@@ -44,7 +44,7 @@ const ON_ONE_LINE: [(&[u8], &[(Shape, &str, u64)]); 12] = [
         b"a\x0cb\tc",
         &[(Word, "a", 1), (Word, "b", 1), (Word, "c", 1)],
     ),
-    // quotes and comments end a Word
+    // quotes and comments end a bare word
     (
         b"a'b'c\"d\"e#f",
         &[
@@ -55,7 +55,7 @@ const ON_ONE_LINE: [(&[u8], &[(Shape, &str, u64)]); 12] = [
             (Word, "e", 1),
         ],
     ),
-    // a quote of the other kind, brackets and a backslash are ordinary in a Text
+    // a quote of the other kind, brackets and a backslash are ordinary in a quoted text
     (
         b"\"it's\" '\"(){}'",
         &[(Text, "it's", 1), (Text, "\"(){}", 1)],
@@ -93,7 +93,7 @@ const ON_LINES: [(&[u8], &[(Shape, &str, u64)], u64); 8] = [
         &[(Word, "a", 1), (Word, "b", 1), (Word, "c", 1)],
         1,
     ),
-    // a Text that spans lines has the line on which it begins
+    // a quoted text that spans lines has the line on which it begins
     (b"\n\n'x\ny' z\n", &[(Text, "x\ny", 3), (Word, "z", 4)], 5),
     (b"'\n\n' 'a'", &[(Text, "\n\n", 1), (Text, "a", 3)], 3),
     // the line of a comment ends as any other
@@ -119,7 +119,7 @@ const FAULTS: [(&[u8], &[(Shape, &str, u64)], u64, LexKind); 24] = [
     (b"\n 'a\n\n", &[], 2, LexKind::OpenString),
     (b"\"it's", &[], 1, LexKind::OpenString),
     (b"'a' '", &[(Text, "a", 1)], 1, LexKind::OpenString),
-    // a Word ends before a bracket
+    // a bare word ends before a bracket
     (b"FOO(", &[(Word, "FOO", 1)], 1, LexKind::BadByte),
     (b"(", &[], 1, LexKind::BadByte),
     (b"\n)", &[], 2, LexKind::BadByte),
@@ -131,7 +131,7 @@ const FAULTS: [(&[u8], &[(Shape, &str, u64)], u64, LexKind); 24] = [
     (b"a \x0b b", &[(Word, "a", 1)], 1, LexKind::BadByte),
     (b"\x1f", &[], 1, LexKind::BadByte),
     (b"'\x00'", &[], 1, LexKind::BadByte),
-    // in a Text the line is that of the byte
+    // in a quoted text the line is that of the byte
     (b"'a\n\nb\xffc' d", &[], 3, LexKind::BadByte),
     (b"\n'a\n\x7f\n'", &[], 3, LexKind::BadByte),
     // a character that is cut short, one half of a pair of UTF-16, and a form that is too long
@@ -141,7 +141,7 @@ const FAULTS: [(&[u8], &[(Shape, &str, u64)], u64, LexKind); 24] = [
     // of several bad bytes the first
     (b"'a\n\x01\n\xff'", &[], 2, LexKind::BadByte),
     (b"'a\n\xff\n\x01'", &[], 2, LexKind::BadByte),
-    // an open Text is told before its bad bytes
+    // an open text is told before its bad bytes
     (b"'a\n\x00", &[], 1, LexKind::OpenString),
     (b"\n'a\n\xff", &[], 2, LexKind::OpenString),
     // a fault is told before one further on
@@ -171,13 +171,13 @@ fn letters(
     Ok(source)
 }
 
-// Words and Texts of so many letters between two texts, and the line and kind of their fault.
+// Bare words and quoted texts of so many letters between two texts, and the line and kind of their fault.
 const LONG_TEXTS: [(&[u8], usize, &[u8], Option<(u64, LexKind)>); 6] = [
     (b"\n'", 65_536, b"' b", None),
     (b"\n'", 65_537, b"' b", Some((2, LexKind::TooLong))),
     (b"\n", 65_536, b" b", None),
     (b"\n", 65_537, b" b", Some((2, LexKind::TooLong))),
-    // a bad byte is told before the length, and an open Text before both
+    // a bad byte is told before the length, and an open text before both
     (b"\n'", 65_537, b"\n\x00'", Some((3, LexKind::BadByte))),
     (b"\n'", 65_537, b"\n\x00", Some((2, LexKind::OpenString))),
 ];
@@ -191,11 +191,11 @@ fn texts_have_at_most_65536_bytes(rt: HostRuntime) -> Result<(), Fail> {
             (Some(Ok(token)), None) => {
                 assert_eq!(rt; token.text.len(), TOKEN_LIMIT);
                 assert_eq!(rt; token.line, 2);
-                assert!(rt; matches!(left.next(), Some(Ok(_))), "the token behind");
+                assert!(rt; matches!(left.next(), Some(Ok(_))), "the token after it");
             }
             (Some(Err(told)), Some((line, kind))) => {
                 assert_eq!(rt; told, LexFault { line, kind }, "at {count} letters");
-                assert!(rt; left.next().is_none(), "behind the fault");
+                assert!(rt; left.next().is_none(), "after the fault");
             }
             (other, _) => panic!(rt; "{other:?} at {count} letters"),
         }

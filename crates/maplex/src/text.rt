@@ -9,20 +9,15 @@ use crate::fault::{LexFault, LexKind};
 use crate::token::TOKEN_LIMIT;
 use std::str;
 
-// Where the first control byte stands, or how many bytes there are.
+// How many bytes stand before the first control byte.
 fn control_at(bytes: &[u8]) -> usize
-    ensures place { result ≡ position_or_len is_control bytes.now }
+    ensures count { result ≡ position_or_len is_control bytes.now }
     ensures within { result ≤ length bytes.now }
 {
-    for (i, byte) in bytes.iter().enumerate() {
-        if is_control(*byte) {
-            return i;
-        }
-    }
-    bytes.len()
+    bytes.iter().take_while(|byte| !is_control(**byte)).count()
 }
 
-// The bytes as text, or where the first bad one stands.
+// The bytes as text, or the index of the first bad one.
 fn read_text(bytes: &[u8]) -> Result<&str, usize>
     ensures same { IfOk result (λ text. text.now ≡ bytes.now) }
     ensures good { OnOk result (bad_at bytes.now ≡ length bytes.now) }
@@ -37,7 +32,7 @@ fn read_text(bytes: &[u8]) -> Result<&str, usize>
     }
 }
 
-// The bytes as the text of a token that begins on the line, or the fault in them.
+/// The bytes as the text of a token that begins on the line, or the fault in them.
 pub fn checked_text(bytes: &[u8], line: u64) -> Result<&str, LexFault>
     requires { line + length bytes.now < 2 ^ 64 }
     ensures same { IfOk result (λ text. text.now ≡ bytes.now) }

@@ -6,17 +6,18 @@ pub const TOKEN_LIMIT: usize = 65_536;
 /// The shape of a token.
 #[derive(Clone, Copy, Debug, PartialEq, Eq)]
 pub enum Shape {
-    /// Bytes up to a separator, a quote, `#` or a bracket.
+    /// A bare word: bytes up to a separator, a quote, `#` or a bracket.
     Word,
-    /// Bytes between two quotes of one kind. A backslash among them is an ordinary byte.
+    /// A quoted text: bytes between two quotes of one kind. A backslash is an ordinary byte.
     Text,
 }
 
 /// A token. Contracts see the bytes of its text.
 #[derive(Debug, Drop)]
 pub struct Token<'a> {
+    /// How it is written.
     pub shape: Shape,
-    /// Its text, a slice of the source: of a Text without the quotes.
+    /// Its text, a slice of the source. That of a quoted text has no quotes.
     pub text: &'a str,
     /// The line on which it begins, counted from 1.
     pub line: u64,

@@ -1,7 +1,7 @@
 ghost use Rattle.std.specs.Prelude.{◌≡◌, ◌≤◌, length, IfSome, IfNone, IfOk, IfErr};
 ghost use Rattle.maplex.specs.declared.fault.Tail.TheVariants.{Ends, Breaks};
-ghost use Rattle.maplex.specs.Place.{further};
-ghost use Rattle.maplex.specs.Token.{front, Stops, Gives};
+ghost use Rattle.maplex.specs.Position.{further};
+ghost use Rattle.maplex.specs.Token.{step, Stops, Reads};
 
 use crate::cursor::Cursor;
 use crate::extent::extent_of;
@@ -10,13 +10,14 @@ use crate::text::checked_text;
 use crate::token::{TOKEN_LIMIT, Token};
 use std::marker::Model;
 
-// What stands at a place without a gap: a token and how many bytes it takes, a fault, or nothing.
-fn front<'a>(at: &Cursor<'a>) -> Option<Result<(Token<'a>, usize), LexFault>>
-    ensures token { IfSome result (λ r. IfOk r (λ t. front at.now ≡ Gives t.0 (further t.1 at.now))) }
+// One step of reading, at a position with no blank before the token: the token and how many bytes
+// it takes, a fault, or `None` at the end.
+fn step<'a>(at: &Cursor<'a>) -> Option<Result<(Token<'a>, usize), LexFault>>
+    ensures token { IfSome result (λ r. IfOk r (λ t. step at.now ≡ Reads t.0 (further t.1 at.now))) }
     ensures within { IfSome result (λ r. IfOk r (λ t. t.1 ≤ length at.now.rest)) }
     ensures limit { IfSome result (λ r. IfOk r (λ t. length t.0.text ≤ TOKEN_LIMIT)) }
-    ensures fault { IfSome result (λ r. IfErr r (λ f. front at.now ≡ Stops (Breaks f))) }
-    ensures end { IfNone result (front at.now ≡ Stops (Ends at.now.line)) }
+    ensures fault { IfSome result (λ r. IfErr r (λ f. step at.now ≡ Stops (Breaks f))) }
+    ensures end { IfNone result (step at.now ≡ Stops (Ends at.now.line)) }
 {
     let rest = at.rest();
     let line = at.line();
@@ -27,15 +28,15 @@ fn front<'a>(at: &Cursor<'a>) -> Option<Result<(Token<'a>, usize), LexFault>>
         Ok(extent) => extent,
         Err(kind) => return Some(Err(LexFault { line, kind })),
     };
-    let margin = extent.margin();
-    match checked_text(&rest[margin..margin + extent.size], line) {
+    let quote_len = extent.quote_len();
+    match checked_text(&rest[quote_len..quote_len + extent.size], line) {
         Ok(text) => Some(Ok((
             Token {
                 shape: extent.shape,
                 text,
                 line,
             },
-            extent.size + 2 * margin,
+            extent.size + 2 * quote_len,
         ))),
         Err(fault) => Some(Err(fault)),
     }
@@ -43,7 +44,7 @@ fn front<'a>(at: &Cursor<'a>) -> Option<Result<(Token<'a>, usize), LexFault>>
 
 /// The tokens of a source, one after another. Contracts see what is left: the tokens and their tail.
 ///
-/// Reading takes no memory and looks at each byte a few times at most.
+/// Reading takes no memory, and looks at each byte a few times at most.
 #[derive(Debug, Drop)]
 pub struct Tokens<'a> {
     at: Cursor<'a>,
@@ -51,15 +52,15 @@ pub struct Tokens<'a> {
 
 impl<'a> Model for Tokens<'a> {
     ghost use Rattle.std.specs.Prelude.{◌≡◌, false};
-    ghost use Rattle.maplex.specs.Place.{gap_len};
+    ghost use Rattle.maplex.specs.Position.{blank_len};
     ghost use Rattle.maplex.specs.Lexed.{Lexed, lexed_from};
 
     ghost Value = { Lexed };
 
     ghost view = { λ t. lexed_from t.at };
 
-    // The gap before the next token is passed, so that the line is that of the token.
-    ghost invariant = { λ t. gap_len false t.at.rest ≡ 0 };
+    // Blanks before the next token are passed, so that the line is that of the token.
+    ghost invariant = { λ t. blank_len false t.at.rest ≡ 0 };
 }
 
 impl<'a> Tokens<'a> {
@@ -70,11 +71,11 @@ impl<'a> Tokens<'a> {
         ensures { result ≡ lexed source.now }
     {
         let mut at = Cursor::new(source);
-        at.skip_gap();
+        at.skip_blanks();
         Tokens { at }
     }
 
-    /// The next token, whose text is a slice of the source, or the fault that stands in its place.
+    /// The next token, whose text is a slice of the source, or the fault that was found instead.
     /// `None` at the end of the source, and after a fault.
     pub fn next(&mut self) -> Option<Result<Token<'a>, LexFault>>
         ensures token { IfSome result (λ r. IfOk r (λ t. self.old ≡ with_token t self.new)) }
@@ -86,10 +87,10 @@ impl<'a> Tokens<'a> {
         ensures end { IfNone result (HasEnded self.old) }
         ensures after_end { IfNone result (self.new ≡ self.old) }
     {
-        match front(&self.at) {
+        match step(&self.at) {
             Some(Ok((token, count))) => {
                 self.at.pass(count);
-                self.at.skip_gap();
+                self.at.skip_blanks();
                 Some(Ok(token))
             }
             Some(Err(fault)) => {
@@ -100,7 +101,7 @@ impl<'a> Tokens<'a> {
         }
     }
 
-    /// The line on which reading stands, which is 1 more than the LF bytes that are passed: the line
+    /// The line that reading has reached, which is 1 more than the LF bytes that are passed: the line
     /// of the next token, at the end of the source its last line, and after a fault the fault's.
     pub fn line(&self) -> u64
         ensures on_line { IsOnLine self.now.tokens self.now.tail result }

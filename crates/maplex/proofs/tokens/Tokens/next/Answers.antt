@@ -1,18 +1,18 @@
 use Rattle.std.proofs.Common.{ap, ◌∙◌, sym}
 use Rattle.maplex.specs.declared.fault.Tail.TheVariants.{Ends, Breaks}
 use Rattle.maplex.specs.Lexed.{lexed_from, with_token}
-use Rattle.maplex.proofs.Lexing.{behind_gap-gapless, lexed_from-gap, lexed_from-token, lexed_from-stops, lexed_from-empty}
+use Rattle.maplex.proofs.Lexing.{blank_len-after_blanks, lexed_from-after_blanks, lexed_from-token, lexed_from-stops, lexed_from-empty}
 use Rattle.maplex.proofs.tokens.Tokens.next.Goals as goal
 
 pub invariant_of-self : goal.invariant_of-self
-invariant_of-self c = rw c.skip_gap.ensures (behind_gap-gapless c.pass.new.self)
+invariant_of-self c = rw c.skip_blanks.ensures (blank_len-after_blanks c.pass.new.self)
 
 pub returns-in-Some-Ok-clause-token : goal.returns-in-Some-Ok-clause-token
 returns-in-Some-Ok-clause-token c =
     let stands = rw c.in-Some-Ok.field-0-is at c.in-Some-Ok.ensures.token in
     sym c.self.view_is
     ∙ lexed_from-token c.self.inside.at c.in-Some-Ok.token _ c.self.invariant stands
-    ∙ ap (with_token c.in-Some-Ok.token) (ap lexed_from (sym c.pass.ensures) ∙ sym (lexed_from-gap c.pass.new.self) ∙ ap lexed_from (sym c.skip_gap.ensures))
+    ∙ ap (with_token c.in-Some-Ok.token) (ap lexed_from (sym c.pass.ensures) ∙ sym (lexed_from-after_blanks c.pass.new.self) ∙ ap lexed_from (sym c.skip_blanks.ensures))
 
 pub returns-in-Some-Err-clause-fault : goal.returns-in-Some-Err-clause-fault
 returns-in-Some-Err-clause-fault c =
