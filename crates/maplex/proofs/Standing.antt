@@ -75,10 +75,10 @@ step_of-stands source p [] same reached = tt
 step_of-stands source p (b ∷ bs) same reached = checked_at-stands source p (extent_of b bs) reached (omega (arith, ap length same))
 
 -- the tokens from such a position on stand in the source
-after_step-stands : (source : List ℕ) (n : ℕ) (f : Step) → StepStands source f →
-    ((next : Position) → IsReached source next → All (StandsIn source) (lexed_within n next).tokens) → All (StandsIn source) (after_step n f).tokens
-after_step-stands source n (Stops tail) stands others = All-nil (StandsIn source)
-after_step-stands source n (Reads t next) stands others = All-cons (StandsIn source) t (lexed_within n next).tokens stands.0 (others next stands.1)
+after_step-stands : (source : List ℕ) (n line : ℕ) (f : Step) → StepStands source f →
+    ((next : Position) → IsReached source next → All (StandsIn source) (lexed_within n next).tokens) → All (StandsIn source) (after_step n line f).tokens
+after_step-stands source n line (Stops tail) stands others = All-nil (StandsIn source)
+after_step-stands source n line (Reads t next) stands others = All-cons (StandsIn source) t (lexed_within n next).tokens stands.0 (others next stands.1)
 
 lexed_within-stands : (source : List ℕ) (n : ℕ) (p : Position) → IsReached source p → All (StandsIn source) (lexed_within n p).tokens
 unfolding lexed_within
@@ -86,7 +86,7 @@ lexed_within-stands source zero p reached = All-nil (StandsIn source)
 lexed_within-stands source (suc n) p reached =
     let q = after_blanks p in
     let there = further-reached source (blank_len false p.rest) p reached in
-    rw (lexed_within-suc n p) (after_step-stands source n (step q) (step_of-stands source q q.rest refl there) (λ next r. lexed_within-stands source n next r))
+    rw (lexed_within-suc n p) (after_step-stands source n q.line (step q) (step_of-stands source q q.rest refl there) (λ next r. lexed_within-stands source n next r))
 
 pub tokens-stand : TokensStandInSource
 tokens-stand source = lexed_within-stands source (length source) (start source) (start-reached source)
@@ -103,7 +103,7 @@ reached-end source p r empty =
 -- the end that is found from such a position on is on the last line
 after_step-end : (source : List ℕ) (n : ℕ) (p : Position) (f : Step) (line : ℕ) → IsReached source p → length p.rest ≤ suc n → FitsPosition p f → StepStands source f →
     ((next : Position) → IsReached source next → length next.rest ≤ n → (lexed_within n next).tail ≡ Ends line → line ≡ 1 + line_ends source) →
-    (after_step n f).tail ≡ Ends line → line ≡ 1 + line_ends source
+    (after_step n p.line f).tail ≡ Ends line → line ≡ 1 + line_ends source
 after_step-end source n p (Stops (Ends last)) line r room fits stands others h = cc (fits.0, reached-end source p r fits.1)
 after_step-end source n p (Stops (Breaks f)) line r room fits stands others h = cc
 after_step-end source n p (Reads t next) line r room fits stands others h = others next stands.1 (omega (arith, fits.1)) h

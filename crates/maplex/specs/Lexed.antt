@@ -1,29 +1,35 @@
 -- The tokens of a source, and what ends them (docs/MAPFILE.md, "Tokens").
 use Rattle.std.specs.Prelude.{◌≡◌, ℕ, zero, suc, ◌+◌, ◌≤◌, List, [], ◌∷◌, ◌++◌, length, All}
 use Rattle.maplex.specs.declared.fault.Tail.{Tail}
-use Rattle.maplex.specs.declared.fault.Tail.TheVariants.{Ends, Breaks}
+use Rattle.maplex.specs.declared.fault.Tail.TheVariants.{Ends}
 use Rattle.maplex.specs.declared.token.TheConstants.{TOKEN_LIMIT}
 use Rattle.maplex.specs.Position.{Position, start, line_ends, after_blanks}
 use Rattle.maplex.specs.Token.{TokenValue, quote_len, Stops, Reads, step}
 
--- tokens, and what comes after the last: the end of the source, or the first fault
+-- what is lexed from a position on: the line that is reached there after blanks and comments, tokens, and what comes
+-- after the last one, the end of the source or the first fault
 pub record Lexed : Type 0 where
+  pub line : ℕ
   pub tokens : List TokenValue
   pub tail : Tail
 
--- no token, but this tail
-abbrev pub stopped : Tail → Lexed
-stopped tail = record { tokens = []; tail = tail }
+-- no token, but this tail; a fault may be further down than the line that is reached
+abbrev pub stopped : ℕ → Tail → Lexed
+stopped line tail = record { line = line; tokens = []; tail = tail }
+
+-- the end of the source, on its line
+abbrev pub ended : ℕ → Lexed
+ended line = stopped line (Ends line)
 
 -- a token, and what comes after it
 abbrev pub with_token : TokenValue → Lexed → Lexed
-with_token t others = record { tokens = t ∷ others.tokens; tail = others.tail }
+with_token t others = record { line = t.line; tokens = t ∷ others.tokens; tail = others.tail }
 
 -- what is lexed from a position on, in so many steps: after blanks and comments comes the tail, or a token before the others
 unfoldable pub lexed_within : ℕ → Position → Lexed
-lexed_within zero p = stopped (Ends p.line)
+lexed_within zero p = ended p.line
 lexed_within (suc n) p = elim (step (after_blanks p)) [
-  | Stops tail ↦ stopped tail
+  | Stops tail ↦ stopped (after_blanks p).line tail
   | Reads t next ↦ with_token t (lexed_within n next)
 ]
 
@@ -36,15 +42,8 @@ abbrev pub lexed : List ℕ → Lexed
 lexed source = lexed_from (start source)
 
 -- nothing is left, neither a token nor a fault
-pub record HasEnded (left : Lexed) : Type 0 where
-  pub line : ℕ
-  pub at_end : left ≡ stopped (Ends line)
-
--- reading has reached a line: that of the next token, or of the end; a fault is on it or further down
-abbrev pub IsOnLine : List TokenValue → Tail → ℕ → Type 0
-IsOnLine (t ∷ ts) tail line = line ≡ t.line
-IsOnLine [] (Ends last) line = line ≡ last
-IsOnLine [] (Breaks f) line = line ≤ f.line
+abbrev pub HasEnded : Lexed → Type 0
+HasEnded left = left ≡ ended left.line
 
 -- a token stands in a source: after the lines above its own, its text a slice of the source, within the limit
 pub record StandsIn (source : List ℕ) (t : TokenValue) : Type 0 where

@@ -64,7 +64,7 @@ impl<'a> Model for Tokens<'a> {
 }
 
 impl<'a> Tokens<'a> {
-    ghost use Rattle.maplex.specs.Lexed.{lexed, stopped, with_token, HasEnded, IsOnLine};
+    ghost use Rattle.maplex.specs.Lexed.{lexed, stopped, ended, with_token, HasEnded};
 
     /// The tokens of the source, which may be any bytes of any length.
     pub fn new(source: &'a [u8]) -> Self
@@ -82,8 +82,8 @@ impl<'a> Tokens<'a> {
         ensures limit { IfSome result (λ r. IfOk r (λ t. length t.text ≤ TOKEN_LIMIT)) }
 
         // After a fault nothing is left.
-        ensures fault { IfSome result (λ r. IfErr r (λ f. self.old ≡ stopped (Breaks f))) }
-        ensures after_fault { IfSome result (λ r. IfErr r (λ f. self.new ≡ stopped (Ends f.line))) }
+        ensures fault { IfSome result (λ r. IfErr r (λ f. self.old ≡ stopped self.old.line (Breaks f))) }
+        ensures after_fault { IfSome result (λ r. IfErr r (λ f. self.new ≡ ended f.line)) }
         ensures end { IfNone result (HasEnded self.old) }
         ensures after_end { IfNone result (self.new ≡ self.old) }
     {
@@ -101,12 +101,11 @@ impl<'a> Tokens<'a> {
         }
     }
 
-    /// The line that reading has reached, which is 1 more than the LF bytes that are passed: the line
-    /// of the next token, at the end of the source its last line, and after a fault the fault's.
+    /// The line that reading has reached, after blanks and comments. That is the line on which the next
+    /// token begins, even where it has a fault further down. At the end it is the last line of the
+    /// source, and once a fault is told it is the fault's.
     pub fn line(&self) -> u64
-        ensures on_line { IsOnLine self.now.tokens self.now.tail result }
-        // The same at the end, as the equation that callers need.
-        ensures end { HasEnded self.now → self.now ≡ stopped (Ends result) }
+        ensures { result ≡ self.now.line }
     {
         self.at.line()
     }

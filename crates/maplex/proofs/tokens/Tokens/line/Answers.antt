@@ -1,8 +1,7 @@
-use Rattle.maplex.proofs.Lexing.{on-line, ended-line}
+use Rattle.std.proofs.Common.{◌∙◌, sym, ap}
+use Rattle.maplex.specs.Lexed.{Lexed}
+use Rattle.maplex.proofs.Lexing.{lexed_from-line}
 use Rattle.maplex.proofs.tokens.Tokens.line.Goals as goal
 
-pub returns-clause-on_line : goal.returns-clause-on_line
-returns-clause-on_line c = on-line _ c.self.inside.at _ c.line.ensures c.self.view_is c.self.invariant
-
-pub returns-clause-end : goal.returns-clause-end
-returns-clause-end c = λ ended. ended-line _ _ (on-line _ c.self.inside.at _ c.line.ensures c.self.view_is c.self.invariant) ended
+pub returns : goal.returns
+returns c = c.line.ensures ∙ sym (lexed_from-line c.self.inside.at c.self.invariant) ∙ ap (λ (left : Lexed). left.line) c.self.view_is

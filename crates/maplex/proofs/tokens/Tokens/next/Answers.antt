@@ -1,7 +1,7 @@
 use Rattle.std.proofs.Common.{ap, ◌∙◌, sym}
-use Rattle.maplex.specs.declared.fault.Tail.TheVariants.{Ends, Breaks}
+use Rattle.maplex.specs.declared.fault.Tail.TheVariants.{Breaks}
 use Rattle.maplex.specs.Lexed.{lexed_from, with_token}
-use Rattle.maplex.proofs.Lexing.{blank_len-after_blanks, lexed_from-after_blanks, lexed_from-token, lexed_from-stops, lexed_from-empty}
+use Rattle.maplex.proofs.Lexing.{blank_len-after_blanks, lexed_from-after_blanks, lexed_from-token, lexed_from-empty, stopped-here, ended-here}
 use Rattle.maplex.proofs.tokens.Tokens.next.Goals as goal
 
 pub invariant_of-self : goal.invariant_of-self
@@ -16,14 +16,10 @@ returns-in-Some-Ok-clause-token c =
 
 pub returns-in-Some-Err-clause-fault : goal.returns-in-Some-Err-clause-fault
 returns-in-Some-Err-clause-fault c =
-    sym c.self.view_is
-    ∙ lexed_from-stops c.self.inside.at (Breaks c.in-Some-Err.fault) c.self.invariant (rw c.in-Some-Err.field-0-is at c.in-Some-Err.ensures.fault)
+    stopped-here c.self.inside.at _ (Breaks c.in-Some-Err.fault) c.self.view_is c.self.invariant (rw c.in-Some-Err.field-0-is at c.in-Some-Err.ensures.fault)
 
 pub returns-in-Some-Err-clause-after_fault : goal.returns-in-Some-Err-clause-after_fault
 returns-in-Some-Err-clause-after_fault c = ap lexed_from c.end-self-inside.ensures ∙ lexed_from-empty c.in-Some-Err.fault.line
 
 pub returns-in-None-clause-end : goal.returns-in-None-clause-end
-returns-in-None-clause-end c = record {
-  line = c.self.inside.at.line;
-  at_end = sym c.self.view_is ∙ lexed_from-stops c.self.inside.at (Ends c.self.inside.at.line) c.self.invariant c.in-None.ensures.end;
-}
+returns-in-None-clause-end c = ended-here c.self.inside.at _ c.self.view_is c.self.invariant c.in-None.ensures.end
