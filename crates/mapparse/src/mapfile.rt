@@ -13,11 +13,11 @@ use mapdefs::Map;
 use maplex::{Tail, Token, Tokens};
 use std::alloc::Global;
 
-// The next token, or what stands behind the last one.
+// The next token, or what comes after the last one.
 fn next<'a>(tokens: &mut Tokens<'a>) -> Result<Token<'a>, Tail>
     ensures { MatchResult result
         (λ token. tokens.old ≡ with_token token tokens.new)
-        (λ tail. tokens.old ≡ stopped tail) }
+        (λ tail. tokens.old ≡ stopped tokens.old.line tail) }
 {
     match tokens.next() {
         Some(Ok(token)) => Ok(token),
