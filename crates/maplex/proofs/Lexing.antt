@@ -87,7 +87,7 @@ step_of-empty : (p : Position) (bytes : List ℕ) → length bytes ≤ 0 → ste
 step_of-empty p [] h = refl
 step_of-empty p (b ∷ bs) h = absurd (omega arith)
 
-lexed_within-empty : (n : ℕ) (p : Position) → length p.rest ≤ 0 → lexed_within n p ≡ ended p.line
+pub lexed_within-empty : (n : ℕ) (p : Position) → length p.rest ≤ 0 → lexed_within n p ≡ ended p.line
 unfolding lexed_within
 lexed_within-empty zero p h = refl
 lexed_within-empty (suc n) p h =

@@ -92,7 +92,7 @@ pub tokens-stand : TokensStandInSource
 tokens-stand source = lexed_within-stands source (length source) (start source) (start-reached source)
 
 -- where nothing is left, all lines are passed
-nothing-left : (bytes : List ℕ) → length bytes ≤ 0 → bytes ≡ []
+pub nothing-left : (bytes : List ℕ) → length bytes ≤ 0 → bytes ≡ []
 nothing-left [] h = refl
 nothing-left (b ∷ bs) h = absurd (omega arith)
 

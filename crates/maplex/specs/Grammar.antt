@@ -1,0 +1,86 @@
+-- The grammar of a source: blanks and comments, and tokens, in turn (docs/MAPFILE.md, "Tokens").
+use Rattle.std.specs.Prelude.{◌≡◌, ◌≢◌, ℕ, ◌+◌, ◌<◌, ◌≤◌, IsTrue, IsFalse, List, [], ◌∷◌, ◌++◌, length, take, All}
+use Rattle.std.specs.Str.{IsUtf8}
+use Rattle.maplex.specs.declared.fault.LexFault.{LexFault}
+use Rattle.maplex.specs.declared.fault.LexKind.TheVariants.{OpenString, BadByte, TooLong}
+use Rattle.maplex.specs.declared.fault.Tail.TheVariants.{Breaks}
+use Rattle.maplex.specs.declared.token.Shape.{Shape}
+use Rattle.maplex.specs.declared.token.Shape.TheVariants.{Word, Text}
+use Rattle.maplex.specs.declared.token.TheConstants.{TOKEN_LIMIT}
+use Rattle.maplex.specs.Byte.{is_separator, is_quote, is_bracket, ends_word, is_control}
+use Rattle.maplex.specs.Position.{line_ends}
+use Rattle.maplex.specs.Token.{TokenValue, bad_at, fault}
+use Rattle.maplex.specs.Lexed.{Lexed, stopped, ended, with_token, lexed}
+
+-- blanks and comments before other bytes: separators, and comments, each from `#` up to its LF; where the source ends,
+-- the last comment may have no LF
+pub data AreBlanks (after : List ℕ) : List ℕ → Type 0 where
+  nothing : AreBlanks after []
+  separator : (b : ℕ) (bs : List ℕ) → IsTrue (is_separator b) → AreBlanks after bs → AreBlanks after (b ∷ bs)
+  comment : (text bs : List ℕ) → All (λ c. c ≢ 10) text → AreBlanks after bs → AreBlanks after (35 ∷ (text ++ (10 ∷ bs)))
+  last_comment : (text : List ℕ) → All (λ c. c ≢ 10) text → after ≡ [] → AreBlanks after (35 ∷ text)
+
+-- a bare word is over before some bytes: before the end of the source, or a byte that ends it
+abbrev pub IsOver : List ℕ → Type 0
+IsOver [] = Unit {0}
+IsOver (b ∷ bs) = IsTrue (ends_word b)
+
+-- a bare word is written as its text, of one byte or more, none of which ends it, before bytes where it is over
+pub record IsBareWord (text written after : List ℕ) : Type 0 where
+  pub same : written ≡ text
+  pub some : 0 < length text
+  pub goes_on : All (λ b. IsFalse (ends_word b)) text
+  pub over : IsOver after
+
+-- a quoted text is written as a quote, its text without that quote, and the quote again
+pub record IsQuotedText (text written : List ℕ) : Type 0 where
+  pub quote : ℕ
+  pub opens : IsTrue (is_quote quote)
+  pub between : written ≡ quote ∷ (text ++ (quote ∷ []))
+  pub goes_on : All (λ b. b ≢ quote) text
+
+-- how a token of a shape, with a text, is written before other bytes
+abbrev pub IsWritten : Shape → List ℕ → List ℕ → List ℕ → Type 0
+IsWritten Word text written after = IsBareWord text written after
+IsWritten Text text written after = IsQuotedText text written
+
+-- a text that a token may have
+pub record IsGoodText (text : List ℕ) : Type 0 where
+  pub utf8 : IsUtf8 text
+  pub printable : All (λ b. IsFalse (is_control b)) text
+  pub limit : length text ≤ TOKEN_LIMIT
+
+-- some bytes begin with a token of a shape, with a text
+pub record BeginsWith (bytes : List ℕ) (shape : Shape) (text : List ℕ) : Type 0 where
+  pub written : List ℕ
+  pub after : List ℕ
+  pub whole : bytes ≡ written ++ after
+  pub is_written : IsWritten shape text written after
+
+-- the fault of some bytes, on the line on which they begin unless it is a bad byte of a text: a quote that doesn't come
+-- again, a bracket, a text with a bad byte, or a text that is good but too long
+pub data IsFault (line : ℕ) : List ℕ → LexFault → Type 0 where
+  open_text : (quote : ℕ) (bs : List ℕ) → IsTrue (is_quote quote) → All (λ b. b ≢ quote) bs → IsFault line (quote ∷ bs) (fault line OpenString)
+  bracket : (b : ℕ) (bs : List ℕ) → IsTrue (is_bracket b) → IsFault line (b ∷ bs) (fault line BadByte)
+  bad_byte : (bytes : List ℕ) (shape : Shape) (text : List ℕ) → BeginsWith bytes shape text → bad_at text < length text →
+      IsFault line bytes (fault (line + line_ends (take (bad_at text) text)) BadByte)
+  too_long : (bytes : List ℕ) (shape : Shape) (text : List ℕ) → BeginsWith bytes shape text → bad_at text ≡ length text → TOKEN_LIMIT < length text →
+      IsFault line bytes (fault line TooLong)
+
+-- the line after some bytes of a source
+abbrev pub line_after : List ℕ → ℕ
+line_after bytes = 1 + line_ends bytes
+
+-- what is lexed of some bytes, after those before them: blanks and comments up to the end of the source, blanks and
+-- comments up to a fault, or blanks and comments, a token as it is written, and what is lexed of the bytes after it
+pub data Lexes : List ℕ → List ℕ → Lexed → Type 0 where
+  ends : (before blanks : List ℕ) → AreBlanks [] blanks → Lexes before blanks (ended (line_after (before ++ blanks)))
+  breaks : (before blanks after : List ℕ) (f : LexFault) → AreBlanks after blanks → IsFault (line_after (before ++ blanks)) after f →
+      Lexes before (blanks ++ after) (stopped (line_after (before ++ blanks)) (Breaks f))
+  reads : (before blanks written after : List ℕ) (t : TokenValue) (others : Lexed) →
+      AreBlanks (written ++ after) blanks → IsWritten t.shape t.text written after → IsGoodText t.text → t.line ≡ line_after (before ++ blanks) →
+      Lexes (before ++ (blanks ++ written)) after others → Lexes before (blanks ++ (written ++ after)) (with_token t others)
+
+-- the law that what is lexed of a source accounts for each of its bytes, by the grammar
+abbrev pub SourceIsLexed : Type 0
+SourceIsLexed = (source : List ℕ) → Lexes [] source (lexed source)
