@@ -1,6 +1,7 @@
 use crate::Shape::{Text, Word};
 use crate::{LexFault, LexKind, Shape, TOKEN_LIMIT, Tail, Tokens};
 use std::alloc::{AllocError, Global};
+use std::fmt::Debug;
 use std::process::Abort;
 use std::test::Fail;
 
@@ -171,29 +172,58 @@ fn letters(
     Ok(source)
 }
 
-// Bare words and quoted texts of so many letters between two texts, and the line and kind of their fault.
-const LONG_TEXTS: [(&[u8], usize, &[u8], Option<(u64, LexKind)>); 6] = [
-    (b"\n'", 65_536, b"' b", None),
-    (b"\n'", 65_537, b"' b", Some((2, LexKind::TooLong))),
-    (b"\n", 65_536, b" b", None),
-    (b"\n", 65_537, b" b", Some((2, LexKind::TooLong))),
+// Sources and the tokens before their fault, the line that is reached then, and the fault's line.
+const REACHED: [(&[u8], usize, u64, u64); 6] = [
+    // a bad byte further down than its token begins
+    (b"\n'a\n\n\x7f'", 0, 2, 4),
+    (b"a #\n\n'b\n\xff'", 1, 3, 4),
+    (b"a\n\n\nb\x00", 1, 4, 4),
+    (b"a b\n)", 2, 2, 2),
+    (b"a\n 'b\n", 1, 2, 2),
+    (b"\n\n\n\n'a\n\n\x1f' \n", 0, 5, 7),
+];
+
+#[test]
+fn a_fault_is_reached_where_its_token_begins(rt: HostRuntime) {
+    for (source, tokens, reached, line) in REACHED {
+        let mut left = Tokens::new(source);
+        for _ in 0..tokens {
+            assert!(rt; matches!(left.next(), Some(Ok(_))), "a token of {source:?}");
+        }
+        assert_eq!(rt; left.line(), reached, "before the fault of {source:?}");
+        let told = left.next().and_then(Result::err).map(|fault| fault.line);
+        assert_eq!(rt; told, Some(line), "the fault of {source:?}");
+        assert_eq!(rt; left.line(), line, "after the fault of {source:?}");
+    }
+}
+
+// Letters between two texts, and the shape of their token or the line and kind of their fault.
+const LONG_TOKENS: [(&[u8], usize, &[u8], Result<Shape, (u64, LexKind)>); 8] = [
+    (b"\n'", 65_536, b"' b", Ok(Text)),
+    (b"\n'", 65_537, b"' b", Err((2, LexKind::TooLong))),
+    (b"\n\"", 65_536, b"\"b", Ok(Text)),
+    (b"\n\n\"", 65_537, b"\"b", Err((3, LexKind::TooLong))),
+    (b"\n", 65_536, b" b", Ok(Word)),
+    (b"\n", 65_537, b" b", Err((2, LexKind::TooLong))),
     // a bad byte is told before the length, and an open text before both
-    (b"\n'", 65_537, b"\n\x00'", Some((3, LexKind::BadByte))),
-    (b"\n'", 65_537, b"\n\x00", Some((2, LexKind::OpenString))),
+    (b"\n'", 65_537, b"\n\x00'", Err((3, LexKind::BadByte))),
+    (b"\n'", 65_537, b"\n\x00", Err((2, LexKind::OpenString))),
 ];
 
 #[test]
 fn texts_have_at_most_65536_bytes(rt: HostRuntime) -> Result<(), Fail> {
-    for (before, count, after, fault) in LONG_TEXTS {
+    assert_eq!(rt; TOKEN_LIMIT, 65_536);
+    for (before, count, after, expected) in LONG_TOKENS {
         let source = letters(rt.alloc(), before, count, after)?;
         let mut left = Tokens::new(&source);
-        match (left.next(), fault) {
-            (Some(Ok(token)), None) => {
-                assert_eq!(rt; token.text.len(), TOKEN_LIMIT);
+        match (left.next(), expected) {
+            (Some(Ok(token)), Ok(shape)) => {
+                assert_eq!(rt; token.text.len(), 65_536);
+                assert_eq!(rt; token.shape, shape);
                 assert_eq!(rt; token.line, 2);
                 assert!(rt; matches!(left.next(), Some(Ok(_))), "the token after it");
             }
-            (Some(Err(told)), Some((line, kind))) => {
+            (Some(Err(told)), Err((line, kind))) => {
                 assert_eq!(rt; told, LexFault { line, kind }, "at {count} letters");
                 assert!(rt; left.next().is_none(), "after the fault");
             }
@@ -204,24 +234,67 @@ fn texts_have_at_most_65536_bytes(rt: HostRuntime) -> Result<(), Fail> {
 }
 
 #[test]
-fn faults_are_printed_with_their_line(rt: HostRuntime) -> Result<(), Fail> {
+fn faults_are_printed(rt: HostRuntime) -> Result<(), Fail> {
     let rows = [
         (
             LexKind::OpenString,
-            "line 7: the quoted text that begins here has no closing quote",
+            "the quoted text that begins here has no closing quote",
         ),
         (
             LexKind::BadByte,
-            "line 7: a bracket outside of quotes, a control character, or a byte that is not UTF-8",
+            "a bracket outside of quotes, a control character, or a byte that is not UTF-8",
         ),
         (
             LexKind::TooLong,
-            "line 7: the word or quoted text that begins here is longer than 65,536 bytes",
+            "the word or quoted text that begins here is longer than 65,536 bytes",
         ),
     ];
     for (kind, message) in rows {
-        let printed = format!(in rt.alloc(); "{}", LexFault { line: 7, kind })?;
+        let printed = format!(in rt.alloc(); "{kind}")?;
         assert_eq!(rt; printed.as_str(), message);
     }
+    let fault = LexFault {
+        line: 7,
+        kind: LexKind::OpenString,
+    };
+    let printed = format!(in rt.alloc(); "{fault}")?;
+    let message = "line 7: the quoted text that begins here has no closing quote";
+    assert_eq!(rt; printed.as_str(), message);
     Ok(())
+}
+
+// Each of the values equals itself and no other.
+fn assert_apart<T: PartialEq + Debug>(rt: &impl Abort, values: &[T]) {
+    for (i, one) in values.iter().enumerate() {
+        for (j, other) in values.iter().enumerate() {
+            assert_eq!(rt; one == other, i == j, "{one:?} and {other:?}");
+        }
+    }
+}
+
+#[test]
+fn values_that_differ_in_one_field_are_unequal(rt: HostRuntime) {
+    let on = |line, kind| LexFault { line, kind };
+    assert_apart(&rt, &[Word, Text]);
+    assert_apart(
+        &rt,
+        &[LexKind::OpenString, LexKind::BadByte, LexKind::TooLong],
+    );
+    let faults = [
+        on(3, LexKind::OpenString),
+        on(3, LexKind::BadByte),
+        on(3, LexKind::TooLong),
+        on(4, LexKind::OpenString),
+    ];
+    assert_apart(&rt, &faults);
+    assert_apart(
+        &rt,
+        &[
+            Tail::Ends(3),
+            Tail::Ends(4),
+            Tail::Breaks(on(3, LexKind::BadByte)),
+            Tail::Breaks(on(3, LexKind::TooLong)),
+            Tail::Breaks(on(4, LexKind::BadByte)),
+        ],
+    );
 }
