@@ -1,11 +1,11 @@
 -- What is lexed of a source accounts for each of its bytes, by the grammar.
-use Rattle.std.proofs.Common.{◌≡◌, ◌≢◌, ℕ, zero, suc, ◌+◌, ◌<◌, ◌≤◌, Bool, true, false, not, cond, ◌==◌, List, [], ◌∷◌, ◌++◌, length, take, drop, None, Some, Result, Ok, Err, All, refl, sym, ◌∙◌, ap, subst, arith, add-zero}
+use Rattle.std.proofs.Common.{◌≡◌, ◌≢◌, ℕ, zero, suc, ◌+◌, ◌<◌, ◌≤◌, Bool, true, false, not, cond, ◌||◌, ◌==◌, List, [], ◌∷◌, ◌++◌, length, take, drop, None, Some, Result, Ok, Err, All, refl, sym, ◌∙◌, ap, subst, arith, add-zero}
 use Rattle.std.specs.Prelude.{IsFalse, nat_lt, position, if◌then◌else◌}
 use Rattle.std.specs.List.{position_or_len}
 use Rattle.std.specs.Str.{IsUtf8, is_utf8}
 use Rattle.std.specs.Str.Lossy.{valid_len_up_to, utf8_valid_len}
 use Rattle.std.proofs.Math.Numerals.{one-add}
-use Rattle.std.proofs.lemmas.Bool.{true≢false, eqb-true, eqb-false, ltb-true, ltb-false, or_from, cond_both}
+use Rattle.std.proofs.lemmas.Bool.{true≢false, eqb-true, eqb-false, ltb-true, ltb-false, ne_eqb, or_parts, or_from, cond_both}
 use Rattle.std.proofs.lemmas.List.{append-nil, append_assoc, take-append-drop, length-drop}
 use Rattle.std.proofs.lemmas.List.Elements.{All-nil, All-cons, All-weaker}
 use Rattle.std.proofs.lemmas.List.Sums.{sum_by-append, prefix_len-le-length}
@@ -19,10 +19,9 @@ use Rattle.maplex.specs.declared.token.TheConstants.{TOKEN_LIMIT}
 use Rattle.maplex.specs.Token.{Step, Stops, Reads, step, step_of, checked_at, unless, token_at, extent_of, text_extent, word_extent, token_len, text_of, bad_at, fault}
 use Rattle.maplex.specs.Byte.{is_separator, is_quote, is_bracket, ends_word, is_control}
 use Rattle.maplex.specs.Position.{Position, start, line_ends, blank_len, after_blanks}
-use Rattle.maplex.specs.Grammar.{AreBlanks, nothing, separator, comment, last_comment, IsOver, IsWritten, IsGoodText, BeginsWith, IsFault, open_text, bracket, bad_byte, too_long, line_after, Lexes, ends, breaks, reads, SourceIsLexed}
-use Rattle.maplex.specs.Lexed.{ended, lexed_within}
-use Rattle.maplex.proofs.Lexing.{FitsPosition, step-fits, after_step, lexed_within-suc, lexed_within-empty, blank_len-after_blanks}
-use Rattle.maplex.proofs.Standing.{nothing-left}
+use Rattle.maplex.specs.Grammar.{AreBlanks, nothing, separator, comment, last_comment, IsPlain, IsOver, IsWritten, IsGoodText, BeginsWith, IsFault, open_text, bracket, bad_byte, too_long, line_after, IsReading, ends, breaks, reads, LexedFollowsGrammar}
+use Rattle.maplex.specs.Lexed.{Lexed, ended, lexed, lexed_within, EndIsOnLastLine}
+use Rattle.maplex.proofs.Lexing.{FitsPosition, step-fits, after_step, lexed_within-suc, lexed_within-empty, blank_len-after_blanks, nothing-left}
 
 -- a byte more of a comment
 longer : (after : List ℕ) (b : ℕ) (bytes : List ℕ) → b ≢ 10 → AreBlanks after (35 ∷ bytes) → AreBlanks after (35 ∷ (b ∷ bytes))
@@ -67,10 +66,21 @@ fails-before : (p : ℕ → Bool) (xs : List ℕ) → All (λ c. IsFalse (p c)) 
 fails-before p [] = All-nil (λ c. IsFalse (p c))
 fails-before p (x ∷ xs) = fails-before_cons p x xs (p x) refl (fails-before p xs)
 
+-- a byte that doesn't end a bare word is one of its bytes, and only such a byte
+pub plain-from : (b : ℕ) → IsFalse (ends_word b) → IsPlain b
+plain-from b h =
+    let parts = or_parts ((is_separator b || is_quote b) || (b == 35)) (is_bracket b) h in
+    let others = or_parts (is_separator b || is_quote b) (b == 35) parts.0 in
+    let first = or_parts (is_separator b) (is_quote b) others.0 in
+    record { separator = first.0; quote = first.1; comment = eqb-false b 35 others.1; bracket = parts.1 }
+
+pub plain-to : (b : ℕ) → IsPlain b → IsFalse (ends_word b)
+plain-to b plain = or_from _ _ (or_from _ _ (or_from _ _ plain.separator plain.quote) (ne_eqb b 35 plain.comment)) plain.bracket
+
 -- a bare word is over before the first byte that ends it
 over-at_cons : (x : ℕ) (xs : List ℕ) (t : Bool) → ends_word x ≡ t → IsOver (drop (position_or_len ends_word xs) xs) →
     IsOver (drop (cond (not t) (1 + position_or_len ends_word xs) 0) (x ∷ xs))
-over-at_cons x xs true e others = e
+over-at_cons x xs true e others = λ plain. true≢false (sym e ∙ plain-to x plain)
 over-at_cons x xs false e others = rw one-add others
 
 over-at : (xs : List ℕ) → IsOver (drop (position_or_len ends_word xs) xs)
@@ -120,14 +130,16 @@ word-fits : (b : ℕ) (bs : List ℕ) → ends_word b ≡ false → ExtentFits (
 word-fits b bs goes_on = record {
   same = ap (λ n. take n (b ∷ bs)) (add-zero (1 + position_or_len ends_word bs));
   some = rw one-add (omega arith);
-  goes_on = rw one-add (All-cons (λ c. IsFalse (ends_word c)) b _ goes_on (fails-before ends_word bs));
+  goes_on =
+      let others = take (position_or_len ends_word bs) bs in
+      rw one-add (All-cons IsPlain b others (plain-from b goes_on) (All-weaker (λ c. IsFalse (ends_word c)) IsPlain plain-from others (fails-before ends_word bs)));
   over =
       let one : suc (position_or_len ends_word bs) ≡ 1 + position_or_len ends_word bs + 0 = omega arith in
       subst (λ n. IsOver (drop n (b ∷ bs))) one (over-at bs);
 }
 
 -- a byte before which there is no blank
-pub record BeginsToken (b : ℕ) : Type 0 where
+record BeginsToken (b : ℕ) : Type 0 where
   pub separates : is_separator b ≡ false
   pub comments : (b == 35) ≡ false
 
@@ -201,19 +213,19 @@ step_of-fits p (b ∷ bs) same no_blank =
     checked_at-fits p (extent_of b bs) (subst (λ bytes. ExtentFits bytes (extent_of b bs)) (sym same) (extent-fits b bs (is_quote b) (is_bracket b) refl refl begins))
 
 -- the line after more bytes
-line_after-append : (before more : List ℕ) → line_after before + line_ends more ≡ line_after (before ++ more)
+pub line_after-append : (before more : List ℕ) → line_after before + line_ends more ≡ line_after (before ++ more)
 line_after-append before more = omega (arith, sum_by-append (λ b. cond (b == 10) 1 0) before more)
 
 -- what is lexed by a step, after blanks, is by the grammar if what is lexed after it is
-step-lexes : (n : ℕ) (before blanks : List ℕ) (p : Position) (s : Step) → p.line ≡ line_after (before ++ blanks) → AreBlanks p.rest blanks →
+step-is_reading : (n : ℕ) (before blanks : List ℕ) (p : Position) (s : Step) → p.line ≡ line_after (before ++ blanks) → AreBlanks p.rest blanks →
     length p.rest ≤ suc n → FitsPosition p s → StepFits p s →
-    ((passed : List ℕ) (next : Position) → next.line ≡ line_after passed → length next.rest ≤ n → Lexes passed next.rest (lexed_within n next)) →
-    Lexes before (blanks ++ p.rest) (after_step n p.line s)
-step-lexes n before blanks p (Stops (Ends last)) line are room fits written others =
+    ((passed : List ℕ) (next : Position) → next.line ≡ line_after passed → length next.rest ≤ n → IsReading passed next.rest (lexed_within n next)) →
+    IsReading before (blanks ++ p.rest) (after_step n p.line s)
+step-is_reading n before blanks p (Stops (Ends last)) line are room fits written others =
     rw (written.0, line, written.1, append-nil) (ends before blanks (subst (λ bytes. AreBlanks bytes blanks) written.1 are))
-step-lexes n before blanks p (Stops (Breaks f)) line are room fits written others =
+step-is_reading n before blanks p (Stops (Breaks f)) line are room fits written others =
     rw line (breaks before blanks p.rest f are (rw line at written))
-step-lexes n before blanks p (Reads t next) line are room fits (written, whole, is_written, good, t_line, next_line) others =
+step-is_reading n before blanks p (Reads t next) line are room fits (written, whole, is_written, good, t_line, next_line) others =
     let passed = before ++ (blanks ++ written) in
     let reached : next.line ≡ line_after passed =
     next_line ∙ ap (λ l. l + line_ends written) line ∙ line_after-append (before ++ blanks) written ∙ ap line_after (append_assoc before blanks written) in
@@ -222,18 +234,29 @@ step-lexes n before blanks p (Reads t next) line are room fits (written, whole, 
     (others passed next reached (omega (arith, fits.1))))
 
 -- what is lexed from a position on is by the grammar
-lexes : (n : ℕ) (before : List ℕ) (p : Position) → p.line ≡ line_after before → length p.rest ≤ n → Lexes before p.rest (lexed_within n p)
-lexes zero before p line room =
+is_reading : (n : ℕ) (before : List ℕ) (p : Position) → p.line ≡ line_after before → length p.rest ≤ n → IsReading before p.rest (lexed_within n p)
+is_reading zero before p line room =
     let here : ended (line_after (before ++ [])) ≡ lexed_within zero p = ap (λ bytes. ended (line_after bytes)) (append-nil before) ∙ ap ended (sym line) ∙ sym (lexed_within-empty zero p room) in
     rw (← here) (rw (nothing-left p.rest room) (ends before [] nothing))
-lexes (suc n) before p line room =
+is_reading (suc n) before p line room =
     let count = blank_len false p.rest in
     let q = after_blanks p in
     let there : q.line ≡ line_after (before ++ take count p.rest) = ap (λ l. l + line_ends (take count p.rest)) line ∙ line_after-append before (take count p.rest) in
     let shorter : length q.rest ≤ length p.rest = omega (arith, length-drop count p.rest) in
-    let found = step-lexes n before (take count p.rest) q (step q) there (blanks-from false p.rest) (omega arith)
-    (step-fits q) (step_of-fits q q.rest refl (blank_len-after_blanks p)) (λ passed next l r. lexes n passed next l r) in
-    rw (lexed_within-suc n p) (subst (λ bytes. Lexes before bytes (after_step n q.line (step q))) (take-append-drop count p.rest) found)
+    let found = step-is_reading n before (take count p.rest) q (step q) there (blanks-from false p.rest) (omega arith)
+    (step-fits q) (step_of-fits q q.rest refl (blank_len-after_blanks p)) (λ passed next l r. is_reading n passed next l r) in
+    rw (lexed_within-suc n p) (subst (λ bytes. IsReading before bytes (after_step n q.line (step q))) (take-append-drop count p.rest) found)
 
-pub source-is-lexed : SourceIsLexed
-source-is-lexed source = lexes (length source) [] (start source) refl (omega arith)
+pub lexed-follows_grammar : LexedFollowsGrammar
+lexed-follows_grammar source = is_reading (length source) [] (start source) refl (omega arith)
+
+-- the end that is read is on the last line
+reading-end : (before bytes : List ℕ) (left : Lexed) (line : ℕ) → IsReading before bytes left → left.tail ≡ Ends line → line ≡ line_after (before ++ bytes)
+reading-end before bytes left line (ends before' blanks are) h = cc
+reading-end before bytes left line (breaks before' blanks after f are faulty) h = cc
+reading-end before bytes left line (reads before' blanks written after t others are is_written good at_line others_are) h =
+    let whole = append_assoc before (blanks ++ written) after ∙ ap (λ bs. before ++ bs) (append_assoc blanks written after) in
+    reading-end (before ++ (blanks ++ written)) after others line others_are h ∙ ap line_after whole
+
+pub end-is-on-last-line : EndIsOnLastLine
+end-is-on-last-line source line h = reading-end [] source (lexed source) line (lexed-follows_grammar source) h

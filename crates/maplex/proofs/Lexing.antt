@@ -78,6 +78,10 @@ lexed_within-suc n p = elim (step (after_blanks p)) as (λ f. elim f [ Stops tai
   | Reads t next ↦ refl
 ]
 
+pub nothing-left : (bytes : List ℕ) → length bytes ≤ 0 → bytes ≡ []
+nothing-left [] h = refl
+nothing-left (b ∷ bs) h = absurd (omega arith)
+
 -- where nothing is left there is no blank, and the step stops at the end
 blank_len-empty : (bytes : List ℕ) → length bytes ≤ 0 → blank_len false bytes ≡ 0
 blank_len-empty [] h = refl

@@ -1,3 +1,3 @@
 pub mod Grammar
 pub mod Lexing
-pub mod Standing
+pub mod OneReading

@@ -7,7 +7,7 @@ use Rattle.maplex.specs.declared.fault.Tail.TheVariants.{Breaks}
 use Rattle.maplex.specs.declared.token.Shape.{Shape}
 use Rattle.maplex.specs.declared.token.Shape.TheVariants.{Word, Text}
 use Rattle.maplex.specs.declared.token.TheConstants.{TOKEN_LIMIT}
-use Rattle.maplex.specs.Byte.{is_separator, is_quote, is_bracket, ends_word, is_control}
+use Rattle.maplex.specs.Byte.{is_separator, is_quote, is_bracket, is_control}
 use Rattle.maplex.specs.Position.{line_ends}
 use Rattle.maplex.specs.Token.{TokenValue, bad_at, fault}
 use Rattle.maplex.specs.Lexed.{Lexed, stopped, ended, with_token, lexed}
@@ -20,16 +20,23 @@ pub data AreBlanks (after : List ℕ) : List ℕ → Type 0 where
   comment : (text bs : List ℕ) → All (λ c. c ≢ 10) text → AreBlanks after bs → AreBlanks after (35 ∷ (text ++ (10 ∷ bs)))
   last_comment : (text : List ℕ) → All (λ c. c ≢ 10) text → after ≡ [] → AreBlanks after (35 ∷ text)
 
--- a bare word is over before some bytes: before the end of the source, or a byte that ends it
+-- a byte of a bare word: no separator, no quote, no `#` and no bracket
+pub record IsPlain (b : ℕ) : Type 0 where
+  pub separator : IsFalse (is_separator b)
+  pub quote : IsFalse (is_quote b)
+  pub comment : b ≢ 35
+  pub bracket : IsFalse (is_bracket b)
+
+-- a bare word is over before the end of the source, and before a byte that can't be its next one
 abbrev pub IsOver : List ℕ → Type 0
 IsOver [] = Unit {0}
-IsOver (b ∷ bs) = IsTrue (ends_word b)
+IsOver (b ∷ bs) = IsPlain b → ⊥
 
--- a bare word is written as its text, of one byte or more, none of which ends it, before bytes where it is over
+-- a bare word is written as its text, of one byte or more, before bytes where it is over
 pub record IsBareWord (text written after : List ℕ) : Type 0 where
   pub same : written ≡ text
   pub some : 0 < length text
-  pub goes_on : All (λ b. IsFalse (ends_word b)) text
+  pub goes_on : All IsPlain text
   pub over : IsOver after
 
 -- a quoted text is written as a quote, its text without that quote, and the quote again
@@ -71,16 +78,20 @@ pub data IsFault (line : ℕ) : List ℕ → LexFault → Type 0 where
 abbrev pub line_after : List ℕ → ℕ
 line_after bytes = 1 + line_ends bytes
 
--- what is lexed of some bytes, after those before them: blanks and comments up to the end of the source, blanks and
--- comments up to a fault, or blanks and comments, a token as it is written, and what is lexed of the bytes after it
-pub data Lexes : List ℕ → List ℕ → Lexed → Type 0 where
-  ends : (before blanks : List ℕ) → AreBlanks [] blanks → Lexes before blanks (ended (line_after (before ++ blanks)))
+-- a reading of some bytes, after those before them: blanks and comments up to the end of the source, blanks and comments
+-- up to a fault, or blanks and comments, a token as it is written, and a reading of the bytes after it
+pub data IsReading : List ℕ → List ℕ → Lexed → Type 0 where
+  ends : (before blanks : List ℕ) → AreBlanks [] blanks → IsReading before blanks (ended (line_after (before ++ blanks)))
   breaks : (before blanks after : List ℕ) (f : LexFault) → AreBlanks after blanks → IsFault (line_after (before ++ blanks)) after f →
-      Lexes before (blanks ++ after) (stopped (line_after (before ++ blanks)) (Breaks f))
+      IsReading before (blanks ++ after) (stopped (line_after (before ++ blanks)) (Breaks f))
   reads : (before blanks written after : List ℕ) (t : TokenValue) (others : Lexed) →
       AreBlanks (written ++ after) blanks → IsWritten t.shape t.text written after → IsGoodText t.text → t.line ≡ line_after (before ++ blanks) →
-      Lexes (before ++ (blanks ++ written)) after others → Lexes before (blanks ++ (written ++ after)) (with_token t others)
+      IsReading (before ++ (blanks ++ written)) after others → IsReading before (blanks ++ (written ++ after)) (with_token t others)
 
--- the law that what is lexed of a source accounts for each of its bytes, by the grammar
-abbrev pub SourceIsLexed : Type 0
-SourceIsLexed = (source : List ℕ) → Lexes [] source (lexed source)
+-- the law that what is lexed of a source is a reading of it, which accounts for each byte
+abbrev pub LexedFollowsGrammar : Type 0
+LexedFollowsGrammar = (source : List ℕ) → IsReading [] source (lexed source)
+
+-- the law that the grammar has no other reading of a source
+abbrev pub GrammarHasOneReading : Type 0
+GrammarHasOneReading = (source : List ℕ) (left : Lexed) → IsReading [] source left → left ≡ lexed source

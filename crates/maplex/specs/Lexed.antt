@@ -1,10 +1,9 @@
 -- The tokens of a source, and what ends them (docs/MAPFILE.md, "Tokens").
-use Rattle.std.specs.Prelude.{◌≡◌, ℕ, zero, suc, ◌+◌, ◌≤◌, List, [], ◌∷◌, ◌++◌, length, All}
+use Rattle.std.specs.Prelude.{◌≡◌, ℕ, zero, suc, ◌+◌, ◌≤◌, List, [], ◌∷◌, length}
 use Rattle.maplex.specs.declared.fault.Tail.{Tail}
 use Rattle.maplex.specs.declared.fault.Tail.TheVariants.{Ends}
-use Rattle.maplex.specs.declared.token.TheConstants.{TOKEN_LIMIT}
 use Rattle.maplex.specs.Position.{Position, start, line_ends, after_blanks}
-use Rattle.maplex.specs.Token.{TokenValue, quote_len, Stops, Reads, step}
+use Rattle.maplex.specs.Token.{TokenValue, Stops, Reads, step}
 
 -- what is lexed from a position on: the line that is reached there after blanks and comments, tokens, and what comes
 -- after the last one, the end of the source or the first fault
@@ -44,20 +43,6 @@ lexed source = lexed_from (start source)
 -- nothing is left, neither a token nor a fault
 abbrev pub HasEnded : Lexed → Type 0
 HasEnded left = left ≡ ended left.line
-
--- a token stands in a source: after the lines above its own, its text a slice of the source, within the limit
-pub record StandsIn (source : List ℕ) (t : TokenValue) : Type 0 where
-  pub before : List ℕ
-  pub opening : List ℕ
-  pub after : List ℕ
-  pub slice : source ≡ before ++ (opening ++ (t.text ++ after))
-  pub quote : length opening ≡ quote_len t.shape
-  pub line : t.line ≡ 1 + line_ends before
-  pub limit : length t.text ≤ TOKEN_LIMIT
-
--- the law that each token stands in its source
-abbrev pub TokensStandInSource : Type 0
-TokensStandInSource = (source : List ℕ) → All (StandsIn source) (lexed source).tokens
 
 -- the law that the end is on the last line
 abbrev pub EndIsOnLastLine : Type 0

@@ -1,12 +1,18 @@
 //! Laws of the definitions. A law is a function without arguments whose contract states it.
 
-ghost use Rattle.maplex.specs.Grammar.{SourceIsLexed};
-ghost use Rattle.maplex.specs.Lexed.{BytesAreEnough, EndIsOnLastLine, TokensStandInSource};
+ghost use Rattle.maplex.specs.Grammar.{LexedFollowsGrammar, GrammarHasOneReading};
+ghost use Rattle.maplex.specs.Lexed.{BytesAreEnough, EndIsOnLastLine};
 
-/// Each token stands in its source: its text is a slice of it and within the limit, and its line is
-/// 1 more than the LF bytes before it.
-pub fn tokens_stand_in_source()
-    ensures { TokensStandInSource }
+/// What is lexed of a source is a reading of it by the grammar: blanks and comments, and tokens as
+/// they are written, in turn. No byte is lost, and none is read twice. Each token is on the line that
+/// is 1 more than the LF bytes before it.
+pub fn lexed_follows_grammar()
+    ensures { LexedFollowsGrammar }
+{}
+
+/// The grammar has no other reading of a source.
+pub fn grammar_has_one_reading()
+    ensures { GrammarHasOneReading }
 {}
 
 /// The line of the end is 1 more than the LF bytes of the source.
@@ -17,9 +23,4 @@ pub fn end_is_on_last_line()
 /// The definition counts its steps by the bytes of the source, and more steps change nothing.
 pub fn bytes_are_enough()
     ensures { BytesAreEnough }
-{}
-
-/// What is lexed of a source accounts for each of its bytes, by the grammar.
-pub fn source_is_lexed()
-    ensures { SourceIsLexed }
 {}

@@ -2,8 +2,8 @@
 //!
 //! Proved: `Tokens::new` has the tokens and the tail that the definition `lexed` finds in the source.
 //! `Tokens::next` takes the first token that is left, by its clause `token`, or tells the fault that
-//! ends them, by `fault`. From then on it returns `None`. `laws` states that each text is a slice of
-//! the source and that lines are numbered by LF bytes.
+//! ends them, by `fault`. From then on it returns `None`. `laws` states that `lexed` finds the one
+//! reading of the source by its grammar, in which blanks, comments and tokens make up the source.
 //!
 //! Words: a *separator* is a space, tab, LF, CR or form feed. A *bare word* (`Shape::Word`) is a token
 //! without quotes, and a *quoted text* (`Shape::Text`) one between quotes. A *position* in a source is
