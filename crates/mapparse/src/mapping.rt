@@ -1,7 +1,7 @@
 ghost use Rattle.std.specs.Prelude.{◌≡◌, ◌≤◌, map, length, IfOk};
 ghost use Rattle.geom.specs.World.{IsExtent};
 ghost use Rattle.mapdefs.specs.declared.limits.TheConstants.{MAX_TOLERANCE};
-ghost use Rattle.mapparse.specs.Mapping.{style_of, class_of, feature_of, tolerance_of, layer_of, whole_world, map_of};
+ghost use Rattle.mapparse.specs.Mapping.{tolerance_of, whole_world, map_of};
 
 use crate::tree::{ClassTree, FeatureTree, LayerTree, MapTree, StyleTree};
 use geom::{Micro, WorldBox};
@@ -11,68 +11,80 @@ use mapdefs::{
 };
 use std::alloc::{AllocError, Global};
 
-fn style_of(style: StyleTree) -> Style
-    ensures { result ≡ style_of style }
-{
-    Style::new(StyleFields {
-        colour: style.colour,
-        outline: None,
-        width: 1,
-        size: 1,
-        symbol: None,
-    })
+/// A tree of a block, from which a part of the map is made.
+trait Build: Drop + Sized {
+    /// The part of the map.
+    type Part: Drop;
+
+    /// The part that the tree describes.
+    ghost part: { Self → Self.Part };
+
+    /// Makes the part.
+    fn build(self, alloc: Global) -> Result<Self::Part, AllocError>
+        ensures { IfOk result (λ made. made ≡ part self) };
 }
 
-fn styles_of(styles: Vec<StyleTree>, alloc: Global) -> Result<Items<Style>, AllocError>
-    ensures { IfOk result (λ made. made ≡ map style_of styles.items) }
+// Makes the part of each tree, in their order.
+fn build_all<T: Build>(trees: Vec<T>, alloc: Global) -> Result<Items<T::Part>, AllocError>
+    ensures { IfOk result (λ made. made ≡ map T.part trees.items) }
 {
-    let mut made = Vec::with_capacity(alloc, styles.len())?;
-    for style in styles {
-        made.push(style_of(style))?;
+    let mut parts = Vec::with_capacity(alloc, trees.len())?;
+    for tree in trees {
+        parts.push(tree.build(alloc)?)?;
     }
-    Ok(Items::of(made))
+    Ok(Items::of(parts))
 }
 
-fn class_of(class: ClassTree, alloc: Global) -> Result<Class, AllocError>
-    ensures { IfOk result (λ made. made ≡ class_of class) }
-{
-    Ok(Class::new(ClassFields {
-        rule: Rule::Always,
-        min: None,
-        max: None,
-        styles: styles_of(class.styles.into_vec(), alloc)?,
-        label: None,
-    }))
-}
+impl Build for StyleTree {
+    type Part = Style;
 
-fn classes_of(classes: Vec<ClassTree>, alloc: Global) -> Result<Items<Class>, AllocError>
-    ensures { IfOk result (λ made. made ≡ map class_of classes.items) }
-{
-    let mut made = Vec::with_capacity(alloc, classes.len())?;
-    for class in classes {
-        made.push(class_of(class, alloc)?)?;
+    ghost use Rattle.mapparse.specs.Mapping.{style_of};
+
+    ghost part = { style_of };
+
+    fn build(self, _alloc: Global) -> Result<Style, AllocError> {
+        Ok(Style::new(StyleFields {
+            colour: self.colour,
+            outline: None,
+            width: 1,
+            size: 1,
+            symbol: None,
+        }))
     }
-    Ok(Items::of(made))
 }
 
-fn feature_of(feature: FeatureTree, alloc: Global) -> Feature
-    ensures { result ≡ feature_of feature }
-{
-    Feature::new(FeatureFields {
-        parts: feature.parts.into_items(),
-        text: None,
-        values: Items::new(alloc),
-    })
-}
+impl Build for ClassTree {
+    type Part = Class;
 
-fn features_of(features: Vec<FeatureTree>, alloc: Global) -> Result<Items<Feature>, AllocError>
-    ensures { IfOk result (λ made. made ≡ map feature_of features.items) }
-{
-    let mut made = Vec::with_capacity(alloc, features.len())?;
-    for feature in features {
-        made.push(feature_of(feature, alloc))?;
+    ghost use Rattle.mapparse.specs.Mapping.{class_of};
+
+    ghost part = { class_of };
+
+    fn build(self, alloc: Global) -> Result<Class, AllocError> {
+        Ok(Class::new(ClassFields {
+            rule: Rule::Always,
+            min: None,
+            max: None,
+            styles: build_all(self.styles.into_vec(), alloc)?,
+            label: None,
+        }))
     }
-    Ok(Items::of(made))
+}
+
+impl Build for FeatureTree {
+    type Part = Feature;
+
+    ghost use Rattle.mapparse.specs.Mapping.{feature_of};
+
+    ghost part = { feature_of };
+
+    fn build(self, alloc: Global) -> Result<Feature, AllocError> {
+        Ok(Feature::new(FeatureFields {
+            parts: self.parts.into_items(),
+            text: None,
+            values: Items::new(alloc),
+        }))
+    }
 }
 
 // How far from the asked pixel a feature counts, in pixels.
@@ -86,42 +98,38 @@ fn tolerance_of(kind: Kind) -> u8
     }
 }
 
-fn layer_of(layer: LayerTree, alloc: Global) -> Result<Layer, AllocError>
-    ensures { IfOk result (λ made. made ≡ layer_of layer) }
-{
-    let LayerTree {
-        name,
-        kind,
-        classes,
-        features,
-    } = layer;
-    Ok(Layer::new(LayerFields {
-        title: Text::from_str(alloc, name.as_str())?,
-        name,
-        kind,
-        on: true,
-        classitem: None,
-        labelitem: None,
-        items: Items::new(alloc),
-        csv_x: Text::from_str(alloc, "x")?,
-        csv_y: Text::from_str(alloc, "y")?,
-        queryable: false,
-        tolerance: tolerance_of(kind),
-        min: None,
-        max: None,
-        classes: classes_of(classes.into_vec(), alloc)?,
-        features: features_of(features.into_vec(), alloc)?,
-    }))
-}
+impl Build for LayerTree {
+    type Part = Layer;
 
-fn layers_of(layers: Vec<LayerTree>, alloc: Global) -> Result<Items<Layer>, AllocError>
-    ensures { IfOk result (λ made. made ≡ map layer_of layers.items) }
-{
-    let mut made = Vec::with_capacity(alloc, layers.len())?;
-    for layer in layers {
-        made.push(layer_of(layer, alloc)?)?;
+    ghost use Rattle.mapparse.specs.Mapping.{layer_of};
+
+    ghost part = { layer_of };
+
+    fn build(self, alloc: Global) -> Result<Layer, AllocError> {
+        let LayerTree {
+            name,
+            kind,
+            classes,
+            features,
+        } = self;
+        Ok(Layer::new(LayerFields {
+            title: Text::from_str(alloc, name.as_str())?,
+            name,
+            kind,
+            on: true,
+            classitem: None,
+            labelitem: None,
+            items: Items::new(alloc),
+            csv_x: Text::from_str(alloc, "x")?,
+            csv_y: Text::from_str(alloc, "y")?,
+            queryable: false,
+            tolerance: tolerance_of(kind),
+            min: None,
+            max: None,
+            classes: build_all(classes.into_vec(), alloc)?,
+            features: build_all(features.into_vec(), alloc)?,
+        }))
     }
-    Ok(Items::of(made))
 }
 
 fn whole_world() -> WorldBox
@@ -146,6 +154,6 @@ pub fn map_of(tree: MapTree, alloc: Global) -> Result<Map, AllocError>
         extent: whole_world(),
         font: None,
         symbols: Items::new(alloc),
-        layers: layers_of(tree.layers.into_vec(), alloc)?,
+        layers: build_all(tree.layers.into_vec(), alloc)?,
     }))
 }
