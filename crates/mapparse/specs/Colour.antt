@@ -1,6 +1,7 @@
 -- Colours, and their texts (docs/MAPFILE.md, "Colours").
-use Rattle.std.specs.Prelude.{ℕ, ◌+◌, ◌*◌, ◌==◌, nat_le, nat_lt, if◌then◌else◌, List, [], ◌∷◌, ℤ, pos, negsuc, Option, None, Some, option_and_then}
-use Rattle.std.specs.Char.{digit_value}
+use Rattle.std.specs.Prelude.{ℕ, ◌==◌, nat_le, if◌then◌else◌, List, [], ◌∷◌, ℤ, pos, negsuc, Option, None, Some, option_and_then}
+use Rattle.std.specs.Result.{result_ok}
+use Rattle.hex.specs.Hex.{decode_sized}
 use Rattle.mapdefs.specs.declared.colour.Rgb.{Rgb}
 use Rattle.mapparse.specs.declared.colour.Shade.{Shade}
 use Rattle.mapparse.specs.declared.colour.Shade.TheVariants.{Level, Absent}
@@ -20,26 +21,12 @@ abbrev pub rgb_of : Shade → Shade → Shade → Option Rgb
 rgb_of (Level r) (Level g) (Level b) = Some (record { red = r; green = g; blue = b })
 rgb_of _ _ _ = None
 
--- what a hexadecimal digit of either case is worth
-abbrev pub hex_value : ℕ → Option ℕ
-hex_value digit = if nat_lt (digit_value digit) 16 then Some (digit_value digit) else None
+-- three bytes are the red, the green and the blue of a colour
+abbrev pub rgb_of_bytes : List ℕ → Option Rgb
+rgb_of_bytes (r ∷ g ∷ b ∷ []) = Some (record { red = r; green = g; blue = b })
+rgb_of_bytes _ = None
 
--- what two hexadecimal digits are worth, by what each is
-abbrev pub joined : Option ℕ → Option ℕ → Option ℕ
-joined (Some high) (Some low) = Some (high * 16 + low)
-joined _ _ = None
-
--- the byte that two hexadecimal digits write
-abbrev pub hex_byte : ℕ → ℕ → Option ℕ
-hex_byte high low = joined (hex_value high) (hex_value low)
-
--- the colour of three bytes
-abbrev pub rgb_of_bytes : Option ℕ → Option ℕ → Option ℕ → Option Rgb
-rgb_of_bytes (Some r) (Some g) (Some b) = Some (record { red = r; green = g; blue = b })
-rgb_of_bytes _ _ _ = None
-
--- the colour that a text `#rrggbb` stands for
+-- the colour that a text `#rrggbb` stands for: behind the `#`, three bytes of two hexadecimal digits each
 abbrev pub hex_colour : List ℕ → Option Rgb
-hex_colour (hash ∷ r ∷ s ∷ g ∷ h ∷ b ∷ c ∷ []) =
-    if hash == 35 then rgb_of_bytes (hex_byte r s) (hex_byte g h) (hex_byte b c) else None
-hex_colour _ = None
+hex_colour [] = None
+hex_colour (hash ∷ digits) = if hash == 35 then option_and_then rgb_of_bytes (result_ok (decode_sized digits 3)) else None

@@ -1,7 +1,8 @@
 ghost use Rattle.std.specs.Prelude.{◌≡◌};
-ghost use Rattle.mapparse.specs.Colour.{shade_of, shade_of_count, rgb_of, hex_value, hex_byte, hex_colour};
+ghost use Rattle.mapparse.specs.Colour.{shade_of, shade_of_count, rgb_of, hex_colour};
 
 use crate::number::read_count;
+use hex::FromHex;
 use mapdefs::Rgb;
 
 /// One of the three parts of a colour.
@@ -47,38 +48,13 @@ pub fn rgb_of(red: Shade, green: Shade, blue: Shade) -> Option<Rgb>
     }
 }
 
-// What a hexadecimal digit is worth.
-fn hex_value(digit: u8) -> Option<u8>
-    ensures { result ≡ hex_value digit }
-{
-    match digit {
-        b'0'..=b'9' => Some(digit - b'0'),
-        b'A'..=b'F' => Some(digit - b'A' + 10),
-        b'a'..=b'f' => Some(digit - b'a' + 10),
-        _ => None,
-    }
-}
-
-// What two hexadecimal digits are worth.
-fn hex_byte(high: u8, low: u8) -> Option<u8>
-    ensures { result ≡ hex_byte high low }
-{
-    let high = hex_value(high)?;
-    let low = hex_value(low)?;
-    Some(high * 16 + low)
-}
-
 /// The colour that a text `#rrggbb` stands for.
 pub fn hex_colour(text: &str) -> Option<Rgb>
     ensures { result ≡ hex_colour text.now }
 {
-    match text.as_bytes() {
-        [b'#', r, s, g, h, b, c] => {
-            let red = hex_byte(*r, *s)?;
-            let green = hex_byte(*g, *h)?;
-            let blue = hex_byte(*b, *c)?;
-            Some(Rgb { red, green, blue })
-        }
-        _ => None,
-    }
+    let [b'#', digits @ ..] = text.as_bytes() else {
+        return None;
+    };
+    let [red, green, blue] = <[u8; 3] as FromHex>::from_hex(digits).ok()?;
+    Some(Rgb { red, green, blue })
 }
