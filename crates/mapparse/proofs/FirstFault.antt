@@ -1,4 +1,4 @@
--- A fault in the front of a mapfile is told whatever stands behind.
+-- A fault in the front of a mapfile is its fault, whatever stands after it.
 use Rattle.std.proofs.Common.{◌≡◌, ◌≢◌, ℕ, zero, suc, ◌≤◌, Bool, true, false, List, [], ◌∷◌, ◌++◌, length, refl, sym, ◌∙◌, arith, length-append}
 use Rattle.std.specs.Prelude.{Result, Ok, Err, if◌then◌else◌}
 use Rattle.maplex.specs.declared.fault.LexFault.{LexFault}
@@ -7,18 +7,19 @@ use Rattle.maplex.specs.declared.fault.Tail.TheVariants.{Ends, Breaks}
 use Rattle.maplex.specs.Token.{TokenValue}
 use Rattle.mapparse.specs.declared.context.Block.TheVariants as block
 use Rattle.mapparse.specs.declared.context.Context.{Context}
-use Rattle.mapparse.specs.declared.context.Context.TheVariants.{Words}
+use Rattle.mapparse.specs.declared.context.Context.TheVariants.{Keywords}
 use Rattle.mapparse.specs.declared.context.Move.{Move}
 use Rattle.mapparse.specs.declared.context.Move.TheVariants.{GoesOn, Enters, Leaves}
 use Rattle.mapparse.specs.declared.draft.Drafts.{Drafts}
+use Rattle.mapparse.specs.declared.fault.Fault.{Fault}
 use Rattle.mapparse.specs.declared.fault.ParseKind.TheVariants.{UnknownWord}
-use Rattle.mapparse.specs.declared.keyword.Keyword.TheVariants as word
-use Rattle.mapparse.specs.Fault.{Fault, and_then, lexical, refused}
+use Rattle.mapparse.specs.declared.keyword.Keyword.TheVariants as keyword
+use Rattle.mapparse.specs.Fault.{and_then, lexical, refused}
 use Rattle.mapparse.specs.Keyword.{is_at}
 use Rattle.mapparse.specs.Draft.{fresh}
-use Rattle.mapparse.specs.Says.{says}
+use Rattle.mapparse.specs.Step.{read_token}
 use Rattle.mapparse.specs.Meaning.{reads, alone, map_body, FirstFaultIsTold}
-use Rattle.mapparse.proofs.Reading.{Ended, LeavesAtMost, behind, reads-at_most}
+use Rattle.mapparse.proofs.Reading.{Ended, LeavesAtMost, read_after, reads-at_most}
 
 module _ (f : LexFault) (tail : Tail) (rest : List TokenValue) where
   -- what reading gives where f ends the tokens, and what it gives where these further ones follow
@@ -31,16 +32,16 @@ module _ (f : LexFault) (tail : Tail) (rest : List TokenValue) where
   carries-and_then k (Err g) whole next other l p q = λ differs. rw (p differs) refl
 
   module _ (n m : ℕ) (below : (context : Context) (d : Drafts) (ts : List TokenValue) → length (ts ++ rest) ≤ m → Carries (reads (Breaks f) n context d ts) (reads tail m context d (ts ++ rest))) where
-    carries-move : (move : Move) (context : Context) (d : Drafts) (ts : List TokenValue) → length (ts ++ rest) ≤ m → Carries (behind (Breaks f) n context ts (move, d)) (behind tail m context (ts ++ rest) (move, d))
+    carries-move : (move : Move) (context : Context) (d : Drafts) (ts : List TokenValue) → length (ts ++ rest) ≤ m → Carries (read_after (Breaks f) n context ts (move, d)) (read_after tail m context (ts ++ rest) (move, d))
     carries-move (GoesOn next) context d ts p = below next d ts p
     carries-move (Enters inner) context d ts p =
         carries-and_then (length ts) (reads (Breaks f) n inner d ts) (reads tail m inner d (ts ++ rest)) _ _ (reads-at_most (Breaks f) n inner d ts) (below inner d ts p)
         (λ e l. below context e.0 e.1 (omega (arith, length-append e.1 rest, length-append ts rest)))
     carries-move Leaves context d ts p = refl
 
-    carries-said : (said : Result (Move × Drafts) Fault) (context : Context) (ts : List TokenValue) → length (ts ++ rest) ≤ m → Carries (and_then said (behind (Breaks f) n context ts)) (and_then said (behind tail m context (ts ++ rest)))
-    carries-said (Ok said) context ts p = carries-move said.0 context said.1 ts p
-    carries-said (Err g) context ts p = λ differs. refl
+    carries-step : (step : Result (Move × Drafts) Fault) (context : Context) (ts : List TokenValue) → length (ts ++ rest) ≤ m → Carries (and_then step (read_after (Breaks f) n context ts)) (and_then step (read_after tail m context (ts ++ rest)))
+    carries-step (Ok step) context ts p = carries-move step.0 context step.1 ts p
+    carries-step (Err g) context ts p = λ differs. refl
 
   carries : (n m : ℕ) (context : Context) (d : Drafts) (ts : List TokenValue) → length (ts ++ rest) ≤ m → Carries (reads (Breaks f) n context d ts) (reads tail m context d (ts ++ rest))
   unfolding reads
@@ -49,7 +50,7 @@ module _ (f : LexFault) (tail : Tail) (rest : List TokenValue) where
   carries zero m context d (t ∷ ts) p = λ differs. absurd (differs refl)
   carries (suc n) zero context d (t ∷ ts) p = absurd (omega arith)
   carries (suc n) (suc m) context d (t ∷ ts) p =
-      carries-said n m (carries n m) (says context d t) context ts (omega arith)
+      carries-step n m (carries n m) (read_token context d t) context ts (omega arith)
 
   alone-carries : (g : Fault) (d : Drafts) (ts : List TokenValue) → alone (Breaks f) d ts ≡ Err g → g ≢ lexical f → alone tail d (ts ++ rest) ≡ Err g
   alone-carries g d [] p differs = let same : g ≡ lexical f = cc in absurd (differs same)
@@ -62,9 +63,9 @@ module _ (f : LexFault) (tail : Tail) (rest : List TokenValue) where
 
   opened-carries : (g : Fault) (t : TokenValue) (ts : List TokenValue) (begins : Bool) → (if begins then map_body (Breaks f) ts else refused UnknownWord t) ≡ Err g → g ≢ lexical f → (if begins then map_body tail (ts ++ rest) else refused UnknownWord t) ≡ Err g
   opened-carries g t ts true q differs =
-      body-carries g _ _ (carries (length ts) (length (ts ++ rest)) (Words block.Map) fresh ts (omega arith)) q differs
+      body-carries g _ _ (carries (length ts) (length (ts ++ rest)) (Keywords block.Map) fresh ts (omega arith)) q differs
   opened-carries g t ts false q differs = q
 
 pub first_fault : FirstFaultIsTold
 first_fault [] rest f g tail p differs = let same : g ≡ lexical f = cc in absurd (differs same)
-first_fault (t ∷ ts) rest f g tail p differs = opened-carries f tail rest g t ts (is_at word.Map t) p differs
+first_fault (t ∷ ts) rest f g tail p differs = opened-carries f tail rest g t ts (is_at keyword.Map t) p differs

@@ -1,23 +1,23 @@
--- Colours, and their texts (docs/MAPFILE.md, "Colours").
+-- Colours, and how they are written (docs/MAPFILE.md, "Colours").
 use Rattle.std.specs.Prelude.{ℕ, ◌==◌, nat_le, if◌then◌else◌, List, [], ◌∷◌, ℤ, pos, negsuc, Option, None, Some, option_and_then}
 use Rattle.std.specs.Result.{result_ok}
 use Rattle.hex.specs.Hex.{decode_sized}
 use Rattle.mapdefs.specs.declared.colour.Rgb.{Rgb}
-use Rattle.mapparse.specs.declared.colour.Shade.{Shade}
-use Rattle.mapparse.specs.declared.colour.Shade.TheVariants.{Level, Absent}
+use Rattle.mapparse.specs.declared.colour.Component.{Component}
+use Rattle.mapparse.specs.declared.colour.Component.TheVariants.{Level, Absent}
 use Rattle.geom.specs.Number.{count_of}
 
 -- a count from 0 to 255 is a level, and -1 says that there is no colour
-abbrev pub shade_of_count : ℤ → Option Shade
-shade_of_count (pos n) = if nat_le n 255 then Some (Level n) else None
-shade_of_count (negsuc n) = if n == 0 then Some Absent else None
+abbrev pub component_of_count : ℤ → Option Component
+component_of_count (pos n) = if nat_le n 255 then Some (Level n) else None
+component_of_count (negsuc n) = if n == 0 then Some Absent else None
 
--- the shade that a text stands for
-abbrev pub shade_of : List ℕ → Option Shade
-shade_of text = option_and_then shade_of_count (count_of text)
+-- the component that a text stands for
+abbrev pub component_of : List ℕ → Option Component
+component_of text = option_and_then component_of_count (count_of text)
 
--- a colour has three levels
-abbrev pub rgb_of : Shade → Shade → Shade → Option Rgb
+-- the levels of red, green and blue are a colour
+abbrev pub rgb_of : Component → Component → Component → Option Rgb
 rgb_of (Level r) (Level g) (Level b) = Some (record { red = r; green = g; blue = b })
 rgb_of _ _ _ = None
 
@@ -26,7 +26,7 @@ abbrev pub rgb_of_bytes : List ℕ → Option Rgb
 rgb_of_bytes (r ∷ g ∷ b ∷ []) = Some (record { red = r; green = g; blue = b })
 rgb_of_bytes _ = None
 
--- the colour that a text `#rrggbb` stands for: behind the `#`, three bytes of two hexadecimal digits each
+-- the colour that a text `#rrggbb` stands for: after the `#`, three bytes of two hexadecimal digits each
 abbrev pub hex_colour : List ℕ → Option Rgb
 hex_colour [] = None
 hex_colour (hash ∷ digits) = if hash == 35 then option_and_then rgb_of_bytes (result_ok (decode_sized digits 3)) else None

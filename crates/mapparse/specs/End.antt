@@ -1,25 +1,27 @@
 -- What an END does, and what is checked at it (docs/MAPFILE.md, "Blocks and words").
 use Rattle.std.specs.Prelude.{ℕ, Bool, ◌==◌, if◌then◌else◌, List, [], ◌∷◌, ◌++◌, length, Option, Some, Result, Ok, Err}
 use Rattle.std.specs.List.{list_any}
-use Rattle.std.specs.Str.{bytes_eq}
 use Rattle.maplex.specs.Token.{TokenValue}
 use Rattle.mapdefs.specs.declared.layer.Kind.{Kind}
+use Rattle.mapdefs.specs.Name.{is_named}
 use Rattle.mapparse.specs.declared.context.Block.{Block}
 use Rattle.mapparse.specs.declared.context.Block.TheVariants as block
+use Rattle.mapparse.specs.declared.fault.Fault.{Fault}
 use Rattle.mapparse.specs.declared.fault.ParseKind.TheVariants.{MissingValue, DuplicateName}
 use Rattle.mapparse.specs.declared.tree.LayerTree.{LayerTree}
 use Rattle.mapparse.specs.declared.draft.Named.{Named}
 use Rattle.mapparse.specs.declared.draft.LayerDraft.{LayerDraft}
 use Rattle.mapparse.specs.declared.draft.Drafts.{Drafts}
-use Rattle.mapparse.specs.Fault.{Fault, refused, and_then}
+use Rattle.mapparse.specs.Fault.{refused, and_then}
+use Rattle.mapparse.specs.Mapping.{layer_of}
 use Rattle.mapparse.specs.Parts.{with_part}
 use Rattle.mapparse.specs.Draft.{new_layer, new_class, new_style, new_feature}
 
--- one of the layers has this name, byte by byte
+-- one of the layers has this name, as the map's layers are looked up by it
 abbrev pub is_taken : List ℕ → List LayerTree → Bool
-is_taken name layers = list_any (λ (layer : LayerTree). bytes_eq layer.name name) layers
+is_taken name layers = list_any (λ (layer : LayerTree). is_named name (layer_of layer)) layers
 
--- a layer with its name and its kind, unless an earlier one has the name
+-- a layer with its name and its kind, unless an earlier layer has the name
 abbrev pub named_layer : Named → Kind → LayerDraft → List LayerTree → Result LayerTree Fault
 named_layer name kind layer earlier =
     if is_taken name.text earlier then Err (record { line = name.line; kind = DuplicateName })

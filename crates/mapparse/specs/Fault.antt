@@ -1,9 +1,10 @@
 -- Faults, and the numbers of their kinds (docs/MAPFILE.md, "Faults").
-use Rattle.std.specs.Prelude.{◌≡◌, ℕ, Result, Ok, Err}
+use Rattle.std.specs.Prelude.{◌≡◌, ℕ, Result, Ok, Err, IsOk}
 use Rattle.maplex.specs.declared.fault.LexFault.{LexFault}
 use Rattle.maplex.specs.declared.fault.Tail.{Tail}
 use Rattle.maplex.specs.declared.fault.Tail.TheVariants.{Ends, Breaks}
 use Rattle.maplex.specs.Token.{TokenValue}
+use Rattle.mapparse.specs.declared.fault.Fault.{Fault}
 use Rattle.mapparse.specs.declared.fault.ParseKind.{ParseKind}
 use Rattle.mapparse.specs.declared.fault.ParseKind.TheVariants.{Lex, UnknownWord, WrongValue, MissingEnd, MissingValue, Limit, DuplicateName}
 use Rattle.mapparse.specs.declared.fault.ParseFault.{ParseFault}
@@ -19,11 +20,6 @@ number_of MissingValue = 5
 number_of Limit = 6
 number_of DuplicateName = 8
 
--- a fault: its line, and what is wrong there
-pub record Fault : Type 0 where
-  pub line : ℕ
-  pub kind : ParseKind
-
 -- a fault of a kind at a token
 abbrev pub fault_of : ParseKind → TokenValue → Fault
 fault_of kind t = record { line = t.line; kind = kind }
@@ -32,25 +28,26 @@ fault_of kind t = record { line = t.line; kind = kind }
 abbrev pub refused : {A : Type 0} → ParseKind → TokenValue → Result A Fault
 refused kind t = Err (fault_of kind t)
 
--- the fault where a token has no reading
+-- the fault of a source that can't be cut into further tokens
 abbrev pub lexical : LexFault → Fault
 lexical f = record { line = f.line; kind = Lex f.kind }
 
--- the fault where a further token is wanted, by what stands behind the last one
-abbrev pub fault_at : Tail → Fault
-fault_at (Ends line) = record { line = line; kind = MissingEnd }
-fault_at (Breaks f) = lexical f
+-- the fault where a further token is needed, by what stands after the last one
+abbrev pub missing : Tail → Fault
+missing (Ends line) = record { line = line; kind = MissingEnd }
+missing (Breaks f) = lexical f
 
--- what is given goes on, and the first fault is told
+-- reading goes on with what was read, and the first fault is the fault of all
 abbrev pub and_then : {A B : Type 0} → Result A Fault → (A → Result B Fault) → Result B Fault
 and_then (Ok a) next = next a
 and_then (Err f) next = Err f
 
--- a fault as a call tells it
-abbrev pub told : Fault → ParseFault
-told f = At f.line f.kind
-
--- the call's error tells this reading's fault, or that memory was refused
+-- the error is the fault of this reading, or memory was refused
 abbrev pub IsFaultOf : {A : Type 0} → Result A Fault → ParseFault → Type 0
 IsFaultOf reading (At line kind) = reading ≡ Err (record { line = line; kind = kind })
 IsFaultOf reading NoMemory = Unit {0}
+
+-- the error is the fault of this reading, or memory was refused to a reading without a fault
+abbrev pub IsErrorOf : {A : Type 0} → Result A Fault → ParseFault → Type 0
+IsErrorOf reading (At line kind) = reading ≡ Err (record { line = line; kind = kind })
+IsErrorOf reading NoMemory = IsOk reading

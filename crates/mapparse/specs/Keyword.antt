@@ -26,13 +26,13 @@ keywords = Map ∷ Layer ∷ Name ∷ Kind ∷ Class ∷ Style ∷ Color ∷ Fea
 
 -- a text is a keyword, in letters of either case
 abbrev pub is_spelt : List ℕ → Keyword → Bool
-is_spelt text word = str_eq_ignore_ascii_case text (spelling word)
+is_spelt text keyword = str_eq_ignore_ascii_case text (spelling keyword)
 
 -- the keyword that a text is
 abbrev pub keyword_of : List ℕ → Option Keyword
 keyword_of text = find (is_spelt text) keywords
 
--- only a Word is a keyword
+-- only a bare word is a keyword
 abbrev pub keyword_in : Shape → List ℕ → Option Keyword
 keyword_in Word text = keyword_of text
 keyword_in Text text = None
@@ -41,15 +41,15 @@ keyword_in Text text = None
 abbrev pub keyword_at : TokenValue → Option Keyword
 keyword_at t = keyword_in t.shape t.text
 
--- only a Word is this keyword
+-- only a bare word is this keyword
 abbrev pub is_in : Keyword → Shape → List ℕ → Bool
-is_in word Word text = is_spelt text word
-is_in word Text text = false
+is_in keyword Word text = is_spelt text keyword
+is_in keyword Text text = false
 
 -- the token is this keyword
 abbrev pub is_at : Keyword → TokenValue → Bool
-is_at word t = is_in word t.shape t.text
+is_at keyword t = is_in keyword t.shape t.text
 
--- the token is the Word END
+-- the token is the bare word END
 abbrev pub is_end : TokenValue → Bool
 is_end t = is_at End t

@@ -8,6 +8,6 @@ pub mod Mapping
 pub mod Meaning
 pub mod Parsed
 pub mod Parts
-pub mod Says
+pub mod Step
 pub mod Table
 pub mod Value

@@ -1,5 +1,5 @@
--- From what a mapfile says to the map that it describes (docs/MAPFILE.md). What no word says yet has the value that
--- it will have where its word isn't given.
+-- From a mapfile as it is written to the map that it describes (docs/MAPFILE.md, "From the file to the map"). What no
+-- keyword gives yet has the value that it will have where its keyword isn't given.
 use Rattle.std.specs.Prelude.{ℕ, [], map, codes, true, false, pos, neg_ℤ, None}
 use Rattle.geom.specs.World.{Area}
 use Rattle.mapdefs.specs.declared.class.Rule.TheVariants.{Always}

@@ -2,15 +2,16 @@
 use Rattle.std.specs.Prelude.{ℕ, List, Result, Ok}
 use Rattle.maplex.specs.Lexed.{Lexed, lexed}
 use Rattle.mapdefs.specs.declared.map.MapFields.{MapFields}
+use Rattle.mapparse.specs.declared.fault.Fault.{Fault}
 use Rattle.mapparse.specs.declared.tree.MapTree.{MapTree}
-use Rattle.mapparse.specs.Fault.{Fault, and_then}
+use Rattle.mapparse.specs.Fault.{and_then}
 use Rattle.mapparse.specs.Meaning.{meaning}
 use Rattle.mapparse.specs.Mapping.{map_of}
 
--- what the tokens of a source say
-abbrev pub said : Lexed → Result MapTree Fault
-said source = meaning source.tokens source.tail
+-- what the tokens of a source mean
+abbrev pub tree_of : Lexed → Result MapTree Fault
+tree_of source = meaning source.tokens source.tail
 
 -- the map that a source describes, or the first fault in it
 abbrev pub parsed : List ℕ → Result MapFields Fault
-parsed source = and_then (said (lexed source)) (λ tree. Ok (map_of tree))
+parsed source = and_then (tree_of (lexed source)) (λ tree. Ok (map_of tree))

@@ -8,7 +8,7 @@ pub record PartsSoFar : Type 0 where
   pub whole : List (List Place)
   pub next : List Place
 
--- nothing is read yet
+-- nothing was read
 abbrev pub no_parts : PartsSoFar
 no_parts = record { whole = []; next = [] }
 

@@ -1,47 +1,47 @@
 ghost use Rattle.std.specs.Prelude.{◌≡◌};
-ghost use Rattle.mapparse.specs.Colour.{shade_of, shade_of_count, rgb_of, hex_colour};
+ghost use Rattle.mapparse.specs.Colour.{component_of, component_of_count, rgb_of, hex_colour};
 
 use crate::number::read_count;
 use hex::FromHex;
 use mapdefs::Rgb;
 
-/// One of the three parts of a colour.
+/// A colour component, as it is written: red, green or blue.
 #[derive(Clone, Copy)]
-pub enum Shade {
-    /// How much of it there is.
+pub enum Component {
+    /// Its level.
     Level(u8),
     /// There is no colour.
     Absent,
 }
 
-impl Shade {
-    // The shade that a count stands for.
-    fn of_count(count: i64) -> Option<Shade>
-        ensures { result ≡ shade_of_count count }
+impl Component {
+    // The component that a count stands for.
+    fn of_count(count: i64) -> Option<Component>
+        ensures { result ≡ component_of_count count }
     {
         if count == -1 {
-            return Some(Shade::Absent);
+            return Some(Component::Absent);
         }
-        u8::try_from(count).ok().map(Shade::Level)
+        u8::try_from(count).ok().map(Component::Level)
     }
 
-    /// The shade that the text stands for.
-    pub fn read(text: &str) -> Option<Shade>
-        ensures { result ≡ shade_of text.now }
+    /// The component that the text stands for.
+    pub fn read(text: &str) -> Option<Component>
+        ensures { result ≡ component_of text.now }
     {
         match read_count(text) {
-            Some(count) => Shade::of_count(count),
+            Some(count) => Component::of_count(count),
             None => None,
         }
     }
 }
 
-/// The colour of three shades, red, green and blue; none if one of them is absent.
-pub fn rgb_of(red: Shade, green: Shade, blue: Shade) -> Option<Rgb>
+/// The colour of the components red, green and blue. It is none where one of them is absent.
+pub fn rgb_of(red: Component, green: Component, blue: Component) -> Option<Rgb>
     ensures { result ≡ rgb_of red green blue }
 {
     match (red, green, blue) {
-        (Shade::Level(red), Shade::Level(green), Shade::Level(blue)) => {
+        (Component::Level(red), Component::Level(green), Component::Level(blue)) => {
             Some(Rgb { red, green, blue })
         }
         _ => None,

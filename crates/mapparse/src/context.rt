@@ -1,4 +1,4 @@
-use crate::colour::Shade;
+use crate::colour::Component;
 use crate::number::WorldNumber;
 
 /// The blocks of the language.
@@ -12,61 +12,61 @@ pub enum Block {
     Points,
 }
 
-/// The words that take a text.
+/// The keywords that take a text.
 #[derive(Clone, Copy)]
-pub enum TextWord {
+pub enum TextKeyword {
     LayerName,
 }
 
-/// The words that take a colour.
+/// The keywords that take a colour.
 #[derive(Clone, Copy)]
-pub enum ColourWord {
+pub enum ColourKeyword {
     StyleColour,
 }
 
-/// What a word still wants, with what it has got so far.
+/// What a keyword still expects, with the values that were read for it.
 #[derive(Clone, Copy)]
-pub enum Wants {
+pub enum Expected {
     /// A text.
-    Text(TextWord),
-    /// What the features of a layer are.
+    Text(TextKeyword),
+    /// The kind of a layer's features.
     Kind,
-    /// A colour: a text `#rrggbb`, or three counts of which this is the first.
-    Colour(ColourWord),
-    /// The count of green, behind that of red.
-    Green(ColourWord, Shade),
-    /// The count of blue, behind those of red and green.
-    Blue(ColourWord, Shade, Shade),
+    /// A colour: a text `#rrggbb`, or three counts of which the first is next.
+    Colour(ColourKeyword),
+    /// The count of green, after that of red.
+    Green(ColourKeyword, Component),
+    /// The count of blue, after those of red and green.
+    Blue(ColourKeyword, Component, Component),
 }
 
 /// What a keyword does in its block.
 #[derive(Clone, Copy)]
-pub enum Takes {
+pub enum Role {
     /// It ends the block.
     Closes,
     /// It opens an inner block.
-    Inner(Block),
+    Opens(Block),
     /// It takes values.
-    Values(Wants),
+    Takes(Expected),
 }
 
 /// What a token is read as.
 #[derive(Clone, Copy)]
 pub enum Context {
-    /// A word of a block.
-    Words(Block),
+    /// A keyword of a block.
+    Keywords(Block),
     /// A value.
-    Values(Wants),
-    /// The latitude of a vertex, whose longitude this is.
+    Values(Expected),
+    /// The latitude of a vertex, after this longitude.
     Latitude(WorldNumber),
 }
 
-/// Where reading goes behind a token.
+/// How reading goes on after a token.
 #[derive(Clone, Copy)]
 pub enum Move {
     /// The next token is read in this context.
     GoesOn(Context),
-    /// What follows is read in this context up to its end, and then in the present one again.
+    /// This context is read up to its end, and then the present one again.
     Enters(Context),
     /// The present context ends.
     Leaves,

@@ -1,13 +1,14 @@
 ghost use Rattle.std.specs.Prelude.{◌≡◌, [], ◌∷◌, OnOk, MatchOption};
+ghost use Rattle.mapparse.specs.Answer.{moved};
 
-use crate::context::Context;
+use crate::context::{Context, Move};
 use std::alloc::{AllocError, Global};
 use std::marker::Model;
 
-/// The contexts that are open within one another, from the inmost on.
+/// The contexts that are open within one another, the innermost first.
 #[derive(Drop)]
 pub struct Contexts {
-    // From the outmost on.
+    // The outermost first.
     open: Vec<Context>,
 }
 
@@ -21,7 +22,7 @@ impl Model for Contexts {
 }
 
 impl Contexts {
-    /// None. It takes no memory.
+    /// No contexts. It takes no memory.
     pub fn new(alloc: Global) -> Self
         ensures { result ≡ [] }
     {
@@ -30,7 +31,7 @@ impl Contexts {
         }
     }
 
-    /// Adds the inmost one.
+    /// Adds the innermost context.
     pub fn push(&mut self, context: Context) -> Result<(), AllocError>
         ensures { OnOk result (self.new ≡ context ∷ self.old) }
     {
@@ -38,10 +39,24 @@ impl Contexts {
         Ok(())
     }
 
-    /// Takes the inmost one.
+    /// Removes the innermost context.
     pub fn pop(&mut self) -> Option<Context>
         ensures { MatchOption result ((self.old ≡ []) × (self.new ≡ [])) (λ context. self.old ≡ context ∷ self.new) }
     {
         self.open.pop()
+    }
+    /// Goes on after a token of a context, inside the contexts that are open.
+    pub fn go_on(&mut self, context: Context, next: Move) -> Result<(), AllocError>
+        ensures { OnOk result (self.new ≡ moved next context self.old) }
+    {
+        match next {
+            Move::GoesOn(next) => self.push(next)?,
+            Move::Enters(inner) => {
+                self.push(context)?;
+                self.push(inner)?;
+            }
+            Move::Leaves => {}
+        }
+        Ok(())
     }
 }

@@ -1,22 +1,22 @@
 ghost use Rattle.std.specs.Prelude.{◌≡◌};
-ghost use Rattle.mapparse.specs.Draft.{fresh, new_layer, new_class, new_style, new_feature, sets, is_full};
+ghost use Rattle.mapparse.specs.Draft.{fresh, new_layer, new_class, new_style, new_feature, with_value, is_full};
 
 use crate::capped::Capped;
-use crate::context::{Block, ColourWord, TextWord};
+use crate::context::{Block, ColourKeyword, TextKeyword};
 use crate::parts::PartsDraft;
 use crate::tree::{ClassTree, FeatureTree, LayerTree, MapTree, StyleTree};
 use crate::value::Value;
 use mapdefs::{Kind, MAX_CLASSES, MAX_FEATURES, Text};
 use std::alloc::Global;
 
-/// A name, and the line of the value that gives it.
+/// A name, and the line of its token.
 #[derive(Drop)]
 pub struct Named {
     pub text: Text,
     pub line: u64,
 }
 
-/// What a LAYER has said so far.
+/// What was read of the open LAYER.
 #[derive(Drop)]
 pub struct LayerDraft {
     pub name: Option<Named>,
@@ -25,13 +25,13 @@ pub struct LayerDraft {
     pub features: Capped<FeatureTree, MAX_FEATURES>,
 }
 
-/// What a FEATURE has said so far.
+/// What was read of the open FEATURE.
 #[derive(Drop)]
 pub struct FeatureDraft {
     pub parts: PartsDraft,
 }
 
-/// What the open blocks have said so far. A block that isn't open has said nothing.
+/// What was read of the open blocks. The draft of a block that isn't open is a new one.
 #[derive(Drop)]
 pub struct Drafts {
     pub map: MapTree,
@@ -42,7 +42,7 @@ pub struct Drafts {
 }
 
 impl LayerDraft {
-    /// A LAYER that has said nothing.
+    /// A LAYER of which nothing was read.
     pub fn new(alloc: Global) -> Self
         ensures { result ≡ new_layer }
     {
@@ -56,7 +56,7 @@ impl LayerDraft {
 }
 
 impl ClassTree {
-    /// A CLASS that has said nothing.
+    /// A CLASS of which nothing was read.
     pub fn new(alloc: Global) -> Self
         ensures { result ≡ new_class }
     {
@@ -67,7 +67,7 @@ impl ClassTree {
 }
 
 impl StyleTree {
-    /// A STYLE that has said nothing.
+    /// A STYLE of which nothing was read.
     pub fn new() -> Self
         ensures { result ≡ new_style }
     {
@@ -76,7 +76,7 @@ impl StyleTree {
 }
 
 impl FeatureDraft {
-    /// A FEATURE that has said nothing.
+    /// A FEATURE of which nothing was read.
     pub fn new(alloc: Global) -> Self
         ensures { result ≡ new_feature }
     {
@@ -87,7 +87,7 @@ impl FeatureDraft {
 }
 
 impl Drafts {
-    /// No block has said anything.
+    /// No block was read.
     pub fn new(alloc: Global) -> Self
         ensures { result ≡ fresh }
     {
@@ -102,23 +102,23 @@ impl Drafts {
         }
     }
 
-    /// The map, as it has been said.
+    /// The map.
     pub fn into_map(self) -> MapTree
         ensures { result ≡ self.map }
     {
         self.map
     }
 
-    /// Notes a value of a line, in place of an earlier one of its word.
+    /// Notes a value of a line, in place of an earlier value of its keyword.
     pub fn set(&mut self, value: Value, line: u64)
-        ensures { self.new ≡ sets value line self.old }
+        ensures { self.new ≡ with_value value line self.old }
     {
         match value {
-            Value::Text(TextWord::LayerName, text) => {
+            Value::Text(TextKeyword::LayerName, text) => {
                 self.layer.name = Some(Named { text, line });
             }
             Value::Kind(kind) => self.layer.kind = Some(kind),
-            Value::Colour(ColourWord::StyleColour, colour) => self.style.colour = colour,
+            Value::Colour(ColourKeyword::StyleColour, colour) => self.style.colour = colour,
         }
     }
 
@@ -127,11 +127,12 @@ impl Drafts {
         ensures { result ≡ is_full block self.now }
     {
         match block {
+            // A mapfile has one MAP, and POINTS are limited by their vertices.
+            Block::Map | Block::Points => false,
             Block::Layer => self.map.layers.is_full(),
             Block::Class => self.layer.classes.is_full(),
             Block::Style => self.class.styles.is_full(),
             Block::Feature => self.layer.features.is_full(),
-            _ => false,
         }
     }
 }

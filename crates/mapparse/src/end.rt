@@ -2,11 +2,11 @@ ghost use Rattle.std.specs.Prelude.{◌≡◌, ◌<◌, false, length, Ok, OnOk,
 ghost use Rattle.mapdefs.specs.declared.limits.TheConstants.{MAX_LAYERS, MAX_CLASSES, MAX_STYLES, MAX_FEATURES};
 ghost use Rattle.mapparse.specs.Draft.{is_full};
 ghost use Rattle.mapparse.specs.End.{is_taken, finished_layer, layer_end, class_end, style_end, feature_end, points_end, ends};
-ghost use Rattle.mapparse.specs.Fault.{IsFaultOf};
+ghost use Rattle.mapparse.specs.Fault.{IsErrorOf};
 
 use crate::context::Block;
 use crate::draft::{Drafts, FeatureDraft, LayerDraft};
-use crate::fault::{ParseFault, ParseKind, refused};
+use crate::fault::{Fault, ParseFault, ParseKind, fault_of};
 use crate::tree::{ClassTree, FeatureTree, LayerTree, StyleTree};
 use maplex::Token;
 use std::alloc::{AllocError, Global};
@@ -19,15 +19,13 @@ fn is_taken(name: &str, layers: &[LayerTree]) -> bool
     layers.iter().any(|layer| layer.name.as_str() == name)
 }
 
-// The layer that a draft is at its END, behind the earlier layers.
+// The layer of a draft at its END, after the earlier layers.
 fn finished_layer(
     draft: LayerDraft,
     earlier: &[LayerTree],
     end: &Token,
-) -> Result<LayerTree, ParseFault>
-    ensures { MatchResult result
-        (λ layer. finished_layer draft.name draft.kind draft earlier.now end.now ≡ Ok layer)
-        (IsFaultOf (finished_layer draft.name draft.kind draft earlier.now end.now)) }
+) -> Result<LayerTree, Fault>
+    ensures { result ≡ finished_layer draft.name draft.kind draft earlier.now end.now }
 {
     let LayerDraft {
         name,
@@ -36,10 +34,10 @@ fn finished_layer(
         features,
     } = draft;
     let (Some(name), Some(kind)) = (name, kind) else {
-        return Err(refused(ParseKind::MissingValue, end));
+        return Err(fault_of(ParseKind::MissingValue, end));
     };
     if is_taken(name.text.as_str(), earlier) {
-        return Err(ParseFault::At {
+        return Err(Fault {
             line: name.line,
             kind: ParseKind::DuplicateName,
         });
@@ -52,11 +50,12 @@ fn finished_layer(
     })
 }
 
+// Ends a LAYER: the map gets it.
 fn end_layer(drafts: &mut Drafts, end: &Token, alloc: Global) -> Result<(), ParseFault>
     requires { length drafts.old.map.layers < MAX_LAYERS }
     ensures { MatchResult result
         (λ _. layer_end drafts.old end.now ≡ Ok drafts.new)
-        (IsFaultOf (layer_end drafts.old end.now)) }
+        (IsErrorOf (layer_end drafts.old end.now)) }
 {
     let draft = mem::replace(&mut drafts.layer, LayerDraft::new(alloc));
     let layer = finished_layer(draft, drafts.map.layers.as_slice(), end)?;
@@ -64,6 +63,7 @@ fn end_layer(drafts: &mut Drafts, end: &Token, alloc: Global) -> Result<(), Pars
     Ok(())
 }
 
+// Ends a CLASS: the layer gets it.
 fn end_class(drafts: &mut Drafts, alloc: Global) -> Result<(), AllocError>
     requires { length drafts.old.layer.classes < MAX_CLASSES }
     ensures { OnOk result (drafts.new ≡ class_end drafts.old) }
@@ -72,6 +72,7 @@ fn end_class(drafts: &mut Drafts, alloc: Global) -> Result<(), AllocError>
     drafts.layer.classes.push(class)
 }
 
+// Ends a STYLE: the class gets it.
 fn end_style(drafts: &mut Drafts) -> Result<(), AllocError>
     requires { length drafts.old.class.styles < MAX_STYLES }
     ensures { OnOk result (drafts.new ≡ style_end drafts.old) }
@@ -80,14 +81,15 @@ fn end_style(drafts: &mut Drafts) -> Result<(), AllocError>
     drafts.class.styles.push(style)
 }
 
+// Ends a FEATURE: the layer gets it.
 fn end_feature(drafts: &mut Drafts, end: &Token, alloc: Global) -> Result<(), ParseFault>
     requires { length drafts.old.layer.features < MAX_FEATURES }
     ensures { MatchResult result
         (λ _. feature_end drafts.old end.now ≡ Ok drafts.new)
-        (IsFaultOf (feature_end drafts.old end.now)) }
+        (IsErrorOf (feature_end drafts.old end.now)) }
 {
     if drafts.feature.parts.is_empty() {
-        return Err(refused(ParseKind::MissingValue, end));
+        return Err(fault_of(ParseKind::MissingValue, end).into());
     }
     let draft = mem::replace(&mut drafts.feature, FeatureDraft::new(alloc));
     drafts.layer.features.push(FeatureTree {
@@ -96,13 +98,14 @@ fn end_feature(drafts: &mut Drafts, end: &Token, alloc: Global) -> Result<(), Pa
     Ok(())
 }
 
+// Ends POINTS: the feature gets them as a part.
 fn end_points(drafts: &mut Drafts, end: &Token, alloc: Global) -> Result<(), ParseFault>
     ensures { MatchResult result
         (λ _. points_end drafts.old end.now ≡ Ok drafts.new)
-        (IsFaultOf (points_end drafts.old end.now)) }
+        (IsErrorOf (points_end drafts.old end.now)) }
 {
     if drafts.feature.parts.is_next_empty() {
-        return Err(refused(ParseKind::MissingValue, end));
+        return Err(fault_of(ParseKind::MissingValue, end).into());
     }
     drafts.feature.parts.finish_part(alloc)?;
     Ok(())
@@ -118,7 +121,7 @@ pub fn close(
     requires { is_full block drafts.old ≡ false }
     ensures { MatchResult result
         (λ _. ends block drafts.old end.now ≡ Ok drafts.new)
-        (IsFaultOf (ends block drafts.old end.now)) }
+        (IsErrorOf (ends block drafts.old end.now)) }
 {
     match block {
         Block::Map => {}

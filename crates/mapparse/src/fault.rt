@@ -1,5 +1,5 @@
 ghost use Rattle.std.specs.Prelude.{◌≡◌};
-ghost use Rattle.mapparse.specs.Fault.{number_of, fault_of, fault_at, told};
+ghost use Rattle.mapparse.specs.Fault.{number_of, fault_of, missing};
 
 use maplex::{LexKind, Tail, Token};
 use std::alloc::AllocError;
@@ -11,16 +11,16 @@ pub enum ParseKind {
     /// The source has no further token here.
     #[error("{0}")]
     Lex(LexKind),
-    /// A token that is no word of its block, or that stands behind the last END.
+    /// A token that is no keyword of its block, or that stands after the last END.
     #[error("a word that may not stand here")]
     UnknownWord,
-    /// A token that is no value for its word.
+    /// A token that is no value of its keyword.
     #[error("a value that its word does not take")]
     WrongValue,
     /// The source ends before the END of MAP. The line is the last of the source.
     #[error("the mapfile ends where an END is missing")]
     MissingEnd,
-    /// An END before a value or a word that has to be given.
+    /// An END before a value or a keyword that has to be given.
     #[error("an END before all that has to be given was given")]
     MissingValue,
     /// A block or a vertex more than a map may have.
@@ -64,37 +64,60 @@ pub enum ParseFault {
     NoMemory,
 }
 
+/// A fault of a source. What takes no memory fails with it alone.
+#[derive(Clone, Copy)]
+pub struct Fault {
+    /// Its line, counted from 1.
+    pub line: u64,
+    /// What is wrong there.
+    pub kind: ParseKind,
+}
+
+impl From<Fault> for ParseFault {
+    ghost use Rattle.std.specs.Prelude.{◌≡◌};
+    ghost use Rattle.mapparse.specs.declared.fault.ParseFault.TheVariants.{At};
+
+    ghost from_gives = { λ fault error. error ≡ At fault.line fault.kind };
+
+    fn from(fault: Fault) -> ParseFault {
+        ParseFault::At {
+            line: fault.line,
+            kind: fault.kind,
+        }
+    }
+}
+
 impl From<AllocError> for ParseFault {
     ghost use Rattle.std.specs.Prelude.{◌≡◌};
     ghost use Rattle.mapparse.specs.declared.fault.ParseFault.TheVariants.{NoMemory};
 
-    ghost from_gives = { λ _ f. f ≡ NoMemory };
+    ghost from_gives = { λ _ error. error ≡ NoMemory };
 
     fn from(_error: AllocError) -> ParseFault {
         ParseFault::NoMemory
     }
 }
 
-/// The fault of a token.
-pub fn refused(kind: ParseKind, token: &Token) -> ParseFault
-    ensures { result ≡ told (fault_of kind token.now) }
+/// The fault of a kind at a token.
+pub fn fault_of(kind: ParseKind, token: &Token) -> Fault
+    ensures { result ≡ fault_of kind token.now }
 {
-    ParseFault::At {
+    Fault {
         line: token.line,
         kind,
     }
 }
 
-/// The fault where a further token is wanted, by what stands behind the last one.
-pub fn missing(tail: Tail) -> ParseFault
-    ensures { result ≡ told (fault_at tail) }
+/// The fault where a further token is needed, by what stands after the last one.
+pub fn missing(tail: Tail) -> Fault
+    ensures { result ≡ missing tail }
 {
     match tail {
-        Tail::Ends(line) => ParseFault::At {
+        Tail::Ends(line) => Fault {
             line,
             kind: ParseKind::MissingEnd,
         },
-        Tail::Breaks(fault) => ParseFault::At {
+        Tail::Breaks(fault) => Fault {
             line: fault.line,
             kind: ParseKind::Lex(fault.kind),
         },

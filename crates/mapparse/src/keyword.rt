@@ -3,7 +3,7 @@ ghost use Rattle.mapparse.specs.Keyword.{spelling, is_spelt, keyword_of, keyword
 
 use maplex::{Shape, Token};
 
-/// The words that the language knows.
+/// The keywords of the language.
 #[derive(Clone, Copy)]
 pub enum Keyword {
     Map,
@@ -33,7 +33,7 @@ const KEYWORDS: [Keyword; 10] = [
 ];
 
 impl Keyword {
-    // How it is written.
+    // How the keyword is written.
     #[tactic(auto, unfolding(crate::specs::Keyword::spelling))]
     fn spelling(self) -> &'static str
         ensures { result.now ≡ spelling self }
@@ -63,10 +63,13 @@ impl Keyword {
     fn of(text: &str) -> Option<Keyword>
         ensures { result ≡ keyword_of text.now }
     {
-        KEYWORDS.iter().copied().find(|word| word.is_spelt(text))
+        KEYWORDS
+            .iter()
+            .copied()
+            .find(|keyword| keyword.is_spelt(text))
     }
 
-    /// The keyword that the token is, if it is a Word.
+    /// The keyword that the token is. Only a bare word is a keyword.
     pub fn at(token: &Token) -> Option<Keyword>
         ensures { result ≡ keyword_at token.now }
     {
@@ -87,7 +90,7 @@ impl Keyword {
     }
 }
 
-/// Whether the token is the Word END.
+/// Whether the token is the bare word END.
 pub fn is_end(token: &Token) -> bool
     ensures { result ≡ is_end token.now }
 {

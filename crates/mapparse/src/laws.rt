@@ -1,12 +1,13 @@
-//! Laws of the definitions that the contracts cite.
+//! Laws of the definitions that the contracts cite. A law is a function without arguments whose contract states it.
+
 ghost use Rattle.mapparse.specs.Meaning.{CountIsEnough, FirstFaultIsTold};
 
-/// Reading is told how many tokens it may read. More than there are change nothing.
+/// The definition of reading gets the number of tokens that it may read. A larger number changes nothing.
 pub fn count_is_enough()
     ensures { CountIsEnough }
 {}
 
-/// The first fault in the order of tokens is told: what stands behind it plays no part.
+/// The first fault in the order of tokens is the fault of the mapfile, whatever stands after it.
 pub fn first_fault_is_told()
     ensures { FirstFaultIsTold }
 {}

@@ -1,10 +1,10 @@
-ghost use Rattle.std.specs.Prelude.{◌≡◌, Ok, IfOk, IfErr, MatchResult};
+ghost use Rattle.std.specs.Prelude.{◌≡◌, Ok, Err, IfOk, IfErr, MatchResult};
 ghost use Rattle.maplex.specs.Lexed.{lexed, stopped, with_token};
 ghost use Rattle.mapparse.specs.Fault.{IsFaultOf};
 ghost use Rattle.mapparse.specs.Meaning.{map_body};
-ghost use Rattle.mapparse.specs.Parsed.{said, parsed};
+ghost use Rattle.mapparse.specs.Parsed.{tree_of, parsed};
 
-use crate::fault::{ParseFault, ParseKind, missing, refused};
+use crate::fault::{Fault, ParseFault, ParseKind, fault_of, missing};
 use crate::keyword::Keyword;
 use crate::mapping::map_of;
 use crate::reader::Reader;
@@ -26,24 +26,24 @@ fn next<'a>(tokens: &mut Tokens<'a>) -> Result<Token<'a>, Tail>
     }
 }
 
-// Reads the word MAP.
-fn begin(tokens: &mut Tokens) -> Result<(), ParseFault>
+// Reads the keyword MAP.
+fn begin(tokens: &mut Tokens) -> Result<(), Fault>
     ensures { MatchResult result
-        (λ _. said tokens.old ≡ map_body tokens.new.tail tokens.new.tokens)
-        (IsFaultOf (said tokens.old)) }
+        (λ _. tree_of tokens.old ≡ map_body tokens.new.tail tokens.new.tokens)
+        (λ fault. tree_of tokens.old ≡ Err fault) }
 {
     match next(tokens) {
         Ok(token) if Keyword::Map.is_at(&token) => Ok(()),
-        Ok(token) => Err(refused(ParseKind::UnknownWord, &token)),
+        Ok(token) => Err(fault_of(ParseKind::UnknownWord, &token)),
         Err(tail) => Err(missing(tail)),
     }
 }
 
-// What the tokens of the source say.
+// Reads the tokens of the source.
 fn read(source: &[u8], alloc: Global) -> Result<MapTree, ParseFault>
     ensures { MatchResult result
-        (λ tree. said (lexed source.now) ≡ Ok tree)
-        (IsFaultOf (said (lexed source.now))) }
+        (λ tree. tree_of (lexed source.now) ≡ Ok tree)
+        (IsFaultOf (tree_of (lexed source.now))) }
 {
     let mut tokens = Tokens::new(source);
     begin(&mut tokens)?;
@@ -51,16 +51,16 @@ fn read(source: &[u8], alloc: Global) -> Result<MapTree, ParseFault>
     loop {
         match next(&mut tokens) {
             Ok(token) => reader.take(&token, alloc)?,
-            Err(tail) => return reader.finish(tail),
+            Err(tail) => return Ok(reader.finish(tail)?),
         }
     }
 }
 
 /// Reads a mapfile in one pass: the map that it describes, or its first fault with its line.
 ///
-/// `parsed` gives either a map or a fault, so the two clauses say when each comes: unless memory is
-/// refused, which is `NoMemory`, the call gives the map or tells the fault that `parsed` has. The
-/// memory that it takes is in proportion to the map; a source that is refused leaves none behind.
+/// `parsed` is either a map or a fault, so the two clauses say when each comes: unless memory is
+/// refused, which is `NoMemory`, the call gives the map or the fault that `parsed` is. The memory that
+/// it takes is in proportion to the map, and a source that is refused leaves none behind.
 pub fn parse(alloc: Global, source: &[u8]) -> Result<Map, ParseFault>
     ensures map { IfOk result (λ map. parsed source.now ≡ Ok map) }
     ensures fault { IfErr result (IsFaultOf (parsed source.now)) }

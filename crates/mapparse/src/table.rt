@@ -1,25 +1,25 @@
 ghost use Rattle.std.specs.Prelude.{◌≡◌};
-ghost use Rattle.mapparse.specs.Table.{takes_of};
+ghost use Rattle.mapparse.specs.Table.{role_of};
 
-use crate::context::{Block, ColourWord, Takes, TextWord, Wants};
+use crate::context::{Block, ColourKeyword, Expected, Role, TextKeyword};
 use crate::keyword::Keyword;
 
-/// What a keyword does in a block, if the block knows it.
-pub fn takes_of(block: Block, word: Keyword) -> Option<Takes>
-    ensures { result ≡ takes_of block word }
+/// What a keyword does in a block, if it is a keyword of the block.
+pub fn role_of(block: Block, keyword: Keyword) -> Option<Role>
+    ensures { result ≡ role_of block keyword }
 {
-    match (block, word) {
-        (Block::Map, Keyword::Layer) => Some(Takes::Inner(Block::Layer)),
-        (Block::Layer, Keyword::Name) => Some(Takes::Values(Wants::Text(TextWord::LayerName))),
-        (Block::Layer, Keyword::Kind) => Some(Takes::Values(Wants::Kind)),
-        (Block::Layer, Keyword::Class) => Some(Takes::Inner(Block::Class)),
-        (Block::Layer, Keyword::Feature) => Some(Takes::Inner(Block::Feature)),
-        (Block::Class, Keyword::Style) => Some(Takes::Inner(Block::Style)),
+    match (block, keyword) {
+        (Block::Map, Keyword::Layer) => Some(Role::Opens(Block::Layer)),
+        (Block::Layer, Keyword::Name) => Some(Role::Takes(Expected::Text(TextKeyword::LayerName))),
+        (Block::Layer, Keyword::Kind) => Some(Role::Takes(Expected::Kind)),
+        (Block::Layer, Keyword::Class) => Some(Role::Opens(Block::Class)),
+        (Block::Layer, Keyword::Feature) => Some(Role::Opens(Block::Feature)),
+        (Block::Class, Keyword::Style) => Some(Role::Opens(Block::Style)),
         (Block::Style, Keyword::Color) => {
-            Some(Takes::Values(Wants::Colour(ColourWord::StyleColour)))
+            Some(Role::Takes(Expected::Colour(ColourKeyword::StyleColour)))
         }
-        (Block::Feature, Keyword::Points) => Some(Takes::Inner(Block::Points)),
-        (_, Keyword::End) => Some(Takes::Closes),
+        (Block::Feature, Keyword::Points) => Some(Role::Opens(Block::Points)),
+        (_, Keyword::End) => Some(Role::Closes),
         _ => None,
     }
 }

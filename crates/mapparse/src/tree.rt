@@ -2,13 +2,13 @@ use crate::capped::Capped;
 use crate::parts::Parts;
 use mapdefs::{Kind, MAX_CLASSES, MAX_FEATURES, MAX_LAYERS, MAX_STYLES, Rgb, Text};
 
-/// What a MAP says.
+/// A MAP as it is written.
 #[derive(Drop)]
 pub struct MapTree {
     pub layers: Capped<LayerTree, MAX_LAYERS>,
 }
 
-/// What a LAYER says.
+/// A LAYER as it is written.
 #[derive(Drop)]
 pub struct LayerTree {
     pub name: Text,
@@ -17,20 +17,20 @@ pub struct LayerTree {
     pub features: Capped<FeatureTree, MAX_FEATURES>,
 }
 
-/// What a CLASS says.
+/// A CLASS as it is written.
 #[derive(Drop)]
 pub struct ClassTree {
     pub styles: Capped<StyleTree, MAX_STYLES>,
 }
 
-/// What a STYLE says.
+/// A STYLE as it is written.
 #[derive(Drop)]
 pub struct StyleTree {
-    /// Its colour, or none where no COLOR is given or one that says so.
+    /// Its colour. It is none where no COLOR is given, and where a component of COLOR is -1.
     pub colour: Option<Rgb>,
 }
 
-/// What a FEATURE says.
+/// A FEATURE as it is written.
 #[derive(Drop)]
 pub struct FeatureTree {
     pub parts: Parts,

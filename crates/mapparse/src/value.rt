@@ -1,31 +1,31 @@
-ghost use Rattle.std.specs.Prelude.{◌≡◌, IfOk};
-ghost use Rattle.mapparse.specs.Colour.{shade_of};
+ghost use Rattle.std.specs.Prelude.{◌≡◌, IsSome, IfOk, OnErr};
+ghost use Rattle.mapparse.specs.Colour.{component_of};
 ghost use Rattle.mapparse.specs.Value.{kind_of, hex_at, colour_step, value_step};
 
-use crate::colour::{Shade, hex_colour, rgb_of};
-use crate::context::{ColourWord, TextWord, Wants};
+use crate::colour::{Component, hex_colour, rgb_of};
+use crate::context::{ColourKeyword, Expected, TextKeyword};
 use mapdefs::{Kind, Rgb, Text};
 use maplex::{Shape, Token};
 use std::alloc::{AllocError, Global};
 
-/// All that a word wanted.
+/// A whole value, with its keyword.
 #[derive(Drop)]
 pub enum Value {
-    Text(TextWord, Text),
+    Text(TextKeyword, Text),
     Kind(Kind),
-    Colour(ColourWord, Option<Rgb>),
+    Colour(ColourKeyword, Option<Rgb>),
 }
 
-/// What a value gives.
+/// How far a value is read after one of its tokens.
 #[derive(Drop)]
-pub enum Valued {
-    /// The word wants more.
-    More(Wants),
-    /// The word has all.
+pub enum ValueStep {
+    /// The keyword expects more.
+    More(Expected),
+    /// The value is whole.
     Whole(Value),
 }
 
-// What the features of a layer are, by the word for it.
+// The kind of a layer's features that the text is.
 fn kind_of(text: &str) -> Option<Kind>
     ensures { result ≡ kind_of text.now }
 {
@@ -36,7 +36,7 @@ fn kind_of(text: &str) -> Option<Kind>
     }
 }
 
-// The colour that the token is by itself.
+// The colour that the token is by itself. Only a quoted text is one.
 fn hex_at(token: &Token) -> Option<Rgb>
     ensures { result ≡ hex_at token.now }
 {
@@ -46,33 +46,37 @@ fn hex_at(token: &Token) -> Option<Rgb>
     }
 }
 
-// A colour by itself, or the first of its counts.
-fn colour_step(word: ColourWord, token: &Token) -> Option<Valued>
-    ensures { result ≡ colour_step word (hex_at token.now) (shade_of token.now.text) }
+// Reads a colour by itself, or the first of its three counts.
+fn colour_step(keyword: ColourKeyword, token: &Token) -> Option<ValueStep>
+    ensures { result ≡ colour_step keyword (hex_at token.now) (component_of token.now.text) }
 {
     if let Some(colour) = hex_at(token) {
-        return Some(Valued::Whole(Value::Colour(word, Some(colour))));
+        return Some(ValueStep::Whole(Value::Colour(keyword, Some(colour))));
     }
-    let red = Shade::read(token.text)?;
-    Some(Valued::More(Wants::Green(word, red)))
+    let red = Component::read(token.text)?;
+    Some(ValueStep::More(Expected::Green(keyword, red)))
 }
 
-/// What the token gives to a word that wants it, if it is such a value.
-pub fn value_step(wants: Wants, token: &Token, alloc: Global) -> Result<Option<Valued>, AllocError>
-    ensures { IfOk result (λ valued. valued ≡ value_step wants token.now) }
+/// Reads a token of a value. It gives none where the token isn't such a value.
+pub fn value_step(
+    expected: Expected,
+    token: &Token,
+    alloc: Global,
+) -> Result<Option<ValueStep>, AllocError>
+    ensures ok { IfOk result (λ step. step ≡ value_step expected token.now) }
+    ensures err { OnErr result (IsSome (value_step expected token.now)) }
 {
-    Ok(match wants {
-        Wants::Text(word) => {
+    Ok(match expected {
+        Expected::Text(keyword) => {
             let text = Text::from_str(alloc, token.text)?;
-            Some(Valued::Whole(Value::Text(word, text)))
+            Some(ValueStep::Whole(Value::Text(keyword, text)))
         }
-        Wants::Kind => kind_of(token.text).map(|kind| Valued::Whole(Value::Kind(kind))),
-        Wants::Colour(word) => colour_step(word, token),
-        Wants::Green(word, red) => {
-            Shade::read(token.text).map(|green| Valued::More(Wants::Blue(word, red, green)))
-        }
-        Wants::Blue(word, red, green) => Shade::read(token.text).map(|blue| Valued::Whole(
-            Value::Colour(word, rgb_of(red, green, blue)),
-        )),
+        Expected::Kind => kind_of(token.text).map(|kind| ValueStep::Whole(Value::Kind(kind))),
+        Expected::Colour(keyword) => colour_step(keyword, token),
+        Expected::Green(keyword, red) => Component::read(token.text)
+            .map(|green| ValueStep::More(Expected::Blue(keyword, red, green))),
+        Expected::Blue(keyword, red, green) => Component::read(token.text).map(|blue| {
+            ValueStep::Whole(Value::Colour(keyword, rgb_of(red, green, blue)))
+        }),
     })
 }

@@ -1,0 +1,81 @@
+-- How one token is read, by its context (docs/MAPFILE.md, "Blocks and words").
+use Rattle.std.specs.Prelude.{ℤ, if◌then◌else◌, nat_le, Option, None, Some, option_and_then, Result, Ok}
+use Rattle.std.specs.Option.{ok_or}
+use Rattle.maplex.specs.Token.{TokenValue}
+use Rattle.mapdefs.specs.declared.limits.TheConstants.{MAX_VERTICES}
+use Rattle.mapparse.specs.declared.context.Block.{Block}
+use Rattle.mapparse.specs.declared.context.Block.TheVariants as block
+use Rattle.mapparse.specs.declared.context.Expected.{Expected}
+use Rattle.mapparse.specs.declared.context.Role.{Role}
+use Rattle.mapparse.specs.declared.context.Role.TheVariants.{Closes, Opens, Takes}
+use Rattle.mapparse.specs.declared.context.Context.{Context}
+use Rattle.mapparse.specs.declared.context.Context.TheVariants.{Keywords, Values, Latitude}
+use Rattle.mapparse.specs.declared.context.Move.{Move}
+use Rattle.mapparse.specs.declared.context.Move.TheVariants.{GoesOn, Enters, Leaves}
+use Rattle.mapparse.specs.declared.value.ValueStep.{ValueStep}
+use Rattle.mapparse.specs.declared.value.ValueStep.TheVariants.{More, Whole}
+use Rattle.mapparse.specs.declared.draft.Drafts.{Drafts}
+use Rattle.mapparse.specs.declared.fault.Fault.{Fault}
+use Rattle.mapparse.specs.declared.fault.ParseKind.TheVariants.{UnknownWord, WrongValue, MissingValue, Limit}
+use Rattle.mapparse.specs.Fault.{fault_of, refused, and_then}
+use Rattle.mapparse.specs.Keyword.{keyword_at, is_end}
+use Rattle.geom.specs.Number.{world_number}
+use Rattle.mapparse.specs.Table.{role_of}
+use Rattle.mapparse.specs.Value.{value_step}
+use Rattle.mapparse.specs.Parts.{vertex_count, with_vertex}
+use Rattle.mapparse.specs.Draft.{with_value, is_full}
+use Rattle.mapparse.specs.End.{ends}
+
+-- an END leaves its block, for which there is room, as there was where it opened
+abbrev pub read_end : Block → Drafts → TokenValue → Result (Move × Drafts) Fault
+read_end b d t = if is_full b d then refused Limit t else and_then (ends b d t) (λ e. Ok (Leaves, e))
+
+-- a keyword does what its role is: it ends its block, opens an inner one for which there is room, or takes values
+abbrev pub read_role : Block → Option Role → Drafts → TokenValue → Result (Move × Drafts) Fault
+read_role b None d t = refused UnknownWord t
+read_role b (Some Closes) d t = read_end b d t
+read_role b (Some (Opens inner)) d t = if is_full inner d then refused Limit t else Ok (Enters (Keywords inner), d)
+read_role b (Some (Takes expected)) d t = Ok (Enters (Values expected), d)
+
+-- a token is read as a keyword of a block
+abbrev pub read_keyword : Block → Drafts → TokenValue → Result (Move × Drafts) Fault
+read_keyword b d t = read_role b (option_and_then (role_of b) (keyword_at t)) d t
+
+-- a whole value is noted, and of another one more is expected
+abbrev pub note_step : Option ValueStep → Drafts → TokenValue → Result (Move × Drafts) Fault
+note_step None d t = refused WrongValue t
+note_step (Some (More next)) d t = Ok (GoesOn (Values next), d)
+note_step (Some (Whole value)) d t = Ok (Leaves, with_value value t.line d)
+
+-- a token is read as a value
+abbrev pub read_value : Expected → Drafts → TokenValue → Result (Move × Drafts) Fault
+read_value expected d t = if is_end t then refused MissingValue t else note_step (value_step expected t) d t
+
+-- the coordinate that a token is, of a vertex that the feature must have room for
+abbrev pub coordinate_at : Drafts → TokenValue → Result ℤ Fault
+coordinate_at d t =
+    if nat_le MAX_VERTICES (vertex_count d.feature.parts) then refused Limit t
+    else ok_or (world_number t.text) (fault_of WrongValue t)
+
+-- a token is read in POINTS: their END, or the longitude of a vertex
+abbrev pub read_longitude : Drafts → TokenValue → Result (Move × Drafts) Fault
+read_longitude d t =
+    if is_end t then read_end block.Points d t
+    else and_then (coordinate_at d t) (λ x. Ok (GoesOn (Latitude x), d))
+
+-- the feature has a further vertex
+abbrev pub adds_vertex : ℤ → ℤ → Drafts → Drafts
+adds_vertex x y d = record d { feature = record d.feature { parts = with_vertex (record { x = x; y = y }) d.feature.parts } }
+
+-- a token is read as the latitude of a vertex
+abbrev pub read_latitude : ℤ → Drafts → TokenValue → Result (Move × Drafts) Fault
+read_latitude x d t =
+    if is_end t then refused MissingValue t
+    else and_then (coordinate_at d t) (λ y. Ok (GoesOn (Keywords block.Points), adds_vertex x y d))
+
+-- a token is read in its context: how reading goes on, and what was read of the open blocks
+abbrev pub read_token : Context → Drafts → TokenValue → Result (Move × Drafts) Fault
+read_token (Keywords block.Points) d t = read_longitude d t
+read_token (Keywords b) d t = read_keyword b d t
+read_token (Values expected) d t = read_value expected d t
+read_token (Latitude x) d t = read_latitude x d t
