@@ -1,3 +1,4 @@
+mod Colours
 mod FirstFault
 mod Joining
 mod Reading

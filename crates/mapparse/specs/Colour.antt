@@ -1,7 +1,7 @@
 -- Colours, and how they are written (docs/MAPFILE.md, "Colours").
-use Rattle.std.specs.Prelude.{ℕ, ◌==◌, nat_le, if◌then◌else◌, List, [], ◌∷◌, ℤ, pos, negsuc, Option, None, Some, option_and_then}
+use Rattle.std.specs.Prelude.{◌≡◌, ℕ, ◌==◌, ◌<◌, nat_le, if◌then◌else◌, List, [], ◌∷◌, ◌++◌, codes, ℤ, pos, negsuc, Option, None, Some, option_and_then}
 use Rattle.std.specs.Result.{result_ok}
-use Rattle.hex.specs.Hex.{decode_sized}
+use Rattle.hex.specs.Hex.{decode_sized, encode_lower}
 use Rattle.mapdefs.specs.declared.colour.Rgb.{Rgb}
 use Rattle.mapparse.specs.declared.colour.Component.{Component}
 use Rattle.mapparse.specs.declared.colour.Component.TheVariants.{Level, Absent}
@@ -30,3 +30,8 @@ rgb_of_bytes _ = None
 abbrev pub hex_colour : List ℕ → Option Rgb
 hex_colour [] = None
 hex_colour (hash ∷ digits) = if hash == 35 then option_and_then rgb_of_bytes (result_ok (decode_sized digits 3)) else None
+
+-- the law that `#` and red, green and blue, each as two hexadecimal digits, stand for the colour of these components
+abbrev pub HexDigitsAreColour : Type 0
+HexDigitsAreColour = (red green blue : ℕ) → red < 256 → green < 256 → blue < 256 →
+    hex_colour (codes "#" ++ encode_lower (red ∷ green ∷ blue ∷ [])) ≡ Some (record { red = red; green = green; blue = blue })

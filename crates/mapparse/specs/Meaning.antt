@@ -1,12 +1,16 @@
 -- What the tokens of a mapfile mean (docs/MAPFILE.md, "Blocks and words").
-use Rattle.std.specs.Prelude.{◌≡◌, ◌≢◌, ℕ, zero, suc, ◌≤◌, if◌then◌else◌, List, [], ◌∷◌, ◌++◌, length, Result, Ok, Err}
+use Rattle.std.specs.Prelude.{◌≡◌, ◌≢◌, ℕ, zero, suc, ◌<◌, ◌≤◌, if◌then◌else◌, List, [], ◌∷◌, ◌++◌, length, Option, Some, Result, Ok, Err}
+use Rattle.std.specs.Fmt.{decimal}
 use Rattle.maplex.specs.declared.fault.LexFault.{LexFault}
 use Rattle.maplex.specs.declared.fault.Tail.{Tail}
 use Rattle.maplex.specs.declared.fault.Tail.TheVariants.{Ends, Breaks}
 use Rattle.maplex.specs.Token.{TokenValue}
+use Rattle.mapdefs.specs.declared.colour.Rgb.{Rgb}
 use Rattle.mapparse.specs.declared.context.Block.TheVariants as block
+use Rattle.mapparse.specs.declared.context.ColourKeyword.TheVariants.{StyleColour}
 use Rattle.mapparse.specs.declared.context.Context.{Context}
-use Rattle.mapparse.specs.declared.context.Context.TheVariants.{Keywords}
+use Rattle.mapparse.specs.declared.context.Context.TheVariants.{Keywords, Values}
+use Rattle.mapparse.specs.declared.context.Expected.TheVariants as expected
 use Rattle.mapparse.specs.declared.context.Move.TheVariants.{GoesOn, Enters, Leaves}
 use Rattle.mapparse.specs.declared.keyword.Keyword.TheVariants as keyword
 use Rattle.mapparse.specs.declared.fault.Fault.{Fault}
@@ -54,3 +58,15 @@ CountIsEnough = (tail : Tail) (n m : ℕ) (context : Context) (d : Drafts) (ts :
 abbrev pub FirstFaultIsTold : Type 0
 FirstFaultIsTold = (front rest : List TokenValue) (f : LexFault) (g : Fault) (tail : Tail) →
     meaning front (Breaks f) ≡ Err g → g ≢ lexical f → meaning (front ++ rest) tail ≡ Err g
+
+-- the style's colour is this one
+abbrev pub with_colour : Rgb → Drafts → Drafts
+with_colour colour d = record d { style = record d.style { colour = Some colour } }
+
+-- the law that three counts after COLOR, in decimals, are the red, the green and the blue of the style's colour
+abbrev pub CountsAreColour : Type 0
+CountsAreColour = (red green blue : ℕ) → red < 256 → green < 256 → blue < 256 →
+    (tail : Tail) (d : Drafts) (r g b : TokenValue) (ts : List TokenValue) →
+    r.text ≡ decimal red → g.text ≡ decimal green → b.text ≡ decimal blue →
+    reads tail (length (r ∷ g ∷ b ∷ ts)) (Values (expected.Colour StyleColour)) d (r ∷ g ∷ b ∷ ts)
+    ≡ Ok (with_colour (record { red = red; green = green; blue = blue }) d, ts)

@@ -1,6 +1,7 @@
 //! Laws of the definitions that the contracts cite. A law is a function without arguments whose contract states it.
 
-ghost use Rattle.mapparse.specs.Meaning.{CountIsEnough, FirstFaultIsTold};
+ghost use Rattle.mapparse.specs.Colour.{HexDigitsAreColour};
+ghost use Rattle.mapparse.specs.Meaning.{CountIsEnough, FirstFaultIsTold, CountsAreColour};
 
 /// The definition of reading gets the number of tokens that it may read. A larger number changes nothing.
 pub fn count_is_enough()
@@ -10,4 +11,14 @@ pub fn count_is_enough()
 /// The first fault in the order of tokens is the fault of the mapfile, whatever stands after it.
 pub fn first_fault_is_told()
     ensures { FirstFaultIsTold }
+{}
+
+/// A text of `#` and six hexadecimal digits is the colour of its red, green and blue, in this order.
+pub fn hex_digits_are_colour()
+    ensures { HexDigitsAreColour }
+{}
+
+/// Three counts after COLOR are the red, the green and the blue of the style's colour.
+pub fn counts_are_colour()
+    ensures { CountsAreColour }
 {}

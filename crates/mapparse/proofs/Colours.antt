@@ -1,0 +1,117 @@
+-- What is written as a colour is read as this colour.
+use Rattle.std.proofs.Common.{◌≡◌, ℕ, zero, suc, ◌<◌, ◌==◌, Bool, true, false, ◌&&◌, ◌⊎◌, inl, inr, List, [], ◌∷◌, length, refl, ap, ◌∙◌, arith, slice_index, Option, Some, None}
+use Rattle.std.specs.Prelude.{not, is_none, Ok}
+use Rattle.std.specs.Fmt.{decimal, digits}
+use Rattle.std.proofs.lemmas.Bool.{and_parts, cases_lt, eqb-true}
+use Rattle.hex.specs.Hex.{IsBytes}
+use Rattle.hex.proofs.HexLemmas.{decode_sized-encode_lower}
+use Rattle.geom.specs.Decimal.{nearest}
+use Rattle.maplex.specs.declared.token.Shape.{Shape}
+use Rattle.maplex.specs.declared.token.Shape.TheVariants.{Word, Text}
+use Rattle.mapparse.specs.declared.colour.Component.{Component}
+use Rattle.mapparse.specs.declared.colour.Component.TheVariants.{Level, Absent}
+use Rattle.maplex.specs.Token.{TokenValue}
+use Rattle.mapparse.specs.declared.context.ColourKeyword.{ColourKeyword}
+use Rattle.mapparse.specs.declared.context.ColourKeyword.TheVariants.{StyleColour}
+use Rattle.mapparse.specs.declared.context.Context.TheVariants.{Values}
+use Rattle.mapparse.specs.declared.context.Expected.TheVariants as expected
+use Rattle.mapparse.specs.declared.context.Move.TheVariants.{GoesOn, Leaves}
+use Rattle.mapparse.specs.declared.draft.Drafts.{Drafts}
+use Rattle.mapparse.specs.declared.value.Value.TheVariants as value
+use Rattle.mapparse.specs.declared.keyword.Keyword.TheVariants.{End}
+use Rattle.mapparse.specs.Colour.{component_of, hex_colour, rgb_of, HexDigitsAreColour}
+use Rattle.mapparse.specs.Keyword.{spelling, is_spelt, is_in}
+use Rattle.mapparse.specs.Value.{hex_in}
+use Rattle.mapparse.specs.Draft.{with_value}
+use Rattle.mapparse.specs.Step.{read_token}
+use Rattle.mapparse.specs.Meaning.{reads, CountsAreColour}
+
+are_bytes : (r g b : ℕ) → r < 256 → g < 256 → b < 256 → IsBytes (r ∷ g ∷ b ∷ [])
+are_bytes r g b p q s zero = p
+are_bytes r g b p q s (suc zero) = q
+are_bytes r g b p q s (suc (suc zero)) = s
+are_bytes r g b p q s (suc (suc (suc i))) = omega arith
+
+pub hex_digits : HexDigitsAreColour
+hex_digits red green blue p q s =
+    rw (decode_sized-encode_lower (red ∷ green ∷ blue ∷ []) 3 refl (are_bytes red green blue p q s)) refl
+
+-- the level of a component, or a number that is no level
+abbrev level_or_none : Option Component → ℕ
+level_or_none (Some (Level n)) = n
+level_or_none (Some Absent) = 256
+level_or_none None = 256
+
+level-from : (component : Option Component) (k : ℕ) → k < 256 → level_or_none component ≡ k → component ≡ Some (Level k)
+level-from (Some (Level n)) k p e = rw e refl
+level-from (Some Absent) k p e = absurd (omega arith)
+level-from None k p e = absurd (omega arith)
+
+-- the test of one count: it is this level, it isn't END, and it isn't a colour by itself
+abbrev is_count : ℕ → Bool
+is_count k = (level_or_none (component_of (decimal k)) == k) && (not (is_spelt (decimal k) End) && is_none (hex_colour (decimal k)))
+
+-- the test of all counts below n
+abbrev are_counts : ℕ → Bool
+are_counts zero = true
+are_counts (suc n) = is_count n && are_counts n
+
+are_counts-at : (n k : ℕ) → are_counts n ≡ true → k < n → is_count k ≡ true
+are_counts-at zero k h lt = absurd (omega arith)
+are_counts-at (suc n) k h lt =
+    let parts = and_parts (is_count n) (are_counts n) h in
+    elim (cases_lt k n) [
+      | inl below ↦ are_counts-at n k parts.1 below
+      | inr top ↦
+          let e : k ≡ n = omega arith in
+          rw e parts.0
+    ]
+
+all_counts : are_counts 256 ≡ true
+unfolding digits nearest spelling
+all_counts = refl
+
+none-from : {A : Type 0} (o : Option A) → is_none o ≡ true → o ≡ None
+none-from (Some a) h = let no : ⊥ = cc in absurd no
+none-from None h = refl
+
+false-from_not : (b : Bool) → not b ≡ true → b ≡ false
+false-from_not true h = let no : ⊥ = cc in absurd no
+false-from_not false h = refl
+
+-- a token that is a count in decimals
+module _ (t : TokenValue) (k : ℕ) (below : k < 256) (written : t.text ≡ decimal k) where
+  passes : is_count k ≡ true
+  passes = are_counts-at 256 k all_counts below
+
+  level-at : component_of t.text ≡ Some (Level k)
+  level-at =
+      let level = (and_parts (level_or_none (component_of (decimal k)) == k) _ passes).0 in
+      rw written (level-from (component_of (decimal k)) k below (eqb-true (level_or_none (component_of (decimal k))) k level))
+
+  not_end-in : (shape : Shape) → is_in End shape t.text ≡ false
+  not_end-in Word =
+      let rest = (and_parts (level_or_none (component_of (decimal k)) == k) _ passes).1 in
+      rw written (false-from_not (is_spelt (decimal k) End) (and_parts (not (is_spelt (decimal k) End)) _ rest).0)
+  not_end-in Text = refl
+
+  no_hex-in : (shape : Shape) → hex_in shape t.text ≡ None
+  no_hex-in Word = refl
+  no_hex-in Text =
+      let rest = (and_parts (level_or_none (component_of (decimal k)) == k) _ passes).1 in
+      rw written (none-from (hex_colour (decimal k)) (and_parts (not (is_spelt (decimal k) End)) _ rest).1)
+
+  -- it is read as red, as green and as blue
+  red-read : (d : Drafts) (w : ColourKeyword) → read_token (Values (expected.Colour w)) d t ≡ Ok (GoesOn (Values (expected.Green w (Level k))), d)
+  red-read d w = rw (not_end-in t.shape, no_hex-in t.shape, level-at) refl
+
+  green-read : (d : Drafts) (w : ColourKeyword) (red : Component) → read_token (Values (expected.Green w red)) d t ≡ Ok (GoesOn (Values (expected.Blue w red (Level k))), d)
+  green-read d w red = rw (not_end-in t.shape, level-at) refl
+
+  blue-read : (d : Drafts) (w : ColourKeyword) (red green : Component) → read_token (Values (expected.Blue w red green)) d t ≡ Ok (Leaves, with_value (value.Colour w (rgb_of red green (Level k))) t.line d)
+  blue-read d w red green = rw (not_end-in t.shape, level-at) refl
+
+pub counts : CountsAreColour
+unfolding reads
+counts red green blue p q s tail d r g b ts er eg eb =
+    rw (red-read r red p er d StyleColour, green-read g green q eg d StyleColour (Level red), blue-read b blue s eb d StyleColour (Level red) (Level green)) refl
