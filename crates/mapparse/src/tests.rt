@@ -1,2 +1,4 @@
 mod faults;
+mod limits;
 mod map;
+mod messages;

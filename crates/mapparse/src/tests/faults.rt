@@ -8,19 +8,19 @@ const BAD_BYTE: ParseKind = ParseKind::Lex(LexKind::BadByte);
 
 // Sources, and the line and the kind of their first fault.
 const FAULTS: [(&str, u64, ParseKind); 52] = [
-    // No token, and a first token other than the Word MAP.
+    // No token, and a first token other than the bare word MAP.
     ("", 1, ParseKind::MissingEnd),
     ("\n# a comment\n ", 3, ParseKind::MissingEnd),
     ("LAYER END", 1, ParseKind::UnknownWord),
     ("\n\"MAP\" END", 2, ParseKind::UnknownWord),
-    // Lexical faults: where they stand, before the word is read behind which they stand.
+    // Lexical faults, on their own lines. A fault that stands before one is the first.
     ("(", 1, BAD_BYTE),
     ("MAP\nLAYER\nNAME \"a\nEND\nEND\n", 3, OPEN_STRING),
     ("MAP\nLAYER\nNAME \"a\nb\x01\"\nEND\nEND", 4, BAD_BYTE),
     ("MAP\nFOO\n(", 2, ParseKind::UnknownWord),
     ("MAP END\n# (\n)", 3, BAD_BYTE),
     ("MAP END 'a", 1, OPEN_STRING),
-    // Words that their block doesn't know.
+    // Tokens that are no keywords of their block.
     ("MAP\nFOO 1\nEND", 2, ParseKind::UnknownWord),
     ("MAP\nNAME \"a\"\nEND", 2, ParseKind::UnknownWord),
     ("MAP\n'\n\n' FOO\nEND", 2, ParseKind::UnknownWord),
@@ -38,10 +38,10 @@ const FAULTS: [(&str, u64, ParseKind); 52] = [
     ),
     ("MAP LAYER CLASS\nCOLOR 0 0 0", 2, ParseKind::UnknownWord),
     ("MAP LAYER FEATURE\nSTYLE", 2, ParseKind::UnknownWord),
-    // A token behind the last END.
+    // A token after the last END.
     ("MAP END\n# more\nEND", 3, ParseKind::UnknownWord),
     ("MAP END \"\"", 1, ParseKind::UnknownWord),
-    // Ends in the place of values, which texts are none of.
+    // ENDs where values are expected. A quoted text is no END.
     ("MAP\nLAYER\nNAME END", 3, ParseKind::MissingValue),
     (
         "MAP\nLAYER\nNAME \"END\"\nTYPE eNd",
@@ -59,7 +59,7 @@ const FAULTS: [(&str, u64, ParseKind); 52] = [
         ParseKind::MissingValue,
     ),
     ("MAP LAYER FEATURE POINTS\nEND", 2, ParseKind::MissingValue),
-    // What an END wants to be given before.
+    // ENDs before all that has to be given.
     (
         "MAP\nLAYER\nTYPE POLYGON\nEND\nEND",
         4,
@@ -76,7 +76,7 @@ const FAULTS: [(&str, u64, ParseKind); 52] = [
         2,
         ParseKind::MissingValue,
     ),
-    // Values that their word doesn't take.
+    // Values that their keyword doesn't take.
     ("MAP\nLAYER\nTYPE LINE\nEND\nEND", 3, ParseKind::WrongValue),
     (
         "MAP LAYER CLASS STYLE\nCOLOR 0 0 256",
@@ -146,7 +146,7 @@ const FAULTS: [(&str, u64, ParseKind); 52] = [
         4,
         ParseKind::DuplicateName,
     ),
-    // The source's end, behind a text and a comment that span or end lines.
+    // The end of the source, after a quoted text that spans lines and a comment that ends one.
     ("MAP", 1, ParseKind::MissingEnd),
     ("MAP\n", 2, ParseKind::MissingEnd),
     ("MAP LAYER NAME '\n\n' # END\n", 4, ParseKind::MissingEnd),
@@ -161,7 +161,7 @@ const FAULTS: [(&str, u64, ParseKind); 52] = [
 ];
 
 #[test]
-fn faults_are_told_with_their_lines(rt: HostRuntime) -> Result<(), Fail> {
+fn faults_have_their_lines_and_kinds(rt: HostRuntime) -> Result<(), Fail> {
     for (source, line, kind) in FAULTS {
         let fault = ParseFault::At { line, kind };
         assert_eq!(rt;
@@ -173,8 +173,8 @@ fn faults_are_told_with_their_lines(rt: HostRuntime) -> Result<(), Fail> {
     Ok(())
 }
 
-// Blocks and values that are taken, in the middle of a layer.
-const TAKEN: [&str; 12] = [
+// Blocks and values that may stand in a layer.
+const READ: [&str; 12] = [
     "",
     "class style color -1 0 0 end end",
     "CLASS END CLASS STYLE END STYLE END END",
@@ -190,104 +190,11 @@ const TAKEN: [&str; 12] = [
 ];
 
 #[test]
-fn words_and_values_are_taken(rt: HostRuntime) -> Result<(), Fail> {
+fn keywords_and_values_are_read(rt: HostRuntime) -> Result<(), Fail> {
     let alloc = rt.alloc();
-    for words in TAKEN {
-        let source = format!(in alloc; "map layer name x type polygon\n{words}\nend end")?;
-        assert_eq!(rt; parse(alloc, source.as_bytes()).err(), None, "{words}");
+    for body in READ {
+        let source = format!(in alloc; "map layer name x type polygon\n{body}\nend end")?;
+        assert_eq!(rt; parse(alloc, source.as_bytes()).err(), None, "{body}");
     }
-    Ok(())
-}
-
-// What opens a source, what is then repeated, how often that is allowed, the line on which one more
-// is too many, and what that is.
-const LIMITS: [(&str, &str, usize, u64, ParseKind); 6] = [
-    (
-        "MAP\nLAYER\nNAME\n",
-        "a",
-        65_536,
-        4,
-        ParseKind::Lex(LexKind::TooLong),
-    ),
-    (
-        "MAP\nLAYER\nCLASS\n",
-        "STYLE\nEND\n",
-        16,
-        36,
-        ParseKind::Limit,
-    ),
-    ("MAP\nLAYER\n", "CLASS\nEND\n", 64, 131, ParseKind::Limit),
-    (
-        "MAP\nLAYER\n",
-        "FEATURE POINTS 0 0 END\nEND\n",
-        200_000,
-        400_003,
-        ParseKind::Limit,
-    ),
-    (
-        "MAP\nLAYER\nFEATURE\nPOINTS\n",
-        "0 0\n",
-        65_536,
-        65_541,
-        ParseKind::Limit,
-    ),
-    (
-        "MAP\nLAYER\nFEATURE\n",
-        "POINTS 0 0 0 0 END\n",
-        32_768,
-        32_772,
-        ParseKind::Limit,
-    ),
-];
-
-#[test]
-fn one_too_many_is_told(rt: HostRuntime) -> Result<(), Fail> {
-    let alloc = rt.alloc();
-    for (head, part, count, line, kind) in LIMITS {
-        let mut source = String::from_str(alloc, head)?;
-        for _ in 0..count {
-            source.push_str(part)?;
-        }
-        let end = ParseFault::At {
-            line,
-            kind: ParseKind::MissingEnd,
-        };
-        assert_eq!(rt; parse(alloc, source.as_bytes()).err(), Some(end), "{part}");
-        source.push_str(part)?;
-        let limit = ParseFault::At { line, kind };
-        assert_eq!(rt;
-            parse(alloc, source.as_bytes()).err(),
-            Some(limit),
-            "{part}"
-        );
-    }
-    Ok(())
-}
-
-#[test]
-fn the_layer_after_the_last_is_told(rt: HostRuntime) -> Result<(), Fail> {
-    let alloc = rt.alloc();
-    let mut source = String::from_str(alloc, "MAP\n")?;
-    for i in 1..=128 {
-        source.push_str(format!(in alloc; "LAYER NAME {i} TYPE POLYGON\nEND\n")?.as_str())?;
-    }
-    source.push_str("LAYER")?;
-    let limit = ParseFault::At {
-        line: 258,
-        kind: ParseKind::Limit,
-    };
-    assert_eq!(rt; parse(alloc, source.as_bytes()).err(), Some(limit));
-    Ok(())
-}
-
-#[test]
-fn faults_are_printed_with_their_lines(rt: HostRuntime) -> Result<(), Fail> {
-    let alloc = rt.alloc();
-    let fault = ParseFault::At {
-        line: 7,
-        kind: ParseKind::DuplicateName,
-    };
-    let text = fault.to_string(alloc)?;
-    assert_eq!(rt; text.as_str(), "line 7: an earlier layer has the same name");
     Ok(())
 }
