@@ -22,7 +22,7 @@ use Rattle.mapparse.specs.Meaning.{reads, alone, map_body, FirstFaultIsTold}
 use Rattle.mapparse.proofs.Reading.{Ended, LeavesAtMost, read_after, reads-at_most}
 
 module _ (f : LexFault) (tail : Tail) (rest : List TokenValue) where
-  -- what reading gives where f ends the tokens, and what it gives where these further ones follow
+  -- what is read where f ends the tokens, and what is read where these further ones follow
   abbrev Carries : Ended → Ended → Type 0
   Carries (Ok e) whole = whole ≡ Ok (e.0, e.1 ++ rest)
   Carries (Err g) whole = g ≢ lexical f → whole ≡ Err g

@@ -12,7 +12,7 @@ use Rattle.mapparse.specs.Fault.{and_then}
 use Rattle.mapparse.specs.Step.{read_token}
 use Rattle.mapparse.specs.Meaning.{reads}
 
--- what reading a context gives
+-- what is read in a context
 abbrev pub Ended : Type 0
 Ended = Result (Drafts × List TokenValue) Fault
 

@@ -1,5 +1,5 @@
 -- What the tokens of a mapfile mean (docs/MAPFILE.md, "Blocks and words").
-use Rattle.std.specs.Prelude.{◌≡◌, ◌≢◌, ℕ, zero, suc, ◌<◌, ◌≤◌, if◌then◌else◌, List, [], ◌∷◌, ◌++◌, length, Option, Some, Result, Ok, Err}
+use Rattle.std.specs.Prelude.{◌≡◌, ◌≢◌, ℕ, zero, suc, ◌<◌, ◌≤◌, if◌then◌else◌, List, [], ◌∷◌, ◌++◌, length, Some, Result, Ok, Err}
 use Rattle.std.specs.Fmt.{decimal}
 use Rattle.maplex.specs.declared.fault.LexFault.{LexFault}
 use Rattle.maplex.specs.declared.fault.Tail.{Tail}

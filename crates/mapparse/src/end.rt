@@ -20,11 +20,7 @@ fn is_taken(name: &str, layers: &[LayerTree]) -> bool
 }
 
 // The layer of a draft at its END, after the earlier layers.
-fn finished_layer(
-    draft: LayerDraft,
-    earlier: &[LayerTree],
-    end: &Token,
-) -> Result<LayerTree, Fault>
+fn finished_layer(draft: LayerDraft, earlier: &[LayerTree], end: &Token) -> Result<LayerTree, Fault>
     ensures { result ≡ finished_layer draft.name draft.kind draft earlier.now end.now }
 {
     let LayerDraft {

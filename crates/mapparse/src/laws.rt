@@ -1,9 +1,11 @@
-//! Laws of the definitions that the contracts cite. A law is a function without arguments whose contract states it.
+//! Laws of the definitions that the contracts cite. A law is a function without arguments whose
+//! contract states it.
 
 ghost use Rattle.mapparse.specs.Colour.{HexDigitsAreColour};
 ghost use Rattle.mapparse.specs.Meaning.{CountIsEnough, FirstFaultIsTold, CountsAreColour};
 
-/// The definition of reading gets the number of tokens that it may read. A larger number changes nothing.
+/// The definition of reading has a bound on the tokens that it reads. Beyond the tokens that there are,
+/// a larger bound changes nothing.
 pub fn count_is_enough()
     ensures { CountIsEnough }
 {}

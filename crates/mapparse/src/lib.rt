@@ -1,11 +1,15 @@
 //! Reads mapfiles: from the bytes of a source to the map that it describes, or to its first fault.
 //!
-//! Proved: `parse` gives the map that the definition `parsed` is for the source, by its clause `map`,
-//! and the fault that `parsed` is, by its clause `fault`. `parsed` is short: the tokens of the source
-//! are read once, each in its context, by the tables of the language, and the tree that was read
-//! becomes a map. `laws::first_fault_is_told` says that what stands after a fault plays no part in it,
-//! and `laws::count_is_enough` that the number by which the definition of reading ends plays none
-//! either. `ParseKind::number` gives the numbers of its table.
+//! Proved: `parse` gives the map or the fault that the definition `parsed` has for the source, by its
+//! clauses `map` and `fault`. `parsed` is short: the tokens of the source are read once, each in its
+//! context, by the tables of the language, and the tree that was read becomes a map.
+//! `ParseKind::number` is the number of the kind in its table. Four laws say more of the definitions:
+//! that what stands after a fault plays no part in it (`laws::first_fault_is_told`), that the number by
+//! which the definition of reading ends plays none (`laws::count_is_enough`), and that a colour is read
+//! as it is written (`laws::hex_digits_are_colour`, `laws::counts_are_colour`).
+//!
+//! Out of memory: where reading a token allocates, out of memory is the error of a token without a
+//! fault only. What takes no memory fails with a `Fault` alone.
 //!
 //! Words: a *keyword* is a bare word of a block. A *block* opens with its keyword and closes with END.
 //! A *value* stands after the keyword that takes it. A *context* is what a token is read as: a keyword

@@ -99,11 +99,7 @@ fn coordinate_at(drafts: &Drafts, token: &Token) -> Result<WorldNumber, Fault>
 }
 
 // Reads the longitude of a vertex, or the END of POINTS.
-fn read_longitude(
-    drafts: &mut Drafts,
-    token: &Token,
-    alloc: Global,
-) -> Result<Move, ParseFault>
+fn read_longitude(drafts: &mut Drafts, token: &Token, alloc: Global) -> Result<Move, ParseFault>
     ensures { MatchResult result
         (λ next. read_longitude drafts.old token.now ≡ Ok (next, drafts.new))
         (IsErrorOf (read_longitude drafts.old token.now)) }
@@ -134,7 +130,7 @@ fn read_latitude(
     Ok(Move::GoesOn(Context::Keywords(Block::Points)))
 }
 
-/// Reads a token in its context: notes what was read, and says how reading goes on.
+/// Reads a token in its context, and notes what was read. The result is how reading goes on.
 pub fn read_token(
     context: &Context,
     drafts: &mut Drafts,

@@ -57,7 +57,7 @@ fn colour_step(keyword: ColourKeyword, token: &Token) -> Option<ValueStep>
     Some(ValueStep::More(Expected::Green(keyword, red)))
 }
 
-/// Reads a token of a value. It gives none where the token isn't such a value.
+/// Reads a token of a value. It is none where the token isn't such a value.
 pub fn value_step(
     expected: Expected,
     token: &Token,
@@ -73,8 +73,9 @@ pub fn value_step(
         }
         Expected::Kind => kind_of(token.text).map(|kind| ValueStep::Whole(Value::Kind(kind))),
         Expected::Colour(keyword) => colour_step(keyword, token),
-        Expected::Green(keyword, red) => Component::read(token.text)
-            .map(|green| ValueStep::More(Expected::Blue(keyword, red, green))),
+        Expected::Green(keyword, red) => Component::read(token.text).map(|green| ValueStep::More(
+            Expected::Blue(keyword, red, green),
+        )),
         Expected::Blue(keyword, red, green) => Component::read(token.text).map(|blue| {
             ValueStep::Whole(Value::Colour(keyword, rgb_of(red, green, blue)))
         }),

@@ -52,7 +52,7 @@ struct LayerRow {
     features: &'static [&'static [&'static [(i64, i64)]]],
 }
 
-// What WHOLE says.
+// The layers of WHOLE.
 const LAYERS: [LayerRow; 2] = [
     LayerRow {
         name: "Lakes",
