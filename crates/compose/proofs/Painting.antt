@@ -5,7 +5,7 @@ use Rattle.std.proofs.lemmas.List.{reverse-append, append-nil, take_more, get_or
 use Rattle.std.proofs.lemmas.List.Folds.{find-append}
 use Rattle.std.proofs.lemmas.Nat.{mod-mul-add, div-mul-add, mul-add-lt}
 use Rattle.std.proofs.lemmas.Option.{slice_get-get_or}
-use Rattle.std.specs.List.{flat_map, find}
+use Rattle.std.specs.List.{flat_map, find, fold}
 use Rattle.std.specs.Option.{option_map_or, option_or}
 use Rattle.geom.specs.Device.{DevicePoint}
 use Rattle.geom.specs.Edge.{EdgeEnds}
@@ -14,12 +14,13 @@ use Rattle.mapdefs.specs.declared.colour.Rgb.{Rgb}
 use Rattle.mapdefs.specs.declared.layer.LayerFields.{LayerFields}
 use Rattle.mapdefs.specs.declared.map.MapFields.{MapFields}
 use Rattle.mapdefs.specs.declared.picture.PictureFields.{PictureFields}
+use Rattle.mapdefs.specs.declared.style.StyleFields.{StyleFields}
 use Rattle.viewport.specs.View.{ViewValue}
-use Rattle.compose.specs.Paint.{Thing, Fill, covers, colour_in, layer_things, place_things, paint_list}
-use Rattle.compose.specs.Painted.{IsPainted, AreFilled, black, colour_of}
+use Rattle.compose.specs.Paint.{Thing, Fill, covers, colour_in, fills, layer_things, chosen_things, paint_list}
+use Rattle.compose.specs.Painted.{IsPainted, AreFilled, black, colour_of, last_colour}
 use Rattle.compose.specs.Picture.{colour_at, IsPictureOf}
 
--- a default after two options, one behind the other
+-- a default after two options, one after the other
 map_or-option_or : {X Y : Type 0} (f : X → Y) (a b : Option X) (d : Y) → option_map_or f (option_or a b) d ≡ option_map_or f a (option_map_or f b d)
 map_or-option_or f None b d = refl
 map_or-option_or f (Some x) b d = refl
@@ -99,11 +100,11 @@ painted-picture m view chosen background a b e p =
     painted-canvas m view chosen background b (subst (λ (x : PictureFields). IsPainted x b (paint_list view m chosen)) e p)
 
 -- pixels that have a colour where rings cover them, and else are as they were, are painted over with the rings
-pub painted-fill : (rings : List (List DevicePoint)) (sides : List EdgeEnds) (colour : Rgb) (a : PictureFields) (pixels : List Rgb) → edges rings ≡ sides →
+pub painted-fill : (rings : List (List DevicePoint)) (polygon : List EdgeEnds) (colour : Rgb) (a : PictureFields) (pixels : List Rgb) → edges rings ≡ polygon →
     length pixels ≡ length a.pixels →
-    AreFilled sides colour a.width a.pixels pixels →
+    AreFilled polygon colour a.width a.pixels pixels →
     IsPainted a (record a { pixels = pixels }) (Fill rings colour ∷ [])
-painted-fill rings sides colour a pixels e area filled = record {
+painted-fill rings polygon colour a pixels e area filled = record {
   width = refl;
   height = refl;
   area = area;
@@ -115,7 +116,44 @@ pub painted-nothing : {X : Type 0} (f : X → List Thing) (xs : List X) (a : Pic
 painted-nothing f [] a h = painted-none a
 painted-nothing f (x ∷ xs) a h = rw (h x) (painted-nothing f xs a h)
 
--- what a layer paints is what its place in the map does
-pub painted-place : (view : ViewValue) (m : MapFields) (place : ℕ) (layer : LayerFields) (a b : PictureFields) → place < length m.layers →
-    layer ≡ get_or m.layers place layer → IsPainted a b (layer_things view layer) → IsPainted a b (place_things view m place)
-painted-place view m place layer a b h e p = rw (slice_get-get_or m.layers place layer h, ← e) p
+-- what a layer paints is what its index in the map does
+pub painted-chosen : (view : ViewValue) (m : MapFields) (index : ℕ) (layer : LayerFields) (a b : PictureFields) → index < length m.layers →
+    layer ≡ get_or m.layers index layer → IsPainted a b (layer_things view layer) → IsPainted a b (chosen_things view m index)
+painted-chosen view m index layer a b h e p = rw (slice_get-get_or m.layers index layer h, ← e) p
+
+-- what a test picks over what it picked before is what it picks
+cond-same : {X : Type 0} (b : Bool) (x y z : X) → cond b x (cond b y z) ≡ cond b x z
+cond-same true x y z = refl
+cond-same false x y z = refl
+
+-- the same rings filled once more, where there is a further colour: the further colour shows, else the one before
+colour_at-fills : (background : Rgb) (rings : List (List DevicePoint)) (before further : Option Rgb) (i j : ℕ) →
+    colour_at (colour_at background (fills rings before) i j) (fills rings further) i j ≡ colour_at background (fills rings (option_or further before)) i j
+colour_at-fills background rings before None i j = colour_at-none (colour_at background (fills rings before) i j) i j
+colour_at-fills background rings None (Some colour) i j = rw (colour_at-none background i j) refl
+colour_at-fills background rings (Some old) (Some colour) i j =
+    rw (colour_at-one background (Fill rings old) i j,
+    colour_at-one (cond (covers (Fill rings old) i j) old background) (Fill rings colour) i j,
+    colour_at-one background (Fill rings colour) i j)
+    (cond-same (covers (Fill rings colour) i j) colour old background)
+
+-- where styles fill the same rings, the last colour shows, or the one before them
+fills-last : (background : Rgb) (rings : List (List DevicePoint)) (before : Option Rgb) (styles : List StyleFields) (i j : ℕ) →
+    colour_at (colour_at background (fills rings before) i j) (flat_map (λ (style : StyleFields). fills rings style.colour) styles) i j
+    ≡ colour_at background (fills rings (fold (λ last (style : StyleFields). option_or style.colour last) before styles)) i j
+fills-last background rings before [] i j = colour_at-none (colour_at background (fills rings before) i j) i j
+fills-last background rings before (style ∷ styles) i j =
+    colour_at-append (colour_at background (fills rings before) i j) (fills rings style.colour) (flat_map (λ (s : StyleFields). fills rings s.colour) styles) i j
+    ∙ rw (colour_at-fills background rings before style.colour i j) (fills-last background rings (option_or style.colour before) styles i j)
+
+-- rings that are filled with the last colour of styles are painted as by all of them
+pub painted-last : (rings : List (List DevicePoint)) (styles : List StyleFields) (a b : PictureFields) → IsPainted a b (fills rings (last_colour styles)) →
+    IsPainted a b (flat_map (λ (style : StyleFields). fills rings style.colour) styles)
+painted-last rings styles a b p = record {
+  width = p.width;
+  height = p.height;
+  area = p.area;
+  pixels = λ at h. p.pixels at h
+      ∙ sym (fills-last (colour_of a.pixels at) rings None styles (at % a.width) (at / a.width))
+      ∙ rw (colour_at-none (colour_of a.pixels at) (at % a.width) (at / a.width)) refl;
+}

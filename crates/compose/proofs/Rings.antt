@@ -23,8 +23,8 @@ pub ring_edges-closing : (first : DevicePoint) (rest : List DevicePoint) → rin
 ring_edges-closing first rest = zip-closing first first rest
 
 -- where the edges of a ring begin
-pub ring_edges-start : (view : ViewValue) (ring : List Place) (first : Place) (rest : List Place) (sides : List EdgeEnds) (from : DevicePoint) →
+pub ring_edges-start : (view : ViewValue) (ring : List Place) (first : Place) (rest : List Place) (edges : List EdgeEnds) (from : DevicePoint) →
     ring ≡ first ∷ rest → from ≡ device_point view first →
-    sides ++ closing_edges from from (map (device_point view) (drop 0 rest)) ≡ sides ++ ring_edges (map (device_point view) ring)
-ring_edges-start view ring first rest sides from e f =
-    rw (e, f) (ap (λ more. sides ++ more) (sym (ring_edges-closing (device_point view first) (map (device_point view) rest))))
+    edges ++ closing_edges from from (map (device_point view) (drop 0 rest)) ≡ edges ++ ring_edges (map (device_point view) ring)
+ring_edges-start view ring first rest edges from e f =
+    rw (e, f) (ap (λ more. edges ++ more) (sym (ring_edges-closing (device_point view first) (map (device_point view) rest))))

@@ -2,7 +2,7 @@
 use Rattle.std.specs.Prelude.{ℕ, Bool, if◌then◌else◌, pos, List, [], ◌∷◌, map, Option, None, Some, slice_get}
 use Rattle.std.specs.List.{flat_map}
 use Rattle.std.specs.Option.{option_map_or}
-use Rattle.geom.specs.Device.{DevicePoint, middle}
+use Rattle.geom.specs.Device.{DevicePoint, pixel_centre}
 use Rattle.geom.specs.EvenOdd.{is_inside}
 use Rattle.mapdefs.specs.Class.{class_of, is_visible_layer}
 use Rattle.mapdefs.specs.declared.class.ClassFields.{ClassFields}
@@ -19,11 +19,11 @@ use Rattle.viewport.specs.View.{ViewValue, device_point, scale_of}
 pub data Thing : Type 0 where
   Fill : List (List DevicePoint) → Rgb → Thing
 
--- whether it covers the pixel in a column and a row: rings cover a pixel whose middle lies inside of them
+-- whether it covers the pixel in a column and a row: rings cover a pixel whose centre lies inside of them
 abbrev pub covers : Thing → ℕ → ℕ → Bool
-covers (Fill rings colour) i j = is_inside rings (middle (pos i) (pos j))
+covers (Fill rings colour) i j = is_inside rings (pixel_centre (pos i) (pos j))
 
--- the colour that it gives to a pixel that it covers
+-- the colour of a pixel that it covers
 abbrev pub colour_in : Thing → ℕ → ℕ → Rgb
 colour_in (Fill rings colour) i j = colour
 
@@ -55,10 +55,10 @@ abbrev pub layer_things : ViewValue → LayerFields → List Thing
 layer_things view layer =
     if is_visible_layer (scale_of view) layer then flat_map (feature_things view layer) layer.features else []
 
--- what is painted of the layer at a place of the map
-abbrev pub place_things : ViewValue → MapFields → ℕ → List Thing
-place_things view m place = option_map_or (layer_things view) (slice_get m.layers place) []
+-- what is painted of the layer of that index in the map
+abbrev pub chosen_things : ViewValue → MapFields → ℕ → List Thing
+chosen_things view m index = option_map_or (layer_things view) (slice_get m.layers index) []
 
 -- all that is painted, from the first to the last: the chosen layers, in order
 abbrev pub paint_list : ViewValue → MapFields → List ℕ → List Thing
-paint_list view m chosen = flat_map (place_things view m) chosen
+paint_list view m chosen = flat_map (chosen_things view m) chosen

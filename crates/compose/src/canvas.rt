@@ -3,16 +3,16 @@ ghost use Rattle.compose.specs.Paint.{Fill};
 ghost use Rattle.compose.specs.Painted.{AreFilled, IsPaintedWithin};
 
 use crate::polygon::Polygon;
-use geom::MAX_PICTURE_SIDE;
+use geom::PictureSide;
 use mapdefs::{Items, Picture, PictureFields, Rgb};
 use std::alloc::{AllocError, Global};
 use std::marker::Model;
 
-// A picture while it is painted.
+/// A picture while it is painted.
 #[derive(Drop)]
 pub struct Canvas {
-    width: u16,
-    height: u16,
+    width: PictureSide,
+    height: PictureSide,
     pixels: Vec<Rgb>,
 }
 
@@ -28,16 +28,17 @@ impl Model for Canvas {
 }
 
 impl Canvas {
-    // A canvas of the background colour.
-    pub fn new(alloc: Global, width: u16, height: u16, background: Rgb) -> Result<Self, AllocError>
-        requires some_columns { 1 ≤ width }
-        requires columns { width ≤ MAX_PICTURE_SIDE }
-        requires some_rows { 1 ≤ height }
-        requires rows { height ≤ MAX_PICTURE_SIDE }
+    /// A canvas of the background colour.
+    pub fn new(
+        alloc: Global,
+        width: PictureSide,
+        height: PictureSide,
+        background: Rgb,
+    ) -> Result<Self, AllocError>
         ensures { let pixels = replicate (width * height) background in
             IfOk result (λ canvas. canvas ≡ record { width = width; height = height; pixels = pixels }) }
     {
-        let count = usize::from(width) * usize::from(height);
+        let count = usize::from(width.pixels()) * usize::from(height.pixels());
         let pixels = vec![in alloc; background; count]?;
         Ok(Canvas {
             width,
@@ -46,14 +47,14 @@ impl Canvas {
         })
     }
 
-    // Fills the polygon with the colour.
+    /// Fills the polygon with the colour.
     pub fn fill(&mut self, polygon: &Polygon, colour: Rgb)
         ensures { IsPaintedWithin polygon.now self.old self.new (λ rings. Fill rings colour ∷ []) }
     {
         fill_pixels(&mut self.pixels, self.width, polygon, colour);
     }
 
-    // The picture as it has been painted.
+    /// The picture as it has been painted.
     pub fn into_picture(self) -> Picture
         ensures { result ≡ self }
     {
@@ -71,12 +72,11 @@ impl Canvas {
 }
 
 // Gives the colour to each pixel that the polygon covers. The pixels stand row by row.
-fn fill_pixels(pixels: &mut [Rgb], width: u16, polygon: &Polygon, colour: Rgb)
-    requires some_columns { 1 ≤ width }
-    requires rows { length pixels.old ≤ width * 2 ^ 16 }
+fn fill_pixels(pixels: &mut [Rgb], width: PictureSide, polygon: &Polygon, colour: Rgb)
+    requires { length pixels.old ≤ width * 2 ^ 16 }
     ensures { AreFilled polygon.now colour width pixels.old pixels.new }
 {
-    let columns = usize::from(width);
+    let columns = usize::from(width.pixels());
     for (at, pixel) in pixels.iter_mut().enumerate() {
         if polygon.covers((at % columns) as u16, (at / columns) as u16) {
             *pixel = colour;

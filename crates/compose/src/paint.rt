@@ -1,20 +1,19 @@
-ghost use Rattle.std.specs.Prelude.{◌<◌, All, IfOk, OnOk, length};
+ghost use Rattle.std.specs.Prelude.{◌≡◌, ◌<◌, All, IfOk, OnOk, length};
 ghost use Rattle.std.specs.List.{flat_map};
 ghost use Rattle.mapdefs.specs.declared.style.StyleFields.{StyleFields as StyleValue};
 ghost use Rattle.compose.specs.Paint.{fills, class_things, feature_things, layer_things};
-ghost use Rattle.compose.specs.Painted.{IsPainted, IsPaintedWithin};
+ghost use Rattle.compose.specs.Painted.{IsPainted, IsPaintedWithin, last_colour};
 ghost use Rattle.compose.specs.Picture.{IsPictureOf};
 
 use crate::canvas::Canvas;
 use crate::classes::{class_of, is_visible};
 use crate::polygon::Polygon;
-use mapdefs::{ClassFields, Feature, Kind, LayerFields, Map, Picture, Rgb, Style, StyleFields};
+use mapdefs::{ClassFields, Feature, Kind, LayerFields, Map, Picture, Rgb, Style};
 use std::alloc::{AllocError, Global};
 use viewport::View;
 
-/// The picture of the chosen layers in the view. They are named by their places in the map and painted
-/// in the order in which they are chosen, one that is chosen twice also twice, and whether they are
-/// switched on or not.
+/// The picture of the chosen layers in the view. `chosen` has their indices in the map. They are painted
+/// in that order, one that is chosen twice also twice, and whether they are switched on or not.
 ///
 /// It takes memory for the picture, and for the edges of one feature at a time. `AllocError` comes only
 /// where that is refused.
@@ -25,13 +24,13 @@ pub fn picture(
     chosen: &[usize],
     background: Rgb,
 ) -> Result<Picture, AllocError>
-    requires { All (λ place. place < length map.now.layers) chosen.now }
+    requires { All (λ index. index < length map.now.layers) chosen.now }
     ensures { IfOk result (IsPictureOf map.now view chosen.now background) }
 {
     let layers = map.get().layers.as_slice();
     let mut canvas = Canvas::new(alloc, view.width(), view.height(), background)?;
-    for place in chosen {
-        paint_layer(alloc, &mut canvas, view, layers[*place].get())?;
+    for index in chosen {
+        paint_layer(alloc, &mut canvas, view, layers[*index].get())?;
     }
     Ok(canvas.into_picture())
 }
@@ -92,21 +91,23 @@ fn paint_class(
     }
 }
 
-// Fills the polygon by each style, in order.
+// The last colour of some styles.
+fn last_colour(styles: &[Style]) -> Option<Rgb>
+    ensures { result ≡ last_colour styles.now }
+{
+    let mut last = None;
+    for style in styles {
+        last = style.get().colour.or(last);
+    }
+    last
+}
+
+// Fills the polygon by each style, in order: where it covers, the last colour shows.
 fn fill_by_styles(canvas: &mut Canvas, polygon: &Polygon, styles: &[Style])
     ensures { IsPaintedWithin polygon.now canvas.old canvas.new (λ rings.
         flat_map (λ (style : StyleValue). fills rings style.colour) styles.now) }
 {
-    for style in styles {
-        fill_by_style(canvas, polygon, style.get());
-    }
-}
-
-// Fills the polygon, if the style has a colour.
-fn fill_by_style(canvas: &mut Canvas, polygon: &Polygon, style: &StyleFields)
-    ensures { IsPaintedWithin polygon.now canvas.old canvas.new (λ rings. fills rings style.now.colour) }
-{
-    if let Some(colour) = style.colour {
+    if let Some(colour) = last_colour(styles) {
         canvas.fill(polygon, colour);
     }
 }

@@ -1,5 +1,5 @@
 ghost use Rattle.std.specs.Prelude.{◌≡◌, ◌≤◌, ◌++◌, length, map, sum_by, pos, IfOk, OnOk};
-ghost use Rattle.geom.specs.Device.{middle};
+ghost use Rattle.geom.specs.Device.{pixel_centre};
 ghost use Rattle.geom.specs.EvenOdd.{ring_edges, edges, is_covered};
 ghost use Rattle.viewport.specs.View.{device_point};
 
@@ -9,10 +9,10 @@ use std::alloc::{AllocError, Global};
 use std::marker::Model;
 use viewport::View;
 
-// The edges of all rings of a polygon, on the picture.
+/// The edges of all rings of a polygon, on the picture.
 #[derive(Drop)]
 pub struct Polygon {
-    sides: Vec<Edge>,
+    edges: Vec<Edge>,
 }
 
 impl Model for Polygon {
@@ -21,41 +21,41 @@ impl Model for Polygon {
 
     ghost Value = { List EdgeEnds };
 
-    ghost view = { λ p. p.sides.items };
+    ghost view = { λ p. p.edges.items };
 }
 
 impl Polygon {
-    // The polygon of the rings, each closed from its last vertex to its first.
+    /// The polygon of the rings, each closed from its last vertex to its first.
     pub fn new(alloc: Global, view: View, rings: &[Items<World>]) -> Result<Self, AllocError>
         requires { sum_by length rings.now ≤ MAX_VERTICES }
         ensures { IfOk result (λ polygon. polygon ≡ edges (map (map (device_point view)) rings.now)) }
     {
         let count = rings.iter().map(|ring| ring.len()).sum();
-        let mut sides = Vec::with_capacity(alloc, count)?;
+        let mut edges = Vec::with_capacity(alloc, count)?;
         for ring in rings {
-            push_edges(&mut sides, view, ring.as_slice())?;
+            push_edges(&mut edges, view, ring.as_slice())?;
         }
-        Ok(Polygon { sides })
+        Ok(Polygon { edges })
     }
 
-    // Whether the middle of the pixel in a column and a row lies inside, by the even-odd rule.
+    /// Whether the pixel centre in a column and a row lies inside, by the even-odd rule.
     pub fn covers(&self, column: u16, row: u16) -> bool
-        ensures { result ≡ is_covered self.now (middle (pos column) (pos row)) }
+        ensures { result ≡ is_covered self.now (pixel_centre (pos column) (pos row)) }
     {
-        let middle = Device::middle(column, row);
+        let centre = Device::pixel_centre(column, row);
         let crossings = self
-            .sides
+            .edges
             .iter()
-            .filter(|side| side.crosses_at_or_left(middle))
+            .filter(|edge| edge.crosses_at_or_left(centre))
             .count();
         crossings % 2 == 1
     }
 }
 
 // Adds the edges of a ring.
-fn push_edges(sides: &mut Vec<Edge>, view: View, ring: &[World]) -> Result<(), AllocError>
+fn push_edges(edges: &mut Vec<Edge>, view: View, ring: &[World]) -> Result<(), AllocError>
     ensures { let points = map (device_point view) ring.now in
-        OnOk result (sides.new.items ≡ sides.old.items ++ ring_edges points) }
+        OnOk result (edges.new.items ≡ edges.old.items ++ ring_edges points) }
 {
     let Some((first, rest)) = ring.split_first() else {
         return Ok(());
@@ -64,9 +64,9 @@ fn push_edges(sides: &mut Vec<Edge>, view: View, ring: &[World]) -> Result<(), A
     let mut from = first;
     for place in rest {
         let to = view.device(*place);
-        sides.push(Edge::new(from, to))?;
+        edges.push(Edge::new(from, to))?;
         from = to;
     }
-    sides.push(Edge::new(from, first))?;
+    edges.push(Edge::new(from, first))?;
     Ok(())
 }

@@ -1,10 +1,9 @@
 ghost use Rattle.std.specs.Prelude.{◌≡◌, ◌<◌, ◌≤◌, [], length, All, IfOk};
-ghost use Rattle.geom.specs.World.{IsWorldNumber};
 ghost use Rattle.mapdefs.specs.MapLimits.{ClassNamesSymbolsOf, LayerNamesSymbolsOf, NamesSymbolOf};
 ghost use Rattle.mapdefs.specs.declared.limits.TheConstants.{MAX_LAYERS};
 
 use crate::picture;
-use geom::{Micro, World, WorldBox};
+use geom::{Coordinate, Micro, PictureSide, World, WorldBox};
 use mapdefs::{
     Class, ClassFields, Feature, FeatureFields, Items, Kind, Layer, LayerFields, Map, MapFields,
     Rgb, Rule, Style, StyleFields, Text,
@@ -22,16 +21,16 @@ const WHITE: Rgb = Rgb {
     blue: 255,
 };
 
-const RED: Rgb = Rgb {
-    red: 255,
-    green: 0,
-    blue: 0,
+const BROWN: Rgb = Rgb {
+    red: 100,
+    green: 60,
+    blue: 20,
 };
 
-const BLUE: Rgb = Rgb {
-    red: 0,
-    green: 0,
-    blue: 255,
+const DARK: Rgb = Rgb {
+    red: 10,
+    green: 20,
+    blue: 30,
 };
 
 // What a layer with one feature and one class of two styles is made of.
@@ -85,11 +84,9 @@ fn class(alloc: Global, colours: [Option<Rgb>; 2], max: Option<Micro>) -> Result
 }
 
 // That many tenths of a degree, of at most 1,000 degrees.
-fn tenths(count: i16) -> Micro
-    ensures { IsWorldNumber result }
-{
+fn tenths(count: i16) -> Coordinate {
     let limit = 1_000_000_000;
-    Micro::new((i64::from(count) * 100_000).clamp(-limit, limit))
+    Coordinate::new(Micro::new((i64::from(count) * 100_000).clamp(-limit, limit)))
 }
 
 fn ring(alloc: Global, vertices: &[Vertex]) -> Result<Items<World>, AllocError>
@@ -171,24 +168,25 @@ fn map_of_one(alloc: Global, layer: Layer) -> Result<Map, AllocError>
     map_of(alloc, layers)
 }
 
-// Those four degrees by four in four pixels by four: the middles of the pixels are half degrees.
+// Those four degrees by four in four pixels by four: the pixel centres are at half degrees.
 fn square() -> View {
     let low = Micro::new(0);
     let high = Micro::new(4_000_000);
-    View::new(WorldBox::new(low, low, high, high), 4, 4)
+    let side = PictureSide::new(4).unwrap();
+    View::new(WorldBox::new(low, low, high, high), side, side)
 }
 
-// The rows of the picture of some layers: `#` is red, `o` blue and `.` any other colour.
+// The rows of the picture of some layers: `#` is brown, `o` dark, `.` white and `?` any other colour.
 fn draw(alloc: Global, map: &Map, chosen: &[usize], background: Rgb) -> Result<String, AllocError>
-    requires { All (λ place. place < length map.now.layers) chosen.now }
+    requires { All (λ index. index < length map.now.layers) chosen.now }
 {
     let picture = picture(alloc, map, square(), chosen, background)?;
     let mut text = String::new(alloc);
-    for row in 0..picture.get().height {
+    for row in 0..picture.get().height.pixels() {
         if row > 0 {
             text.push(' ')?;
         }
-        for column in 0..picture.get().width {
+        for column in 0..picture.get().width.pixels() {
             text.push(letter(picture.at(column, row)))?;
         }
     }
@@ -196,10 +194,11 @@ fn draw(alloc: Global, map: &Map, chosen: &[usize], background: Rgb) -> Result<S
 }
 
 fn letter(colour: Rgb) -> char {
-    match (colour.red, colour.blue) {
-        (255, 0) => '#',
-        (0, 255) => 'o',
-        _ => '.',
+    match (colour.red, colour.green, colour.blue) {
+        (100, 60, 20) => '#',
+        (10, 20, 30) => 'o',
+        (255, 255, 255) => '.',
+        _ => '?',
     }
 }
 
@@ -209,7 +208,7 @@ const POLYGONS: [(&[&[Vertex]], &str); 14] = [
         &[&[(10, 10), (30, 10), (30, 30), (10, 30)]],
         ".... .##. .##. ....",
     ),
-    // edges through the middles of a column: one on the left covers them, one on the right doesn't
+    // edges through the pixel centres of a column: one on the left covers them, one on the right doesn't
     (
         &[&[(15, 10), (30, 10), (30, 30), (15, 30)]],
         ".... .##. .##. ....",
@@ -245,25 +244,25 @@ const POLYGONS: [(&[&[Vertex]], &str); 14] = [
         &[&[(-30, 10), (-10, 10), (-10, 30), (-30, 30)]],
         ".... .... .... ....",
     ),
-    // from middle to middle: the sides at the top and on the left cover, the others don't
+    // from pixel centre to pixel centre: the edges at the top and on the left cover, the others don't
     (
         &[&[(5, 5), (25, 5), (25, 25), (5, 25)]],
         ".... ##.. ##.. ....",
     ),
-    // The left and the right corner are at the height of the second row's middles. The third row is
-    // crossed at 12.8 and 51.2 sixteenths, the last at 25.6 and 38.4, between two middles.
+    // The left and the right corner are at the height of the second row's pixel centres. The third row
+    // is crossed at 12.8 and 51.2 sixteenths, the last at 25.6 and 38.4, between two pixel centres.
     (
         &[&[(0, 25), (20, 0), (40, 25), (20, 40)]],
         ".##. #### .##. ....",
     ),
-    // a tip in the middle of a pixel covers nothing, nor does a base at the height of a middle
+    // a tip at a pixel centre covers nothing, nor does a base at the height of one
     (&[&[(15, 25), (5, 5), (25, 5)]], ".... .... .#.. ...."),
-    // a step whose level edge is at the height of the second row's middles
+    // a step whose horizontal edge is at the height of the second row's pixel centres
     (
         &[&[(0, 40), (20, 40), (20, 25), (40, 25), (40, 0), (0, 0)]],
         "##.. #### #### ####",
     ),
-    // two rings that share an edge through the middles of the second column
+    // two rings that share an edge through the pixel centres of the second column
     (
         &[
             &[(0, 10), (15, 10), (15, 30), (0, 30)],
@@ -284,24 +283,24 @@ const POLYGONS: [(&[&[Vertex]], &str); 14] = [
 fn polygons_cover_worked_pixels(rt: HostRuntime) -> Result<(), Fail> {
     let alloc = rt.alloc();
     for (rings, rows) in POLYGONS {
-        let map = map_of_one(alloc, layer(alloc, filled(rings, RED))?)?;
+        let map = map_of_one(alloc, layer(alloc, filled(rings, BROWN))?)?;
         let drawn = draw(alloc, &map, &[0], WHITE)?;
         assert_eq!(rt; drawn.as_str(), rows);
     }
     Ok(())
 }
 
-// All of the picture, and the square in its middle.
+// All of the picture, and the square within it.
 const ALL: &[&[Vertex]] = &[&[(0, 0), (40, 0), (40, 40), (0, 40)]];
 
-const MIDDLE: &[&[Vertex]] = &[&[(10, 10), (30, 10), (30, 30), (10, 30)]];
+const INNER: &[&[Vertex]] = &[&[(10, 10), (30, 10), (30, 30), (10, 30)]];
 
 #[test]
 fn later_layers_lie_over_earlier_ones(rt: HostRuntime) -> Result<(), Fail> {
     let alloc = rt.alloc();
     let mut layers = Items::new(alloc);
-    layers.push(layer(alloc, filled(ALL, RED))?)?;
-    layers.push(layer(alloc, filled(MIDDLE, BLUE))?)?;
+    layers.push(layer(alloc, filled(ALL, BROWN))?)?;
+    layers.push(layer(alloc, filled(INNER, DARK))?)?;
     let map = map_of(alloc, layers)?;
     let first = draw(alloc, &map, &[0, 1], WHITE)?;
     assert_eq!(rt; first.as_str(), "#### #oo# #oo# ####");
@@ -312,18 +311,18 @@ fn later_layers_lie_over_earlier_ones(rt: HostRuntime) -> Result<(), Fail> {
     Ok(())
 }
 
-// The kind of a layer, the colours of its styles, the bounds on its class and on itself, and the square
-// in the middle.
+// The kind of a layer, the colours of its styles, the bounds on its class and on itself, and the
+// picture of the inner square.
 const STYLES: [(Kind, [Option<Rgb>; 2], [Option<i64>; 2], &str); 7] = [
     (
         Kind::Polygon,
-        [Some(RED), Some(BLUE)],
+        [Some(BROWN), Some(DARK)],
         [None, None],
         ".... .oo. .oo. ....",
     ),
     (
         Kind::Polygon,
-        [None, Some(RED)],
+        [None, Some(BROWN)],
         [None, None],
         ".... .##. .##. ....",
     ),
@@ -336,25 +335,25 @@ const STYLES: [(Kind, [Option<Rgb>; 2], [Option<i64>; 2], &str); 7] = [
     // not painted yet
     (
         Kind::Polygon,
-        [Some(RED), None],
+        [Some(BROWN), None],
         [Some(1_000_000), None],
         ".... .... .... ....",
     ),
     (
         Kind::Polygon,
-        [Some(RED), None],
+        [Some(BROWN), None],
         [None, Some(1_000_000)],
         ".... .... .... ....",
     ),
     (
         Kind::Line,
-        [Some(RED), None],
+        [Some(BROWN), None],
         [None, None],
         ".... .... .... ....",
     ),
     (
         Kind::Point,
-        [Some(RED), None],
+        [Some(BROWN), None],
         [None, None],
         ".... .... .... ....",
     ),
@@ -363,10 +362,10 @@ const STYLES: [(Kind, [Option<Rgb>; 2], [Option<i64>; 2], &str); 7] = [
 #[test]
 fn background_is_seen_where_nothing_is_painted(rt: HostRuntime) -> Result<(), Fail> {
     let alloc = rt.alloc();
-    let map = map_of_one(alloc, layer(alloc, filled(MIDDLE, BLUE))?)?;
-    let none = draw(alloc, &map, &[], RED)?;
+    let map = map_of_one(alloc, layer(alloc, filled(INNER, DARK))?)?;
+    let none = draw(alloc, &map, &[], BROWN)?;
     assert_eq!(rt; none.as_str(), "#### #### #### ####");
-    let one = draw(alloc, &map, &[0], RED)?;
+    let one = draw(alloc, &map, &[0], BROWN)?;
     assert_eq!(rt; one.as_str(), "#### #oo# #oo# ####");
     Ok(())
 }
@@ -377,7 +376,7 @@ fn styles_paint_in_order(rt: HostRuntime) -> Result<(), Fail> {
     for (kind, colours, [max, layer_max], rows) in STYLES {
         let sketch = Sketch {
             kind,
-            rings: MIDDLE,
+            rings: INNER,
             colours,
             max: max.map(Micro::new),
             layer_max: layer_max.map(Micro::new),

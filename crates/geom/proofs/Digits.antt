@@ -6,7 +6,7 @@ use Rattle.std.specs.Option.{option_map}
 use Rattle.std.proofs.lemmas.List.Sums.{fold-append}
 use Rattle.std.proofs.lemmas.List.Folds.{length-prefix_len}
 use Rattle.std.specs.List.{fold}
-use Rattle.geom.specs.Decimal.{with_digit, digits_of, digit_count, behind_digits, number_of, Decimal, decimal, has_digits, decimal_with, decimal_of, capped}
+use Rattle.geom.specs.Decimal.{with_digit, digits_of, digit_count, after_digits, number_of, Decimal, decimal, has_digits, decimal_with, decimal_of, capped}
 
 -- a digit more makes the same of a capped number as of the number, up to the cap
 pub with_digit-capped : (cap n digit : ℕ) → min (with_digit (min n cap) digit) cap ≡ min (with_digit n digit) cap
@@ -58,7 +58,7 @@ decimal-tail whole tail digits r all same is =
 
 -- a text that was read: its digits, a point, and digits up to its end
 pub decimal-read : (text tail : List ℕ) (point first second whole decimals : ℕ) (r : Option Decimal) →
-    behind_digits text ≡ point ∷ tail → point ≡ 46 →
+    after_digits text ≡ point ∷ tail → point ≡ 46 →
     first ≡ min (number_of (digits_of text)) (2 ^ 64 - 1) → whole ≡ digit_count text →
     second ≡ min (fold with_digit first (digits_of tail)) (2 ^ 64 - 1) → decimals ≡ digit_count tail → decimals ≡ length tail →
     r ≡ (if has_digits whole decimals then Some (record { digits = second; decimals = decimals }) else None) →

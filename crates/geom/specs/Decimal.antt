@@ -27,7 +27,7 @@ abbrev pub is_negative : List ℕ → Bool
 is_negative [] = false
 is_negative (b ∷ bs) = b == 45
 
--- the text behind its sign, if it has one
+-- the text after its sign, if it has one
 abbrev pub unsigned : List ℕ → List ℕ
 unsigned [] = []
 unsigned (b ∷ bs) = if b == 45 || b == 43 then bs else b ∷ bs
@@ -40,9 +40,9 @@ digit_count text = prefix_len is_ascii_digit text
 abbrev pub digits_of : List ℕ → List ℕ
 digits_of text = take (digit_count text) text
 
--- what stands behind them
-abbrev pub behind_digits : List ℕ → List ℕ
-behind_digits text = drop (digit_count text) text
+-- what stands after them
+abbrev pub after_digits : List ℕ → List ℕ
+after_digits text = drop (digit_count text) text
 
 -- n with a further digit
 abbrev pub with_digit : ℕ → ℕ → ℕ
@@ -52,20 +52,20 @@ with_digit n digit = n * 10 + (digit - 48)
 abbrev pub number_of : List ℕ → ℕ
 number_of digits = fold with_digit 0 digits
 
--- a decimal number without its sign: so many of its digits stand behind the point
+-- a decimal number without its sign: its digits, the last so many of which stand after the point
 pub record Decimal : Type 0 where
   pub digits : ℕ
   pub decimals : ℕ
 
--- the decimal number of the digits before the point and of those behind it
+-- the decimal number of the digits before the point and of those after it
 abbrev pub decimal : List ℕ → List ℕ → Decimal
 decimal whole decimals = record { digits = number_of (whole ++ decimals); decimals = length decimals }
 
--- a number has a digit, and at most six digits behind the point
+-- a number has a digit, and at most six digits after the point
 abbrev pub has_digits : ℕ → ℕ → Bool
 has_digits whole decimals = nat_lt 0 (whole + decimals) && nat_le decimals 6
 
--- the decimal number of some digits and of what stands behind them: nothing, or a point and digits
+-- the decimal number of some digits and of what stands after them: nothing, or a point and digits
 abbrev pub decimal_with : List ℕ → List ℕ → Option Decimal
 decimal_with whole [] = if has_digits (length whole) 0 then Some (decimal whole []) else None
 decimal_with whole (b ∷ tail) =
@@ -75,7 +75,7 @@ decimal_with whole (b ∷ tail) =
 
 -- the decimal number that a text without sign stands for
 abbrev pub decimal_of : List ℕ → Option Decimal
-decimal_of text = decimal_with (digits_of text) (behind_digits text)
+decimal_of text = decimal_with (digits_of text) (after_digits text)
 
 -- the nearest number of millionths
 abbrev pub millionths_of : Decimal → ℕ

@@ -27,10 +27,10 @@ pub record IsPixel (p : PixelPlace) : Type 0 where
 abbrev pub pixel_of : DevicePoint → PixelPlace
 pixel_of p = record { i = int_div_euclid p.x (pos 16); j = int_div_euclid p.y (pos 16) }
 
--- where the middle of a column or of a row lies
+-- the x of the pixel centres of a column, and the y of those of a row
 abbrev pub centre : ℤ → ℤ
 centre k = pos 16 *ℤ k +ℤ pos 8
 
--- the middle of the pixel in a column and a row
-abbrev pub middle : ℤ → ℤ → DevicePoint
-middle i j = record { x = centre i; y = centre j }
+-- the pixel centre in a column and a row
+abbrev pub pixel_centre : ℤ → ℤ → DevicePoint
+pixel_centre i j = record { x = centre i; y = centre j }

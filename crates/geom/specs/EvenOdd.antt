@@ -16,9 +16,9 @@ ring_edges ring = map edge_between (zip ring (drop 1 ring ++ take 1 ring))
 abbrev pub edges : List (List DevicePoint) → List EdgeEnds
 edges rings = flat_map ring_edges rings
 
--- the number of edges that cross the height of p at p or left of it is odd
+-- the number of a polygon's edges that cross the height of p at p or left of it is odd
 abbrev pub is_covered : List EdgeEnds → DevicePoint → Bool
-is_covered sides p = count_by (crosses_at_or_left p) sides % 2 == 1
+is_covered polygon p = count_by (crosses_at_or_left p) polygon % 2 == 1
 
 -- p lies inside of the rings by the even-odd rule
 abbrev pub is_inside : List (List DevicePoint) → DevicePoint → Bool

@@ -5,4 +5,5 @@ pub mod EvenOdd
 pub mod Number
 pub mod Range
 pub mod Scale
+pub mod Side
 pub mod World

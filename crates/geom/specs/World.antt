@@ -1,6 +1,6 @@
 -- Places and boxes of the world (docs/MAPFILE.md, "Numbers").
 use Rattle.std.specs.Prelude.{ℤ, ◌<ℤ◌}
-use Rattle.geom.specs.declared.micro.TheConstants.{WORLD_LIMIT}
+use Rattle.geom.specs.declared.micro.TheConstants.{COORDINATE_LIMIT}
 use Rattle.geom.specs.Range.{IsWithin}
 
 -- a point of the world, in millionths of a degree: longitude and latitude
@@ -15,23 +15,18 @@ pub record Area : Type 0 where
   pub maxx : ℤ
   pub maxy : ℤ
 
--- a number of the world: at most 1,000 degrees on either side
-abbrev pub IsWorldNumber : ℤ → Type 0
-IsWorldNumber z = IsWithin WORLD_LIMIT z
+-- a coordinate: a longitude or a latitude of at most 1,000 degrees in size
+abbrev pub IsCoordinate : ℤ → Type 0
+IsCoordinate z = IsWithin COORDINATE_LIMIT z
 
--- both coordinates are numbers of the world
-pub record IsPlace (p : Place) : Type 0 where
-  pub easting : IsWorldNumber p.x
-  pub northing : IsWorldNumber p.y
-
--- all four sides are numbers of the world
+-- all four sides are coordinates
 pub record IsInWorld (area : Area) : Type 0 where
-  pub west : IsWorldNumber area.minx
-  pub south : IsWorldNumber area.miny
-  pub east : IsWorldNumber area.maxx
-  pub north : IsWorldNumber area.maxy
+  pub west : IsCoordinate area.minx
+  pub south : IsCoordinate area.miny
+  pub east : IsCoordinate area.maxx
+  pub north : IsCoordinate area.maxy
 
--- a box of the world that has an area: its sides are numbers of the world, west of east and south of north
+-- a box of the world that has an area: its sides are coordinates, west of east and south of north
 pub record IsExtent (area : Area) : Type 0 where
   pub world : IsInWorld area
   pub columns : area.minx <ℤ area.maxx

@@ -3,9 +3,6 @@ ghost use Rattle.geom.specs.Range.{IsBelow};
 
 use std::marker::Model;
 
-/// The most pixels on a side of a picture.
-pub const MAX_PICTURE_SIDE: u16 = 2_048;
-
 /// A device point: a point of the picture, in sixteenths of a pixel from the upper left corner, to
 /// the right and down. Both coordinates have sizes below 2^47.
 #[derive(Clone, Copy, Debug, PartialEq, Eq)]
@@ -27,7 +24,7 @@ impl Model for Device {
 }
 
 impl Device {
-    ghost use Rattle.geom.specs.Device.{IsDevicePoint, pixel_of, middle};
+    ghost use Rattle.geom.specs.Device.{IsDevicePoint, pixel_of, pixel_centre};
 
     /// The point that many sixteenths of a pixel to the right and down.
     pub fn new(x: i64, y: i64) -> Self
@@ -38,9 +35,9 @@ impl Device {
         Device { x, y }
     }
 
-    /// The middle of the pixel in a column and a row of the picture.
-    pub fn middle(column: u16, row: u16) -> Self
-        ensures { result ≡ middle (pos column) (pos row) }
+    /// The pixel centre in a column and a row of the picture.
+    pub fn pixel_centre(column: u16, row: u16) -> Self
+        ensures { result ≡ pixel_centre (pos column) (pos row) }
     {
         Device {
             x: 16 * i64::from(column) + 8,
@@ -128,7 +125,7 @@ impl Pixel {
 mod tests {
     use super::*;
 
-    // A coordinate in sixteenths, and the column that it lies in.
+    // An x in sixteenths of a pixel, and the column that it lies in.
     const COLUMNS: [(i64, i64); 8] = [
         (0, 0),
         (15, 0),
@@ -136,7 +133,7 @@ mod tests {
         (-1, -1),
         (-16, -1),
         (-17, -2),
-        // the middle of a column, and its last sixteenth
+        // the centre of a column, and its last sixteenth
         (16_376, 1_023),
         (32_767, 2_047),
     ];
@@ -147,7 +144,7 @@ mod tests {
             let pixel = Device::new(x, 40).pixel();
             assert_eq!(rt; (pixel.i(), pixel.j()), (column, 2), "at {x}");
         }
-        let middle = Device::middle(3, 0);
-        assert_eq!(rt; (middle.x(), middle.y()), (56, 8));
+        let centre = Device::pixel_centre(3, 0);
+        assert_eq!(rt; (centre.x(), centre.y()), (56, 8));
     }
 }

@@ -33,7 +33,7 @@ impl Edge {
         Edge { from, to }
     }
 
-    // The end that lies higher up in the picture, the first of two equally high ones.
+    // The end that lies higher up in the picture; of two equally high ones the first.
     fn low_end(self) -> Device
         ensures { result ≡ low_end self }
     {
@@ -55,14 +55,14 @@ impl Edge {
         }
     }
 
-    // Exactly one end has a y of at most the height.
+    // Whether exactly one end has a y of at most the height.
     fn crosses_height(self, height: i64) -> bool
         ensures { result ≡ crosses_height self height }
     {
         (self.from.y() <= height) != (self.to.y() <= height)
     }
 
-    // At the height of the point the edge's line is at it or left of it.
+    // Whether the edge's line meets the height of the point at the point or left of it.
     fn meets_at_or_left(self, point: Device) -> bool
         ensures { result ≡ meets_at_or_left point self }
     {
@@ -109,6 +109,7 @@ fn is_product_at_most(a: i128, b: i128, c: i128, d: i128) -> bool
 #[cfg(test)]
 mod tests {
     use super::*;
+    use crate::Pixel;
 
     // The ends of an edge, a point, and whether the edge crosses its height at it or left of it.
     const CROSSINGS: [((i16, i16), (i16, i16), (i16, i16), bool); 10] = [
@@ -121,7 +122,7 @@ mod tests {
         // the upper end at the height counts, the lower end at it doesn't
         ((0, 24), (0, 64), (24, 24), true),
         ((0, 0), (0, 24), (24, 24), false),
-        // level edges never count
+        // horizontal edges never count
         ((0, 24), (8, 24), (24, 24), false),
         // slanted, a quarter of the way down at x = 16
         ((0, 8), (64, 72), (16, 24), true),
@@ -141,5 +142,19 @@ mod tests {
             let crosses = edge.crosses_at_or_left(point_at(point));
             assert_eq!(rt; crosses, expected, "{from:?} to {to:?} at {point:?}");
         }
+    }
+
+    // Points, pixels and edges that differ in one number are two.
+    #[test]
+    fn values_differ_where_one_number_does(rt: HostRuntime) {
+        let point = point_at((3, 5));
+        assert_eq!(rt; point, point_at((3, 5)));
+        assert_ne!(rt; point, point_at((4, 5)));
+        assert_ne!(rt; point, point_at((3, 6)));
+        assert_ne!(rt; Pixel::new(3, 5), Pixel::new(4, 5));
+        assert_ne!(rt; Pixel::new(3, 5), Pixel::new(3, 6));
+        let edge = Edge::new(point, point_at((7, 9)));
+        assert_ne!(rt; edge, Edge::new(point, point_at((8, 9))));
+        assert_ne!(rt; edge, Edge::new(point_at((3, 6)), point_at((7, 9))));
     }
 }

@@ -6,8 +6,8 @@ use crate::decimal::{nearest, read_decimal, split_sign, with_sign};
 use std::marker::Model;
 use thiserror::Error;
 
-/// The greatest size of a number of the world: 1,000 degrees, in millionths.
-pub const WORLD_LIMIT: u64 = 1_000_000_000;
+/// The greatest size of a coordinate: 1,000 degrees, in millionths.
+pub const COORDINATE_LIMIT: u64 = 1_000_000_000;
 
 /// The greatest size of any other number, in millionths.
 pub const NUMBER_LIMIT: u64 = 1_000_000_000_000_000_000;
@@ -135,7 +135,7 @@ mod tests {
     #[test]
     fn texts_mean_their_numbers(rt: HostRuntime) -> Result<(), Fail> {
         for (text, expected) in NUMBERS {
-            let number = Micro::read(text.as_bytes(), WORLD_LIMIT).map(Micro::millionths);
+            let number = Micro::read(text.as_bytes(), COORDINATE_LIMIT).map(Micro::millionths);
             assert_eq!(rt; number, expected, "{text:?}");
         }
         Ok(())
@@ -167,6 +167,42 @@ mod tests {
         assert_eq!(rt; nearest(5_000_000, 10_000_000), 1);
         assert_eq!(rt; nearest(10_000_000_004_000_000, 10_000_000), 1_000_000_000);
         assert_eq!(rt; nearest(10_000_000_005_000_000, 10_000_000), 1_000_000_001);
+        Ok(())
+    }
+
+    // A definition cites the same constant as the code, so only a test can tell a wrong limit.
+    #[test]
+    fn limits_have_their_numbers(rt: HostRuntime) {
+        assert_eq!(rt; COORDINATE_LIMIT, 1_000_000_000);
+        assert_eq!(rt; NUMBER_LIMIT, 1_000_000_000_000_000_000);
+    }
+
+    #[test]
+    fn numbers_are_ordered_by_their_size(rt: HostRuntime) {
+        let numbers = [-1_000_001, -1_000_000, -1, 0, 2, 1_000_000];
+        for (i, a) in numbers.iter().enumerate() {
+            for (j, b) in numbers.iter().enumerate() {
+                let (x, y) = (Micro::new(*a), Micro::new(*b));
+                assert_eq!(rt;
+                    (x < y, x == y, x > y),
+                    (i < j, i == j, i > j),
+                    "{a} and {b}"
+                );
+            }
+        }
+    }
+
+    #[test]
+    fn faults_are_told_in_words(rt: HostRuntime) -> Result<(), Fail> {
+        let messages = [
+            (NumberFault::NotANumber, "not a decimal number"),
+            (NumberFault::TooLarge, "a number beyond the limit"),
+        ];
+        for (fault, message) in messages {
+            let text = format!(in rt.alloc(); "{fault}")?;
+            assert_eq!(rt; text.as_str(), message);
+        }
+        assert_ne!(rt; NumberFault::NotANumber, NumberFault::TooLarge);
         Ok(())
     }
 }

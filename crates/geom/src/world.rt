@@ -1,52 +1,43 @@
 ghost use Rattle.std.specs.Prelude.{◌≡◌};
 
-use crate::Micro;
+use crate::{Coordinate, Micro};
 use std::marker::Model;
 
-/// A place: a point of the world, longitude `x` and latitude `y`. Both are at most 1,000 degrees in
-/// size.
+/// A place: a point of the world, longitude `x` and latitude `y`.
 #[derive(Clone, Copy, Debug, PartialEq, Eq)]
 pub struct World {
-    x: Micro,
-    y: Micro,
+    x: Coordinate,
+    y: Coordinate,
 }
 
 impl Model for World {
-    ghost use Rattle.geom.specs.World.{Place, IsPlace};
+    ghost use Rattle.geom.specs.World.{Place};
 
     ghost Value = { Place };
 
     ghost view = { λ p. record { x = p.x; y = p.y } };
 
-    ghost invariant = { λ p. IsPlace (record { x = p.x; y = p.y }) };
-
     ghost inverse = { λ p. record { x = p.x; y = p.y } };
 }
 
 impl World {
-    ghost use Rattle.geom.specs.World.{IsPlace, IsWorldNumber};
-
-    /// The place of a longitude and a latitude. `Micro::read` with `WORLD_LIMIT` is the test.
-    pub fn new(x: Micro, y: Micro) -> Self
-        requires easting { IsWorldNumber x }
-        requires northing { IsWorldNumber y }
+    /// The place of a longitude and a latitude.
+    pub fn new(x: Coordinate, y: Coordinate) -> Self
         ensures { result ≡ record { x = x; y = y } }
     {
         World { x, y }
     }
 
     /// The longitude.
-    pub fn x(self) -> Micro
-        ensures value { result ≡ self.x }
-        ensures limits { IsPlace self }
+    pub fn x(self) -> Coordinate
+        ensures { result ≡ self.x }
     {
         self.x
     }
 
     /// The latitude.
-    pub fn y(self) -> Micro
-        ensures value { result ≡ self.y }
-        ensures limits { IsPlace self }
+    pub fn y(self) -> Coordinate
+        ensures { result ≡ self.y }
     {
         self.y
     }
@@ -110,5 +101,29 @@ impl WorldBox {
         ensures { result ≡ self.maxy }
     {
         self.maxy
+    }
+}
+
+#[cfg(test)]
+mod tests {
+    use super::*;
+
+    // Places and boxes that differ in one coordinate are two.
+    #[test]
+    fn values_differ_where_one_coordinate_does(rt: HostRuntime) {
+        let [a, b, c, d, e] = [-4, 3, 5, 7, 9].map(Micro::new);
+        let place = World::new(Coordinate::new(b), Coordinate::new(c));
+        assert_eq!(rt; (place.x().get(), place.y().get()), (b, c));
+        assert_ne!(rt; place, World::new(Coordinate::new(a), Coordinate::new(c)));
+        assert_ne!(rt; place, World::new(Coordinate::new(b), Coordinate::new(a)));
+        let area = WorldBox::new(b, c, d, e);
+        for other in [
+            WorldBox::new(a, c, d, e),
+            WorldBox::new(b, a, d, e),
+            WorldBox::new(b, c, a, e),
+            WorldBox::new(b, c, d, a),
+        ] {
+            assert_ne!(rt; other, area);
+        }
     }
 }

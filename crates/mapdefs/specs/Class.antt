@@ -12,7 +12,7 @@ use Rattle.mapdefs.specs.declared.class.Rule.TheVariants.{Always}
 -- the value of the item of this name, read without case, or the empty text where there is none
 abbrev pub item_value : List (List ℕ) → List (List ℕ) → List ℕ → List ℕ
 item_value items values name =
-    option_map_or (λ place. unwrap_or (slice_get values place) []) (position (λ item. str_eq_ignore_ascii_case item name) items) []
+    option_map_or (λ index. unwrap_or (slice_get values index) []) (position (λ item. str_eq_ignore_ascii_case item name) items) []
 
 -- the value that the rules of a layer's classes look at
 abbrev pub class_value : LayerFields → FeatureFields → List ℕ

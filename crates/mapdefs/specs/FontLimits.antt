@@ -13,7 +13,7 @@ pub record IsBoxWithinLimits (b : BitmapBox) : Type 0 where
   pub right : IsWithin MAX_GLYPH_SIDE b.xoff
   pub up : IsWithin MAX_GLYPH_SIDE b.yoff
 
--- a glyph has a pixel for each place in its box
+-- a glyph has a truth value for each pixel of its box
 pub record IsGlyphWithinLimits (g : Glyph) : Type 0 where
   pub bounds : IsBoxWithinLimits g.bounds
   pub area : length g.rows ≡ g.bounds.width * g.bounds.height

@@ -7,9 +7,9 @@ use Rattle.mapdefs.specs.declared.class.ClassFields.{ClassFields}
 use Rattle.mapdefs.specs.declared.style.StyleFields.{StyleFields}
 use Rattle.mapdefs.specs.declared.limits.TheConstants.{MAX_LAYERS, MAX_SYMBOLS}
 
--- a symbol that is named by its place is one of so many
+-- a symbol that a style names by its index is one of so many
 abbrev pub NamesSymbolOf : ℕ → StyleFields → Type 0
-NamesSymbolOf count style = IfSome style.symbol (λ place. place < count)
+NamesSymbolOf count style = IfSome style.symbol (λ index. index < count)
 
 -- so do all styles of a class
 abbrev pub ClassNamesSymbolsOf : ℕ → ClassFields → Type 0
@@ -23,4 +23,4 @@ pub record IsMapWithinLimits (m : MapFields) : Type 0 where
   pub extent : IsExtent m.extent
   pub symbol_count : length m.symbols ≤ MAX_SYMBOLS
   pub layer_count : length m.layers ≤ MAX_LAYERS
-  pub places : ∥ All (LayerNamesSymbolsOf (length m.symbols)) m.layers ∥₁
+  pub symbols : ∥ All (LayerNamesSymbolsOf (length m.symbols)) m.layers ∥₁

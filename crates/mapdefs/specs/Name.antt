@@ -3,10 +3,10 @@ use Rattle.std.specs.Prelude.{ℕ, Bool, List, Option, nat_eq, position}
 use Rattle.std.specs.Cmp.Lexicographic.{pointwise}
 use Rattle.mapdefs.specs.declared.layer.LayerFields.{LayerFields}
 
--- the layer has this name, byte by byte
-abbrev pub is_named : List ℕ → LayerFields → Bool
-is_named name layer = pointwise nat_eq layer.name name
+-- two names are the same, byte by byte
+abbrev pub is_same_name : List ℕ → List ℕ → Bool
+is_same_name a b = pointwise nat_eq a b
 
--- the first place of a layer of this name
-abbrev pub place_of : List ℕ → List LayerFields → Option ℕ
-place_of name layers = position (is_named name) layers
+-- the index of the first layer of this name
+abbrev pub index_of : List ℕ → List LayerFields → Option ℕ
+index_of name layers = position (λ (layer : LayerFields). is_same_name layer.name name) layers

@@ -3,7 +3,7 @@ use Rattle.std.specs.Prelude.{ℕ, ◌+◌, max, min}
 use Rattle.mapdefs.specs.declared.expr.Expr.{Expr, Or', And', Not', Compare, Row_of-Expr, end_of-Expr, more_of-Expr}
 
 -- How many brackets and NOTs stand within one another, with no bracket more than the reading needs:
--- round an OR within an OR, round an OR or an AND within an AND, and round either behind a NOT,
+-- round an OR within an OR, round an OR or an AND within an AND, and round either after a NOT,
 -- which has one part.
 abbrev mutual
   -- of an expression without a bracket of its own
@@ -13,12 +13,12 @@ abbrev mutual
   nesting (Not' shape parts) = 1 + nesting_in_and parts
   nesting (Compare comparison left right) = 0
 
-  -- of a part of an AND, or behind a NOT
-  pub nesting_behind_not : Expr → ℕ
-  nesting_behind_not (Or' shape parts) = 1 + nesting_in_or parts
-  nesting_behind_not (And' shape parts) = 1 + nesting_in_and parts
-  nesting_behind_not (Not' shape parts) = 1 + nesting_in_and parts
-  nesting_behind_not (Compare comparison left right) = 0
+  -- of a part of an AND, or after a NOT
+  pub nesting_after_not : Expr → ℕ
+  nesting_after_not (Or' shape parts) = 1 + nesting_in_or parts
+  nesting_after_not (And' shape parts) = 1 + nesting_in_and parts
+  nesting_after_not (Not' shape parts) = 1 + nesting_in_and parts
+  nesting_after_not (Compare comparison left right) = 0
 
   -- of a part of an OR
   pub nesting_between_ors : Expr → ℕ
@@ -35,7 +35,7 @@ abbrev mutual
   -- the most among the parts of an AND
   pub nesting_in_and : {shape : _} → Row_of-Expr shape → ℕ
   nesting_in_and end_of-Expr = 0
-  nesting_in_and (more_of-Expr part rest) = max (nesting_behind_not part) (nesting_in_and rest)
+  nesting_in_and (more_of-Expr part rest) = max (nesting_after_not part) (nesting_in_and rest)
 
 -- The fewest parts that an OR or an AND has anywhere in an expression, up to two.
 abbrev mutual

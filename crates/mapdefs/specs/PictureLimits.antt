@@ -1,19 +1,14 @@
 -- The sides of pictures and of pixmaps (docs/PROFILE.md, "Limits").
 use Rattle.std.specs.Prelude.{◌≡◌, ◌*◌, ◌≤◌, length}
-use Rattle.geom.specs.declared.device.TheConstants.{MAX_PICTURE_SIDE}
 use Rattle.mapdefs.specs.declared.picture.PictureFields.{PictureFields}
 use Rattle.mapdefs.specs.declared.symbol.PixmapFields.{PixmapFields}
 use Rattle.mapdefs.specs.declared.limits.TheConstants.{MAX_SYMBOL_SIDE}
 
--- the sides are within the limits, and each pixel has a colour
+-- each pixel of the picture has a colour
 pub record IsPictureWithinLimits (p : PictureFields) : Type 0 where
-  pub some_columns : 1 ≤ p.width
-  pub some_rows : 1 ≤ p.height
-  pub columns : p.width ≤ MAX_PICTURE_SIDE
-  pub rows : p.height ≤ MAX_PICTURE_SIDE
   pub area : length p.pixels ≡ p.width * p.height
 
--- the same of a symbol's pixmap
+-- the sides of a symbol's pixmap are within the limits, and each pixel has a colour
 pub record IsPixmapWithinLimits (p : PixmapFields) : Type 0 where
   pub some_columns : 1 ≤ p.width
   pub some_rows : 1 ≤ p.height

@@ -1,8 +1,5 @@
-ghost use Rattle.std.specs.Prelude.{◌≡◌};
-
-use crate::{Expr, Items, Label, Style, Text};
+use crate::{Expr, Items, Label, Limited, Limits, Style, Text};
 use geom::Micro;
-use std::marker::Model;
 
 /// Which features belong to a class.
 #[derive(Debug, Drop)]
@@ -27,45 +24,12 @@ pub struct ClassFields {
     pub label: Option<Label>,
 }
 
+impl Limits for ClassFields {
+    ghost use Rattle.mapdefs.specs.ClassLimits.{IsClassWithinLimits};
+
+    ghost within = { IsClassWithinLimits };
+}
+
 /// A class: which features of a layer are painted and labelled how. It has at most `MAX_STYLES`
 /// styles, and its expression at most `MAX_NESTING` brackets and NOTs within one another.
-#[derive(Debug, Drop)]
-pub struct Class {
-    fields: ClassFields,
-}
-
-impl Model for Class {
-    ghost use Rattle.mapdefs.specs.declared.class.ClassFields.{ClassFields};
-    ghost use Rattle.mapdefs.specs.contracts.expr.Expr as expr;
-    ghost use Rattle.std.specs.Coded.{codes};
-
-    ghost Value = { ClassFields };
-
-    ghost coded = { Prim.hlevel (codes, expr.the_row.coded) };
-
-    ghost use Rattle.mapdefs.specs.ClassLimits.{IsClassWithinLimits};
-
-    ghost view = { λ c. c.fields };
-
-    ghost invariant = { λ c. IsClassWithinLimits c.fields };
-}
-
-impl Class {
-    ghost use Rattle.mapdefs.specs.ClassLimits.{IsClassWithinLimits};
-
-    /// The class of the fields.
-    pub fn new(fields: ClassFields) -> Self
-        requires { IsClassWithinLimits fields }
-        ensures { result ≡ fields }
-    {
-        Class { fields }
-    }
-
-    /// The fields.
-    pub fn get(&self) -> &ClassFields
-        ensures value { result.now ≡ self.now }
-        ensures limits { IsClassWithinLimits result.now }
-    {
-        &self.fields
-    }
-}
+pub type Class = Limited<ClassFields>;

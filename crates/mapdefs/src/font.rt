@@ -1,7 +1,4 @@
-ghost use Rattle.std.specs.Prelude.{◌≡◌};
-
-use crate::Items;
-use std::marker::Model;
+use crate::{Items, Limited, Limits};
 
 /// The box of a bitmap: its sides in pixels, and how far its lower left corner lies right of the pen
 /// and above the base line.
@@ -18,7 +15,7 @@ pub struct BitmapBox {
 pub struct Glyph {
     /// The character's number.
     pub encoding: u32,
-    /// How many pixels the pen goes on behind the glyph.
+    /// How many pixels the pen advances after the glyph.
     pub advance: u8,
     pub bounds: BitmapBox,
     /// Its pixels row by row from the top, each row from the left: `true` is ink.
@@ -32,40 +29,12 @@ pub struct FontFields {
     pub glyphs: Items<Glyph>,
 }
 
+impl Limits for FontFields {
+    ghost use Rattle.mapdefs.specs.FontLimits.{IsFontWithinLimits};
+
+    ghost within = { IsFontWithinLimits };
+}
+
 /// A bitmap font. Sides and offsets are at most `MAX_GLYPH_SIDE` in size, and it has at most
 /// `MAX_GLYPHS` glyphs.
-#[derive(Debug, Drop)]
-pub struct Font {
-    fields: FontFields,
-}
-
-impl Model for Font {
-    ghost use Rattle.mapdefs.specs.declared.font.FontFields.{FontFields};
-    ghost use Rattle.mapdefs.specs.FontLimits.{IsFontWithinLimits};
-
-    ghost Value = { FontFields };
-
-    ghost view = { λ f. f.fields };
-
-    ghost invariant = { λ f. IsFontWithinLimits f.fields };
-}
-
-impl Font {
-    ghost use Rattle.mapdefs.specs.FontLimits.{IsFontWithinLimits};
-
-    /// The font of the fields.
-    pub fn new(fields: FontFields) -> Self
-        requires { IsFontWithinLimits fields }
-        ensures { result ≡ fields }
-    {
-        Font { fields }
-    }
-
-    /// The fields.
-    pub fn get(&self) -> &FontFields
-        ensures value { result.now ≡ self.now }
-        ensures limits { IsFontWithinLimits result.now }
-    {
-        &self.fields
-    }
-}
+pub type Font = Limited<FontFields>;

@@ -1,7 +1,4 @@
-ghost use Rattle.std.specs.Prelude.{◌≡◌};
-
-use crate::Rgb;
-use std::marker::Model;
+use crate::{Limited, Limits, Rgb};
 
 /// Where a label's text stands, seen from its anchor: above, centred or below, and left, centred or
 /// right. `Automatic` leaves the choice to the placement.
@@ -20,7 +17,7 @@ pub enum Position {
 }
 
 /// What a label says.
-#[derive(Clone, Copy, Debug, PartialEq, Eq)]
+#[derive(Debug, Drop)]
 pub struct LabelFields {
     /// The colour of the glyphs; without one they leave no ink.
     pub colour: Option<Rgb>,
@@ -37,42 +34,12 @@ pub struct LabelFields {
     pub force: bool,
 }
 
+impl Limits for LabelFields {
+    ghost use Rattle.mapdefs.specs.StyleLimits.{IsLabelWithinLimits};
+
+    ghost within = { IsLabelWithinLimits };
+}
+
 /// The label of a class. Its priority is 1 to `MAX_PRIORITY`, its buffer at most `MAX_BUFFER` and its
 /// distance at most `MAX_DISTANCE`.
-#[derive(Clone, Copy, Debug, PartialEq, Eq)]
-pub struct Label {
-    fields: LabelFields,
-}
-
-impl Model for Label {
-    ghost use Rattle.mapdefs.specs.declared.label.LabelFields.{LabelFields};
-    ghost use Rattle.mapdefs.specs.StyleLimits.{IsLabelWithinLimits};
-
-    ghost Value = { LabelFields };
-
-    ghost view = { λ l. l.fields };
-
-    ghost invariant = { λ l. IsLabelWithinLimits l.fields };
-
-    ghost inverse = { λ f. record { fields = f } };
-}
-
-impl Label {
-    ghost use Rattle.mapdefs.specs.StyleLimits.{IsLabelWithinLimits};
-
-    /// The label of the fields.
-    pub fn new(fields: LabelFields) -> Self
-        requires { IsLabelWithinLimits fields }
-        ensures { result ≡ fields }
-    {
-        Label { fields }
-    }
-
-    /// The fields.
-    pub fn get(&self) -> &LabelFields
-        ensures value { result.now ≡ self.now }
-        ensures limits { IsLabelWithinLimits result.now }
-    {
-        &self.fields
-    }
-}
+pub type Label = Limited<LabelFields>;

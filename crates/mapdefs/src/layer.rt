@@ -1,8 +1,5 @@
-ghost use Rattle.std.specs.Prelude.{◌≡◌};
-
-use crate::{Class, Feature, Items, Text};
+use crate::{Class, Feature, Items, Limited, Limits, Text};
 use geom::Micro;
-use std::marker::Model;
 
 /// What the features of a layer are.
 #[derive(Clone, Copy, Debug, PartialEq, Eq)]
@@ -39,45 +36,12 @@ pub struct LayerFields {
     pub features: Items<Feature>,
 }
 
+impl Limits for LayerFields {
+    ghost use Rattle.mapdefs.specs.LayerLimits.{IsLayerWithinLimits};
+
+    ghost within = { IsLayerWithinLimits };
+}
+
 /// A layer. It has at most `MAX_ITEMS` items, `MAX_CLASSES` classes and `MAX_FEATURES` features, each
 /// with one value per item, and a tolerance of at most `MAX_TOLERANCE`.
-#[derive(Debug, Drop)]
-pub struct Layer {
-    fields: LayerFields,
-}
-
-impl Model for Layer {
-    ghost use Rattle.mapdefs.specs.declared.layer.LayerFields.{LayerFields};
-    ghost use Rattle.mapdefs.specs.contracts.expr.Expr as expr;
-    ghost use Rattle.std.specs.Coded.{codes};
-
-    ghost Value = { LayerFields };
-
-    ghost coded = { Prim.hlevel (codes, expr.the_row.coded) };
-
-    ghost use Rattle.mapdefs.specs.LayerLimits.{IsLayerWithinLimits};
-
-    ghost view = { λ l. l.fields };
-
-    ghost invariant = { λ l. IsLayerWithinLimits l.fields };
-}
-
-impl Layer {
-    ghost use Rattle.mapdefs.specs.LayerLimits.{IsLayerWithinLimits};
-
-    /// The layer of the fields.
-    pub fn new(fields: LayerFields) -> Self
-        requires { IsLayerWithinLimits fields }
-        ensures { result ≡ fields }
-    {
-        Layer { fields }
-    }
-
-    /// The fields.
-    pub fn get(&self) -> &LayerFields
-        ensures value { result.now ≡ self.now }
-        ensures limits { IsLayerWithinLimits result.now }
-    {
-        &self.fields
-    }
-}
+pub type Layer = Limited<LayerFields>;

@@ -1,8 +1,8 @@
 //! The types of a map, with the limits that each keeps, and the definitions that several crates cite.
 //!
-//! Proved: a value of each type is within its limits, since whoever makes it shows so (`new`) and
-//! whoever reads it may rely on it (`get`, clause `limits`). `Map::find` gives the first place of a
-//! name, and `Picture::at` the pixel of a column and a row.
+//! Proved: a value of each type is within its limits. Whoever makes it shows so (`Limited::new`), and
+//! whoever reads it may rely on it (`Limited::get`, clause `limits`). `Map::find` finds the first layer
+//! of a name, and `Picture::at` reads the pixel of a column and a row.
 //!
 //! In a clause a map is a plain nested record: `Items` is a list, `Text` a list of bytes, `Boxed` the
 //! value in it, and `Map`, `Layer` and the others are their fields.
@@ -21,6 +21,7 @@ mod font;
 mod items;
 mod label;
 mod layer;
+mod limited;
 mod limits;
 mod map;
 mod picture;
@@ -39,6 +40,7 @@ pub use font::{BitmapBox, Font, FontFields, Glyph};
 pub use items::Items;
 pub use label::{Label, LabelFields, Position};
 pub use layer::{Kind, Layer, LayerFields};
+pub use limited::{Limited, Limits};
 pub use limits::{
     MAX_BUFFER, MAX_CLASSES, MAX_DISTANCE, MAX_FEATURES, MAX_GLYPH_SIDE, MAX_GLYPHS, MAX_ITEMS,
     MAX_LAYERS, MAX_LINE_WIDTH, MAX_NESTING, MAX_PRIORITY, MAX_SQUARE, MAX_STYLES, MAX_SYMBOL_SIDE,

@@ -2,8 +2,13 @@ ghost use Rattle.std.specs.Prelude.{◌≡◌, ◌≤◌, [], length, All, IfOk}
 ghost use Rattle.mapdefs.specs.MapLimits.{LayerNamesSymbolsOf};
 ghost use Rattle.mapdefs.specs.declared.limits.TheConstants.{MAX_LAYERS};
 
-use crate::{Items, Kind, Layer, LayerFields, Map, MapFields, Picture, PictureFields, Rgb, Text};
-use geom::{Micro, WorldBox};
+use crate::{
+    BitmapBox, Items, Kind, Layer, LayerFields, MAX_BUFFER, MAX_CLASSES, MAX_DISTANCE,
+    MAX_FEATURES, MAX_GLYPH_SIDE, MAX_GLYPHS, MAX_ITEMS, MAX_LAYERS, MAX_LINE_WIDTH, MAX_NESTING,
+    MAX_PRIORITY, MAX_SQUARE, MAX_STYLES, MAX_SYMBOL_SIDE, MAX_SYMBOLS, MAX_TOLERANCE,
+    MAX_VERTICES, Map, MapFields, Picture, PictureFields, Rgb, Text,
+};
+use geom::{Micro, PictureSide, WorldBox};
 use std::alloc::{AllocError, Global};
 use std::test::Fail;
 
@@ -31,7 +36,7 @@ fn layer(alloc: Global, name: &str) -> Result<Layer, AllocError>
 
 fn map_of(alloc: Global, layers: Vec<Layer>) -> Result<Map, AllocError>
     requires count { length layers.items ≤ MAX_LAYERS }
-    requires places { All (LayerNamesSymbolsOf 0) layers.items }
+    requires symbols { All (LayerNamesSymbolsOf 0) layers.items }
 {
     Ok(Map::new(MapFields {
         title: Text::from_str(alloc, "test")?,
@@ -52,7 +57,7 @@ fn layers_are_found_by_the_first_of_their_names(rt: HostRuntime) -> Result<(), F
     layers.push(layer(alloc, "rivers")?)?;
     layers.push(layer(alloc, "")?)?;
     let map = map_of(alloc, layers)?;
-    let places = [
+    let names = [
         ("rivers", Some(0)),
         ("roads", Some(1)),
         ("", Some(3)),
@@ -60,31 +65,107 @@ fn layers_are_found_by_the_first_of_their_names(rt: HostRuntime) -> Result<(), F
         ("rivers ", None),
         ("river", None),
     ];
-    for (name, place) in places {
-        assert_eq!(rt; map.find(name), place, "{name:?}");
+    for (name, index) in names {
+        assert_eq!(rt; map.find(name), index, "{name:?}");
     }
     Ok(())
+}
+
+// The colour of the pixel in a column and a row of the tests' picture.
+fn colour_of(column: u8, row: u8) -> Rgb {
+    Rgb {
+        red: 10 + (column & 3),
+        green: 20 + (row & 1),
+        blue: 30,
+    }
 }
 
 #[test]
 fn pictures_are_read_by_column_and_row(rt: HostRuntime) -> Result<(), Fail> {
     let mut pixels = Items::new(rt.alloc());
-    for blue in 0..6 {
-        pixels.push(Rgb {
-            red: 0,
-            green: 0,
-            blue,
-        })?;
+    for (column, row) in [(0, 0), (1, 0), (2, 0), (0, 1), (1, 1), (2, 1)] {
+        pixels.push(colour_of(column, row))?;
     }
     assert_eq!(rt; pixels.len(), 6);
     let picture = Picture::new(PictureFields {
-        width: 3,
-        height: 2,
+        width: PictureSide::new(3).unwrap(),
+        height: PictureSide::new(2).unwrap(),
         pixels,
     });
-    assert_eq!(rt; picture.at(0, 0).blue, 0);
-    assert_eq!(rt; picture.at(2, 0).blue, 2);
-    assert_eq!(rt; picture.at(0, 1).blue, 3);
-    assert_eq!(rt; picture.at(2, 1).blue, 5);
+    assert_eq!(rt; picture.at(0, 0), colour_of(0, 0));
+    assert_eq!(rt; picture.at(2, 0), colour_of(2, 0));
+    assert_eq!(rt; picture.at(0, 1), colour_of(0, 1));
+    assert_eq!(rt; picture.at(1, 1), colour_of(1, 1));
     Ok(())
+}
+
+// A definition cites the same constant as the code, so only a test can tell a wrong limit.
+#[test]
+fn limits_have_their_numbers(rt: HostRuntime) {
+    let counts = [
+        (MAX_LAYERS, 128),
+        (MAX_SYMBOLS, 64),
+        (MAX_CLASSES, 64),
+        (MAX_ITEMS, 64),
+        (MAX_FEATURES, 200_000),
+        (MAX_STYLES, 16),
+        (MAX_NESTING, 64),
+        (MAX_VERTICES, 65_536),
+        (MAX_GLYPHS, 65_536),
+    ];
+    for (limit, number) in counts {
+        assert_eq!(rt; limit, number);
+    }
+    let pixels = [
+        (u16::from(MAX_TOLERANCE), 64),
+        (u16::from(MAX_LINE_WIDTH), 32),
+        (MAX_SQUARE, 256),
+        (MAX_SYMBOL_SIDE, 256),
+        (u16::from(MAX_PRIORITY), 10),
+        (u16::from(MAX_BUFFER), 64),
+        (MAX_DISTANCE, 4_096),
+        (u16::from(MAX_GLYPH_SIDE), 64),
+    ];
+    for (limit, number) in pixels {
+        assert_eq!(rt; limit, number);
+    }
+}
+
+// Colours that differ in one component are two, as are boxes of bitmaps that differ in one number.
+#[test]
+fn values_differ_where_one_field_does(rt: HostRuntime) {
+    let colour = Rgb {
+        red: 10,
+        green: 20,
+        blue: 30,
+    };
+    let others = [
+        Rgb { red: 11, ..colour },
+        Rgb {
+            green: 21,
+            ..colour
+        },
+        Rgb { blue: 31, ..colour },
+    ];
+    for other in others {
+        assert_ne!(rt; other, colour);
+    }
+    let bounds = BitmapBox {
+        width: 6,
+        height: 13,
+        xoff: 1,
+        yoff: -2,
+    };
+    let others = [
+        BitmapBox { width: 7, ..bounds },
+        BitmapBox {
+            height: 14,
+            ..bounds
+        },
+        BitmapBox { xoff: 2, ..bounds },
+        BitmapBox { yoff: -3, ..bounds },
+    ];
+    for other in others {
+        assert_ne!(rt; other, bounds);
+    }
 }

@@ -35,7 +35,7 @@ Answers map (Some request) answer =
 abbrev pub IsAnswer : State → List ℕ → Answer → Type 0
 IsAnswer state query answer = Answers state.map (request_of state.map (parameters query)) answer
 
--- one event in a state has this reply and leads to that state: a query changes nothing, nor does want of memory
+-- one event in a state has this reply and leads to that state: a query changes nothing, out of memory or not
 abbrev pub Steps : State → Event → Reply → State → Type 0
 Steps old (Query query) (Answered answer) new = IsAnswer old query answer × (new ≡ old)
 Steps old (Query query) NoMemory new = new ≡ old

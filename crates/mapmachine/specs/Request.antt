@@ -1,30 +1,30 @@
 -- The requests that are read of a query (docs/PROFILE.md, "Queries"; OGC 06-042, 7.3).
-use Rattle.std.specs.Prelude.{ℕ, ◌==◌, ◌&&◌, Bool, false, nat_eq, nat_le, if◌then◌else◌, List, [], length, slice_get, ℤ, pos, negsuc, int_lt, Option, None, Some, codes}
+use Rattle.std.specs.Prelude.{ℕ, ◌==◌, ◌&&◌, Bool, false, nat_eq, if◌then◌else◌, List, [], length, slice_get, ℤ, pos, negsuc, int_lt, Option, None, Some, codes}
 use Rattle.std.specs.Option.{option_and_then, option_map_or}
 use Rattle.std.specs.Char.{is_ascii_digit}
 use Rattle.std.specs.List.{before_first, after_first, list_all}
 use Rattle.std.specs.Cmp.Lexicographic.{pointwise}
-use Rattle.geom.specs.declared.device.TheConstants.{MAX_PICTURE_SIDE}
-use Rattle.geom.specs.Number.{world_number, count_of}
+use Rattle.geom.specs.Number.{coordinate_of, count_of}
+use Rattle.geom.specs.Side.{picture_side}
 use Rattle.geom.specs.World.{Area}
 use Rattle.mapdefs.specs.declared.map.MapFields.{MapFields}
-use Rattle.mapdefs.specs.Name.{place_of}
+use Rattle.mapdefs.specs.Name.{index_of}
 use Rattle.viewport.specs.View.{ViewValue}
 use Rattle.mapmachine.specs.declared.query.Parameter.{Parameter}
 
--- a request for a picture: of one layer, by its place in the map, in a view
+-- a request for a picture: of one layer, by its index in the map, in a view
 pub record RequestValue : Type 0 where
   pub layer : ℕ
   pub view : ViewValue
 
--- the value of the parameter at a place, if it has this name
+-- the value of the parameter at an index, if it has this name
 abbrev pub value_at : List Parameter → ℕ → List ℕ → Option (List ℕ)
-value_at parameters place name =
-    option_and_then (λ (p : Parameter). if pointwise nat_eq p.name name then Some p.value else None) (slice_get parameters place)
+value_at parameters index name =
+    option_and_then (λ (p : Parameter). if pointwise nat_eq p.name name then Some p.value else None) (slice_get parameters index)
 
--- the parameter at a place has this name and this value
+-- the parameter at an index has this name and this value
 abbrev pub is_at : List Parameter → ℕ → List ℕ → List ℕ → Bool
-is_at parameters place name value = option_map_or (λ found. pointwise nat_eq found value) (value_at parameters place name) false
+is_at parameters index name value = option_map_or (λ found. pointwise nat_eq found value) (value_at parameters index name) false
 
 -- there are nine parameters, and those that may have only one value have it
 abbrev pub are_fixed : List Parameter → Bool
@@ -40,15 +40,15 @@ are_fixed parameters =
 abbrev pub is_comma : ℕ → Bool
 is_comma b = b == 44
 
--- the number before the first comma
-abbrev pub first_number : List ℕ → Option ℤ
-first_number text = world_number (before_first is_comma text)
+-- the coordinate before the first comma
+abbrev pub first_coordinate : List ℕ → Option ℤ
+first_coordinate text = coordinate_of (before_first is_comma text)
 
--- what stands behind the first comma
-abbrev pub behind_comma : List ℕ → List ℕ
-behind_comma text = after_first is_comma text
+-- what stands after the first comma
+abbrev pub after_comma : List ℕ → List ℕ
+after_comma text = after_first is_comma text
 
--- the box of four numbers, if it has an area
+-- the box of four coordinates, if it has an area
 abbrev pub box_of : Option ℤ → Option ℤ → Option ℤ → Option ℤ → Option Area
 box_of (Some minx) (Some miny) (Some maxx) (Some maxy) =
     if int_lt minx maxx && int_lt miny maxy
@@ -56,15 +56,15 @@ box_of (Some minx) (Some miny) (Some maxx) (Some maxy) =
     else None
 box_of _ _ _ _ = None
 
--- the box of four numbers between commas: west, south, east and north side
+-- the box of four coordinates between commas: west, south, east and north side
 abbrev pub area_of : List ℕ → Option Area
 area_of text =
-    box_of (first_number text) (first_number (behind_comma text)) (first_number (behind_comma (behind_comma text)))
-    (world_number (behind_comma (behind_comma (behind_comma text))))
+    box_of (first_coordinate text) (first_coordinate (after_comma text)) (first_coordinate (after_comma (after_comma text)))
+    (coordinate_of (after_comma (after_comma (after_comma text))))
 
--- a number of pixels that a picture may have as a side
+-- the side of that many pixels, if a picture may have it
 abbrev pub side_within : ℤ → Option ℕ
-side_within (pos n) = if nat_le 1 n && nat_le n MAX_PICTURE_SIDE then Some n else None
+side_within (pos n) = picture_side n
 side_within (negsuc n) = None
 
 -- the side that a text of digits alone means
@@ -82,7 +82,7 @@ request_for _ _ _ _ = None
 abbrev pub varying_request : MapFields → List Parameter → Option RequestValue
 varying_request map parameters =
     request_for
-    (option_and_then (λ name. place_of name map.layers) (value_at parameters 2 (codes "LAYERS")))
+    (option_and_then (λ name. index_of name map.layers) (value_at parameters 2 (codes "LAYERS")))
     (option_and_then area_of (value_at parameters 5 (codes "BBOX")))
     (option_and_then side_of (value_at parameters 6 (codes "WIDTH")))
     (option_and_then side_of (value_at parameters 7 (codes "HEIGHT")))

@@ -3,8 +3,8 @@ ghost use Rattle.std.specs.Prelude.{◌≡◌, ◌<◌, length, Some, None, IfOk
 use crate::netpbm::ppm;
 use crate::query::parameters;
 use crate::reply::{Answer, Event, Mime, Reply};
-use crate::request::{Request, read};
-use compose::picture;
+use crate::request::{Request, read_request};
+use compose::picture as picture_of;
 use mapdefs::{Items, Map, Rgb};
 use std::alloc::{AllocError, Global};
 use std::marker::Model;
@@ -16,7 +16,7 @@ const WHITE: Rgb = Rgb {
     blue: 255,
 };
 
-/// The map machine. It holds a map, and answers queries about it.
+/// The map machine: it holds a map, and answers queries about it.
 #[derive(Debug, Drop)]
 pub struct Machine {
     alloc: Global,
@@ -57,13 +57,13 @@ impl Machine {
         self.sequence
     }
 
-    // The answer to a query that makes this request.
+    // The answer to a query for a picture.
     fn picture_answer(&self, request: Request) -> Result<Answer, AllocError>
         requires { request.layer < length self.now.map.layers }
         ensures { IfOk result (Answers self.now.map (Some request)) }
     {
         let chosen = [request.layer()];
-        let picture = picture(self.alloc, &self.map, request.view(), &chosen, WHITE)?;
+        let picture = picture_of(self.alloc, &self.map, request.view(), &chosen, WHITE)?;
         Ok(Answer {
             mime: Mime::Pixmap,
             body: ppm(self.alloc, &picture)?,
@@ -85,7 +85,7 @@ impl Machine {
         ensures { IfOk result (IsAnswer self.now query.now) }
     {
         let parameters = parameters(self.alloc, query)?;
-        match read(&self.map, &parameters) {
+        match read_request(&self.map, &parameters) {
             Some(request) => self.picture_answer(request),
             None => self.unread(),
         }
@@ -103,8 +103,8 @@ impl Machine {
         }
     }
 
-    /// The replies to some events, in their order. The one error is that there was no memory for the
-    /// list of replies, and then nothing was done: it is made before the first event.
+    /// The replies to some events, in their order. The one error is that the list of replies was out of
+    /// memory. It is made before the first event, so that nothing was done then.
     pub fn run(&mut self, events: &[Event]) -> Result<Items<Reply>, AllocError>
         ensures run { IfOk result (λ replies. Runs self.old events.now replies self.new) }
         ensures err { OnErr result (self.new ≡ self.old) }

@@ -28,7 +28,7 @@ pub fn ppm(alloc: Global, picture: &Picture) -> Result<Items<u8>, AllocError>
     ensures { IfOk result (λ bytes. bytes ≡ ppm picture.now) }
 {
     let fields = picture.get();
-    let header = ppm_header(alloc, fields.width, fields.height)?;
+    let header = ppm_header(alloc, fields.width.pixels(), fields.height.pixels())?;
     let mut bytes = Vec::new(alloc);
     bytes.extend_from_slice(header.as_bytes())?;
     add_pixels(&mut bytes, fields.pixels.as_slice())?;
@@ -38,6 +38,7 @@ pub fn ppm(alloc: Global, picture: &Picture) -> Result<Items<u8>, AllocError>
 #[cfg(test)]
 mod tests {
     use super::*;
+    use geom::PictureSide;
     use mapdefs::PictureFields;
     use std::test::Fail;
 
@@ -46,21 +47,21 @@ mod tests {
         let mut pixels = Items::new(rt.alloc());
         for blue in [2, 5] {
             pixels.push(Rgb {
-                red: 255,
-                green: 10,
+                red: 10,
+                green: 20,
                 blue,
             })?;
         }
         assert_eq!(rt; pixels.len(), 2);
         let picture = Picture::new(PictureFields {
-            width: 2,
-            height: 1,
+            width: PictureSide::new(2).unwrap(),
+            height: PictureSide::new(1).unwrap(),
             pixels,
         });
         let bytes = ppm(rt.alloc(), &picture)?;
         assert_eq!(rt;
             bytes.as_slice(),
-            b"P6\n2 1\n255\n\xff\x0a\x02\xff\x0a\x05".as_slice()
+            b"P6\n2 1\n255\n\x0a\x14\x02\x0a\x14\x05".as_slice()
         );
         Ok(())
     }

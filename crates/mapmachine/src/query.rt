@@ -21,7 +21,7 @@ fn named_value(alloc: Global, name: &str, value: &str) -> Result<Parameter, Allo
     })
 }
 
-// The parameters of a query, in order.
+/// The parameters of a query, in order.
 pub fn parameters(alloc: Global, query: &[u8]) -> Result<Vec<Parameter>, AllocError>
     ensures { IfOk result (λ found. found.items ≡ parameters query.now) }
 {

@@ -1,14 +1,13 @@
-ghost use Rattle.std.specs.Prelude.{◌≡◌, ◌<◌, ◌≤◌, length, Some, IfSome, codes};
+ghost use Rattle.std.specs.Prelude.{◌≡◌, ◌<◌, length, Some, IfSome, codes};
 ghost use Rattle.std.specs.Option.{option_and_then, option_copied};
 ghost use Rattle.std.specs.Char.{is_ascii_digit};
 ghost use Rattle.std.specs.List.{before_first, list_all};
-ghost use Rattle.geom.specs.Number.{world_number};
-ghost use Rattle.geom.specs.World.{IsExtent, IsWorldNumber};
-ghost use Rattle.mapmachine.specs.Request.{value_at, is_at, are_fixed, is_comma, first_number, behind_comma, box_of, area_of, side_within, side_of, request_of};
-ghost use Rattle.mapdefs.specs.Name.{place_of};
+ghost use Rattle.geom.specs.World.{IsExtent};
+ghost use Rattle.mapmachine.specs.Request.{value_at, is_at, are_fixed, is_comma, after_comma, box_of, area_of, side_within, side_of, request_of};
+ghost use Rattle.mapdefs.specs.Name.{index_of};
 
 use crate::query::Parameter;
-use geom::{MAX_PICTURE_SIDE, Micro, NUMBER_LIMIT, WORLD_LIMIT, WorldBox};
+use geom::{Coordinate, Micro, NUMBER_LIMIT, PictureSide, WorldBox};
 use mapdefs::Map;
 use std::marker::Model;
 use viewport::View;
@@ -31,14 +30,14 @@ impl Model for Request {
 }
 
 impl Request {
-    // The place of the layer in the map.
+    /// The index of the layer in the map.
     pub fn layer(self) -> usize
         ensures { result ≡ self.layer }
     {
         self.layer
     }
 
-    // The part of the world, and the sides of the picture.
+    /// The part of the world, and the sides of the picture.
     pub fn view(self) -> View
         ensures { result ≡ self.view }
     {
@@ -46,11 +45,11 @@ impl Request {
     }
 }
 
-// The value of the parameter at a place, if it has this name.
-fn value_at<'a>(parameters: &'a [Parameter], place: usize, name: &str) -> Option<&'a str>
-    ensures { option_copied result ≡ value_at parameters.now place name.now }
+// The value of the parameter at an index, if it has this name.
+fn value_at<'a>(parameters: &'a [Parameter], index: usize, name: &str) -> Option<&'a str>
+    ensures { option_copied result ≡ value_at parameters.now index name.now }
 {
-    let parameter = parameters.get(place)?;
+    let parameter = parameters.get(index)?;
     if parameter.name.as_str() == name {
         Some(parameter.value.as_str())
     } else {
@@ -58,11 +57,11 @@ fn value_at<'a>(parameters: &'a [Parameter], place: usize, name: &str) -> Option
     }
 }
 
-// Whether the parameter at a place has this name and this value.
-fn is_at(parameters: &[Parameter], place: usize, name: &str, value: &str) -> bool
-    ensures { result ≡ is_at parameters.now place name.now value.now }
+// Whether the parameter at an index has this name and this value.
+fn is_at(parameters: &[Parameter], index: usize, name: &str, value: &str) -> bool
+    ensures { result ≡ is_at parameters.now index name.now value.now }
 {
-    match value_at(parameters, place, name) {
+    match value_at(parameters, index, name) {
         Some(found) => found == value,
         None => false,
     }
@@ -80,33 +79,31 @@ fn are_fixed(parameters: &[Parameter]) -> bool
         && is_at(parameters, 8, "FORMAT", "image/x-portable-pixmap")
 }
 
-// What stands before the first comma, and behind it.
+// What stands before the first comma, and after it.
 fn split_comma(text: &str) -> (&str, &str)
     ensures before { result.0.now ≡ before_first is_comma text.now }
-    ensures behind { result.1.now ≡ behind_comma text.now }
+    ensures after { result.1.now ≡ after_comma text.now }
 {
     text.split_once(',').unwrap_or((text, ""))
 }
 
-// The number of the world that a text means.
-fn world_number(text: &str) -> Option<Micro>
-    ensures value { result ≡ world_number text.now }
-    ensures within { IfSome result IsWorldNumber }
-{
-    Micro::read(text.as_bytes(), WORLD_LIMIT).ok()
-}
-
-// The box of four numbers, if it has an area.
-fn box_of(minx: Micro, miny: Micro, maxx: Micro, maxy: Micro) -> Option<WorldBox>
-    requires west { IsWorldNumber minx }
-    requires south { IsWorldNumber miny }
-    requires east { IsWorldNumber maxx }
-    requires north { IsWorldNumber maxy }
+// The box of its west, south, east and north side, if it has an area.
+fn box_of(
+    minx: Coordinate,
+    miny: Coordinate,
+    maxx: Coordinate,
+    maxy: Coordinate,
+) -> Option<WorldBox>
     ensures value { result ≡ box_of (Some minx) (Some miny) (Some maxx) (Some maxy) }
     ensures extent { IfSome result IsExtent }
 {
     if minx < maxx && miny < maxy {
-        Some(WorldBox::new(minx, miny, maxx, maxy))
+        Some(WorldBox::new(
+            minx.get(),
+            miny.get(),
+            maxx.get(),
+            maxy.get(),
+        ))
     } else {
         None
     }
@@ -121,23 +118,21 @@ fn area_of(text: &str) -> Option<WorldBox>
     let (miny, rest) = split_comma(rest);
     let (maxx, maxy) = split_comma(rest);
     box_of(
-        world_number(minx)?,
-        world_number(miny)?,
-        world_number(maxx)?,
-        world_number(maxy)?,
+        Coordinate::read(minx)?,
+        Coordinate::read(miny)?,
+        Coordinate::read(maxx)?,
+        Coordinate::read(maxy)?,
     )
 }
 
-// A number of pixels that a picture may have as a side.
-fn side_within(number: i64) -> Option<u16>
-    ensures value { result ≡ side_within number }
-    ensures some { IfSome result (λ side. 1 ≤ side) }
-    ensures most { IfSome result (λ side. side ≤ MAX_PICTURE_SIDE) }
+// The side of that many pixels, if a picture may have it.
+fn side_within(number: i64) -> Option<PictureSide>
+    ensures { result ≡ side_within number }
 {
-    if number < 1 || number > i64::from(MAX_PICTURE_SIDE) {
-        return None;
+    match u16::try_from(number) {
+        Ok(pixels) => PictureSide::new(pixels),
+        Err(_) => None,
     }
-    Some(number as u16)
 }
 
 // Whether there are only digits.
@@ -148,10 +143,8 @@ fn are_digits(text: &[u8]) -> bool
 }
 
 // The side that a text of digits alone means.
-fn side_of(text: &str) -> Option<u16>
-    ensures value { result ≡ side_of text.now }
-    ensures some { IfSome result (λ side. 1 ≤ side) }
-    ensures most { IfSome result (λ side. side ≤ MAX_PICTURE_SIDE) }
+fn side_of(text: &str) -> Option<PictureSide>
+    ensures { result ≡ side_of text.now }
 {
     let text = text.as_bytes();
     if !are_digits(text) {
@@ -160,15 +153,15 @@ fn side_of(text: &str) -> Option<u16>
     side_within(Micro::read(text, NUMBER_LIMIT).ok()?.whole())
 }
 
-// The place of the layer that the parameter of the layers names.
+// The index of the layer that the parameter of the layers names.
 fn layer_of(map: &Map, parameters: &[Parameter]) -> Option<usize>
-    ensures value { result ≡ option_and_then (λ name. place_of name map.now.layers) (value_at parameters.now 2 (codes "LAYERS")) }
+    ensures value { result ≡ option_and_then (λ name. index_of name map.now.layers) (value_at parameters.now 2 (codes "LAYERS")) }
     ensures within { IfSome result (λ layer. layer < length map.now.layers) }
 {
     map.find(value_at(parameters, 2, "LAYERS")?)
 }
 
-// The area that the parameter of the box says.
+// The area that the parameter of the box means.
 fn area_parameter(parameters: &[Parameter]) -> Option<WorldBox>
     ensures value { result ≡ option_and_then area_of (value_at parameters.now 5 (codes "BBOX")) }
     ensures extent { IfSome result IsExtent }
@@ -176,18 +169,15 @@ fn area_parameter(parameters: &[Parameter]) -> Option<WorldBox>
     area_of(value_at(parameters, 5, "BBOX")?)
 }
 
-// The side that the parameter at a place says, which has this name.
-fn side_parameter(parameters: &[Parameter], place: usize, name: &str) -> Option<u16>
-    ensures value { result ≡ option_and_then side_of (value_at parameters.now place name.now) }
-    ensures some { IfSome result (λ side. 1 ≤ side) }
-    ensures most { IfSome result (λ side. side ≤ MAX_PICTURE_SIDE) }
+// The side that the parameter at an index means, which has this name.
+fn side_parameter(parameters: &[Parameter], index: usize, name: &str) -> Option<PictureSide>
+    ensures { result ≡ option_and_then side_of (value_at parameters.now index name.now) }
 {
-    side_of(value_at(parameters, place, name)?)
+    side_of(value_at(parameters, index, name)?)
 }
 
-/// The request that the parameters of a query make of the map; none where they make no other than
-/// an unread one.
-pub fn read(map: &Map, parameters: &[Parameter]) -> Option<Request>
+/// The request that the parameters of a query make of the map, if they make one.
+pub fn read_request(map: &Map, parameters: &[Parameter]) -> Option<Request>
     ensures value { result ≡ request_of map.now parameters.now }
     ensures layer { IfSome result (λ request. request.layer < length map.now.layers) }
 {
@@ -228,7 +218,7 @@ mod tests {
     #[test]
     fn sides_are_digits_within_the_limit(rt: HostRuntime) {
         for (text, side) in SIDES {
-            assert_eq!(rt; side_of(text), side, "{text:?}");
+            assert_eq!(rt; side_of(text).map(PictureSide::pixels), side, "{text:?}");
         }
     }
 

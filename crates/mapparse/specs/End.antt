@@ -3,7 +3,7 @@ use Rattle.std.specs.Prelude.{ℕ, Bool, ◌==◌, if◌then◌else◌, List, []
 use Rattle.std.specs.List.{list_any}
 use Rattle.maplex.specs.Token.{TokenValue}
 use Rattle.mapdefs.specs.declared.layer.Kind.{Kind}
-use Rattle.mapdefs.specs.Name.{is_named}
+use Rattle.mapdefs.specs.Name.{is_same_name}
 use Rattle.mapparse.specs.declared.context.Block.{Block}
 use Rattle.mapparse.specs.declared.context.Block.TheVariants as block
 use Rattle.mapparse.specs.declared.fault.Fault.{Fault}
@@ -13,13 +13,12 @@ use Rattle.mapparse.specs.declared.draft.Named.{Named}
 use Rattle.mapparse.specs.declared.draft.LayerDraft.{LayerDraft}
 use Rattle.mapparse.specs.declared.draft.Drafts.{Drafts}
 use Rattle.mapparse.specs.Fault.{refused, and_then}
-use Rattle.mapparse.specs.Mapping.{layer_of}
 use Rattle.mapparse.specs.Parts.{with_part}
 use Rattle.mapparse.specs.Draft.{new_layer, new_class, new_style, new_feature}
 
--- one of the layers has this name, as the map's layers are looked up by it
+-- one of the layers has this name
 abbrev pub is_taken : List ℕ → List LayerTree → Bool
-is_taken name layers = list_any (λ (layer : LayerTree). is_named name (layer_of layer)) layers
+is_taken name layers = list_any (λ (layer : LayerTree). is_same_name layer.name name) layers
 
 -- a layer with its name and its kind, unless an earlier layer has the name
 abbrev pub named_layer : Named → Kind → LayerDraft → List LayerTree → Result LayerTree Fault

@@ -19,7 +19,7 @@ use Rattle.mapparse.specs.declared.fault.Fault.{Fault}
 use Rattle.mapparse.specs.declared.fault.ParseKind.TheVariants.{UnknownWord, WrongValue, MissingValue, Limit}
 use Rattle.mapparse.specs.Fault.{fault_of, refused, and_then}
 use Rattle.mapparse.specs.Keyword.{keyword_at, is_end}
-use Rattle.geom.specs.Number.{world_number}
+use Rattle.geom.specs.Number.{coordinate_of}
 use Rattle.mapparse.specs.Table.{role_of}
 use Rattle.mapparse.specs.Value.{value_step}
 use Rattle.mapparse.specs.Parts.{vertex_count, with_vertex}
@@ -55,7 +55,7 @@ read_value expected d t = if is_end t then refused MissingValue t else note_step
 abbrev pub coordinate_at : Drafts → TokenValue → Result ℤ Fault
 coordinate_at d t =
     if nat_le MAX_VERTICES (vertex_count d.feature.parts) then refused Limit t
-    else ok_or (world_number t.text) (fault_of WrongValue t)
+    else ok_or (coordinate_of t.text) (fault_of WrongValue t)
 
 -- a token is read in POINTS: their END, or the longitude of a vertex
 abbrev pub read_longitude : Drafts → TokenValue → Result (Move × Drafts) Fault

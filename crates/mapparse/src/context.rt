@@ -1,5 +1,5 @@
 use crate::colour::Component;
-use crate::number::WorldNumber;
+use geom::Coordinate;
 
 /// The blocks of the language.
 #[derive(Clone, Copy)]
@@ -58,7 +58,7 @@ pub enum Context {
     /// A value.
     Values(Expected),
     /// The latitude of a vertex, after this longitude.
-    Latitude(WorldNumber),
+    Latitude(Coordinate),
 }
 
 /// How reading goes on after a token.

@@ -9,10 +9,9 @@ use crate::draft::Drafts;
 use crate::end::close;
 use crate::fault::{Fault, ParseFault, ParseKind, fault_of};
 use crate::keyword::{Keyword, is_end};
-use crate::number::WorldNumber;
 use crate::table::role_of;
 use crate::value::{ValueStep, value_step};
-use geom::World;
+use geom::{Coordinate, World};
 use maplex::Token;
 use std::alloc::Global;
 
@@ -85,14 +84,14 @@ fn read_value(
 }
 
 // The coordinate that the token is, of a vertex that the feature has room for.
-fn coordinate_at(drafts: &Drafts, token: &Token) -> Result<WorldNumber, Fault>
+fn coordinate_at(drafts: &Drafts, token: &Token) -> Result<Coordinate, Fault>
     ensures value { result ≡ coordinate_at drafts.now token.now }
     ensures room { OnOk result (vertex_count drafts.now.feature.parts < MAX_VERTICES) }
 {
     if drafts.feature.parts.is_full() {
         return Err(fault_of(ParseKind::Limit, token));
     }
-    match WorldNumber::read(token.text) {
+    match Coordinate::read(token.text) {
         Some(number) => Ok(number),
         None => Err(fault_of(ParseKind::WrongValue, token)),
     }
@@ -113,7 +112,7 @@ fn read_longitude(drafts: &mut Drafts, token: &Token, alloc: Global) -> Result<M
 
 // Reads the latitude of a vertex.
 fn read_latitude(
-    longitude: WorldNumber,
+    longitude: Coordinate,
     drafts: &mut Drafts,
     token: &Token,
 ) -> Result<Move, ParseFault>
@@ -125,7 +124,7 @@ fn read_latitude(
         return Err(fault_of(ParseKind::MissingValue, token).into());
     }
     let latitude = coordinate_at(drafts, token)?;
-    let vertex = World::new(longitude.get(), latitude.get());
+    let vertex = World::new(longitude, latitude);
     drafts.feature.parts.push(vertex)?;
     Ok(Move::GoesOn(Context::Keywords(Block::Points)))
 }

@@ -1,24 +1,15 @@
 -- From the world to the picture (docs/PROFILE.md, "From the world to the picture").
 use Rattle.std.specs.Prelude.{ℕ, ◌*◌, ◌≤◌, ℤ, pos, ◌-ℤ◌, ◌*ℤ◌, ◌<ℤ◌, ◌≤ℤ◌, unsigned_abs}
 use Rattle.std.specs.Int.{int_div_euclid}
-use Rattle.geom.specs.declared.device.TheConstants.{MAX_PICTURE_SIDE}
 use Rattle.geom.specs.Device.{DevicePoint}
 use Rattle.geom.specs.Scale.{PictureScale}
-use Rattle.geom.specs.World.{Place, Area, IsExtent}
+use Rattle.geom.specs.World.{Place, Area}
 
 -- a view: the part of the world that is shown, and the sides of the picture in pixels
 pub record ViewValue : Type 0 where
   pub area : Area
   pub width : ℕ
   pub height : ℕ
-
--- the area is an extent of the world, and each side has 1 to MAX_PICTURE_SIDE pixels
-pub record IsView (v : ViewValue) : Type 0 where
-  pub extent : IsExtent v.area
-  pub some_columns : 1 ≤ v.width
-  pub columns : v.width ≤ MAX_PICTURE_SIDE
-  pub some_rows : 1 ≤ v.height
-  pub rows : v.height ≤ MAX_PICTURE_SIDE
 
 -- how far a part is of the whole, in sixteenths of a pixel, rounded down
 unfoldable pub sixteenths : ℕ → ℤ → ℤ → ℤ

@@ -1,43 +1,40 @@
-ghost use Rattle.std.specs.Prelude.{◌≡◌, ◌^◌, ◌≤◌, pos, ◌-ℤ◌, ◌<ℤ◌};
+ghost use Rattle.std.specs.Prelude.{◌≡◌, ◌^◌, pos, ◌-ℤ◌, ◌<ℤ◌};
 ghost use Rattle.geom.specs.Device.{pixel_of};
 ghost use Rattle.geom.specs.Range.{IsBelow};
-ghost use Rattle.geom.specs.World.{IsWorldNumber, IsExtent};
+ghost use Rattle.geom.specs.World.{IsCoordinate, IsExtent};
 ghost use Rattle.viewport.specs.View.{sixteenths};
 
-use geom::{Device, MAX_PICTURE_SIDE, Micro, Pixel, World, WorldBox};
+use geom::{Coordinate, Device, Micro, PictureSide, Pixel, World, WorldBox};
 use std::marker::Model;
 
 /// A view: the part of the world that is shown, and the sides of the picture that shows it. The area
-/// is an extent of the world, and each side has 1 to `MAX_PICTURE_SIDE` pixels.
+/// is an extent of the world.
 #[derive(Clone, Copy, Debug, PartialEq, Eq)]
 pub struct View {
     area: WorldBox,
-    width: u16,
-    height: u16,
+    width: PictureSide,
+    height: PictureSide,
 }
 
 impl Model for View {
-    ghost use Rattle.viewport.specs.View.{ViewValue, IsView};
+    ghost use Rattle.geom.specs.World.{IsExtent};
+    ghost use Rattle.viewport.specs.View.{ViewValue};
 
     ghost Value = { ViewValue };
 
     ghost view = { λ v. record { area = v.area; width = v.width; height = v.height } };
 
-    ghost invariant = { λ v. IsView (record { area = v.area; width = v.width; height = v.height }) };
+    ghost invariant = { λ v. IsExtent v.area };
 
     ghost inverse = { λ v. record { area = v.area; width = v.width; height = v.height } };
 }
 
 impl View {
-    ghost use Rattle.viewport.specs.View.{IsView, device_point};
+    ghost use Rattle.viewport.specs.View.{device_point};
 
     /// The view of an area by a picture of that many columns and rows.
-    pub fn new(area: WorldBox, width: u16, height: u16) -> Self
-        requires extent { IsExtent area }
-        requires some_columns { 1 ≤ width }
-        requires columns { width ≤ MAX_PICTURE_SIDE }
-        requires some_rows { 1 ≤ height }
-        requires rows { height ≤ MAX_PICTURE_SIDE }
+    pub fn new(area: WorldBox, width: PictureSide, height: PictureSide) -> Self
+        requires { IsExtent area }
         ensures { result ≡ record { area = area; width = width; height = height } }
     {
         View {
@@ -50,23 +47,21 @@ impl View {
     /// The part of the world that is shown.
     pub fn area(self) -> WorldBox
         ensures value { result ≡ self.area }
-        ensures limits { IsView self }
+        ensures limits { IsExtent result }
     {
         self.area
     }
 
     /// How many columns of pixels the picture has.
-    pub fn width(self) -> u16
-        ensures value { result ≡ self.width }
-        ensures limits { IsView self }
+    pub fn width(self) -> PictureSide
+        ensures { result ≡ self.width }
     {
         self.width
     }
 
     /// How many rows of pixels the picture has.
-    pub fn height(self) -> u16
-        ensures value { result ≡ self.height }
-        ensures limits { IsView self }
+    pub fn height(self) -> PictureSide
+        ensures { result ≡ self.height }
     {
         self.height
     }
@@ -86,34 +81,32 @@ impl View {
     }
 
     // How far a longitude is from the left, in sixteenths of a pixel.
-    fn across(self, longitude: Micro) -> i64
-        requires { IsWorldNumber longitude }
+    fn across(self, longitude: Coordinate) -> i64
         ensures value { result ≡ sixteenths self.width (longitude -ℤ self.area.minx) (self.area.maxx -ℤ self.area.minx) }
         ensures range { IsBelow (2 ^ 47) result }
     {
         let View { area, width, .. } = self;
-        let part = difference(longitude, area.minx());
+        let part = difference(longitude.get(), area.minx());
         let whole = difference(area.maxx(), area.minx());
         sixteenths(width, part, whole)
     }
 
     // How far a latitude is from the top, in sixteenths of a pixel.
-    fn down(self, latitude: Micro) -> i64
-        requires { IsWorldNumber latitude }
+    fn down(self, latitude: Coordinate) -> i64
         ensures value { result ≡ sixteenths self.height (self.area.maxy -ℤ latitude) (self.area.maxy -ℤ self.area.miny) }
         ensures range { IsBelow (2 ^ 47) result }
     {
         let View { area, height, .. } = self;
-        let part = difference(area.maxy(), latitude);
+        let part = difference(area.maxy(), latitude.get());
         let whole = difference(area.maxy(), area.miny());
         sixteenths(height, part, whole)
     }
 }
 
-// The difference of two numbers of the world, in millionths.
+// The difference of two coordinates, in millionths of a degree.
 fn difference(a: Micro, b: Micro) -> i64
-    requires a { IsWorldNumber a }
-    requires b { IsWorldNumber b }
+    requires a { IsCoordinate a }
+    requires b { IsCoordinate b }
     ensures value { result ≡ a -ℤ b }
     ensures range { IsBelow (2 ^ 31) result }
 {
@@ -122,34 +115,40 @@ fn difference(a: Micro, b: Micro) -> i64
 
 // How far a part is of the whole, in sixteenths of a pixel, rounded down.
 #[tactic(auto, unfolding(crate::specs::View::sixteenths))]
-fn sixteenths(pixels: u16, part: i64, whole: i64) -> i64
-    requires pixels { pixels ≤ MAX_PICTURE_SIDE }
+fn sixteenths(side: PictureSide, part: i64, whole: i64) -> i64
     requires part { IsBelow (2 ^ 31) part }
     requires whole { pos 0 <ℤ whole }
-    ensures value { result ≡ sixteenths pixels part whole }
+    ensures value { result ≡ sixteenths side part whole }
     ensures range { IsBelow (2 ^ 47) result }
 {
-    (16 * i64::from(pixels) * part).div_euclid(whole)
+    (16 * i64::from(side.pixels()) * part).div_euclid(whole)
 }
 
 #[cfg(test)]
 mod tests {
     use super::*;
+    use geom::MAX_PICTURE_SIDE;
 
-    // A place in millionths of a degree. The tests' numbers are within the limit.
-    fn place_at(x: i64, y: i64) -> World {
+    // A coordinate in millionths of a degree. Those of the tests are within the limit.
+    fn coordinate(millionths: i64) -> Coordinate {
         let limit = 1_000_000_000;
-        World::new(
-            Micro::new(x.clamp(-limit, limit)),
-            Micro::new(y.clamp(-limit, limit)),
-        )
+        Coordinate::new(Micro::new(millionths.clamp(-limit, limit)))
+    }
+
+    fn place_at(x: i64, y: i64) -> World {
+        World::new(coordinate(x), coordinate(y))
+    }
+
+    // A side that a picture may have.
+    fn side(pixels: u16) -> PictureSide {
+        PictureSide::new(pixels.clamp(1, MAX_PICTURE_SIDE)).unwrap()
     }
 
     // Four degrees by four degrees in four pixels by four pixels.
     fn square() -> View {
         let low = Micro::new(0);
         let high = Micro::new(4_000_000);
-        View::new(WorldBox::new(low, low, high, high), 4, 4)
+        View::new(WorldBox::new(low, low, high, high), side(4), side(4))
     }
 
     // Three degrees by six in four pixels by two: a pixel is three quarters of a degree wide.
@@ -157,7 +156,7 @@ mod tests {
         let low = Micro::new(0);
         let east = Micro::new(3_000_000);
         let north = Micro::new(6_000_000);
-        View::new(WorldBox::new(low, low, east, north), 4, 2)
+        View::new(WorldBox::new(low, low, east, north), side(4), side(2))
     }
 
     // The smallest area in the largest picture.
@@ -166,8 +165,8 @@ mod tests {
         let high = Micro::new(1);
         View::new(
             WorldBox::new(low, low, high, high),
-            MAX_PICTURE_SIDE,
-            MAX_PICTURE_SIDE,
+            side(MAX_PICTURE_SIDE),
+            side(MAX_PICTURE_SIDE),
         )
     }
 
@@ -228,5 +227,15 @@ mod tests {
                 assert_eq!(rt; (pixel.i(), pixel.j()), (*column, *row), "at {x}, {y}");
             }
         }
+    }
+
+    // Views that differ in their area or in one side are two.
+    #[test]
+    fn views_differ_where_one_field_does(rt: HostRuntime) {
+        let area = square().area();
+        assert_eq!(rt; View::new(area, side(4), side(4)), square());
+        assert_ne!(rt; View::new(area, side(5), side(4)), square());
+        assert_ne!(rt; View::new(area, side(4), side(5)), square());
+        assert_ne!(rt; View::new(oblong().area(), side(4), side(4)), square());
     }
 }

@@ -1,6 +1,6 @@
 use Rattle.std.proofs.Common.{sym, ◌∙◌, ap, Some}
 use Rattle.mapdefs.specs.Class.{admits}
-use Rattle.compose.proofs.Finding.{find-here, find-behind}
+use Rattle.compose.proofs.Finding.{find-here, find-after}
 use Rattle.compose.proofs.classes.class_of.Goals as goal
 
 pub returns-then-admits : goal.returns-then-admits
@@ -13,5 +13,5 @@ returns-then-admits c = λ scale feature.
 pub loop-class-preserved : goal.loop-class-preserved
 loop-class-preserved c = λ scale feature.
     let fails = rw c.get-class.ensures.value at (sym (c.admits.ensures scale c.args.layer.now feature) ∙ c.if-admits.false) in
-    find-behind (admits scale c.args.layer.now feature) c.as_slice-class-items.result.now c.loop-class.class-index _ c.loop-class-test.true c.class-item.is fails
+    find-after (admits scale c.args.layer.now feature) c.as_slice-class-items.result.now c.loop-class.class-index _ c.loop-class-test.true c.class-item.is fails
     ∙ c.loop-class.invariant scale feature

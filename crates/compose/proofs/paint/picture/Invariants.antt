@@ -3,5 +3,5 @@ use Rattle.compose.specs.Paint.{paint_list}
 use Rattle.compose.specs.Painted.{IsPainted}
 use Rattle.compose.proofs.paint.picture.Given as goal
 
-abbrev pub invariant-loop-place : goal.invariant-loop-place
-invariant-loop-place l = IsPainted l.initial.canvas l.canvas (paint_list l.view l.map (take l.place-index l.chosen))
+abbrev pub invariant-loop-index : goal.invariant-loop-index
+invariant-loop-index l = IsPainted l.initial.canvas l.canvas (paint_list l.view l.map (take l.index-index l.chosen))

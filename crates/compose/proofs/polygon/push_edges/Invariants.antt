@@ -6,5 +6,5 @@ use Rattle.compose.proofs.polygon.push_edges.Given as goal
 
 abbrev pub invariant-loop-place : goal.invariant-loop-place
 invariant-loop-place l =
-    l.sides.items ++ closing_edges l.first l.from (map (device_point l.view) (drop l.place-index l.rest))
-    ≡ l.fn.sides.items ++ ring_edges (map (device_point l.view) l.ring)
+    l.edges.items ++ closing_edges l.first l.from (map (device_point l.view) (drop l.place-index l.rest))
+    ≡ l.fn.edges.items ++ ring_edges (map (device_point l.view) l.ring)

@@ -8,5 +8,5 @@ new-requires-2 c = record {
   extent = c.whole_world.ensures.limits;
   symbol_count = rw c.new.ensures (omega arith);
   layer_count = rw (c.in_ok-build_all.ensures, length-map) c.into_vec.ensures.limit;
-  places = rw (c.new.ensures, c.in_ok-build_all.ensures) (∣ layer_symbols 0 c.into_vec.result.items ∣₁);
+  symbols = rw (c.new.ensures, c.in_ok-build_all.ensures) (∣ layer_symbols 0 c.into_vec.result.items ∣₁);
 }

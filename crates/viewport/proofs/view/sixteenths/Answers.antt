@@ -1,4 +1,4 @@
-use Rattle.std.proofs.Common.{◌*◌, ◌^◌, arith, pos, ◌*ℤ◌}
+use Rattle.std.proofs.Common.{◌*◌, ◌^◌, ◌≤◌, arith, pos, ◌*ℤ◌}
 use Rattle.std.proofs.lemmas.Int.{ints}
 use Rattle.geom.specs.Range.{IsBelow}
 use Rattle.viewport.proofs.Quotients.{share-is, share-below, quotient-below, word-below}
@@ -6,8 +6,9 @@ use Rattle.viewport.proofs.view.sixteenths.Goals as goal
 
 pub returns-clause-range : goal.returns-clause-range
 returns-clause-range c =
-    let share = share-below c.args.pixels c.args.part c.requires.pixels c.requires.part in
+    let most : c.args.side ≤ 2048 = omega (arith, c.pixels.ensures.value, c.pixels.ensures.limits.most) in
+    let share = share-below c.args.side c.args.part most c.requires.part in
     let below : IsBelow (2 ^ 47) c.div_euclid.result =
-    rw (c.div_euclid.ensures, c.from.ensures, share-is c.args.pixels c.args.part c.requires.pixels c.requires.part)
-    (quotient-below (2 ^ 47) (pos (16 * c.args.pixels) *ℤ c.args.part) _ (omega (arith, ints)) share) in
+    rw (c.div_euclid.ensures, c.from.ensures, c.pixels.ensures.value, share-is c.args.side c.args.part most c.requires.part)
+    (quotient-below (2 ^ 47) (pos (16 * c.args.side) *ℤ c.args.part) _ (omega (arith, ints)) share) in
     rw (word-below c.div_euclid.result below) below

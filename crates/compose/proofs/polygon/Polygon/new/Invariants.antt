@@ -4,4 +4,4 @@ use Rattle.viewport.specs.View.{device_point}
 use Rattle.compose.proofs.polygon.Polygon.new.Given as goal
 
 abbrev pub invariant-loop-ring : goal.invariant-loop-ring
-invariant-loop-ring l = l.sides.items ≡ edges (map (map (device_point l.view)) (take l.ring-index l.rings))
+invariant-loop-ring l = l.edges.items ≡ edges (map (map (device_point l.view)) (take l.ring-index l.rings))

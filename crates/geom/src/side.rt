@@ -1,0 +1,66 @@
+ghost use Rattle.std.specs.Prelude.{◌≡◌, ◌≤◌, length};
+ghost use Rattle.geom.specs.Side.{picture_side};
+
+use std::marker::Model;
+
+/// The most pixels on a side of a picture.
+pub const MAX_PICTURE_SIDE: u16 = 2_048;
+
+/// The side of a picture: 1 to `MAX_PICTURE_SIDE` pixels.
+#[derive(Clone, Copy, Debug, PartialEq, Eq, PartialOrd, Ord)]
+pub struct PictureSide {
+    pixels: u16,
+}
+
+impl Model for PictureSide {
+    ghost use Rattle.std.specs.Prelude.{ℕ};
+    ghost use Rattle.geom.specs.Side.{IsPictureSide};
+
+    ghost Value = { ℕ };
+
+    ghost view = { λ s. s.pixels };
+
+    ghost invariant = { λ s. IsPictureSide s.pixels };
+
+    ghost inverse = { λ n. record { pixels = n } };
+}
+
+impl PictureSide {
+    ghost use Rattle.geom.specs.Side.{IsPictureSide};
+
+    /// The side of that many pixels, if a picture may have it.
+    pub fn new(pixels: u16) -> Option<Self>
+        ensures { result ≡ picture_side pixels }
+    {
+        if pixels == 0 || pixels > MAX_PICTURE_SIDE {
+            return None;
+        }
+        Some(PictureSide { pixels })
+    }
+
+    /// The number of pixels.
+    pub fn pixels(self) -> u16
+        ensures value { result ≡ self }
+        ensures limits { IsPictureSide result }
+    {
+        self.pixels
+    }
+}
+
+#[cfg(test)]
+mod tests {
+    use super::*;
+
+    #[test]
+    fn sides_have_1_to_2048_pixels(rt: HostRuntime) {
+        for pixels in [1, 2, 2_047, 2_048] {
+            assert_eq!(rt;
+                PictureSide::new(pixels).map(PictureSide::pixels),
+                Some(pixels)
+            );
+        }
+        for pixels in [0, 2_049, 65_535] {
+            assert_eq!(rt; PictureSide::new(pixels), None, "{pixels} pixels");
+        }
+    }
+}
