@@ -1,4 +1,4 @@
-ghost use Rattle.std.specs.Prelude.{◌≡◌, ◌≤◌, ◌<◌, ℕ, List, Bool, Option, true, false, length, take, IfOk, IfErr, OnOk, OnErr, MatchResult};
+ghost use Rattle.std.specs.Prelude.{◌≡◌, ◌≤◌, ◌<◌, ◌+◌, ℕ, List, Bool, Option, true, false, nat_eq, if◌then◌else◌, length, take, IfOk, IfErr, OnOk, OnErr, MatchResult};
 ghost use Rattle.std.specs.Io.KnownBytes.{Appends, Keeps, ReadConsumes};
 
 use std::io::{Read, Write};
@@ -9,7 +9,7 @@ use thiserror::Error;
 #[error("the reader failed")]
 pub struct TakeFailed;
 
-/// A sink took no bytes.
+/// A sink took no bytes, or kept some back.
 #[derive(Clone, Copy, Debug, PartialEq, Eq, Error)]
 #[error("the writer failed")]
 pub struct PutFailed;
@@ -42,7 +42,13 @@ pub trait Sink {
     // The bytes that it holds, where they are known.
     ghost held: { Self → Option (List ℕ) };
 
-    // Whether a call of `put` has failed.
+    // How many bytes it has taken.
+    ghost taken: { Self → ℕ };
+
+    // Whether a call of `flush` has succeeded since it last took a byte.
+    ghost is_flushed: { Self → Bool };
+
+    // Whether a call of `put` or `flush` has failed.
     ghost put_failed: { Self → Bool };
 
     /// Takes some bytes from the front, at least one where there are any, and says how many.
@@ -50,15 +56,31 @@ pub trait Sink {
         ensures count { IfOk result (λ n. n ≤ length bytes.now) }
         ensures some { IfOk result (λ n. 1 ≤ length bytes.now → 1 ≤ n) }
         ensures bytes { IfOk result (λ n. Appends (held self.old) (held self.new) (take n bytes.now)) }
+        ensures taken { IfOk result (λ n. taken self.new ≡ taken self.old + n) }
+        ensures flushed { IfOk result (λ n. is_flushed self.new ≡ (if nat_eq n 0 then is_flushed self.old else false)) }
         ensures kept { OnErr result (Keeps (held self.old) (held self.new)) }
+        ensures none_taken { OnErr result (taken self.new ≡ taken self.old) }
         ensures flag { MatchResult result (λ _. put_failed self.new ≡ put_failed self.old) (λ _. put_failed self.new ≡ true) };
+
+    /// Hands on what it took and still keeps back.
+    fn flush(&mut self) -> Result<(), PutFailed>
+        ensures kept { Keeps (held self.old) (held self.new) }
+        ensures none_taken { taken self.new ≡ taken self.old }
+        ensures flushed { OnOk result (is_flushed self.new ≡ true) }
+        ensures flag { MatchResult result (λ _. put_failed self.new ≡ put_failed self.old) (λ _. put_failed self.new ≡ true) };
+
+    /// How many bytes it has taken.
+    fn taken(&self) -> u128
+        ensures { result ≡ taken self.now };
 }
 
 /// Puts all of the bytes into the sink, or says after how many it failed.
 pub fn put_all<S: Sink>(sink: &mut S, bytes: &[u8]) -> Result<(), WriteFault>
     ensures ok { OnOk result (Appends (S.held sink.old) (S.held sink.new) bytes.now) }
+    ensures all_taken { OnOk result (S.taken sink.new ≡ S.taken sink.old + length bytes.now) }
     ensures part { IfErr result (λ e. Appends (S.held sink.old) (S.held sink.new) (take e.written bytes.now)) }
     ensures short { IfErr result (λ e. e.written < length bytes.now) }
+    ensures part_taken { IfErr result (λ e. S.taken sink.new ≡ S.taken sink.old + e.written) }
     ensures flag { MatchResult result (λ _. S.put_failed sink.new ≡ S.put_failed sink.old) (λ _. S.put_failed sink.new ≡ true) }
 {
     let mut written = 0;
@@ -75,27 +97,73 @@ pub fn put_all<S: Sink>(sink: &mut S, bytes: &[u8]) -> Result<(), WriteFault>
     Ok(())
 }
 
-/// A reader or a writer of std, or both, that remembers whether it has failed: one flag for reading,
-/// one for writing. A write that takes none of some bytes counts as failed.
+/// A reader or a writer of std, or both. It remembers whether it has failed, with one flag for
+/// reading and one for writing, how many bytes it has taken, and whether it was flushed since. A
+/// write that takes none of some bytes counts as failed.
 #[derive(Debug, Drop)]
 pub struct Flagged<T> {
-    pub inner: T,
-    pub take_failed: bool,
-    pub put_failed: bool,
+    inner: T,
+    take_failed: bool,
+    put_failed: bool,
+    is_flushed: bool,
+    taken: u128,
 }
 
 impl<T> Flagged<T> {
-    /// The value with its flags unset.
+    /// The value with its flags unset: it has taken nothing.
     pub fn new(inner: T) -> Self
         ensures value { result.inner ≡ inner }
         ensures take_flag { result.take_failed ≡ false }
         ensures put_flag { result.put_failed ≡ false }
+        ensures flushed { result.is_flushed ≡ true }
+        ensures taken { result.taken ≡ 0 }
     {
         Flagged {
             inner,
             take_failed: false,
             put_failed: false,
+            is_flushed: true,
+            taken: 0,
         }
+    }
+
+    /// The reader or writer.
+    pub fn inner(&self) -> &T
+        ensures { result.now ≡ self.now.inner }
+    {
+        &self.inner
+    }
+
+    /// The reader or writer, without its flags.
+    pub fn into_inner(self) -> T
+    where
+        T: Drop,
+        ensures { result ≡ self.inner }
+    {
+        let Flagged { inner, .. } = self;
+        inner
+    }
+
+    /// Whether a call of `take` has failed.
+    pub fn take_failed(&self) -> bool
+        ensures { result ≡ self.now.take_failed }
+    {
+        self.take_failed
+    }
+
+    /// Whether a call of `put` or `flush` has failed.
+    pub fn put_failed(&self) -> bool
+        ensures { result ≡ self.now.put_failed }
+    {
+        self.put_failed
+    }
+
+    // Notes that a call of `put` or `flush` failed.
+    fn fail_put(&mut self) -> PutFailed
+        ensures { self.new ≡ record self.old { put_failed = true } }
+    {
+        self.put_failed = true;
+        PutFailed
     }
 }
 
@@ -104,7 +172,14 @@ impl<T: Read> Source for Flagged<T> {
 
     ghost take_failed = { λ s. s.take_failed };
 
-    fn take(&mut self, room: &mut [u8]) -> Result<usize, TakeFailed> {
+    fn take(&mut self, room: &mut [u8]) -> Result<usize, TakeFailed>
+        ensures count { IfOk result (λ n. n ≤ length room.new) }
+        ensures bytes { ReadConsumes (T.remaining self.old.inner) (T.remaining self.new.inner) result room.new }
+        ensures flag { MatchResult result (λ _. self.new.take_failed ≡ self.old.take_failed) (λ _. self.new.take_failed ≡ true) }
+        ensures put_flag { self.new.put_failed ≡ self.old.put_failed }
+        ensures flushed { self.new.is_flushed ≡ self.old.is_flushed }
+        ensures taken { self.new.taken ≡ self.old.taken }
+    {
         match self.inner.read(room) {
             Ok(count) => Ok(count),
             Err(_) => {
@@ -118,73 +193,227 @@ impl<T: Read> Source for Flagged<T> {
 impl<T: Write> Sink for Flagged<T> {
     ghost held = { λ s. T.contents s.inner };
 
+    ghost taken = { λ s. s.taken };
+
+    ghost is_flushed = { λ s. s.is_flushed };
+
     ghost put_failed = { λ s. s.put_failed };
 
-    fn put(&mut self, bytes: &[u8]) -> Result<usize, PutFailed> {
-        match self.inner.write(bytes) {
-            Ok(count) if count > 0 || bytes.is_empty() => Ok(count),
-            _ => {
-                self.put_failed = true;
-                Err(PutFailed)
-            }
+    // It fails also where its count would pass the largest `u128`.
+    fn put(&mut self, bytes: &[u8]) -> Result<usize, PutFailed>
+        ensures count { IfOk result (λ n. n ≤ length bytes.now) }
+        ensures some { IfOk result (λ n. 1 ≤ length bytes.now → 1 ≤ n) }
+        ensures bytes { IfOk result (λ n. Appends (T.contents self.old.inner) (T.contents self.new.inner) (take n bytes.now)) }
+        ensures taken { IfOk result (λ n. self.new.taken ≡ self.old.taken + n) }
+        ensures flushed { IfOk result (λ n. self.new.is_flushed ≡ (if nat_eq n 0 then self.old.is_flushed else false)) }
+        ensures kept { OnErr result (Keeps (T.contents self.old.inner) (T.contents self.new.inner)) }
+        ensures none_taken { OnErr result (self.new.taken ≡ self.old.taken) }
+        ensures flag { MatchResult result (λ _. self.new.put_failed ≡ self.old.put_failed) (λ _. self.new.put_failed ≡ true) }
+        ensures take_flag { self.new.take_failed ≡ self.old.take_failed }
+    {
+        if self.taken > u128::MAX - bytes.len() as u128 {
+            return Err(self.fail_put());
         }
+        match self.inner.write(bytes) {
+            Ok(count) if count > 0 || bytes.is_empty() => {
+                self.taken += count as u128;
+                self.is_flushed = self.is_flushed && count == 0;
+                Ok(count)
+            }
+            _ => Err(self.fail_put()),
+        }
+    }
+
+    fn flush(&mut self) -> Result<(), PutFailed>
+        ensures kept { Keeps (T.contents self.old.inner) (T.contents self.new.inner) }
+        ensures none_taken { self.new.taken ≡ self.old.taken }
+        ensures flushed { OnOk result (self.new.is_flushed ≡ true) }
+        ensures flag { MatchResult result (λ _. self.new.put_failed ≡ self.old.put_failed) (λ _. self.new.put_failed ≡ true) }
+        ensures take_flag { self.new.take_failed ≡ self.old.take_failed }
+    {
+        match self.inner.flush() {
+            Ok(()) => {
+                self.is_flushed = true;
+                Ok(())
+            }
+            Err(_) => Err(self.fail_put()),
+        }
+    }
+
+    fn taken(&self) -> u128 {
+        self.taken
     }
 }
 
 #[cfg(test)]
 mod tests {
     use super::*;
+    use std::alloc::{AllocError, Global};
     use std::io;
     use std::test::Fail;
 
-    // A writer that takes none of some bytes, or fails.
+    // A reader and a writer that gives and takes so many bytes at once, for so many calls, and then
+    // fails. A write may take none instead.
     #[derive(Drop)]
-    struct Full {
+    struct Narrow {
+        left: Vec<u8>,
+        held: Vec<u8>,
+        at_once: usize,
+        calls: usize,
         fails: bool,
     }
 
-    impl Write for Full {
-        fn write(&mut self, _bytes: &[u8]) -> io::Result<usize> {
-            if self.fails {
+    impl Narrow {
+        // How many of so many bytes the next call moves.
+        fn count(&mut self, len: usize) -> io::Result<usize> {
+            if self.calls > 0 {
+                self.calls -= 1;
+                Ok(len.min(self.at_once))
+            } else if self.fails {
                 Err(io::Error::from(io::ErrorKind::Other))
             } else {
                 Ok(0)
             }
         }
+    }
+
+    impl Read for Narrow {
+        fn read(&mut self, room: &mut [u8]) -> io::Result<usize> {
+            let count = self.count(room.len().min(self.left.len()))?;
+            for (byte, place) in self.left.drain(..count).zip(room.iter_mut()) {
+                *place = byte;
+            }
+            Ok(count)
+        }
+    }
+
+    impl Write for Narrow {
+        fn write(&mut self, bytes: &[u8]) -> io::Result<usize> {
+            let count = self.count(bytes.len())?;
+            self.held.extend_from_slice(&bytes[..count])?;
+            Ok(count)
+        }
 
         fn flush(&mut self) -> io::Result<()> {
+            self.count(0)?;
             Ok(())
         }
     }
 
+    // So many bytes, each another one than that before it.
+    fn pattern(alloc: Global, len: usize) -> Result<Vec<u8>, AllocError> {
+        let mut bytes = Vec::new(alloc);
+        for at in 0..len {
+            bytes.push((at % 251) as u8)?;
+        }
+        Ok(bytes)
+    }
+
+    // A stream that holds nothing.
+    fn flagged(alloc: Global, left: Vec<u8>, at_once: usize, calls: usize) -> Flagged<Narrow> {
+        Flagged::new(Narrow {
+            left,
+            held: Vec::new(alloc),
+            at_once,
+            calls,
+            fails: true,
+        })
+    }
+
+    // How many bytes are put, how many are taken at once in how many calls, and the outcome.
+    const PUTS: [(usize, usize, usize, Result<(), WriteFault>); 8] = [
+        (100_000, 200_000, 1, Ok(())),
+        (100_000, 70_000, 2, Ok(())),
+        (100_000, 70_000, 1, Err(WriteFault { written: 70_000 })),
+        (100_000, 70_000, 0, Err(WriteFault { written: 0 })),
+        (101, 7, 15, Ok(())),
+        (101, 7, 14, Err(WriteFault { written: 98 })),
+        (3, 1, 2, Err(WriteFault { written: 2 })),
+        // nothing is asked for no bytes
+        (0, 5, 0, Ok(())),
+    ];
+
     #[test]
     fn sinks_take_all_or_say_where_they_failed(rt: HostRuntime) -> Result<(), Fail> {
-        let mut sink = Flagged::new(Vec::new(rt.alloc()));
-        assert_eq!(rt; put_all(&mut sink, b"square"), Ok(()));
-        assert_eq!(rt; put_all(&mut sink, b""), Ok(()));
-        assert_eq!(rt; sink.inner.as_slice(), b"square".as_slice());
-        assert_eq!(rt; sink.put_failed, false);
+        let alloc = rt.alloc();
         for fails in [true, false] {
-            let mut sink = Flagged::new(Full { fails });
-            assert_eq!(rt; put_all(&mut sink, b""), Ok(()));
-            assert_eq!(rt; sink.put_failed, false);
-            assert_eq!(rt;
-                put_all(&mut sink, b"square"),
-                Err(WriteFault { written: 0 })
-            );
-            assert_eq!(rt; sink.put_failed, true);
+            for (len, at_once, calls, outcome) in PUTS {
+                let bytes = pattern(alloc, len)?;
+                let mut sink = flagged(alloc, Vec::new(alloc), at_once, calls);
+                sink.inner.fails = fails;
+                assert_eq!(rt; put_all(&mut sink, &bytes), outcome);
+                assert_eq!(rt; sink.put_failed(), outcome.is_err());
+                assert_eq!(rt; sink.take_failed(), false);
+                let count = match outcome {
+                    Ok(()) => len,
+                    Err(fault) => fault.written as usize,
+                };
+                assert_eq!(rt; sink.taken(), count as u128);
+                assert_eq!(rt; sink.into_inner().held.as_slice(), &bytes[..count]);
+            }
         }
         Ok(())
     }
 
     #[test]
-    fn sources_give_bytes_up_to_their_end(rt: HostRuntime) {
-        let mut source = Flagged::new(b"square".as_slice());
-        let mut room = [0; 4];
-        assert_eq!(rt; source.take(&mut room), Ok(4));
-        assert_eq!(rt; room, *b"squa");
-        assert_eq!(rt; source.take(&mut room), Ok(2));
+    fn sources_give_bytes_up_to_their_end(rt: HostRuntime) -> Result<(), Fail> {
+        let alloc = rt.alloc();
+        let bytes = pattern(alloc, 100_000)?;
+        let mut source = flagged(alloc, bytes.clone()?, 70_000, 4);
+        let mut room = pattern(alloc, 90_000)?;
+        assert_eq!(rt; source.take(&mut []), Ok(0));
+        assert_eq!(rt; source.take(&mut room), Ok(70_000));
+        assert_eq!(rt; &room[..70_000], &bytes[..70_000]);
+        assert_eq!(rt; source.take(&mut room), Ok(30_000));
+        assert_eq!(rt; &room[..30_000], &bytes[70_000..]);
         assert_eq!(rt; source.take(&mut room), Ok(0));
-        assert_eq!(rt; source.take_failed, false);
+        assert_eq!(rt; source.take_failed(), false);
+        assert_eq!(rt; source.take(&mut room), Err(TakeFailed));
+        assert_eq!(rt; source.take_failed(), true);
+        assert_eq!(rt; source.inner().held.len(), 0);
+        Ok(())
+    }
+
+    #[test]
+    fn each_flag_stays_as_it_was_set(rt: HostRuntime) -> Result<(), Fail> {
+        let alloc = rt.alloc();
+        let mut room = [0; 4];
+
+        let mut stream = flagged(alloc, pattern(alloc, 9)?, 2, 0);
+        assert_eq!(rt; stream.put(b"square"), Err(PutFailed));
+        assert_eq!(rt; (stream.put_failed(), stream.take_failed()), (true, false));
+        stream.inner.calls = 4;
+        assert_eq!(rt; stream.take(&mut room), Ok(2));
+        assert_eq!(rt; stream.put(b"square"), Ok(2));
+        assert_eq!(rt; stream.put(b""), Ok(0));
+        assert_eq!(rt; stream.flush(), Ok(()));
+        assert_eq!(rt; (stream.put_failed(), stream.take_failed()), (true, false));
+
+        let mut stream = flagged(alloc, pattern(alloc, 9)?, 2, 0);
+        assert_eq!(rt; stream.take(&mut room), Err(TakeFailed));
+        stream.inner.calls = 3;
+        assert_eq!(rt; stream.put(b"square"), Ok(2));
+        assert_eq!(rt; stream.take(&mut room), Ok(2));
+        assert_eq!(rt; stream.flush(), Ok(()));
+        assert_eq!(rt; (stream.put_failed(), stream.take_failed()), (false, true));
+
+        let mut stream = flagged(alloc, pattern(alloc, 9)?, 2, 0);
+        assert_eq!(rt; stream.flush(), Err(PutFailed));
+        assert_eq!(rt; (stream.put_failed(), stream.take_failed()), (true, false));
+        assert_eq!(rt; stream.taken(), 0);
+        Ok(())
+    }
+
+    #[test]
+    fn messages_are_whole(rt: HostRuntime) -> Result<(), Fail> {
+        let alloc = rt.alloc();
+        assert_eq!(rt; TakeFailed.to_string(alloc)?.as_str(), "the reader failed");
+        assert_eq!(rt; PutFailed.to_string(alloc)?.as_str(), "the writer failed");
+        let fault = WriteFault { written: 98 };
+        assert_eq!(rt;
+            fault.to_string(alloc)?.as_str(),
+            "the writer failed after 98 bytes"
+        );
+        Ok(())
     }
 }

@@ -14,4 +14,5 @@ loop-written-preserved g c =
       held =
           rw (take-add c.loop-written.written c.in-Ok.count c.args.bytes.now)
           (Appends-trans _ _ _ _ _ before.held (rw rest at c.in-Ok.ensures.bytes));
+      taken = omega (arith, before.taken, c.in-Ok.ensures.taken);
     }
