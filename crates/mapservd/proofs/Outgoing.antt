@@ -1,13 +1,30 @@
--- Texts that go out one behind the other.
-use Rattle.std.proofs.Common.{ℕ, ◌+◌, List, [], ◌++◌, Option, length, take, refl, arith, length-append}
+-- Texts that go out one after the other.
+use Rattle.std.proofs.Common.{◌≡◌, ◌∙◌, ℕ, ◌+◌, ◌<◌, List, [], ◌∷◌, ◌++◌, Option, Result, Ok, Err, OnOk, OnErr, length, get_or, take, drop, sym, ap, arith, length-append, take-append-drop}
+use Rattle.std.specs.List.{flat_map}
 use Rattle.std.proofs.KnownBytes.{Appends-nil, Appends-trans}
-use Rattle.std.proofs.lemmas.List.{take-append-le}
+use Rattle.std.proofs.lemmas.Grind.{flat_map-append}
+use Rattle.std.proofs.lemmas.List.{take-append-le, drop_more}
 use Rattle.std.proofs.Math.Seq.{take-append-add}
 use Rattle.mapservd.specs.Sent.{IsSent, IsPartlySent}
 
+-- what holds anyway holds at an error
+pub on-err : {T E : Type 0} (r : Result T E) (P : Type 0) → P → OnErr r P
+on-err (Ok x) P p = tt
+on-err (Err e) P p = p
+
+-- what follows from what holds at an error holds there
+pub on-err-so : {T E : Type 0} (r : Result T E) (P Q : Type 0) → (P → Q) → OnErr r P → OnErr r Q
+on-err-so (Ok x) P Q f p = tt
+on-err-so (Err e) P Q f p = f p
+
+-- the same at a success
+pub on-ok-so : {T E : Type 0} (r : Result T E) (P Q : Type 0) → (P → Q) → OnOk r P → OnOk r Q
+on-ok-so (Ok x) P Q f p = f p
+on-ok-so (Err e) P Q f p = tt
+
 -- nothing went out of the empty text
-pub nothing-sent : (a : Option (List ℕ)) → IsSent a a [] 0 0
-nothing-sent a = record { bytes = Appends-nil a; count = refl }
+pub nothing-sent : (a : Option (List ℕ)) (n : ℕ) → IsSent a a [] n n
+nothing-sent a n = record { bytes = Appends-nil a; count = omega arith }
 
 -- a text and then another went out: both did
 pub sent-sent : (a b c : Option (List ℕ)) (s t : List ℕ) (n m k : ℕ) → IsSent a b s n m → IsSent b c t m k → IsSent a c (s ++ t) n k
@@ -33,3 +50,13 @@ sent-partly a b c s t n m k first p = record {
   bytes = rw (take-append-add s t p.part) (Appends-trans a b c s (take p.part t) first.bytes p.bytes);
   count = omega (arith, first.count, p.count);
 }
+
+-- the texts of some things and then a part of that of the next one went out: a part of those of all things did
+pub partly-next : {X : Type 0} (f : X → List ℕ) (xs : List X) (i : ℕ) (d : X) (text : List ℕ) (a b c : Option (List ℕ)) (n m k : ℕ) → i < length xs →
+    text ≡ f (get_or xs i d) → IsSent a b (flat_map f (take i xs)) n m → IsPartlySent b c text m k → IsPartlySent a c (flat_map f xs) n k
+partly-next f xs i d text a b c n m k h is first p =
+    let all : xs ≡ take i xs ++ (get_or xs i d ∷ drop (i + 1) xs) = sym (take-append-drop i xs) ∙ ap (λ ys. take i xs ++ ys) (drop_more xs i d h) in
+    let next : IsPartlySent b c (f (get_or xs i d)) m k = rw is at p in
+    rw (all, flat_map-append f (take i xs) (get_or xs i d ∷ drop (i + 1) xs))
+    (sent-partly a b c (flat_map f (take i xs)) (f (get_or xs i d) ++ flat_map f (drop (i + 1) xs)) n m k first
+    (partly-more b c (f (get_or xs i d)) (flat_map f (drop (i + 1) xs)) m k next))

@@ -1,14 +1,14 @@
 -- Playing a readable script: what was played so far, and how it ends.
-use Rattle.std.proofs.Common.{MatchOption, ◌≡◌, ℕ, List, [], ◌∷◌, ◌++◌, Option, None, Some, Result, Ok, Err, length, refl, sym, ap, subst, append-nil, arith}
+use Rattle.std.proofs.Common.{MatchOption, ◌≡◌, ℕ, List, [], ◌∷◌, ◌++◌, Option, None, Some, Result, Ok, Err, ◌-◌, refl, sym, ap, subst, append-nil, arith}
 use Rattle.std.proofs.lemmas.Grind.{flat_map-append}
 use Rattle.mapmachine.specs.Machine.{State, Steps, Runs}
 use Rattle.mapmachine.specs.declared.reply.Event.{Event}
 use Rattle.mapmachine.specs.declared.reply.Reply.{Reply}
 use Rattle.mapservd.specs.Script.{script_of, fault_of}
-use Rattle.mapservd.specs.Sent.{IsSent, IsPartlySent}
-use Rattle.mapservd.specs.Session.{IsPartlyReplied, IsTranscript, IsSessionOf, IsPlayed, IsRefused, HasPlayed, HasStopped, HasPartlyRefused, HasStoppedIn, HasPartlyPlayed}
+use Rattle.mapservd.specs.Sent.{IsSent, IsPartlySent, IsPartlyReplied}
+use Rattle.mapservd.specs.Session.{IsTranscript, IsSessionOf, IsPlayed, IsRefused, HasPlayed, HasStopped, HasPartlyRefused, HasStoppedIn, HasPartlyPlayed}
 use Rattle.mapservd.specs.Transcript.{reply_text, transcript, script_fault}
-use Rattle.mapservd.proofs.Outgoing.{sent-sent}
+use Rattle.mapservd.proofs.Outgoing.{sent-sent, sent-partly}
 
 -- a script without fault has events
 pub readable : (read : Result (List Event) ℕ) → fault_of read ≡ None → (events : List Event) × (read ≡ Ok events)
@@ -31,40 +31,46 @@ is-transcript old new script events replies all run =
     subst (λ (read : Result (List Event) ℕ). IsSessionOf old read new (transcript replies)) (sym all) played
 
 -- all of it went out
-pub has-played : (old new : State) (script : List ℕ) (events : List Event) (replies : List Reply) (a b : Option (List ℕ)) (written : ℕ) →
-    script_of script ≡ Ok events → Runs old events replies new → IsSent a b (transcript replies) 0 written → HasPlayed old script new a b
-has-played old new script events replies a b written all run sent = record {
+pub has-played : (old new : State) (script : List ℕ) (events : List Event) (replies : List Reply) (a b : Option (List ℕ)) (before after : ℕ) →
+    script_of script ≡ Ok events → Runs old events replies new → IsSent a b (transcript replies) before after → HasPlayed old script new a b
+has-played old new script events replies a b before after all run sent = record {
   text = transcript replies;
   transcript = is-transcript old new script events replies all run;
   bytes = sent.bytes;
 }
 
+-- the replies to some events are written as those to all but the last, and then that one
+pub one-more : (replies : List Reply) (reply : Reply) → transcript (replies ++ reply ∷ []) ≡ transcript replies ++ reply_text reply
+one-more replies reply = rw (flat_map-append reply_text replies (reply ∷ []), append-nil (reply_text reply)) refl
+
 -- the replies to the events so far went out, and then the front of one to the next event
-pub has-stopped : (old middle new : State) (script : List ℕ) (done left others : List Event) (event : Event) (replies : List Reply) (a b c : Option (List ℕ))
-    (before written : ℕ) → script_of script ≡ Ok (done ++ left) → left ≡ event ∷ others → Runs old done replies middle →
-    IsSent a b (transcript replies) 0 before → IsPartlyReplied middle event new b c before written → HasPartlyPlayed old script new a c written
-has-stopped old middle new script done left others event replies a b c before written all is run sent partly =
-    let behind : before ≡ length (transcript replies) = omega (arith, sent.count) in
-    let stopped : HasStopped old (done ++ left) new a c written = record {
+pub has-stopped : (old between new : State) (script : List ℕ) (done left others : List Event) (event : Event) (replies : List Reply) (a b c : Option (List ℕ))
+    (before now after : ℕ) → script_of script ≡ Ok (done ++ left) → left ≡ event ∷ others → Runs old done replies between →
+    IsSent a b (transcript replies) before now → IsPartlyReplied between event new b c now after → HasPartlyPlayed old script new a c (after - before)
+has-stopped old between new script done left others event replies a b c before now after all is run sent partly =
+    let text : transcript (replies ++ partly.reply ∷ []) ≡ transcript replies ++ reply_text partly.reply = one-more replies partly.reply in
+    let p : IsPartlySent a c (transcript (replies ++ partly.reply ∷ [])) before after =
+      rw text (sent-partly a b c (transcript replies) (reply_text partly.reply) before now after sent partly.sent) in
+    let count : after - before ≡ p.part = omega (arith, p.count) in
+    let stopped : HasStopped old (done ++ left) new a c (after - before) = record {
       done = done;
       event = event;
       left = others;
       parts = ap (λ events. done ++ events) is;
-      middle = middle;
-      text = transcript replies;
-      played = record { replies = replies; run = run; written = refl };
-      held = b;
-      bytes = sent.bytes;
-      partly = subst (λ count. IsPartlyReplied middle event new b c count written) behind partly;
+      replies = replies;
+      reply = partly.reply;
+      run = run-then old between new done replies event partly.reply run partly.step;
+      reached = omega (arith, sent.count, partly.sent.count);
+      short = omega (arith, count, p.short);
+      bytes = rw count p.bytes;
     } in
-    subst (λ (read : Result (List Event) ℕ). HasStoppedIn old read new a c written) (sym all) stopped
+    subst (λ (read : Result (List Event) ℕ). HasStoppedIn old read new a c (after - before)) (sym all) stopped
 
--- a reply behind others went out
-pub sent-reply : (a b c : Option (List ℕ)) (replies : List Reply) (reply : Reply) (written more : ℕ) →
-    IsSent a b (transcript replies) 0 written → IsSent b c (reply_text reply) written more → IsSent a c (transcript (replies ++ reply ∷ [])) 0 more
-sent-reply a b c replies reply written more first second =
-    rw (flat_map-append reply_text replies (reply ∷ []), append-nil)
-    (sent-sent a b c (transcript replies) (reply_text reply) 0 written more first second)
+-- a reply after others went out
+pub sent-reply : (a b c : Option (List ℕ)) (replies : List Reply) (reply : Reply) (before now after : ℕ) →
+    IsSent a b (transcript replies) before now → IsSent b c (reply_text reply) now after → IsSent a c (transcript (replies ++ reply ∷ [])) before after
+sent-reply a b c replies reply before now after first second =
+    rw (one-more replies reply) (sent-sent a b c (transcript replies) (reply_text reply) before now after first second)
 
 -- what is known where there was no value
 pub at-none : {X : Type 0} (o : Option X) (P : Type 0) (Q : X → Type 0) → MatchOption o P Q → ((x : X) → o ≡ Some x → ⊥) → P
@@ -83,16 +89,17 @@ is-refused state script number all =
     subst (λ (read : Result (List Event) ℕ). IsSessionOf state read state (script_fault number)) (sym all) nothing
 
 -- only its front went out
-pub has-partly-refused : (state : State) (script : List ℕ) (number : ℕ) (a b : Option (List ℕ)) (written : ℕ) → script_of script ≡ Err number →
-    IsPartlySent a b (script_fault number) 0 written → HasPartlyPlayed state script state a b written
-has-partly-refused state script number a b written all sent =
-    let refused : HasPartlyRefused number state state a b written = record { state = refl; partly = sent } in
-    subst (λ (read : Result (List Event) ℕ). HasStoppedIn state read state a b written) (sym all) refused
+pub has-partly-refused : (state : State) (script : List ℕ) (number : ℕ) (a b : Option (List ℕ)) (before after : ℕ) → script_of script ≡ Err number →
+    IsPartlySent a b (script_fault number) before after → HasPartlyPlayed state script state a b (after - before)
+has-partly-refused state script number a b before after all sent =
+    let count : after - before ≡ sent.part = omega (arith, sent.count) in
+    let refused : HasPartlyRefused number state state a b (after - before) = record { state = refl; short = omega (arith, count, sent.short); bytes = rw count sent.bytes } in
+    subst (λ (read : Result (List Event) ℕ). HasStoppedIn state read state a b (after - before)) (sym all) refused
 
 -- all of it went out
-pub has-refused : (state : State) (script : List ℕ) (number : ℕ) (a b : Option (List ℕ)) (written : ℕ) → script_of script ≡ Err number →
-    IsSent a b (script_fault number) 0 written → HasPlayed state script state a b
-has-refused state script number a b written all sent = record {
+pub has-refused : (state : State) (script : List ℕ) (number : ℕ) (a b : Option (List ℕ)) (before after : ℕ) → script_of script ≡ Err number →
+    IsSent a b (script_fault number) before after → HasPlayed state script state a b
+has-refused state script number a b before after all sent = record {
   text = script_fault number;
   transcript = is-refused state script number all;
   bytes = sent.bytes;

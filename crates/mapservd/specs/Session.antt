@@ -1,26 +1,13 @@
 -- What a session writes (docs/PROFILE.md, "Sessions").
-use Rattle.std.specs.Prelude.{◌≡◌, ℕ, ◌+◌, Bool, true, ◌&&◌, nat_eq, if◌then◌else◌, List, [], ◌∷◌, ◌++◌, length, take, drop, Option, Result, Ok, Err, codes}
+use Rattle.std.specs.Prelude.{◌≡◌, ℕ, ◌+◌, ◌<◌, ◌≤◌, Bool, true, ◌&&◌, nat_eq, if◌then◌else◌, List, [], ◌∷◌, ◌++◌, length, take, drop, Option, Result, Ok, Err, codes}
 use Rattle.std.specs.List.{before_first}
 use Rattle.std.specs.Cmp.Lexicographic.{pointwise}
 use Rattle.std.specs.Io.KnownBytes.{Appends}
-use Rattle.mapmachine.specs.Machine.{State, Steps, Runs}
+use Rattle.mapmachine.specs.Machine.{State, Runs}
 use Rattle.mapmachine.specs.declared.reply.Event.{Event}
 use Rattle.mapmachine.specs.declared.reply.Reply.{Reply}
 use Rattle.mapservd.specs.Script.{is_line_end, script_of}
-use Rattle.mapservd.specs.Sent.{IsSent, IsPartlySent}
-use Rattle.mapservd.specs.Transcript.{reply_text, transcript, script_fault}
-
--- an event had a reply, which went out whole
-pub record IsReplied (old : State) (event : Event) (new : State) (a b : Option (List ℕ)) (before after : ℕ) : Type 0 where
-  pub reply : Reply
-  pub step : Steps old event reply new
-  pub sent : IsSent a b (reply_text reply) before after
-
--- an event had a reply, of which only the front went out
-pub record IsPartlyReplied (old : State) (event : Event) (new : State) (a b : Option (List ℕ)) (before after : ℕ) : Type 0 where
-  pub reply : Reply
-  pub step : Steps old event reply new
-  pub sent : IsPartlySent a b (reply_text reply) before after
+use Rattle.mapservd.specs.Transcript.{transcript, script_fault}
 
 -- some replies to the events lead from a state to another, and this is what is written of them
 pub record IsPlayed (old : State) (events : List Event) (new : State) (text : List ℕ) : Type 0 where
@@ -48,23 +35,24 @@ pub record HasPlayed (old : State) (script : List ℕ) (new : State) (before aft
   pub transcript : IsTranscript old script new text
   pub bytes : Appends before after text
 
--- the events before one were played, and then this one, of whose reply only the front went out: so many bytes in all
+-- the events up to one were played, and of the replies to them only so many bytes went out, which end within the reply to this one
 pub record HasStopped (old : State) (events : List Event) (new : State) (before after : Option (List ℕ)) (written : ℕ) : Type 0 where
   pub done : List Event
   pub event : Event
   pub left : List Event
   pub parts : events ≡ done ++ (event ∷ left)
-  pub middle : State
-  pub text : List ℕ
-  pub played : IsPlayed old done middle text
-  pub held : Option (List ℕ)
-  pub bytes : Appends before held text
-  pub partly : IsPartlyReplied middle event new held after (length text) written
+  pub replies : List Reply
+  pub reply : Reply
+  pub run : Runs old (done ++ event ∷ []) (replies ++ reply ∷ []) new
+  pub reached : length (transcript replies) ≤ written
+  pub short : written < length (transcript (replies ++ reply ∷ []))
+  pub bytes : Appends before after (take written (transcript (replies ++ reply ∷ [])))
 
--- nothing was played, and only the front of a script's fault went out
+-- nothing was played, and only so many bytes of a script's fault went out
 pub record HasPartlyRefused (number : ℕ) (old new : State) (before after : Option (List ℕ)) (written : ℕ) : Type 0 where
   pub state : new ≡ old
-  pub partly : IsPartlySent before after (script_fault number) 0 written
+  pub short : written < length (script_fault number)
+  pub bytes : Appends before after (take written (script_fault number))
 
 -- where writing stopped, by what was read as a script
 abbrev pub HasStoppedIn : State → Result (List Event) ℕ → State → Option (List ℕ) → Option (List ℕ) → ℕ → Type 0

@@ -17,11 +17,11 @@ mod session;
 #[cfg(test)]
 mod tests;
 
-use crate::play::play as play_script;
+use crate::play::play_script;
 use crate::session::split_session;
-use mapmachine::{Flagged, Machine};
+use mapmachine::{Flagged, Machine, Sink};
 use mapparse::{ParseFault, ParseKind, parse};
-use std::io::{self, BufWriter, ErrorKind, Read, Write};
+use std::io::{self, BufWriter, ErrorKind, Read};
 use std::process::ExitCode;
 
 /// Why a session can't be played to its end.
@@ -71,7 +71,7 @@ fn play_session(rt: &(impl Input + Print + AllocGlobal)) -> Result<(), Failure> 
     ))?;
     let mut sink = Flagged::new(writer);
     play_script(&mut machine, script, &mut sink).map_err(|_| Failure::Stream)?;
-    sink.inner.flush().map_err(|error| stream_failure(&error))
+    sink.flush().map_err(|_| Failure::Stream)
 }
 
 fn main(rt: HostRuntime) -> ExitCode {

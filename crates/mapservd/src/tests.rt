@@ -1,4 +1,4 @@
-use crate::play::play as play_script;
+use crate::play::play_script;
 use crate::session::split_session;
 use mapmachine::{Bytes, Event, Flagged, Machine, Mime, Reply, WriteFault};
 use mapparse::{ParseFault, parse};
@@ -48,7 +48,7 @@ fn played(alloc: Global, map: &str, script: &str) -> Result<Vec<u8>, Fail> {
     let mut machine = Machine::open(alloc, parse(alloc, map.as_bytes())?);
     let mut sink = Flagged::new(Vec::new(alloc));
     play_script(&mut machine, script.as_bytes(), &mut sink)?;
-    Ok(sink.inner)
+    Ok(sink.into_inner())
 }
 
 // Rings of a feature, and the picture of it, worked by hand.
@@ -174,8 +174,8 @@ fn writers_that_fail_hold_the_first_bytes(rt: HostRuntime) -> Result<(), Fail> {
         let outcome = play_script(&mut machine, script.as_bytes(), &mut sink);
         let written = room as u128;
         assert_eq!(rt; outcome, Err(WriteFault { written }));
-        assert_eq!(rt; sink.inner.held.as_slice(), &whole[..room]);
-        assert_eq!(rt; sink.put_failed, true);
+        assert_eq!(rt; sink.put_failed(), true);
+        assert_eq!(rt; sink.into_inner().held.as_slice(), &whole[..room]);
     }
     Ok(())
 }

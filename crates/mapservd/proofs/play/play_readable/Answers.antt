@@ -1,6 +1,5 @@
 use Rattle.std.proofs.Common.{◌∙◌, ◌+◌, ◌++◌, [], ◌∷◌, refl, append_assoc, append-nil, arith}
-use Rattle.std.proofs.lemmas.Result.{err_from_is_err_and}
-use Rattle.mapservd.proofs.Outgoing.{nothing-sent}
+use Rattle.mapservd.proofs.Outgoing.{on-err, nothing-sent}
 use Rattle.mapservd.proofs.Playing.{readable, has-played, has-stopped, run-then, at-none, sent-reply}
 use Rattle.mapservd.proofs.ScriptSteps.{events-step, events-none}
 use Rattle.mapservd.proofs.play.play_readable.Goals as goal
@@ -16,23 +15,21 @@ loop-event-init g c =
       reads = all;
       replies = [];
       run = refl;
-      sent = nothing-sent _;
+      sent = nothing-sent _ _;
       flag = refl;
-      room = omega arith;
     }
 
-pub returns-in_err-written-clause-part : goal.returns-in_err-written-clause-part
-returns-in_err-written-clause-part g c =
+pub returns-in_err-play_event-clause-part : goal.returns-in_err-play_event-clause-part
+returns-in_err-play_event-clause-part g c =
     let before = c.loop-event.invariant in
     let (others, is, later) = events-step _ _ _ _ _ (omega (arith, c.in-Some.ensures.shrinks)) c.in-Some.ensures.value.0 c.in-Some.ensures.value.1 before.reads in
-    let p = err_from_is_err_and c.from_residual.result c.from_residual.ensures.1 in
-    rw (p.1, p.2) (has-stopped _ _ _ _ _ _ _ _ _ _ _ _ _ _ before.all is before.run before.sent c.in_err-written.ensures.part)
+    on-err c.from_residual.result _ (has-stopped _ _ _ _ _ _ _ _ _ _ _ _ _ _ _ before.all is before.run before.sent c.in_err-play_event.ensures.part)
 
 pub loop-event-preserved : goal.loop-event-preserved
 loop-event-preserved g c =
     let before = c.loop-event.invariant in
     let (others, is, later) = events-step _ _ _ _ _ (omega (arith, c.in-Some.ensures.shrinks)) c.in-Some.ensures.value.0 c.in-Some.ensures.value.1 before.reads in
-    let r = c.in_ok-written.ensures.ok in
+    let r = c.in_ok-play_event.ensures.ok in
     record {
       done = before.done ++ c.in-Some.event ∷ [];
       left = others;
@@ -41,13 +38,12 @@ loop-event-preserved g c =
       reads = later;
       replies = before.replies ++ r.reply ∷ [];
       run = run-then _ _ _ _ _ _ _ before.run r.step;
-      sent = sent-reply _ _ _ _ _ _ _ before.sent r.sent;
-      flag = c.in_ok-written.ensures.flag ∙ before.flag;
-      room = omega (arith, before.room, c.in-Some.ensures.shrinks, c.in_ok-written.ensures.room);
+      sent = sent-reply _ _ _ _ _ _ _ _ before.sent r.sent;
+      flag = c.in_ok-play_event.ensures.flag ∙ before.flag;
     }
 
 pub returns-clause-played : goal.returns-clause-played
 returns-clause-played g c =
     let before = c.loop-event.invariant in
     let nothing = events-none _ _ _ (at-none _ _ _ c.split_command.ensures.value c.in_default.not-Some) before.reads in
-    has-played _ _ _ _ _ _ _ _ (rw (nothing, append-nil) at before.all) before.run before.sent
+    has-played _ _ _ _ _ _ _ _ _ (rw (nothing, append-nil) at before.all) before.run before.sent

@@ -1,4 +1,4 @@
-use Rattle.std.proofs.Common.{◌≡◌, ℕ, ◌+◌, ◌*◌, ◌^◌, ◌≤◌, List, ◌++◌, Ok, length}
+use Rattle.std.proofs.Common.{◌≡◌, ℕ, List, ◌++◌, Ok, length}
 use Rattle.mapmachine.specs.Machine.{Runs}
 use Rattle.mapmachine.specs.declared.reply.Event.{Event}
 use Rattle.mapmachine.specs.declared.reply.Reply.{Reply}
@@ -19,9 +19,8 @@ invariant-loop-event g l = record {
   reads : script_from number l.rest ≡ Ok left;
   replies : List Reply;
   run : Runs l.fn.machine done replies l.machine;
-  sent : IsSent (g.S.Sink.held l.fn.sink) (g.S.Sink.held l.sink) (transcript replies) 0 l.written;
+  sent : IsSent (g.S.Sink.held l.fn.sink) (g.S.Sink.held l.sink) (transcript replies) (g.S.Sink.taken l.fn.sink) (g.S.Sink.taken l.sink);
   flag : g.S.Sink.put_failed l.sink ≡ g.S.Sink.put_failed l.fn.sink;
-  room : 7 * l.written + 2 ^ 66 * length l.rest ≤ 2 ^ 66 * length l.script;
 }
 
 abbrev pub decreases-loop-event : goal.decreases-loop-event

@@ -1,18 +1,16 @@
-use Rattle.std.proofs.Common.{◌∙◌, ◌++◌, sym, ap, arith, append_assoc, append-nil}
-use Rattle.std.proofs.lemmas.Result.{err_from_is_err_and}
+use Rattle.std.proofs.Common.{◌∙◌, ◌++◌, sym, ap, append_assoc, append-nil}
 use Rattle.mapservd.specs.Transcript.{hex_line, hex_within}
 use Rattle.mapservd.proofs.HexLines.{hex_lines-cut}
 use Rattle.mapservd.proofs.Rests.{some-left, none-left}
-use Rattle.mapservd.proofs.Outgoing.{sent-sent, sent-partly, partly-more}
+use Rattle.mapservd.proofs.Outgoing.{on-err, sent-sent, sent-partly, partly-more}
 use Rattle.mapservd.proofs.sending.send_hex.Goals as goal
 
-pub returns-in_err-written-clause-part : goal.returns-in_err-written-clause-part
-returns-in_err-written-clause-part g c =
+pub returns-in_err-send_hex_line-clause-part : goal.returns-in_err-send_hex_line-clause-part
+returns-in_err-send_hex_line-clause-part g c =
     let before = c.loop-rest.invariant in
     let some = some-left _ _ c.is_empty.ensures c.loop-rest-test.true in
-    let p = err_from_is_err_and c.from_residual.result c.from_residual.ensures.1 in
-    rw (p.1, p.2, ← before.all, hex_lines-cut _ _ _ _ some c.min.ensures c.split_at.ensures.front c.split_at.ensures.back)
-    (sent-partly _ _ _ _ _ _ _ _ before.sent (partly-more _ _ _ _ _ _ c.in_err-written.ensures.part))
+    rw (← before.all, hex_lines-cut _ _ _ _ some c.min.ensures c.split_at.ensures.front c.split_at.ensures.back)
+    (on-err c.from_residual.result _ (sent-partly _ _ _ _ _ _ _ _ before.sent (partly-more _ _ _ _ _ _ c.in_err-send_hex_line.ensures.part)))
 
 pub loop-rest-preserved : goal.loop-rest-preserved
 loop-rest-preserved g c =
@@ -24,9 +22,8 @@ loop-rest-preserved g c =
           append_assoc before.text _ _
           ∙ ap (λ text. before.text ++ text) (sym (hex_lines-cut _ _ _ _ some c.min.ensures c.split_at.ensures.front c.split_at.ensures.back))
           ∙ before.all;
-      sent = sent-sent _ _ _ _ _ _ _ _ before.sent c.in_ok-written.ensures.ok;
-      flag = c.in_ok-written.ensures.flag ∙ before.flag;
-      room = omega (arith, before.room, some, c.min.ensures, c.split_at.ensures.back_len, c.in_ok-written.ensures.room);
+      sent = sent-sent _ _ _ _ _ _ _ _ before.sent c.in_ok-send_hex_line.ensures.ok;
+      flag = c.in_ok-send_hex_line.ensures.flag ∙ before.flag;
     }
 
 pub returns-clause-ok : goal.returns-clause-ok

@@ -1,4 +1,4 @@
-use Rattle.std.proofs.Common.{◌≡◌, ◌+◌, ◌*◌, ◌≤◌, ℕ, List, ◌++◌, length}
+use Rattle.std.proofs.Common.{◌≡◌, ℕ, List, ◌++◌, length}
 use Rattle.mapservd.specs.Sent.{IsSent}
 use Rattle.mapservd.specs.Transcript.{hex_lines}
 use Rattle.mapservd.proofs.sending.send_hex.Given as goal
@@ -8,9 +8,8 @@ abbrev pub invariant-loop-rest : goal.invariant-loop-rest
 invariant-loop-rest g l = record {
   text : List ℕ;
   all : text ++ hex_lines l.rest ≡ hex_lines l.bytes;
-  sent : IsSent (g.S.Sink.held l.fn.sink) (g.S.Sink.held l.sink) text l.before l.written;
+  sent : IsSent (g.S.Sink.held l.fn.sink) (g.S.Sink.held l.sink) text (g.S.Sink.taken l.fn.sink) (g.S.Sink.taken l.sink);
   flag : g.S.Sink.put_failed l.sink ≡ g.S.Sink.put_failed l.fn.sink;
-  room : l.written + 3 * length l.rest ≤ l.before + 3 * length l.bytes;
 }
 
 abbrev pub decreases-loop-rest : goal.decreases-loop-rest
