@@ -2,7 +2,8 @@
 use Rattle.std.proofs.Common.{◌≡◌, ◌∙◌, ℕ, ◌+◌, ◌-◌, ◌<◌, ◌≤◌, List, length, take, drop, Some, sym, ap, arith, length-drop, true}
 use Rattle.std.specs.List.{position_or_len}
 use Rattle.std.proofs.lemmas.Bool.Decides.{nat_tests}
-use Rattle.mapservd.specs.Script.{is_line_end, has_line, command_of, front_command, behind_command}
+use Rattle.mapservd.specs.Lines.{is_line_end}
+use Rattle.mapservd.specs.Script.{has_line, command_of, front_command, after_command}
 use Rattle.mapmachine.specs.declared.reply.Event.{Event}
 use Rattle.std.proofs.lemmas.List.{take_rest, drop-drop}
 
@@ -14,8 +15,8 @@ front_command-cut script line rest end event is front back some command =
     let has : has_line script ≡ true = rw (← is) (grind (arith, nat_tests)) in
     rw has (sym (command ∙ ap command_of (front ∙ ap (λ n. take n script) is)))
 
--- and behind it stands what stands behind that LF
-pub behind_command-cut : (script rest : List ℕ) (end : ℕ) → end ≡ position_or_len is_line_end script → rest ≡ drop end script →
-    take (length rest - 1) (drop 1 rest) ≡ behind_command script
-behind_command-cut script rest end is back =
+-- and after it stands what stands after that LF
+pub after_command-cut : (script rest : List ℕ) (end : ℕ) → end ≡ position_or_len is_line_end script → rest ≡ drop end script →
+    take (length rest - 1) (drop 1 rest) ≡ after_command script
+after_command-cut script rest end is back =
     take_rest rest 1 ∙ ap (λ bytes. drop 1 bytes) back ∙ drop-drop 1 end script ∙ ap (λ n. drop (n + 1) script) is

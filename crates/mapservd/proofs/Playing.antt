@@ -6,7 +6,7 @@ use Rattle.mapmachine.specs.declared.reply.Event.{Event}
 use Rattle.mapmachine.specs.declared.reply.Reply.{Reply}
 use Rattle.mapservd.specs.Script.{script_of, fault_of}
 use Rattle.mapservd.specs.Sent.{IsSent, IsPartlySent, IsPartlyReplied}
-use Rattle.mapservd.specs.Session.{IsTranscript, IsSessionOf, IsPlayed, IsRefused, HasPlayed, HasStopped, HasPartlyRefused, HasStoppedIn, HasPartlyPlayed}
+use Rattle.mapservd.specs.Playing.{IsTranscript, IsSessionOf, IsPlayed, IsRefused, HasPlayed, HasStopped, HasPartlyRefused, HasStoppedIn, HasPartlyPlayed}
 use Rattle.mapservd.specs.Transcript.{reply_text, transcript, script_fault}
 use Rattle.mapservd.proofs.Outgoing.{sent-sent, sent-partly}
 
@@ -50,7 +50,7 @@ pub has-stopped : (old between new : State) (script : List ℕ) (done left other
 has-stopped old between new script done left others event replies a b c before now after all is run sent partly =
     let text : transcript (replies ++ partly.reply ∷ []) ≡ transcript replies ++ reply_text partly.reply = one-more replies partly.reply in
     let p : IsPartlySent a c (transcript (replies ++ partly.reply ∷ [])) before after =
-      rw text (sent-partly a b c (transcript replies) (reply_text partly.reply) before now after sent partly.sent) in
+    rw text (sent-partly a b c (transcript replies) (reply_text partly.reply) before now after sent partly.sent) in
     let count : after - before ≡ p.part = omega (arith, p.count) in
     let stopped : HasStopped old (done ++ left) new a c (after - before) = record {
       done = done;

@@ -1,81 +1,95 @@
--- What a session writes (docs/PROFILE.md, "Sessions").
-use Rattle.std.specs.Prelude.{◌≡◌, ℕ, ◌+◌, ◌<◌, ◌≤◌, Bool, true, ◌&&◌, nat_eq, if◌then◌else◌, List, [], ◌∷◌, ◌++◌, length, take, drop, Option, Result, Ok, Err, codes}
-use Rattle.std.specs.List.{before_first}
-use Rattle.std.specs.Cmp.Lexicographic.{pointwise}
-use Rattle.std.specs.Io.KnownBytes.{Appends}
-use Rattle.mapmachine.specs.Machine.{State, Runs}
-use Rattle.mapmachine.specs.declared.reply.Event.{Event}
-use Rattle.mapmachine.specs.declared.reply.Reply.{Reply}
-use Rattle.mapservd.specs.Script.{is_line_end, script_of}
-use Rattle.mapservd.specs.Transcript.{transcript, script_fault}
+-- A session, from the bytes of the input to what its writers get (docs/PROFILE.md, "Sessions").
+use Rattle.std.specs.Prelude.{◌≡◌, ℕ, ◌≤◌, Bool, true, false, List, length, take, Option, Ok, Err, ◌⊎◌}
+use Rattle.std.specs.Io.KnownBytes.{Keeps, Appends, Consumes, IsAtEnd}
+use Rattle.mapdefs.specs.declared.map.MapFields.{MapFields}
+use Rattle.mapmachine.specs.Machine.{State}
+use Rattle.mapparse.specs.Fault.{Fault, number_of}
+use Rattle.mapparse.specs.Parsed.{parsed}
+use Rattle.mapservd.specs.Parts.{AreParts}
+use Rattle.mapservd.specs.Playing.{HasPlayed, HasPartlyPlayed}
+use Rattle.mapservd.specs.Transcript.{mapfile_fault}
+use Rattle.mapservd.specs.declared.outcome.Outcome.{Outcome}
+use Rattle.mapservd.specs.declared.outcome.Outcome.TheVariants.{Played, MapfileFault, InputFailed, OutputFailed, NoMemory}
 
--- some replies to the events lead from a state to another, and this is what is written of them
-pub record IsPlayed (old : State) (events : List Event) (new : State) (text : List ℕ) : Type 0 where
-  pub replies : List Reply
-  pub run : Runs old events replies new
-  pub written : text ≡ transcript replies
+-- the three streams: what is left of the input, and what the two writers hold, where it is known
+pub record Streams : Type 0 where
+  pub input : Option (List ℕ)
+  pub output : Option (List ℕ)
+  pub errors : Option (List ℕ)
 
--- an unreadable script plays nothing, and its fault is written
-pub record IsRefused (number : ℕ) (old new : State) (text : List ℕ) : Type 0 where
-  pub state : new ≡ old
-  pub written : text ≡ script_fault number
+-- all of the input was read up to its end, and these are its parts
+pub record HasRead (before after : Option (List ℕ)) (mapfile script : List ℕ) : Type 0 where
+  pub session : List ℕ
+  pub bytes : Consumes before after session
+  pub end : IsAtEnd after
+  pub parts : AreParts session mapfile script
 
--- what is written of what was read as a script
-abbrev pub IsSessionOf : State → Result (List Event) ℕ → State → List ℕ → Type 0
-IsSessionOf old (Ok events) new text = IsPlayed old events new text
-IsSessionOf old (Err number) new text = IsRefused number old new text
+-- neither writer got anything
+pub record IsSilent (old new : Streams) : Type 0 where
+  pub output : Keeps old.output new.output
+  pub errors : Keeps old.errors new.errors
 
--- playing a script leads from a state to another, and this is the whole transcript
-abbrev pub IsTranscript : State → List ℕ → State → List ℕ → Type 0
-IsTranscript old script new text = IsSessionOf old (script_of script) new text
+-- the machine as it begins with a map
+abbrev pub opened : MapFields → State
+opened map = record { map = map; sequence = 0 }
 
--- all of a transcript of the script went out
-pub record HasPlayed (old : State) (script : List ℕ) (new : State) (before after : Option (List ℕ)) : Type 0 where
-  pub text : List ℕ
-  pub transcript : IsTranscript old script new text
-  pub bytes : Appends before after text
+-- what the output got of a script that was played from a state to another, by the outcome: all that there was to write; or exactly the first so many
+-- bytes of it, or all of them where the flush failed
+abbrev pub Ends : Outcome → State → List ℕ → State → Option (List ℕ) → Option (List ℕ) → Type 0
+Ends Played old script new before after = HasPlayed old script new before after
+Ends MapfileFault old script new before after = ⊥
+Ends InputFailed old script new before after = ⊥
+Ends OutputFailed old script new before after =
+    ((written : ℕ) × HasPartlyPlayed old script new before after written) ⊎ HasPlayed old script new before after
+Ends NoMemory old script new before after = ⊥
 
--- the events up to one were played, and of the replies to them only so many bytes went out, which end within the reply to this one
-pub record HasStopped (old : State) (events : List Event) (new : State) (before after : Option (List ℕ)) (written : ℕ) : Type 0 where
-  pub done : List Event
-  pub event : Event
-  pub left : List Event
-  pub parts : events ≡ done ++ (event ∷ left)
-  pub replies : List Reply
-  pub reply : Reply
-  pub run : Runs old (done ++ event ∷ []) (replies ++ reply ∷ []) new
-  pub reached : length (transcript replies) ≤ written
-  pub short : written < length (transcript (replies ++ reply ∷ []))
-  pub bytes : Appends before after (take written (transcript (replies ++ reply ∷ [])))
+-- the mapfile describes a map, and playing the script on it had this outcome
+pub record IsServed (outcome : Outcome) (old new : Streams) : Type 0 where
+  pub mapfile : List ℕ
+  pub script : List ℕ
+  pub read : HasRead old.input new.input mapfile script
+  pub map : MapFields
+  pub is_map : parsed mapfile ≡ Ok map
+  pub state : State
+  pub ends : Ends outcome (opened map) script state old.output new.output
+  pub errors : Keeps old.errors new.errors
 
--- nothing was played, and only so many bytes of a script's fault went out
-pub record HasPartlyRefused (number : ℕ) (old new : State) (before after : Option (List ℕ)) (written : ℕ) : Type 0 where
-  pub state : new ≡ old
-  pub short : written < length (script_fault number)
-  pub bytes : Appends before after (take written (script_fault number))
+-- a line was told to a writer: all of it, unless the writer failed and got its front
+pub record IsTold (before after : Option (List ℕ)) (line : List ℕ) (failed : Bool) : Type 0 where
+  pub count : ℕ
+  pub bytes : Appends before after (take count line)
+  pub all : failed ≡ false → length line ≤ count
 
--- where writing stopped, by what was read as a script
-abbrev pub HasStoppedIn : State → Result (List Event) ℕ → State → Option (List ℕ) → Option (List ℕ) → ℕ → Type 0
-HasStoppedIn old (Ok events) new before after written = HasStopped old events new before after written
-HasStoppedIn old (Err number) new before after written = HasPartlyRefused number old new before after written
+-- the mapfile has a fault, which was told to the errors alone
+pub record IsFaulty (old new : Streams) (failed : Bool) : Type 0 where
+  pub mapfile : List ℕ
+  pub script : List ℕ
+  pub read : HasRead old.input new.input mapfile script
+  pub fault : Fault
+  pub is_fault : parsed mapfile ≡ Err fault
+  pub output : Keeps old.output new.output
+  pub told : IsTold old.errors new.errors (mapfile_fault fault.line (number_of fault.kind)) failed
 
--- exactly the first so many bytes of what playing the script writes went out, and not all
-abbrev pub HasPartlyPlayed : State → List ℕ → State → Option (List ℕ) → Option (List ℕ) → ℕ → Type 0
-HasPartlyPlayed old script new before after written = HasStoppedIn old (script_of script) new before after written
+-- what an outcome tells of the streams; `failed` says whether the writer of errors has failed
+abbrev pub Tells : Outcome → Streams → Streams → Bool → Type 0
+Tells Played old new failed = IsServed Played old new
+Tells MapfileFault old new failed = IsFaulty old new failed
+Tells InputFailed old new failed = IsSilent old new
+Tells OutputFailed old new failed = IsServed OutputFailed old new
+Tells NoMemory old new failed = IsSilent old new
 
--- a line of exactly two percent signs stands at the front
-abbrev pub is_parting : List ℕ → Bool
-is_parting bytes = pointwise nat_eq (before_first is_line_end bytes) (codes "%%")
+-- the reader failed
+abbrev pub is_input_failed : Outcome → Bool
+is_input_failed Played = false
+is_input_failed MapfileFault = false
+is_input_failed InputFailed = true
+is_input_failed OutputFailed = false
+is_input_failed NoMemory = false
 
--- how many bytes of a session stand before its first line of two percent signs; the flag says whether a line begins here
-abbrev pub mapfile_len : Bool → List ℕ → ℕ
-mapfile_len at_line [] = 0
-mapfile_len at_line (b ∷ bs) = if at_line && is_parting (b ∷ bs) then 0 else 1 + mapfile_len (is_line_end b) bs
-
--- the mapfile of a session: what stands before that line
-abbrev pub mapfile_of : List ℕ → List ℕ
-mapfile_of session = take (mapfile_len true session) session
-
--- the script of a session: what stands behind that line, its two signs and its LF
-abbrev pub script_part : List ℕ → List ℕ
-script_part session = drop (mapfile_len true session + 3) session
+-- the writer of the transcript failed
+abbrev pub is_output_failed : Outcome → Bool
+is_output_failed Played = false
+is_output_failed MapfileFault = false
+is_output_failed InputFailed = false
+is_output_failed OutputFailed = true
+is_output_failed NoMemory = false

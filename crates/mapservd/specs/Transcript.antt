@@ -1,4 +1,4 @@
--- Replies as they are written (docs/PROFILE.md, "Sessions").
+-- Replies and faults as they are written (docs/PROFILE.md, "Sessions").
 use Rattle.std.specs.Prelude.{ℕ, zero, suc, List, [], ◌∷◌, ◌++◌, length, take, drop, codes}
 use Rattle.std.specs.List.{flat_map}
 use Rattle.std.specs.Fmt.{decimal}
@@ -49,3 +49,7 @@ transcript replies = flat_map reply_text replies
 -- the fault of a script, by the number of its first unreadable command
 abbrev pub script_fault : ℕ → List ℕ
 script_fault number = codes "fault script " ++ (decimal number ++ codes "\n")
+
+-- the fault of a mapfile, by its line and the number of its kind
+abbrev pub mapfile_fault : ℕ → ℕ → List ℕ
+mapfile_fault line kind = codes "fault line " ++ (decimal line ++ (codes " kind " ++ (decimal kind ++ codes "\n")))

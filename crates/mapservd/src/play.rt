@@ -1,7 +1,7 @@
 ghost use Rattle.std.specs.Prelude.{◌≡◌, ◌-◌, ◌≤◌, None, OnOk, OnErr, IfErr, MatchResult, true};
 ghost use Rattle.mapservd.specs.Script.{script_of, fault_of};
 ghost use Rattle.mapservd.specs.Sent.{IsReplied, IsPartlyReplied};
-ghost use Rattle.mapservd.specs.Session.{HasPlayed, HasPartlyPlayed};
+ghost use Rattle.mapservd.specs.Playing.{HasPlayed, HasPartlyPlayed};
 
 use crate::script::{split_command, unreadable_command};
 use crate::sending::{send_reply, send_script_fault};

@@ -2,12 +2,12 @@ ghost use Rattle.std.specs.Prelude.{◌≡◌, ◌+◌, ◌*◌, ◌≤◌, ◌+
 ghost use Rattle.mapservd.specs.declared.sending.TheConstants.{LINE};
 ghost use Rattle.std.specs.List.{flat_map};
 ghost use Rattle.mapservd.specs.Sent.{IsSent, IsPartlySent};
-ghost use Rattle.mapservd.specs.Transcript.{hex_line, hex_lines, line_start, body_text, answer_line, reply_text, script_fault};
+ghost use Rattle.mapservd.specs.Transcript.{hex_line, hex_lines, line_start, body_text, answer_line, reply_text, script_fault, mapfile_fault};
 
 use itoa::Buffer;
 use mapmachine::{Answer, Mime, PutFailed, Reply, Sink, put_all};
 
-/// The most bytes of a picture that are written on one line.
+// The most bytes of a picture that are written on one line.
 const LINE: usize = 32;
 
 // Writes some bytes.
@@ -138,4 +138,16 @@ pub fn send_script_fault<S: Sink>(sink: &mut S, number: u64) -> Result<(), PutFa
     let mut digits = Buffer::new();
     let number = digits.format(number).as_bytes();
     send_pieces(sink, &[b"fault script ", number, b"\n"])
+}
+
+/// Writes the fault of a mapfile: its line and the number of its kind.
+pub fn send_mapfile_fault<S: Sink>(sink: &mut S, line: u64, kind: u8) -> Result<(), PutFailed>
+    ensures ok { OnOk result (IsSent (S.held sink.old) (S.held sink.new) (mapfile_fault line kind) (S.taken sink.old) (S.taken sink.new)) }
+    ensures part { OnErr result (IsPartlySent (S.held sink.old) (S.held sink.new) (mapfile_fault line kind) (S.taken sink.old) (S.taken sink.new)) }
+    ensures flag { MatchResult result (λ _. S.put_failed sink.new ≡ S.put_failed sink.old) (λ _. S.put_failed sink.new ≡ true) }
+{
+    let (mut line_digits, mut kind_digits) = (Buffer::new(), Buffer::new());
+    let line = line_digits.format(line).as_bytes();
+    let kind = kind_digits.format(kind).as_bytes();
+    send_pieces(sink, &[b"fault line ", line, b" kind ", kind, b"\n"])
 }

@@ -1,40 +1,76 @@
-ghost use Rattle.std.specs.Prelude.{◌≡◌, ◌≤◌, length, true};
-ghost use Rattle.mapservd.specs.Session.{is_parting, mapfile_len, mapfile_of, script_part};
+ghost use Rattle.std.specs.Prelude.{◌≡◌, ◌||◌, true, false};
+ghost use Rattle.mapservd.specs.declared.outcome.Outcome.TheVariants.{Played, MapfileFault};
+ghost use Rattle.mapservd.specs.Session.{Tells, Ends, IsTold, is_input_failed, is_output_failed};
+ghost use Rattle.mapservd.specs.Transcript.{mapfile_fault};
 
-use crate::script::line_len;
+use crate::input::{ReadFault, read_all};
+use crate::outcome::Outcome;
+use crate::parts::split_session;
+use crate::play::play_script;
+use crate::sending::send_mapfile_fault;
+use mapmachine::{Machine, Sink, Source};
+use mapparse::{ParseFault, parse};
+use std::alloc::Global;
 
-// Whether a line of exactly two percent signs stands at the front.
-fn is_parting(bytes: &[u8]) -> bool
-    ensures { result ≡ is_parting bytes.now }
+/// Reads a session from the input up to its end, and plays it: the transcript goes to the output, or
+/// the fault of the mapfile to the errors. The outcome tells what the writers got.
+pub fn serve_session<I: Source, O: Sink, E: Sink>(
+    alloc: Global,
+    input: &mut I,
+    output: &mut O,
+    errors: &mut E,
+) -> Outcome
+    ensures tells { Tells result
+        (record { input = I.left input.old; output = O.held output.old; errors = E.held errors.old })
+        (record { input = I.left input.new; output = O.held output.new; errors = E.held errors.new })
+        (E.put_failed errors.new) }
+    ensures flushed { result ≡ Played → O.is_flushed output.new ≡ true }
+    ensures errors_flushed { result ≡ MapfileFault → E.put_failed errors.new ≡ false → E.is_flushed errors.new ≡ true }
+    ensures input_flag { I.take_failed input.new ≡ (is_input_failed result || I.take_failed input.old) }
+    ensures output_flag { O.put_failed output.new ≡ (is_output_failed result || O.put_failed output.old) }
 {
-    let (line, _) = bytes.split_at(line_len(bytes));
-    line == b"%%".as_slice()
-}
-
-// How many bytes of a session stand before its first line of two percent signs.
-fn mapfile_len(session: &[u8]) -> usize
-    ensures value { result ≡ mapfile_len true session.now }
-    ensures within { result ≤ length session.now }
-{
-    let mut at_line = true;
-    for (place, byte) in session.iter().enumerate() {
-        if at_line && is_parting(&session[place..]) {
-            return place;
+    let session = match read_all(alloc, input) {
+        Ok(session) => session,
+        Err(ReadFault::Input) => return Outcome::InputFailed,
+        Err(ReadFault::NoMemory) => return Outcome::NoMemory,
+    };
+    let (mapfile, script) = split_session(&session);
+    match parse(alloc, mapfile) {
+        Ok(map) => play_out(&mut Machine::open(alloc, map), script, output),
+        Err(ParseFault::At { line, kind }) => {
+            tell_mapfile_fault(errors, line, kind.number());
+            Outcome::MapfileFault
         }
-        at_line = *byte == b'\n';
+        Err(ParseFault::NoMemory) => Outcome::NoMemory,
     }
-    session.len()
 }
 
-/// The mapfile and the script of a session: what stands before the first line of two percent signs,
-/// and what stands behind it.
-pub fn split_session(session: &[u8]) -> (&[u8], &[u8])
-    ensures mapfile { result.0.now ≡ mapfile_of session.now }
-    ensures script { result.1.now ≡ script_part session.now }
+// Plays a script, and flushes what it wrote.
+fn play_out<O: Sink>(machine: &mut Machine, script: &[u8], output: &mut O) -> Outcome
+    ensures ends { Ends result machine.old script.now machine.new (O.held output.old) (O.held output.new) }
+    ensures flushed { result ≡ Played → O.is_flushed output.new ≡ true }
+    ensures flag { O.put_failed output.new ≡ (is_output_failed result || O.put_failed output.old) }
+    ensures read { is_input_failed result ≡ false }
 {
-    let (mapfile, rest) = session.split_at(mapfile_len(session));
-    match rest {
-        [_, _, _, script @ ..] => (mapfile, script),
-        _ => (mapfile, &[]),
+    match play_script(machine, script, output) {
+        Ok(()) => match output.flush() {
+            Ok(()) => Outcome::Played,
+            Err(_) => Outcome::OutputFailed,
+        },
+        Err(_) => Outcome::OutputFailed,
+    }
+}
+
+// Tells the fault of a mapfile.
+fn tell_mapfile_fault<E: Sink>(errors: &mut E, line: u64, kind: u8)
+    ensures told { IsTold (E.held errors.old) (E.held errors.new) (mapfile_fault line kind) (E.put_failed errors.new) }
+    ensures flushed { E.put_failed errors.new ≡ false → E.is_flushed errors.new ≡ true }
+{
+    // Where it can't be written, the outcome still tells.
+    match send_mapfile_fault(errors, line, kind) {
+        Ok(()) => {
+            let _ = errors.flush();
+        }
+        Err(_) => {}
     }
 }

@@ -1,5 +1,5 @@
+use crate::parts::split_session;
 use crate::play::play_script;
-use crate::session::split_session;
 use mapmachine::{Bytes, Event, Flagged, Machine, Mime, Reply, WriteFault};
 use mapparse::{ParseFault, parse};
 use std::alloc::{AllocError, Global};

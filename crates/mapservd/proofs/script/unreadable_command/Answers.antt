@@ -12,7 +12,7 @@ returns-in-None c =
 pub loop-rest-preserved : goal.loop-rest-preserved
 loop-rest-preserved c = record {
   fault =
-      sym (fault-readable c.loop-rest.number c.loop-rest.rest.now c.in-Some.field-0-0 c.in-Some.behind.now
+      sym (fault-readable c.loop-rest.number c.loop-rest.rest.now c.in-Some.field-0-0 c.in-Some.others.now
       (some-left _ _ c.is_empty.ensures c.loop-rest-test.true) c.in-Some.ensures.value.0 c.in-Some.ensures.value.1)
       ∙ c.loop-rest.invariant.fault;
   count = omega (arith, c.in-Some.ensures.shrinks, c.loop-rest.invariant.count);

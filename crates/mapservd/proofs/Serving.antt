@@ -1,0 +1,31 @@
+-- How a session ends.
+use Rattle.std.proofs.Common.{◌≡◌, ℕ, Bool, List, Option, Ok, length, arith, take_all}
+use Rattle.std.specs.Io.KnownBytes.{Keeps}
+use Rattle.std.proofs.KnownBytes.{Appends-kept}
+use Rattle.mapdefs.specs.declared.map.MapFields.{MapFields}
+use Rattle.mapmachine.specs.Machine.{State}
+use Rattle.mapparse.specs.Parsed.{parsed}
+use Rattle.mapservd.specs.Sent.{IsSent}
+use Rattle.mapservd.specs.Session.{Streams, HasRead, Ends, IsTold, Tells, opened}
+use Rattle.mapservd.specs.declared.outcome.Outcome.{Outcome}
+use Rattle.mapservd.specs.declared.outcome.Outcome.TheVariants.{Played, MapfileFault, InputFailed, OutputFailed, NoMemory}
+
+-- a line that went out whole and was flushed was told
+pub told-whole : (a b c : Option (List ℕ)) (line : List ℕ) (before after : ℕ) (failed : Bool) → IsSent a b line before after → Keeps b c → IsTold a c line failed
+told-whole a b c line before after failed sent kept = record {
+  count = length line;
+  bytes = rw (take_all (length line) line (omega arith)) (Appends-kept a b c line sent.bytes kept);
+  all = λ _. omega arith;
+}
+
+-- what is told of a script that was played, by the outcome
+pub served : (outcome : Outcome) (old new : Streams) (failed : Bool) (mapfile script : List ℕ) (map : MapFields) (state : State) →
+    HasRead old.input new.input mapfile script → parsed mapfile ≡ Ok map → Ends outcome (opened map) script state old.output new.output →
+    Keeps old.errors new.errors → Tells outcome old new failed
+served Played old new failed mapfile script map state read is_map ends kept =
+    record { mapfile = mapfile; script = script; read = read; map = map; is_map = is_map; state = state; ends = ends; errors = kept }
+served MapfileFault old new failed mapfile script map state read is_map ends kept = absurd ends
+served InputFailed old new failed mapfile script map state read is_map ends kept = absurd ends
+served OutputFailed old new failed mapfile script map state read is_map ends kept =
+    record { mapfile = mapfile; script = script; read = read; map = map; is_map = is_map; state = state; ends = ends; errors = kept }
+served NoMemory old new failed mapfile script map state read is_map ends kept = absurd ends
