@@ -15,7 +15,7 @@ pub enum ParseKind {
     #[error("a word that may not stand here")]
     UnknownWord,
     /// A token that is no value of its keyword.
-    #[error("a value that its word does not take")]
+    #[error("a value that its keyword does not take")]
     WrongValue,
     /// The source ends before the END of MAP. The line is the last of the source.
     #[error("the mapfile ends where an END is missing")]

@@ -27,7 +27,7 @@ const MESSAGES: [(u64, ParseKind, u8, &str); 9] = [
         7,
         ParseKind::WrongValue,
         3,
-        "line 7: a value that its word does not take",
+        "line 7: a value that its keyword does not take",
     ),
     (
         7,
