@@ -1,0 +1,53 @@
+-- Coordinate reference systems and their axis orders (OGC 06-042, 7.3; docs/PROFILE.md, "Axis order").
+use Rattle.std.specs.Prelude.{◌≡◌, ℕ, Bool, ◌==◌, ◌&&◌, nat_eq, if◌then◌else◌, List, [], ◌∷◌, ℤ, int_lt, Option, None, Some, Result, Ok, Err, codes}
+use Rattle.std.specs.List.{slice_split}
+use Rattle.std.specs.Option.{option_map_or}
+use Rattle.std.specs.Cmp.Lexicographic.{pointwise}
+use Rattle.geom.specs.Number.{coordinate_of}
+use Rattle.geom.specs.World.{Area}
+use Rattle.crsaxes.specs.declared.crs.Crs.{Crs}
+use Rattle.crsaxes.specs.declared.crs.Crs.TheVariants.{Crs84, Epsg4326}
+use Rattle.crsaxes.specs.declared.fault.AxisFault.{AxisFault}
+use Rattle.crsaxes.specs.declared.fault.AxisFault.TheVariants.{UnknownCrs, NotFour, NotANumber, Empty}
+
+-- the coordinate reference system of a name, byte by byte
+abbrev pub crs_of : List ℕ → Option Crs
+crs_of name =
+    if pointwise nat_eq name (codes "CRS:84") then Some Crs84
+    else (if pointwise nat_eq name (codes "EPSG:4326") then Some Epsg4326 else None)
+
+-- a comma
+abbrev pub is_comma : ℕ → Bool
+is_comma b = b == 44
+
+-- the parts of a text between commas
+abbrev pub parts : List ℕ → List (List ℕ)
+parts text = slice_split is_comma text
+
+-- a box, if it has an area
+abbrev pub with_area : Area → Result Area AxisFault
+with_area area = if int_lt area.minx area.maxx && int_lt area.miny area.maxy then Ok area else Err Empty
+
+-- the box of the least values of both axes and the greatest: CRS:84 has the longitude first, EPSG:4326 the latitude
+abbrev pub box_in : Crs → ℤ → ℤ → ℤ → ℤ → Area
+box_in Crs84 a b c d = record { minx = a; miny = b; maxx = c; maxy = d }
+box_in Epsg4326 a b c d = record { minx = b; miny = a; maxx = d; maxy = c }
+
+-- the box of four coordinates, if these are all there
+abbrev pub box_of : Crs → Option ℤ → Option ℤ → Option ℤ → Option ℤ → Result Area AxisFault
+box_of crs (Some a) (Some b) (Some c) (Some d) = with_area (box_in crs a b c d)
+box_of crs _ _ _ _ = Err NotANumber
+
+-- the box of some parts: there have to be four
+abbrev pub box_of_parts : Crs → List (List ℕ) → Result Area AxisFault
+box_of_parts crs (a ∷ b ∷ c ∷ d ∷ []) = box_of crs (coordinate_of a) (coordinate_of b) (coordinate_of c) (coordinate_of d)
+box_of_parts crs _ = Err NotFour
+
+-- the box that a text means in the system of a name, or the first fault
+abbrev pub bbox : List ℕ → List ℕ → Result Area AxisFault
+bbox name text = option_map_or (λ crs. box_of_parts crs (parts text)) (crs_of name) (Err UnknownCrs)
+
+-- the law that EPSG:4326 has latitudes where CRS:84 has longitudes, and the other way round
+abbrev pub AxesAreExchanged : Type 0
+AxesAreExchanged = (west south east north : List ℕ) →
+    box_of_parts Epsg4326 (south ∷ west ∷ north ∷ east ∷ []) ≡ box_of_parts Crs84 (west ∷ south ∷ east ∷ north ∷ [])
