@@ -20,6 +20,8 @@ mod script;
 mod sending;
 mod session;
 #[cfg(test)]
+mod stream_tests;
+#[cfg(test)]
 mod tests;
 
 use crate::outcome::Outcome;

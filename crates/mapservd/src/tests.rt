@@ -6,31 +6,32 @@ use std::alloc::{AllocError, Global};
 use std::io::{self, Write};
 use std::test::Fail;
 
-// A map of one layer `a` with one red feature of these rings.
-fn map_text(alloc: Global, rings: &str) -> Result<String, AllocError> {
+/// A map of one layer `a` with one feature of these rings, in the colour 10 20 30.
+pub fn map_text(alloc: Global, rings: &str) -> Result<String, AllocError> {
     format!(in alloc;
-        "MAP\nLAYER\nNAME \"a\"\nTYPE POLYGON\nCLASS\nSTYLE\nCOLOR 255 0 0\nEND\nEND\nFEATURE\n{rings}\nEND\nEND\nEND\n"
+        "MAP\nLAYER\nNAME \"a\"\nTYPE POLYGON\nCLASS\nSTYLE\nCOLOR 10 20 30\nEND\nEND\nFEATURE\n{rings}\nEND\nEND\nEND\n"
     )
 }
 
-const QUERY: &str =
+/// A query for a picture of 4 by 4 pixels.
+pub const QUERY: &str =
     "VERSION=1.3.0&REQUEST=GetMap&LAYERS=a&STYLES=&CRS=CRS:84&BBOX=0,0,4,4&WIDTH=4&HEIGHT=4&FORMAT=image/x-portable-pixmap";
 
-// The square of the demonstration, in rings.
-const SQUARE: &str = "POINTS 1 1 3 1 3 3 1 3 END";
+/// A square, in rings.
+pub const SQUARE: &str = "POINTS 1 1 3 1 3 3 1 3 END";
 
-// Its picture as a session writes it, worked by hand: 11 bytes of header and 48 of pixels.
-const SQUARE_TEXT: &str = "ANSWER image/x-portable-pixmap 59\n\
-50360a3420340a3235350affffffffffffffffffffffffffffffff0000ff0000\n\
-ffffffffffffff0000ff0000ffffffffffffffffffffffffffffff\n";
+/// Its picture as a session writes it, worked by hand: 11 bytes of header and 48 of pixels.
+pub const SQUARE_TEXT: &str = "ANSWER image/x-portable-pixmap 59\n\
+50360a3420340a3235350affffffffffffffffffffffffffffff0a141e0a141e\n\
+ffffffffffff0a141e0a141effffffffffffffffffffffffffffff\n";
 
-// What a session writes of a picture of 4 by 4 pixels that is drawn in rows, `#` for red and `.` for
-// the background.
+// What a session writes of a picture of 4 by 4 pixels that is drawn in rows, `#` for the colour and
+// `.` for the background.
 fn drawn(alloc: Global, rows: &str) -> Result<Vec<u8>, AllocError> {
     let mut body = Vec::from_slice(alloc, b"P6\n4 4\n255\n")?;
     for pixel in rows.bytes() {
         match pixel {
-            b'#' => body.extend_from_slice(&[255, 0, 0])?,
+            b'#' => body.extend_from_slice(&[10, 20, 30])?,
             b'.' => body.extend_from_slice(&[255, 255, 255])?,
             _ => {}
         }
@@ -43,8 +44,8 @@ fn drawn(alloc: Global, rows: &str) -> Result<Vec<u8>, AllocError> {
     Ok(text)
 }
 
-// What a session of a map and a script writes.
-fn played(alloc: Global, map: &str, script: &str) -> Result<Vec<u8>, Fail> {
+/// What a session of a map and a script writes.
+pub fn played(alloc: Global, map: &str, script: &str) -> Result<Vec<u8>, Fail> {
     let mut machine = Machine::open(alloc, parse(alloc, map.as_bytes())?);
     let mut sink = Flagged::new(Vec::new(alloc));
     play_script(&mut machine, script.as_bytes(), &mut sink)?;
@@ -54,7 +55,7 @@ fn played(alloc: Global, map: &str, script: &str) -> Result<Vec<u8>, Fail> {
 // Rings of a feature, and the picture of it, worked by hand.
 const PICTURES: [(&str, &str); 7] = [
     (SQUARE, ".... .##. .##. ...."),
-    // cut at the middles of a column
+    // cut at the pixel centres of a column
     ("POINTS 1.5 1 3 1 3 3 1.5 3 END", ".... .##. .##. ...."),
     ("POINTS 0 1 1.5 1 1.5 3 0 3 END", ".... #... #... ...."),
     // a hole by a second ring
@@ -87,23 +88,65 @@ fn sessions_draw_their_pictures(rt: HostRuntime) -> Result<(), Fail> {
     Ok(())
 }
 
-// A layer with the square and two classes, the second of which would paint it blue.
+// A layer with the square and two classes, the second of which would paint it in 40 50 60.
 const TWO_CLASSES: &str =
-    "MAP LAYER NAME 'a' TYPE POLYGON CLASS STYLE COLOR 255 0 0 END END CLASS STYLE COLOR 0 0 255 END END FEATURE POINTS 1 1 3 1 3 3 1 3 END END END END";
+    "MAP LAYER NAME 'a' TYPE POLYGON CLASS STYLE COLOR 10 20 30 END END CLASS STYLE COLOR 40 50 60 END END FEATURE POINTS 1 1 3 1 3 3 1 3 END END END END";
 
 const WIDE_QUERY: &str =
     "QUERY VERSION=1.3.0&REQUEST=GetMap&LAYERS=a&STYLES=&CRS=CRS:84&BBOX=0,0,4,4&WIDTH=4&HEIGHT=2&FORMAT=image/x-portable-pixmap\n";
 
-// The picture in 4 by 2 pixels, worked by hand. The middles of its rows are at the heights of the
-// square's upper and lower side: the upper side covers them, the lower one doesn't.
+// The picture in 4 by 2 pixels, worked by hand. The pixel centres of its rows are at the heights of
+// the square's upper and lower edge: the upper edge covers them, the lower one doesn't.
 const WIDE_TEXT: &str = "ANSWER image/x-portable-pixmap 35\n\
-50360a3420320a3235350affffffff0000ff0000ffffffffffffffffffffffff\n\
+50360a3420320a3235350affffff0a141e0a141effffffffffffffffffffffff\n\
 ffffff\n";
 
 #[test]
 fn pictures_have_the_sides_that_are_asked_for(rt: HostRuntime) -> Result<(), Fail> {
     let text = played(rt.alloc(), TWO_CLASSES, WIDE_QUERY)?;
     assert_eq!(rt; text.as_slice(), WIDE_TEXT.as_bytes());
+    Ok(())
+}
+
+const LARGEST_QUERY: &str =
+    "QUERY VERSION=1.3.0&REQUEST=GetMap&LAYERS=a&STYLES=&CRS=CRS:84&BBOX=0,0,4,4&WIDTH=2048&HEIGHT=2048&FORMAT=image/x-portable-pixmap\n";
+
+// Columns, rows and components of pixels beside the corners of the square, which are at 512 and 1536,
+// and the hexadecimal digits.
+const SAMPLES: [(u16, u16, u16, &str); 8] = [
+    (512, 512, 0, "0a"),
+    (512, 512, 1, "14"),
+    (512, 512, 2, "1e"),
+    (511, 512, 2, "ff"),
+    (512, 511, 0, "ff"),
+    (1_535, 1_535, 0, "0a"),
+    (1_536, 1_535, 0, "ff"),
+    (1_000, 1_200, 1, "14"),
+];
+
+// Whether a component of a pixel has these digits in the text of a picture of 2,048 by 2,048 pixels.
+fn has_digits(text: &[u8], column: u16, row: u16, component: u16, digits: &str) -> bool {
+    let pixel = 2_048 * usize::from(row) + usize::from(column);
+    let byte = 17 + 3 * pixel + usize::from(component);
+    let at = 40 + 65 * (byte / 32) + 2 * (byte % 32);
+    text.get(at..at + 2) == Some(digits.as_bytes())
+}
+
+#[test]
+fn largest_pictures_are_written_whole(rt: HostRuntime) -> Result<(), Fail> {
+    let alloc = rt.alloc();
+    let map = map_text(alloc, SQUARE)?;
+    let text = played(alloc, map.as_str(), LARGEST_QUERY)?;
+    // 17 bytes of header and 2,048 times 2,048 pixels are 12,582,929 bytes in 393,217 lines
+    let front = "ANSWER image/x-portable-pixmap 12582929\n\
+50360a3230343820323034380a3235350affffffffffffffffffffffffffffff\n";
+    assert_eq!(rt; text.len(), 40 + 2 * 12_582_929 + 393_217);
+    assert_eq!(rt; text.starts_with(front.as_bytes()), true);
+    let text = text.as_slice();
+    for (column, row, component, digits) in SAMPLES {
+        let is_there = has_digits(text, column, row, component, digits);
+        assert_eq!(rt; is_there, true, "{column} {row} {component}");
+    }
     Ok(())
 }
 
@@ -133,6 +176,41 @@ fn unreadable_scripts_play_nothing(rt: HostRuntime) -> Result<(), Fail> {
         let text = played(alloc, map.as_str(), script)?;
         assert_eq!(rt; text.as_slice(), expected.as_bytes(), "{script:?}");
     }
+    Ok(())
+}
+
+#[test]
+fn long_scripts_are_played_to_their_end(rt: HostRuntime) -> Result<(), Fail> {
+    let alloc = rt.alloc();
+    let map = map_text(alloc, SQUARE)?;
+    let (mut script, mut expected) = (String::new(alloc), String::new(alloc));
+    for turn in 0..300 {
+        if turn % 3 == 0 {
+            script.push_str("QUERY ")?;
+            script.push_str(QUERY)?;
+            expected.push_str(SQUARE_TEXT)?;
+        } else {
+            script.push_str("QUERY a")?;
+            expected.push_str("ANSWER text/plain 7\nunread\n")?;
+        }
+        script.push('\n')?;
+    }
+    // a query of 100,000 bytes, most of them the zeros before a number
+    let zeros = "0".repeat(alloc, 100_000 - QUERY.len())?;
+    let query = QUERY.replace(
+        alloc,
+        "BBOX=0",
+        format!(in alloc; "BBOX={zeros}0")?.as_str(),
+    )?;
+    assert_eq!(rt; query.len(), 100_000);
+    script.push_str(format!(in alloc; "QUERY {query}\n")?.as_str())?;
+    expected.push_str(SQUARE_TEXT)?;
+    let text = played(alloc, map.as_str(), script.as_str())?;
+    assert_eq!(rt; text.as_slice() == expected.as_bytes(), true);
+
+    script.push_str("QUERY b")?;
+    let text = played(alloc, map.as_str(), script.as_str())?;
+    assert_eq!(rt; text.as_slice(), b"fault script 302\n".as_slice());
     Ok(())
 }
 

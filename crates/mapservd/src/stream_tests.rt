@@ -1,0 +1,228 @@
+use crate::input::ReadFault;
+use crate::outcome::Outcome;
+use crate::session::serve_session;
+use crate::tests::{QUERY, SQUARE, SQUARE_TEXT, map_text};
+use mapmachine::Flagged;
+use std::alloc::Global;
+use std::io::{self, Read, Write};
+use std::test::Fail;
+
+// A stream in memory: it gives and takes so many bytes at once, and one of its calls fails.
+#[derive(Drop)]
+struct Memory<'a> {
+    left: &'a [u8],
+    held: Vec<u8>,
+    at_once: usize,
+    calls: usize,
+    failing: Option<usize>,
+}
+
+impl<'a> Memory<'a> {
+    fn new(alloc: Global, left: &'a [u8], at_once: usize, failing: Option<usize>) -> Self {
+        Memory {
+            left,
+            held: Vec::new(alloc),
+            at_once,
+            calls: 0,
+            failing,
+        }
+    }
+
+    // Counts a call, which fails where it is the one.
+    fn call(&mut self) -> io::Result<()> {
+        let is_failing = self.failing == Some(self.calls);
+        self.calls = self.calls.saturating_add(1);
+        if is_failing {
+            return Err(io::Error::from(io::ErrorKind::Other));
+        }
+        Ok(())
+    }
+}
+
+impl Read for Memory<'_> {
+    fn read(&mut self, room: &mut [u8]) -> io::Result<usize> {
+        self.call()?;
+        let count = self.at_once.min(room.len()).min(self.left.len());
+        let (given, left) = self.left.split_at(count);
+        room[..count].copy_from_slice(given);
+        self.left = left;
+        Ok(count)
+    }
+}
+
+impl Write for Memory<'_> {
+    fn write(&mut self, bytes: &[u8]) -> io::Result<usize> {
+        self.call()?;
+        let count = self.at_once.min(bytes.len());
+        self.held.extend_from_slice(&bytes[..count])?;
+        Ok(count)
+    }
+
+    fn flush(&mut self) -> io::Result<()> {
+        self.call()
+    }
+}
+
+// What became of a session: its outcome, what the two writers held, and how often each stream was
+// called.
+#[derive(Drop)]
+struct Ending {
+    outcome: Outcome,
+    output: Vec<u8>,
+    errors: Vec<u8>,
+    calls: [usize; 3],
+}
+
+// Serves a session with streams that move so many bytes at once, and of which one call may fail.
+fn served(alloc: Global, session: &[u8], at_once: usize, failing: [Option<usize>; 3]) -> Ending {
+    let mut input = Flagged::new(Memory::new(alloc, session, at_once, failing[0]));
+    let mut output = Flagged::new(Memory::new(alloc, &[], at_once, failing[1]));
+    let mut errors = Flagged::new(Memory::new(alloc, &[], at_once, failing[2]));
+    let outcome = serve_session(alloc, &mut input, &mut output, &mut errors);
+    let (input, output, errors) = (input.into_inner(), output.into_inner(), errors.into_inner());
+    Ending {
+        outcome,
+        calls: [input.calls, output.calls, errors.calls],
+        output: output.held,
+        errors: errors.held,
+    }
+}
+
+// Sessions, how they end with which status, and what their writers get.
+const SESSIONS: [(&str, Outcome, u8, &str, &str); 6] = [
+    (
+        "MAP END\n%%\nQUERY a\n",
+        Outcome::Played,
+        0,
+        "ANSWER text/plain 7\nunread\n",
+        "",
+    ),
+    ("MAP END", Outcome::Played, 0, "", ""),
+    (
+        "MAP END\n%%\nQUERY a\nQUERY b\nQUIT\n",
+        Outcome::Played,
+        0,
+        "fault script 3\n",
+        "",
+    ),
+    (
+        "MAP\n\n\n\nWEB END\n%%\nQUERY a\n",
+        Outcome::MapfileFault,
+        1,
+        "",
+        "fault line 5 kind 2\n",
+    ),
+    (
+        "MAP\n LAYER\n TYPE BLOB\n%%\n",
+        Outcome::MapfileFault,
+        1,
+        "",
+        "fault line 3 kind 3\n",
+    ),
+    // both the mapfile and the script have a fault
+    (
+        "MAP\n%%\nQUIT\n",
+        Outcome::MapfileFault,
+        1,
+        "",
+        "fault line 2 kind 4\n",
+    ),
+];
+
+#[test]
+fn sessions_end_as_they_should(rt: HostRuntime) {
+    let alloc = rt.alloc();
+    for (session, outcome, status, output, errors) in SESSIONS {
+        for at_once in [1, 7, 100_000] {
+            let ending = served(alloc, session.as_bytes(), at_once, [None; 3]);
+            assert_eq!(rt; ending.outcome, outcome, "{session:?}");
+            assert_eq!(rt; ending.outcome.status(), status, "{session:?}");
+            assert_eq!(rt; ending.output.as_slice(), output.as_bytes(), "{session:?}");
+            assert_eq!(rt; ending.errors.as_slice(), errors.as_bytes(), "{session:?}");
+        }
+    }
+}
+
+#[test]
+fn sessions_stop_where_a_stream_fails(rt: HostRuntime) {
+    let alloc = rt.alloc();
+    for (session, outcome, _, output, errors) in SESSIONS {
+        let whole = served(alloc, session.as_bytes(), 5, [None; 3]);
+        for failing in 0..whole.calls[0] {
+            let ending = served(alloc, session.as_bytes(), 5, [Some(failing), None, None]);
+            assert_eq!(rt; ending.outcome, Outcome::InputFailed, "{session:?}");
+            assert_eq!(rt; ending.outcome.status(), 3);
+            assert_eq!(rt; (ending.output.len(), ending.errors.len()), (0, 0));
+        }
+        for failing in 0..whole.calls[1] {
+            let ending = served(alloc, session.as_bytes(), 5, [None, Some(failing), None]);
+            assert_eq!(rt; ending.outcome, Outcome::OutputFailed, "{session:?}");
+            assert_eq!(rt; ending.outcome.status(), 3);
+            assert_eq!(rt; output.as_bytes().starts_with(&ending.output), true);
+            assert_eq!(rt;
+                ending.output.len() < output.len() || failing + 1 == whole.calls[1],
+                true
+            );
+            assert_eq!(rt; ending.errors.len(), 0);
+        }
+        for failing in 0..whole.calls[2] {
+            let ending = served(alloc, session.as_bytes(), 5, [None, None, Some(failing)]);
+            assert_eq!(rt; ending.outcome, outcome, "{session:?}");
+            assert_eq!(rt; ending.outcome.status(), 1);
+            assert_eq!(rt; errors.as_bytes().starts_with(&ending.errors), true);
+            assert_eq!(rt; ending.output.len(), 0);
+        }
+    }
+}
+
+#[test]
+fn statuses_are_those_of_the_profile(rt: HostRuntime) {
+    assert_eq!(rt; Outcome::Played.status(), 0);
+    assert_eq!(rt; Outcome::MapfileFault.status(), 1);
+    assert_eq!(rt; Outcome::InputFailed.status(), 3);
+    assert_eq!(rt; Outcome::OutputFailed.status(), 3);
+    assert_eq!(rt; Outcome::NoMemory.status(), 4);
+}
+
+#[test]
+fn large_sessions_are_read_whole(rt: HostRuntime) -> Result<(), Fail> {
+    let alloc = rt.alloc();
+    // comments, blank lines and lines that are nearly those of two percent signs: 100 bytes a turn
+    let turn =
+        "# %%\n\n#%%\n  # a comment of some length, so that the mapfile has twenty megabytes #\n   \t           #\n";
+    assert_eq!(rt; turn.len(), 100);
+    let mut session = Vec::new(alloc);
+    for _ in 0..200_000 {
+        session.extend_from_slice(turn.as_bytes())?;
+    }
+    session.extend_from_slice(map_text(alloc, SQUARE)?.as_bytes())?;
+    session.extend_from_slice(format!(in alloc; "%%\nQUERY {QUERY}\n")?.as_bytes())?;
+    let ending = served(alloc, &session, 1_000_000, [None; 3]);
+    assert_eq!(rt; ending.outcome, Outcome::Played);
+    assert_eq!(rt; ending.output.as_slice(), SQUARE_TEXT.as_bytes());
+
+    // the fault stands after all of these lines
+    session.truncate(20_000_000);
+    session.extend_from_slice(b"MAP\nWEB END\n")?;
+    let ending = served(alloc, &session, 1_000_000, [None; 3]);
+    assert_eq!(rt; ending.outcome, Outcome::MapfileFault);
+    assert_eq!(rt;
+        ending.errors.as_slice(),
+        b"fault line 1000002 kind 2\n".as_slice()
+    );
+    Ok(())
+}
+
+#[test]
+fn messages_are_whole(rt: HostRuntime) -> Result<(), Fail> {
+    let alloc = rt.alloc();
+    assert_eq!(rt;
+        ReadFault::Input.to_string(alloc)?.as_str(),
+        "the reader failed"
+    );
+    assert_eq!(rt;
+        ReadFault::NoMemory.to_string(alloc)?.as_str(),
+        "out of memory"
+    );
+    Ok(())
+}
