@@ -18,6 +18,7 @@ pub struct PutFailed;
 #[derive(Clone, Copy, Debug, PartialEq, Eq, Error)]
 #[error("the writer failed after {written} bytes")]
 pub struct WriteFault {
+    /// How many bytes it took.
     pub written: u128,
 }
 

@@ -3,7 +3,7 @@ use crate::outcome::Outcome;
 use crate::session::serve_session;
 use crate::tests::{QUERY, SQUARE, SQUARE_TEXT, map_text};
 use mapmachine::Flagged;
-use std::alloc::Global;
+use std::alloc::{AllocError, Global};
 use std::io::{self, Read, Write};
 use std::test::Fail;
 
@@ -144,33 +144,47 @@ fn sessions_end_as_they_should(rt: HostRuntime) {
 }
 
 #[test]
-fn sessions_stop_where_a_stream_fails(rt: HostRuntime) {
+fn sessions_whose_input_fails_write_nothing(rt: HostRuntime) {
     let alloc = rt.alloc();
-    for (session, outcome, _, output, errors) in SESSIONS {
-        let whole = served(alloc, session.as_bytes(), 5, [None; 3]);
-        for failing in 0..whole.calls[0] {
+    for (session, ..) in SESSIONS {
+        let calls = served(alloc, session.as_bytes(), 5, [None; 3]).calls[0];
+        for failing in 0..calls {
             let ending = served(alloc, session.as_bytes(), 5, [Some(failing), None, None]);
-            assert_eq!(rt; ending.outcome, Outcome::InputFailed, "{session:?}");
-            assert_eq!(rt; ending.outcome.status(), 3);
-            assert_eq!(rt; (ending.output.len(), ending.errors.len()), (0, 0));
+            let found = (ending.outcome, ending.output.len(), ending.errors.len());
+            assert_eq!(rt; found, (Outcome::InputFailed, 0, 0), "{session:?}");
         }
-        for failing in 0..whole.calls[1] {
+    }
+}
+
+// Whether some bytes are the front of a text, and not all of it before its last call.
+fn is_front(bytes: &[u8], text: &str, is_last: bool) -> bool {
+    text.as_bytes().starts_with(bytes) && (is_last || bytes.len() < text.len())
+}
+
+#[test]
+fn outputs_that_fail_hold_the_first_bytes(rt: HostRuntime) {
+    let alloc = rt.alloc();
+    for (session, _, _, output, _) in SESSIONS {
+        let calls = served(alloc, session.as_bytes(), 5, [None; 3]).calls[1];
+        for failing in 0..calls {
             let ending = served(alloc, session.as_bytes(), 5, [None, Some(failing), None]);
-            assert_eq!(rt; ending.outcome, Outcome::OutputFailed, "{session:?}");
-            assert_eq!(rt; ending.outcome.status(), 3);
-            assert_eq!(rt; output.as_bytes().starts_with(&ending.output), true);
-            assert_eq!(rt;
-                ending.output.len() < output.len() || failing + 1 == whole.calls[1],
-                true
-            );
-            assert_eq!(rt; ending.errors.len(), 0);
+            let is_front = is_front(&ending.output, output, failing == calls - 1);
+            let found = (ending.outcome, is_front, ending.errors.len());
+            assert_eq!(rt; found, (Outcome::OutputFailed, true, 0), "{session:?}");
         }
-        for failing in 0..whole.calls[2] {
+    }
+}
+
+#[test]
+fn faults_that_cannot_be_told_are_faults(rt: HostRuntime) {
+    let alloc = rt.alloc();
+    for (session, _, _, _, errors) in SESSIONS {
+        let calls = served(alloc, session.as_bytes(), 5, [None; 3]).calls[2];
+        for failing in 0..calls {
             let ending = served(alloc, session.as_bytes(), 5, [None, None, Some(failing)]);
-            assert_eq!(rt; ending.outcome, outcome, "{session:?}");
-            assert_eq!(rt; ending.outcome.status(), 1);
-            assert_eq!(rt; errors.as_bytes().starts_with(&ending.errors), true);
-            assert_eq!(rt; ending.output.len(), 0);
+            let is_front = is_front(&ending.errors, errors, failing == calls - 1);
+            let found = (ending.outcome, is_front, ending.output.len());
+            assert_eq!(rt; found, (Outcome::MapfileFault, true, 0), "{session:?}");
         }
     }
 }
@@ -184,25 +198,36 @@ fn statuses_are_those_of_the_profile(rt: HostRuntime) {
     assert_eq!(rt; Outcome::NoMemory.status(), 4);
 }
 
-#[test]
-fn large_sessions_are_read_whole(rt: HostRuntime) -> Result<(), Fail> {
-    let alloc = rt.alloc();
-    // comments, blank lines and lines that are nearly those of two percent signs: 100 bytes a turn
-    let turn =
-        "# %%\n\n#%%\n  # a comment of some length, so that the mapfile has twenty megabytes #\n   \t           #\n";
-    assert_eq!(rt; turn.len(), 100);
-    let mut session = Vec::new(alloc);
+// Comments, blank lines and lines that are nearly those of two percent signs: 100 bytes, 5 lines.
+const TURN: &str =
+    "# %%\n\n#%%\n  # a comment of some length, so that the mapfile has twenty megabytes #\n   \t           #\n";
+
+// A mapfile of 20,000,000 bytes and a million lines that describe nothing yet.
+fn large_mapfile(alloc: Global) -> Result<Vec<u8>, AllocError> {
+    let mut mapfile = Vec::new(alloc);
     for _ in 0..200_000 {
-        session.extend_from_slice(turn.as_bytes())?;
+        mapfile.extend_from_slice(TURN.as_bytes())?;
     }
+    Ok(mapfile)
+}
+
+#[test]
+fn large_sessions_are_played(rt: HostRuntime) -> Result<(), Fail> {
+    let alloc = rt.alloc();
+    let mut session = large_mapfile(alloc)?;
+    assert_eq!(rt; session.len(), 20_000_000);
     session.extend_from_slice(map_text(alloc, SQUARE)?.as_bytes())?;
     session.extend_from_slice(format!(in alloc; "%%\nQUERY {QUERY}\n")?.as_bytes())?;
     let ending = served(alloc, &session, 1_000_000, [None; 3]);
     assert_eq!(rt; ending.outcome, Outcome::Played);
     assert_eq!(rt; ending.output.as_slice(), SQUARE_TEXT.as_bytes());
+    Ok(())
+}
 
-    // the fault stands after all of these lines
-    session.truncate(20_000_000);
+#[test]
+fn faults_have_their_line_in_large_mapfiles(rt: HostRuntime) -> Result<(), Fail> {
+    let alloc = rt.alloc();
+    let mut session = large_mapfile(alloc)?;
     session.extend_from_slice(b"MAP\nWEB END\n")?;
     let ending = served(alloc, &session, 1_000_000, [None; 3]);
     assert_eq!(rt; ending.outcome, Outcome::MapfileFault);
