@@ -1,3 +1,6 @@
+pub mod Caps
+pub mod Cuts
 pub mod Digits
 pub mod Integers
+pub mod Readings
 pub mod Rounding

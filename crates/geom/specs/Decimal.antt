@@ -1,6 +1,6 @@
 -- Decimal numbers: their texts, and the millionths that they stand for (docs/MAPFILE.md, "Numbers").
-use Rattle.std.specs.Prelude.{ℕ, ◌+◌, ◌-◌, ◌*◌, ◌/◌, ◌^◌, ◌≤◌, ◌==◌, ◌||◌, ◌&&◌, min, Bool, true, false, if◌then◌else◌, nat_le, nat_lt, List, [], ◌∷◌, ◌++◌, length, take, drop, ℤ, pos, neg_ℤ, int_lt, unsigned_abs, Option, None, Some, Result, Ok, Err}
-use Rattle.std.specs.List.{fold, prefix_len}
+use Rattle.std.specs.Prelude.{ℕ, suc, ◌+◌, ◌-◌, ◌*◌, ◌/◌, ◌^◌, ◌≤◌, ◌==◌, ◌||◌, ◌&&◌, Bool, true, false, if◌then◌else◌, nat_le, nat_lt, List, [], ◌∷◌, ◌++◌, length, ℤ, pos, negsuc, neg_ℤ, int_lt, unsigned_abs, Option, None, Some, Result, Ok, Err}
+use Rattle.std.specs.List.{fold, before_first, after_first, list_all, list_any}
 use Rattle.std.specs.Char.{is_ascii_digit}
 use Rattle.geom.specs.declared.micro.NumberFault.{NumberFault}
 use Rattle.geom.specs.declared.micro.NumberFault.TheVariants.{NotANumber, TooLarge}
@@ -32,17 +32,19 @@ abbrev pub unsigned : List ℕ → List ℕ
 unsigned [] = []
 unsigned (b ∷ bs) = if b == 45 || b == 43 then bs else b ∷ bs
 
--- how many digits stand at the front of a text
-abbrev pub digit_count : List ℕ → ℕ
-digit_count text = prefix_len is_ascii_digit text
+-- how far a number lies above 0, and how far below it
+abbrev pub up : ℤ → ℕ
+up (pos n) = n
+up (negsuc n) = 0
 
--- the digits at the front of a text
-abbrev pub digits_of : List ℕ → List ℕ
-digits_of text = take (digit_count text) text
+abbrev pub down : ℤ → ℕ
+down (pos n) = 0
+down (negsuc n) = suc n
 
--- what stands after them
-abbrev pub after_digits : List ℕ → List ℕ
-after_digits text = drop (digit_count text) text
+-- a size with its sign
+abbrev pub signed : Bool → ℕ → ℤ
+signed true n = neg_ℤ (pos n)
+signed false n = pos n
 
 -- n with a further digit
 abbrev pub with_digit : ℕ → ℕ → ℕ
@@ -52,43 +54,59 @@ with_digit n digit = n * 10 + (digit - 48)
 abbrev pub number_of : List ℕ → ℕ
 number_of digits = fold with_digit 0 digits
 
--- a decimal number without its sign: its digits, the last so many of which stand after the point
-pub record Decimal : Type 0 where
-  pub digits : ℕ
-  pub decimals : ℕ
-
--- the decimal number of the digits before the point and of those after it
-abbrev pub decimal : List ℕ → List ℕ → Decimal
-decimal whole decimals = record { digits = number_of (whole ++ decimals); decimals = length decimals }
-
--- a number has a digit, and at most six digits after the point
-abbrev pub has_digits : ℕ → ℕ → Bool
-has_digits whole decimals = nat_lt 0 (whole + decimals) && nat_le decimals 6
-
--- the decimal number of some digits and of what stands after them: nothing, or a point and digits
-abbrev pub decimal_with : List ℕ → List ℕ → Option Decimal
-decimal_with whole [] = if has_digits (length whole) 0 then Some (decimal whole []) else None
-decimal_with whole (b ∷ tail) =
-    if b == 46 && digit_count tail == length tail && has_digits (length whole) (length tail)
-    then Some (decimal whole tail)
+-- the whole number that a text means: a sign or none, and digits, one at least
+abbrev pub whole_number : List ℕ → Option ℤ
+whole_number text =
+    if nat_lt 0 (length (unsigned text)) && list_all is_ascii_digit (unsigned text)
+    then Some (signed (is_negative text) (number_of (unsigned text)))
     else None
+
+-- the point between digits
+abbrev pub is_point : ℕ → Bool
+is_point b = b == 46
+
+-- the letter before an exponent, `e` or `E`
+abbrev pub is_exponent_letter : ℕ → Bool
+is_exponent_letter b = b == 101 || b == 69
+
+-- there are only digits on both sides of the point, and one at least
+abbrev pub are_digits : List ℕ → List ℕ → Bool
+are_digits whole decimals = list_all is_ascii_digit whole && list_all is_ascii_digit decimals && nat_lt 0 (length whole + length decimals)
+
+-- the exponent of a text: what stands after its letter, and 0 without one
+abbrev pub exponent_of : List ℕ → Option ℤ
+exponent_of text = if list_any is_exponent_letter text then whole_number (after_first is_exponent_letter text) else Some (pos 0)
+
+-- a decimal number without its sign: the digits before the point, those after it, and the power of ten by which they count
+pub record Decimal : Type 0 where
+  pub whole : List ℕ
+  pub decimals : List ℕ
+  pub exponent : ℤ
+
+-- the decimal number of the digits on both sides of the point and of an exponent
+abbrev pub decimal_with : List ℕ → List ℕ → Option ℤ → Option Decimal
+decimal_with whole decimals None = None
+decimal_with whole decimals (Some exponent) =
+    if are_digits whole decimals then Some (record { whole = whole; decimals = decimals; exponent = exponent }) else None
+
+-- the decimal number of what stands before the exponent's letter, and of the exponent
+abbrev pub decimal_from : List ℕ → Option ℤ → Option Decimal
+decimal_from mantissa exponent = decimal_with (before_first is_point mantissa) (after_first is_point mantissa) exponent
 
 -- the decimal number that a text without sign stands for
 abbrev pub decimal_of : List ℕ → Option Decimal
-decimal_of text = decimal_with (digits_of text) (after_digits text)
+decimal_of text = decimal_from (before_first is_exponent_letter text) (exponent_of text)
+
+-- the number is numerator / denominator: ten to the power of the exponent counts above or below
+abbrev pub numerator : Decimal → ℕ
+numerator d = number_of (d.whole ++ d.decimals) * 10 ^ up d.exponent
+
+abbrev pub denominator : Decimal → ℕ
+denominator d = 10 ^ (length d.decimals + down d.exponent)
 
 -- the nearest number of millionths
 abbrev pub millionths_of : Decimal → ℕ
-millionths_of d = nearest (1000000 * d.digits) (10 ^ d.decimals)
-
--- the number with its digits up to the greatest number of 64 bits, as it is kept while it is read
-abbrev pub capped : Decimal → Decimal
-capped d = record d { digits = min d.digits (2 ^ 64 - 1) }
-
--- a size with its sign
-abbrev pub signed : Bool → ℕ → ℤ
-signed true n = neg_ℤ (pos n)
-signed false n = pos n
+millionths_of d = nearest (1000000 * numerator d) (denominator d)
 
 -- a size with its sign, if it is within the limit
 abbrev pub limited : ℕ → Bool → ℕ → Result ℤ NumberFault

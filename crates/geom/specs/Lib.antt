@@ -1,3 +1,4 @@
+pub mod Capped
 pub mod Decimal
 pub mod Device
 pub mod Edge

@@ -38,16 +38,16 @@ impl Model for Micro {
 }
 
 // A size with its sign, if it is within the limit.
-fn limited(limit: u64, is_negative: bool, size: u128) -> Result<Micro, NumberFault>
+fn limited(limit: u64, is_negative: bool, size: u64) -> Result<Micro, NumberFault>
     requires { limit < 2 ^ 63 }
     ensures value { result ≡ limited limit is_negative size }
     ensures within { IfOk result (λ number. IsWithin limit number) }
 {
-    if size > u128::from(limit) {
+    if size > limit {
         return Err(NumberFault::TooLarge);
     }
     Ok(Micro {
-        millionths: with_sign(is_negative, size),
+        millionths: with_sign(is_negative, u128::from(size)),
     })
 }
 
@@ -68,11 +68,12 @@ impl Micro {
         self.millionths
     }
 
-    /// The number that a decimal text means: a sign or none, digits, and perhaps a point and at most
-    /// six digits, with one digit at least. `limit` is the greatest size that is taken, in millionths.
+    /// The number that a decimal text means, rounded to the nearest millionth, a half away from zero:
+    /// a sign or none, digits, perhaps a point and digits, with one digit at least, and perhaps `e` or
+    /// `E`, a sign or none, and digits. `limit` is the greatest size that is taken, in millionths.
     ///
     /// `NotANumber` where the text is no such number, else `TooLarge` where the size is above `limit`.
-    /// It reads each byte once, of a text of any length, and takes no memory.
+    /// It reads each byte a few times, of a text of any length, and takes no memory.
     pub fn read(text: &[u8], limit: u64) -> Result<Self, NumberFault>
         requires { limit < 2 ^ 63 }
         ensures value { result ≡ reading text.now limit }
@@ -80,7 +81,7 @@ impl Micro {
     {
         let (is_negative, rest) = split_sign(text);
         match read_decimal(rest) {
-            Some(decimal) => limited(limit, is_negative, decimal.millionths()),
+            Some(size) => limited(limit, is_negative, size),
             None => Err(NumberFault::NotANumber),
         }
     }
@@ -99,37 +100,58 @@ mod tests {
     use super::*;
     use std::test::Fail;
 
-    // Texts, and what they mean in millionths. The first have the greatest number of digits that is
-    // read behind the point; the last have no end but the limit.
-    const NUMBERS: [(&str, Result<i64, NumberFault>); 24] = [
+    // Texts, and what they mean in millionths.
+    const NUMBERS: [(&str, Result<i64, NumberFault>); 46] = [
         (".5", Ok(500_000)),
         ("-.000001", Ok(-1)),
-        ("0.000001", Ok(1)),
         ("+12.345678", Ok(12_345_678)),
         ("7.", Ok(7_000_000)),
-        ("007", Ok(7_000_000)),
         ("-0", Ok(0)),
-        ("1000", Ok(1_000_000_000)),
-        ("-1000.000000", Ok(-1_000_000_000)),
-        ("1000.000001", Err(NumberFault::TooLarge)),
+        ("0.0000000000000000", Ok(0)),
+        ("0000000000000000000000000000000000008", Ok(8_000_000)),
+        // The digit after the millionths decides alone, and a half goes away from zero.
+        ("-0.0000005", Ok(-1)),
+        ("0.0000004999999999999999999999", Ok(0)),
+        ("3.14159265358979323846", Ok(3_141_593)),
+        ("-2.7182845904523536", Ok(-2_718_285)),
+        ("9.9999995", Ok(10_000_000)),
+        // An exponent moves the point up or down.
+        ("12.5E1", Ok(125_000_000)),
+        ("+3.25e+2", Ok(325_000_000)),
+        ("-.00000125e5", Ok(-125_000)),
+        ("4e-6", Ok(4)),
+        ("1e-7", Ok(0)),
+        ("5e-7", Ok(1)),
+        ("-5e-7", Ok(-1)),
+        ("123456789e-9", Ok(123_457)),
+        ("0.0000000000000000000006e23", Ok(60_000_000)),
+        ("15e-00000000000000000000000001", Ok(1_500_000)),
+        ("0e99999999999", Ok(0)),
+        ("-0.00E99999999999999999999999", Ok(0)),
+        ("1e-99999999999999999999999", Ok(0)),
+        // The limit is 1,000, for what is left after the number is rounded.
+        ("1000.0000004", Ok(1_000_000_000)),
+        ("-1000.0000004999", Ok(-1_000_000_000)),
+        ("1000.0000005", Err(NumberFault::TooLarge)),
         ("-1000.000001", Err(NumberFault::TooLarge)),
-        ("0000000000000000000000000000000000001", Ok(1_000_000)),
+        ("1.0000005e3", Err(NumberFault::TooLarge)),
         ("18446744073709551616", Err(NumberFault::TooLarge)),
-        (
-            "184467440737095516160000000000001.5",
-            Err(NumberFault::TooLarge),
-        ),
+        ("1844674407370955.1616e4", Err(NumberFault::TooLarge)),
+        ("2e99999999999999999999999", Err(NumberFault::TooLarge)),
+        // No numbers.
         ("", Err(NumberFault::NotANumber)),
         (".", Err(NumberFault::NotANumber)),
-        ("-", Err(NumberFault::NotANumber)),
         ("+.", Err(NumberFault::NotANumber)),
-        ("1.2.3", Err(NumberFault::NotANumber)),
         ("--1", Err(NumberFault::NotANumber)),
         (" 1", Err(NumberFault::NotANumber)),
         ("1 ", Err(NumberFault::NotANumber)),
-        // Not read yet: an exponent, and a seventh digit behind the point.
-        ("1e3", Err(NumberFault::NotANumber)),
-        ("-0.0000005", Err(NumberFault::NotANumber)),
+        ("1.2.3", Err(NumberFault::NotANumber)),
+        ("1e", Err(NumberFault::NotANumber)),
+        ("e5", Err(NumberFault::NotANumber)),
+        (".e1", Err(NumberFault::NotANumber)),
+        ("1e+", Err(NumberFault::NotANumber)),
+        ("1e5.0", Err(NumberFault::NotANumber)),
+        ("1e5E5", Err(NumberFault::NotANumber)),
     ];
 
     #[test]
@@ -139,6 +161,40 @@ mod tests {
             assert_eq!(rt; number, expected, "{text:?}");
         }
         Ok(())
+    }
+
+    // A number among many zeros: what stands before them, how many they are, what stands after
+    // them, and what it means.
+    const LONG: [(&str, usize, &str, Result<i64, NumberFault>); 6] = [
+        ("-", 1_000_000, "6", Ok(-6_000_000)),
+        ("0.", 1_000_000, "9", Ok(0)),
+        ("0.", 1_000_000, "91e1000002", Ok(91_000_000)),
+        ("73", 1_000_000, "e-1000001", Ok(7_300_000)),
+        ("1", 1_000_000, "e-999999", Ok(10_000_000)),
+        ("1", 1_000_000, ".", Err(NumberFault::TooLarge)),
+    ];
+
+    #[test]
+    fn long_texts_mean_their_numbers(rt: HostRuntime) -> Result<(), Fail> {
+        for (before, zeros, after, expected) in LONG {
+            let mut text = String::from_str(rt.alloc(), before)?;
+            for _ in 0..zeros {
+                text.push('0')?;
+            }
+            text.push_str(after)?;
+            let number = Micro::read(text.as_bytes(), COORDINATE_LIMIT).map(Micro::millionths);
+            assert_eq!(rt; number, expected, "{before:?}, {zeros} zeros, {after:?}");
+        }
+        Ok(())
+    }
+
+    // At the limit of other numbers, and one millionth above it.
+    #[test]
+    fn numbers_are_read_up_to_their_limit(rt: HostRuntime) {
+        let read = |text: &str| Micro::read(text.as_bytes(), NUMBER_LIMIT).map(Micro::millionths);
+        assert_eq!(rt; read("-1e12"), Ok(-1_000_000_000_000_000_000));
+        assert_eq!(rt; read("1000000000000.000001"), Err(NumberFault::TooLarge));
+        assert_eq!(rt; read("999999999999.9999994"), Ok(999_999_999_999_999_999));
     }
 
     // Millionths, and the nearest whole number.
@@ -163,10 +219,6 @@ mod tests {
                 "{millionths} millionths"
             );
         }
-        // -0.0000005, 1000.0000004 and 1000.0000005 as fractions, without their signs.
-        assert_eq!(rt; nearest(5_000_000, 10_000_000), 1);
-        assert_eq!(rt; nearest(10_000_000_004_000_000, 10_000_000), 1_000_000_000);
-        assert_eq!(rt; nearest(10_000_000_005_000_000, 10_000_000), 1_000_000_001);
         Ok(())
     }
 
