@@ -8,8 +8,8 @@ ghost use Rattle.mapdefs.specs.declared.layer.LayerFields.{LayerFields as LayerV
 use geom::Micro;
 use mapdefs::{ClassFields, LayerFields, Rule};
 
-// Whether a thing with these bounds on the scale denominator is visible. No bound is compared with a
-// scale yet, so that the answer is the same at every scale.
+/// Whether a thing with these bounds on the scale denominator is visible. No bound is compared with a
+/// scale yet, so that the answer is the same at every scale.
 pub fn is_visible(min: Option<Micro>, max: Option<Micro>) -> bool
     ensures { (scale : PictureScale) → result ≡ is_visible scale min max }
 {
@@ -31,7 +31,7 @@ fn admits(class: &ClassFields) -> bool
     is_visible(class.min, class.max) && holds(&class.rule)
 }
 
-// The class of a feature of the layer: the first one that it may be of.
+/// The class of a feature of the layer: the first one that it may be of.
 pub fn class_of(layer: &LayerFields) -> Option<&ClassFields>
     ensures { (scale : PictureScale) (feature : FeatureValue) →
         option_copied result ≡ class_of scale layer.now feature }

@@ -5,16 +5,16 @@ ghost use Rattle.std.specs.Option.{option_map};
 ghost use Rattle.geom.specs.Capped.{capped, capped_exponent, clamped_to_limits, scaled};
 ghost use Rattle.geom.specs.Decimal.{is_negative, unsigned, number_of, with_digit, is_point, is_exponent_letter, are_digits, whole_number, exponent_of, decimal_of, millionths_of, nearest, signed};
 
-// The power of ten by which a number counts: up or down by so many places, and one of both is 0.
-// What 64 bits don't hold is their greatest value. No text has room for the digits that would tell
-// them apart: the number is past every limit or rounds to 0, with the one as with the other.
+/// The power of ten by which a number counts: up or down by so many places, and one of both is 0.
+/// What 64 bits don't hold is their greatest value. No text has room for the digits that would tell
+/// them apart: the number is past every limit or rounds to 0, with the one as with the other.
 #[derive(Clone, Copy)]
 pub struct Exponent {
     pub up: u64,
     pub down: u64,
 }
 
-// Whether the text begins with a minus, and what stands after its sign.
+/// Whether the text begins with a minus, and what stands after its sign.
 pub fn split_sign(text: &[u8]) -> (bool, &[u8])
     ensures sign { result.0 ≡ is_negative text.now }
     ensures rest { result.1.now ≡ unsigned text.now }
@@ -189,8 +189,8 @@ fn millionths(whole: &[u8], decimals: &[u8], exponent: Exponent) -> u64
     with_zeros(number, up - down)
 }
 
-// The nearest number of millionths of the decimal number that a text without sign stands for. Past
-// every limit it may be another one.
+/// The nearest number of millionths of the decimal number that a text without sign stands for. Past
+/// every limit it may be another one.
 pub fn read_decimal(text: &[u8]) -> Option<u64>
     ensures { option_map clamped_to_limits result ≡ option_map (λ d. clamped_to_limits (millionths_of d)) (decimal_of text.now) }
 {
@@ -203,7 +203,7 @@ pub fn read_decimal(text: &[u8]) -> Option<u64>
     }
 }
 
-// The whole number nearest to p / q, in a tie the greater one.
+/// The whole number nearest to p / q, in a tie the greater one.
 pub fn nearest(p: u128, q: u128) -> u128
     requires least { 1 ≤ q }
     requires p { p < 2 ^ 96 }
@@ -214,7 +214,7 @@ pub fn nearest(p: u128, q: u128) -> u128
     (2 * p + q) / (2 * q)
 }
 
-// A size with its sign.
+/// A size with its sign.
 pub fn with_sign(is_negative: bool, size: u128) -> i64
     requires { size < 2 ^ 63 }
     ensures value { result ≡ signed is_negative size }

@@ -281,8 +281,8 @@ mod tests {
     impl Read for Narrow {
         fn read(&mut self, room: &mut [u8]) -> io::Result<usize> {
             let count = self.count(room.len().min(self.left.len()))?;
-            for (byte, place) in self.left.drain(..count).zip(room.iter_mut()) {
-                *place = byte;
+            for (byte, free) in self.left.drain(..count).zip(room.iter_mut()) {
+                *free = byte;
             }
             Ok(count)
         }

@@ -137,8 +137,8 @@ pub parted-here : (session here line rest : List ℕ) (at : ℕ) → here ≡ dr
 parted-here session here line rest at is front back inside first test =
     let parting : is_parting (drop at session) ≡ true = rw (← is, ← front) test in
     let none : parting_at true (drop at session) ≡ 0 = parting-here (drop at session) (omega (arith, length-drop at session)) parting in
-    let place : parting_at true session ≡ at = omega (arith, first, none) in
-    rw (back, is, ← place) (are-parts session (omega (arith, place)))
+    let found : parting_at true session ≡ at = omega (arith, first, none) in
+    rw (back, is, ← found) (are-parts session (omega (arith, found)))
   where
     parting-here : (bytes : List ℕ) → 1 ≤ length bytes → is_parting bytes ≡ true → parting_at true bytes ≡ 0
     parting-here [] some h = absurd (omega arith)
