@@ -4,3 +4,4 @@ pub mod Digits
 pub mod Integers
 pub mod Readings
 pub mod Rounding
+pub mod Written

@@ -8,3 +8,4 @@ pub mod Range
 pub mod Scale
 pub mod Side
 pub mod World
+pub mod Written
