@@ -256,47 +256,47 @@ mod tests {
     // A reader and a writer that gives and takes so many bytes at once, for so many calls, and then
     // fails. A write may take none instead.
     #[derive(Drop)]
-    struct Narrow {
-        left: Vec<u8>,
+    struct Narrow<'a> {
+        left: &'a [u8],
         held: Vec<u8>,
         at_once: usize,
         calls: usize,
         fails: bool,
     }
 
-    impl Narrow {
-        // How many of so many bytes the next call moves.
-        fn count(&mut self, len: usize) -> io::Result<usize> {
+    impl Narrow<'_> {
+        // How many bytes the next call moves at most.
+        fn most(&mut self) -> io::Result<usize> {
             if self.calls > 0 {
                 self.calls -= 1;
-                Ok(len.min(self.at_once))
-            } else if self.fails {
-                Err(io::Error::from(io::ErrorKind::Other))
-            } else {
-                Ok(0)
+                return Ok(self.at_once);
             }
+            if self.fails {
+                return Err(io::Error::from(io::ErrorKind::Other));
+            }
+            Ok(0)
         }
     }
 
-    impl Read for Narrow {
+    impl Read for Narrow<'_> {
         fn read(&mut self, room: &mut [u8]) -> io::Result<usize> {
-            let count = self.count(room.len().min(self.left.len()))?;
-            for (byte, free) in self.left.drain(..count).zip(room.iter_mut()) {
-                *free = byte;
-            }
+            let count = self.most()?.min(room.len()).min(self.left.len());
+            let (given, left) = self.left.split_at(count);
+            room[..count].copy_from_slice(given);
+            self.left = left;
             Ok(count)
         }
     }
 
-    impl Write for Narrow {
+    impl Write for Narrow<'_> {
         fn write(&mut self, bytes: &[u8]) -> io::Result<usize> {
-            let count = self.count(bytes.len())?;
+            let count = self.most()?.min(bytes.len());
             self.held.extend_from_slice(&bytes[..count])?;
             Ok(count)
         }
 
         fn flush(&mut self) -> io::Result<()> {
-            self.count(0)?;
+            self.most()?;
             Ok(())
         }
     }
@@ -311,7 +311,7 @@ mod tests {
     }
 
     // A stream that holds nothing.
-    fn flagged(alloc: Global, left: Vec<u8>, at_once: usize, calls: usize) -> Flagged<Narrow> {
+    fn flagged(alloc: Global, left: &[u8], at_once: usize, calls: usize) -> Flagged<Narrow<'_>> {
         Flagged::new(Narrow {
             left,
             held: Vec::new(alloc),
@@ -340,7 +340,7 @@ mod tests {
         for fails in [true, false] {
             for (len, at_once, calls, outcome) in PUTS {
                 let bytes = pattern(alloc, len)?;
-                let mut sink = flagged(alloc, Vec::new(alloc), at_once, calls);
+                let mut sink = flagged(alloc, &[], at_once, calls);
                 sink.inner.fails = fails;
                 assert_eq!(rt; put_all(&mut sink, &bytes), outcome);
                 assert_eq!(rt; sink.put_failed(), outcome.is_err());
@@ -350,7 +350,8 @@ mod tests {
                     Err(fault) => fault.written as usize,
                 };
                 assert_eq!(rt; sink.taken(), count as u128);
-                assert_eq!(rt; sink.into_inner().held.as_slice(), &bytes[..count]);
+                let held = sink.into_inner().held;
+                assert_eq!(rt; bytes.get(..count), Some(held.as_slice()));
             }
         }
         Ok(())
@@ -360,13 +361,13 @@ mod tests {
     fn sources_give_bytes_up_to_their_end(rt: HostRuntime) -> Result<(), Fail> {
         let alloc = rt.alloc();
         let bytes = pattern(alloc, 100_000)?;
-        let mut source = flagged(alloc, bytes.clone()?, 70_000, 4);
+        let mut source = flagged(alloc, &bytes, 70_000, 4);
         let mut room = pattern(alloc, 90_000)?;
         assert_eq!(rt; source.take(&mut []), Ok(0));
         assert_eq!(rt; source.take(&mut room), Ok(70_000));
-        assert_eq!(rt; &room[..70_000], &bytes[..70_000]);
+        assert_eq!(rt; room.get(..70_000) == bytes.get(..70_000), true);
         assert_eq!(rt; source.take(&mut room), Ok(30_000));
-        assert_eq!(rt; &room[..30_000], &bytes[70_000..]);
+        assert_eq!(rt; room.get(..30_000) == bytes.get(70_000..), true);
         assert_eq!(rt; source.take(&mut room), Ok(0));
         assert_eq!(rt; source.take_failed(), false);
         assert_eq!(rt; source.take(&mut room), Err(TakeFailed));
@@ -380,7 +381,7 @@ mod tests {
         let alloc = rt.alloc();
         let mut room = [0; 4];
 
-        let mut stream = flagged(alloc, pattern(alloc, 9)?, 2, 0);
+        let mut stream = flagged(alloc, b"nine left", 2, 0);
         assert_eq!(rt; stream.put(b"square"), Err(PutFailed));
         assert_eq!(rt; (stream.put_failed(), stream.take_failed()), (true, false));
         stream.inner.calls = 4;
@@ -390,7 +391,7 @@ mod tests {
         assert_eq!(rt; stream.flush(), Ok(()));
         assert_eq!(rt; (stream.put_failed(), stream.take_failed()), (true, false));
 
-        let mut stream = flagged(alloc, pattern(alloc, 9)?, 2, 0);
+        let mut stream = flagged(alloc, b"nine left", 2, 0);
         assert_eq!(rt; stream.take(&mut room), Err(TakeFailed));
         stream.inner.calls = 3;
         assert_eq!(rt; stream.put(b"square"), Ok(2));
@@ -398,7 +399,7 @@ mod tests {
         assert_eq!(rt; stream.flush(), Ok(()));
         assert_eq!(rt; (stream.put_failed(), stream.take_failed()), (false, true));
 
-        let mut stream = flagged(alloc, pattern(alloc, 9)?, 2, 0);
+        let mut stream = flagged(alloc, b"nine left", 2, 0);
         assert_eq!(rt; stream.flush(), Err(PutFailed));
         assert_eq!(rt; (stream.put_failed(), stream.take_failed()), (true, false));
         assert_eq!(rt; stream.taken(), 0);
