@@ -17,7 +17,7 @@ pub enum Position {
 }
 
 /// What a label says.
-#[derive(Debug, Drop)]
+#[derive(Debug, Drop, PartialEq, Eq)]
 pub struct LabelFields {
     /// The colour of the glyphs; without one they leave no ink.
     pub colour: Option<Rgb>,

@@ -111,7 +111,10 @@ fn check_feature(rt: &impl Abort, feature: &Feature, parts: &[&[(i64, i64)]]) {
         assert_eq!(rt; part.len(), vertices.len());
         for (vertex, (x, y)) in part.as_slice().iter().zip(*vertices) {
             assert_eq!(rt;
-                (vertex.x().millionths(), vertex.y().millionths()),
+                (
+                    vertex.x().get().millionths(),
+                    vertex.y().get().millionths(),
+                ),
                 (*x, *y)
             );
         }
