@@ -1,3 +1,4 @@
+pub mod Boxes
 pub mod Caps
 pub mod Cuts
 pub mod Digits

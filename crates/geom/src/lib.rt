@@ -16,6 +16,7 @@ mod device;
 mod edge;
 pub mod laws;
 mod micro;
+mod pxbox;
 mod side;
 mod world;
 
@@ -23,5 +24,6 @@ pub use coordinate::Coordinate;
 pub use device::{Device, Pixel};
 pub use edge::Edge;
 pub use micro::{COORDINATE_LIMIT, Micro, NUMBER_LIMIT, NumberFault};
+pub use pxbox::PxBox;
 pub use side::{MAX_PICTURE_SIDE, PictureSide};
 pub use world::{World, WorldBox};
