@@ -7,7 +7,7 @@ use lib.Signed.{◌<ℤ◌, ◌≤ℤ◌}
 use mir.Syntax.{w64}
 use mir.Val.{to_z, of_z}
 use Rattle.geom.specs.Range.{IsBelow}
-use Rattle.geom.specs.PxBox.{PixelBox, Overlap, Meets}
+use Rattle.geom.specs.PxBox.{PixelBoxValue, Overlap, Meets}
 
 -- the greater start lies in both ranges, if it is before the lesser end
 pub overlap-from : (a b c d most least : ℤ) → a ≤ℤ most → c ≤ℤ most → least ≤ℤ b → least ≤ℤ d → most <ℤ least → Overlap a b c d
@@ -23,7 +23,7 @@ overlap-to a b c d most least e f o =
     omega (arith, ints, clamps)
 
 -- boxes whose columns and rows overlap share a pixel
-pub meets-from : (a b : PixelBox) → Overlap a.left a.right b.left b.right → Overlap a.top a.bottom b.top b.bottom → Meets a b
+pub meets-from : (a b : PixelBoxValue) → Overlap a.left a.right b.left b.right → Overlap a.top a.bottom b.top b.bottom → Meets a b
 meets-from a b x y = (
   x.0,
   y.0,
@@ -32,11 +32,11 @@ meets-from a b x y = (
 )
 
 -- the columns of boxes that share a pixel overlap
-pub meets-across : (a b : PixelBox) → Meets a b → Overlap a.left a.right b.left b.right
+pub meets-across : (a b : PixelBoxValue) → Meets a b → Overlap a.left a.right b.left b.right
 meets-across a b m = (m.0, m.2.left, m.2.right, m.3.left, m.3.right)
 
 -- and so do their rows
-pub meets-down : (a b : PixelBox) → Meets a b → Overlap a.top a.bottom b.top b.bottom
+pub meets-down : (a b : PixelBoxValue) → Meets a b → Overlap a.top a.bottom b.top b.bottom
 meets-down a b m = (m.1, m.2.top, m.2.bottom, m.3.top, m.3.bottom)
 
 -- what i64 holds of a position that moves by less than 2 ^ 32

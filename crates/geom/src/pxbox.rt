@@ -16,9 +16,9 @@ pub struct PxBox {
 }
 
 impl Model for PxBox {
-    ghost use Rattle.geom.specs.PxBox.{PixelBox};
+    ghost use Rattle.geom.specs.PxBox.{PixelBoxValue};
 
-    ghost Value = { PixelBox };
+    ghost Value = { PixelBoxValue };
 
     ghost view = { λ b. record { left = b.left; top = b.top; right = b.right; bottom = b.bottom } };
 

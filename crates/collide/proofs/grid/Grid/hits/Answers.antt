@@ -1,0 +1,38 @@
+use Rattle.std.proofs.Common.{rules, ◌≡◌, ℕ, ◌<◌, ◌≤◌, ◌+◌, ◌*◌, arith, List, [], ◌∷◌, ◌++◌, length, get_or, take, drop, refl, ap, sym, ◌∙◌, ⊎_elim, IsTrue, Some}
+use Rattle.std.proofs.lemmas.Bool.{cases_lt}
+use Rattle.std.proofs.lemmas.Int.{ints}
+use Rattle.std.proofs.lemmas.List.Elements.{Contains-push}
+use Rattle.std.proofs.lemmas.List.{get_or-set_same}
+use Rattle.std.specs.List.{Contains}
+use Rattle.geom.specs.PxBox.{HasPixel, Meets}
+use Rattle.collide.specs.Grid.{cell_of, Grows, FindsInRow, FindsBetween, FindsNear, HasNoted}
+use Rattle.collide.proofs.Cells.{cell-mono, cell-is, none-more, none-found, row-found, row-finds, any-from, near-from, keeps-added, grows-added, grows-trans, written-back, noted-more}
+use Rattle.collide.proofs.grid.Grid.hits.Goals as goal
+
+pub returns-then-hits_between : goal.returns-then-hits_between
+returns-then-hits_between c =
+    let l = cell-is _ _ _ _ c.cell_of-left.ensures.value c.left.ensures (search rules) in
+    let r = cell-is _ _ _ _ c.cell_of-right.ensures.value c.right.ensures (search rules) in
+    let t = cell-is _ _ _ _ c.cell_of-top.ensures.value c.top.ensures (search rules) in
+    let b = cell-is _ _ _ _ c.cell_of-bottom.ensures.value c.bottom.ensures (search rules) in
+    let found = row-found _ _ c.args.self.now c.loop-row.row _ _ l r (rw c.deref.ensures.value at c.if-hits_between.ensures.0 refl) in
+    (λ _. record { row = c.loop-row.row; first = rw (← t) (omega arith); last = rw (← b) (omega arith); finds = found }, λ _. refl)
+
+pub loop-row-preserved : goal.loop-row-preserved
+loop-row-preserved c =
+    let l = cell-is _ _ _ _ c.cell_of-left.ensures.value c.left.ensures (search rules) in
+    let r = cell-is _ _ _ _ c.cell_of-right.ensures.value c.right.ensures (search rules) in
+    let e = rw c.deref.ensures.value at c.if-hits_between.ensures in
+    none-more (FindsInRow c.args.area c.args.boxes.now c.args.self.now) _ c.loop-row.row c.loop-row.invariant
+    (λ f. let bad = e.1 (row-finds _ _ c.args.self.now c.loop-row.row _ _ l r f) in absurd (cc))
+
+pub returns : goal.returns
+returns c =
+    let t = cell-is _ _ _ _ c.cell_of-top.ensures.value c.top.ensures (search rules) in
+    let b = cell-is _ _ _ _ c.cell_of-bottom.ensures.value c.bottom.ensures (search rules) in (
+      λ h. absurd (cc),
+      λ f.
+          let p = f.first in
+          let q = f.last in
+          absurd (c.loop-row.invariant f.row (rw t p) (omega arith) f.finds),
+    )

@@ -1,0 +1,10 @@
+use Rattle.std.proofs.Common.{ℕ, ◌<◌, ◌≤◌, [], slice_index_or}
+use Rattle.std.specs.List.{Contains}
+use Rattle.collide.specs.Grid.{Grows}
+use Rattle.collide.proofs.grid.note_between.Given as goal
+
+abbrev pub invariant-loop-place : goal.invariant-loop-place
+invariant-loop-place l = record {
+  grows : Grows l.fn.cells l.cells;
+  noted : (i : ℕ) → l.from ≤ i → i < l.place → Contains (slice_index_or l.cells i []) l.index;
+}
