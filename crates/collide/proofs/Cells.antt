@@ -1,5 +1,5 @@
 -- What cells keep, and what is found in them.
-use Rattle.std.proofs.Common.{◌≡◌, ℕ, ◌<◌, ◌≤◌, ◌+◌, ◌-◌, ◌*◌, List, [], ◌∷◌, ◌++◌, length, get_or, set, take, drop, Some, refl, ap, sym, ◌∙◌, ⊎_elim, arith}
+use Rattle.std.proofs.Common.{◌≡◌, ℕ, ◌<◌, ◌≤◌, ◌+◌, ◌-◌, ◌*◌, List, [], ◌∷◌, ◌++◌, length, get_or, set, take, drop, Some, ap, sym, ◌∙◌, ⊎_elim, arith}
 use Rattle.std.proofs.lemmas.Bool.{cases_lt, cases_eq}
 use Rattle.std.proofs.lemmas.Int.{ints, to_z-of_z}
 use Rattle.std.proofs.lemmas.List.{get_or-set_same, get_or-set_other, get_or_append_left, length-set, length-append, take_all, drop_all, append-nil}
@@ -9,12 +9,12 @@ use Rattle.std.proofs.Math.Seq.{get_or-append_seam}
 use Rattle.std.specs.List.{Any, Contains, slice_get}
 use borrow.Author.Count.{below_more}
 use lib.IntN.{ℤ, pos, negsuc}
-use lib.Signed.{◌≤ℤ◌, ◌<ℤ◌}
+use lib.Signed.{◌≤ℤ◌}
 use mir.Syntax.{w64}
 use mir.Val.{to_z, of_z, SFits}
-use Rattle.geom.specs.PxBox.{PixelBoxValue, HasPixel, Meets}
+use Rattle.geom.specs.PxBox.{PixelBoxValue, Meets}
 use Rattle.collide.specs.declared.grid.Grid.{Grid}
-use Rattle.collide.specs.Grid.{cell_of, cell_at, Notes, NotesAll, IsKept, Grows, Finds, FindsBetween, FindsInRow, FindsNear}
+use Rattle.collide.specs.Grid.{cell_of, Notes, NotesAll, IsKept, Grows, Finds, FindsBetween, FindsInRow, FindsNear}
 
 -- a position further on has no earlier cell
 pub cell-mono : (count : ℕ) (y z : ℤ) → y ≤ℤ z → cell_of count y ≤ cell_of count z
@@ -31,7 +31,7 @@ cell-is n count r z h e f = h ∙ ap (cell_of count) (to_z-of_z w64 r f ∙ e)
 pub none-more : (P : ℕ → Type 0) (low n : ℕ) → ((i : ℕ) → low ≤ i → i < n → P i → ⊥) → (P n → ⊥) → (i : ℕ) → low ≤ i → i < n + 1 → P i → ⊥
 none-more P low n before here i a b = below_more (λ (j : ℕ). low ≤ j → P j → ⊥) n (λ j q p. before j p q) (λ _. here) i b a
 
--- the index is in the cell at its place, whatever the default
+-- an element that is read with one default is read with any
 pub at-default : (xs : List ℕ) (i d x : ℕ) → i < length xs → get_or xs i x ≡ x → get_or xs i d ≡ x
 at-default xs i d x p e =
     let a = slice_get-get_or xs i d p in
@@ -44,22 +44,22 @@ pub none-found : (area : PixelBoxValue) (boxes : List PixelBoxValue) (cell : Lis
 none-found area boxes cell h f =
     h f.noted.0 f.other f.noted.1 (rw (at-default cell f.noted.0 0 f.index f.noted.1 f.noted.2) f.is) f.meets
 
--- a place between two of a row is a column of it
+-- a cell between two of a row is one of its columns
 pub row-found : (area : PixelBoxValue) (boxes : List PixelBoxValue) (grid : Grid) (row left right : ℕ) →
     left ≡ cell_of grid.columns area.left → right ≡ cell_of grid.columns area.right →
     FindsBetween area boxes grid.cells.items (row * grid.columns + left) (row * grid.columns + right) → FindsInRow area boxes grid row
 row-found area boxes grid row left right d e f =
     let p = f.first in
     let q = f.last in
-    let s : row * grid.columns + (f.place - row * grid.columns) ≡ f.place = omega arith in
+    let s : row * grid.columns + (f.number - row * grid.columns) ≡ f.number = omega arith in
     record {
-      column = f.place - row * grid.columns;
+      column = f.number - row * grid.columns;
       first = rw (← d) (omega arith);
       last = rw (← e) (omega arith);
       finds = rw s f.finds;
     }
 
--- and a column of a row is such a place
+-- and a column of a row is such a cell
 pub row-finds : (area : PixelBoxValue) (boxes : List PixelBoxValue) (grid : Grid) (row left right : ℕ) →
     left ≡ cell_of grid.columns area.left → right ≡ cell_of grid.columns area.right →
     FindsInRow area boxes grid row → FindsBetween area boxes grid.cells.items (row * grid.columns + left) (row * grid.columns + right)
@@ -67,7 +67,7 @@ row-finds area boxes grid row left right d e f =
     let p = f.first in
     let q = f.last in
     record {
-      place = row * grid.columns + f.column;
+      number = row * grid.columns + f.column;
       first = omega (arith, d);
       last = omega (arith, e);
       finds = f.finds;

@@ -1,5 +1,5 @@
 -- A grid of cells, each with the indices of the boxes near it (docs/PROFILE.md, "From the world to the picture").
-use Rattle.std.specs.Prelude.{ℕ, ℤ, pos, negsuc, List, [], ◌≡◌, ◌≤◌, ◌<◌, ◌+◌, ◌*◌, ◌-◌, ◌/◌, ◌≤ℤ◌, length, Option, Some, slice_index_or, min}
+use Rattle.std.specs.Prelude.{ℕ, ℤ, pos, negsuc, List, [], ◌≡◌, ◌≤◌, ◌<◌, ◌+◌, ◌*◌, ◌-◌, ◌/◌, length, Some, slice_index_or, min}
 use Rattle.std.specs.List.{Contains, slice_get}
 use Rattle.geom.specs.PxBox.{PixelBoxValue, HasPixel, Meets}
 use Rattle.collide.specs.declared.grid.Grid.{Grid}
@@ -42,7 +42,7 @@ pub record Grows (old new : List (List ℕ)) : Type 0 where
   pub same : length new ≡ length old
   pub keeps : (i k : ℕ) → Contains (slice_index_or old i []) k → Contains (slice_index_or new i []) k
 
--- the cells between two places, both included, have the index
+-- the cells numbered from the one to the other, both included, have the index
 abbrev pub HasNoted : List (List ℕ) → ℕ → ℕ → ℕ → Type 0
 HasNoted cells from to k = (i : ℕ) → from ≤ i → i ≤ to → Contains (slice_index_or cells i []) k
 
@@ -54,12 +54,12 @@ pub record Finds (area : PixelBoxValue) (boxes : List PixelBoxValue) (cell : Lis
   pub is : slice_get boxes index ≡ Some other
   pub meets : Meets area other
 
--- a cell between two places, both included, has such an index
+-- a cell numbered from the one to the other, both included, has such an index
 pub record FindsBetween (area : PixelBoxValue) (boxes : List PixelBoxValue) (cells : List (List ℕ)) (from to : ℕ) : Type 0 where
-  pub place : ℕ
-  pub first : from ≤ place
-  pub last : place ≤ to
-  pub finds : Finds area boxes (slice_index_or cells place [])
+  pub number : ℕ
+  pub first : from ≤ number
+  pub last : number ≤ to
+  pub finds : Finds area boxes (slice_index_or cells number [])
 
 -- a cell of a row that the area covers has such an index
 pub record FindsInRow (area : PixelBoxValue) (boxes : List PixelBoxValue) (grid : Grid) (row : ℕ) : Type 0 where

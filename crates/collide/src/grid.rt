@@ -26,7 +26,7 @@ impl Grid {
         let columns = cells_of(width);
         let rows = cells_of(height);
         let mut cells = Vec::new(alloc);
-        for _place in 0..columns * rows {
+        for _number in 0..columns * rows {
             cells.push(Cell::new(alloc))?;
         }
         Ok(Grid {
@@ -97,25 +97,25 @@ fn cell_of(position: i64, count: usize) -> usize
     (position.unsigned_abs() as usize / CELL_SIDE + 1).min(count - 1)
 }
 
-// Adds an index to the cells between two places, both included.
+// Adds an index to the cells numbered `from` to `to`, both included.
 fn note_between(cells: &mut [Cell], from: usize, to: usize, index: usize) -> Result<(), AllocError>
     requires { to < length cells.old }
     ensures kept { Grows cells.old cells.new }
     ensures noted { OnOk result (HasNoted cells.new from to index) }
 {
-    for place in from..to + 1 {
-        cells[place].add(index)?;
+    for number in from..to + 1 {
+        cells[number].add(index)?;
     }
     Ok(())
 }
 
-// Whether a cell between two places, both included, has the index of a box that meets the area.
+// Whether a cell numbered `from` to `to`, both included, has the index of a box that meets the area.
 fn hits_between(cells: &[Cell], from: usize, to: usize, boxes: &[PxBox], area: PxBox) -> bool
     requires { to < length cells.now }
     ensures { IsTrue result ↔ FindsBetween area boxes.now cells.now from to }
 {
-    for place in from..to + 1 {
-        if cells[place].hits(boxes, area) {
+    for number in from..to + 1 {
+        if cells[number].hits(boxes, area) {
             return true;
         }
     }

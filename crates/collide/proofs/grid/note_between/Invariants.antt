@@ -3,8 +3,8 @@ use Rattle.std.specs.List.{Contains}
 use Rattle.collide.specs.Grid.{Grows}
 use Rattle.collide.proofs.grid.note_between.Given as goal
 
-abbrev pub invariant-loop-place : goal.invariant-loop-place
-invariant-loop-place l = record {
+abbrev pub invariant-loop-number : goal.invariant-loop-number
+invariant-loop-number l = record {
   grows : Grows l.fn.cells l.cells;
-  noted : (i : ℕ) → l.from ≤ i → i < l.place → Contains (slice_index_or l.cells i []) l.index;
+  noted : (i : ℕ) → l.from ≤ i → i < l.number → Contains (slice_index_or l.cells i []) l.index;
 }

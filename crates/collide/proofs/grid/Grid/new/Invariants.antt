@@ -1,5 +1,5 @@
-use Rattle.std.proofs.Common.{ℕ, ◌≡◌, length}
+use Rattle.std.proofs.Common.{◌≡◌, length}
 use Rattle.collide.proofs.grid.Grid.new.Given as goal
 
-abbrev pub invariant-loop-place : goal.invariant-loop-place
-invariant-loop-place l = length l.cells.items ≡ l._place
+abbrev pub invariant-loop-number : goal.invariant-loop-number
+invariant-loop-number l = length l.cells.items ≡ l._number

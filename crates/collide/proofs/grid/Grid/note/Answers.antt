@@ -1,12 +1,8 @@
-use Rattle.std.proofs.Common.{rules, ◌≡◌, ℕ, ◌<◌, ◌≤◌, ◌+◌, ◌*◌, arith, List, [], ◌∷◌, ◌++◌, length, get_or, take, drop, refl, ap, sym, ◌∙◌, ⊎_elim, IsTrue, Some}
+use Rattle.std.proofs.Common.{rules, ◌≡◌, ◌<◌, ◌≤◌, ◌+◌, ◌*◌, arith, ⊎_elim}
 use Rattle.std.proofs.lemmas.Bool.{cases_lt}
 use Rattle.std.proofs.lemmas.Int.{ints}
-use Rattle.std.proofs.lemmas.List.Elements.{Contains-push}
-use Rattle.std.proofs.lemmas.List.{get_or-set_same}
-use Rattle.std.specs.List.{Contains}
-use Rattle.geom.specs.PxBox.{HasPixel, Meets}
-use Rattle.collide.specs.Grid.{cell_of, Grows, FindsInRow, FindsBetween, FindsNear, HasNoted}
-use Rattle.collide.proofs.Cells.{cell-mono, cell-is, none-more, none-found, row-found, row-finds, any-from, near-from, keeps-added, grows-added, grows-trans, written-back, noted-more}
+use Rattle.collide.specs.Grid.{cell_of}
+use Rattle.collide.proofs.Cells.{cell-mono, cell-is, grows-trans, written-back}
 use Rattle.collide.proofs.grid.Grid.note.Goals as goal
 
 pub returns-in_err-note_between-clause-kept : goal.returns-in_err-note_between-clause-kept
