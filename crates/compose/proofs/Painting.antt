@@ -132,9 +132,11 @@ colour_at-fills : (background : Rgb) (rings : List (List DevicePoint)) (before f
 colour_at-fills background rings before None i j = colour_at-none (colour_at background (fills rings before) i j) i j
 colour_at-fills background rings None (Some colour) i j = rw (colour_at-none background i j) refl
 colour_at-fills background rings (Some old) (Some colour) i j =
-    rw (colour_at-one background (Fill rings old) i j,
-    colour_at-one (cond (covers (Fill rings old) i j) old background) (Fill rings colour) i j,
-    colour_at-one background (Fill rings colour) i j)
+    rw (
+      colour_at-one background (Fill rings old) i j,
+      colour_at-one (cond (covers (Fill rings old) i j) old background) (Fill rings colour) i j,
+      colour_at-one background (Fill rings colour) i j,
+    )
     (cond-same (covers (Fill rings colour) i j) colour old background)
 
 -- where styles fill the same rings, the last colour shows, or the one before them

@@ -203,7 +203,7 @@ fn letter(colour: Rgb) -> char {
 }
 
 // The rings of a polygon, and the pixels that it covers.
-const POLYGONS: [(&[&[Vertex]], &str); 14] = [
+const POLYGONS: [(&[&[Vertex]], &str); 15] = [
     (
         &[&[(10, 10), (30, 10), (30, 30), (10, 30)]],
         ".... .##. .##. ....",
@@ -269,6 +269,16 @@ const POLYGONS: [(&[&[Vertex]], &str); 14] = [
             &[(15, 10), (40, 10), (40, 30), (15, 30)],
         ],
         ".... #### #### ....",
+    ),
+    // a ring in each corner
+    (
+        &[
+            &[(0, 0), (10, 0), (10, 10), (0, 10)],
+            &[(30, 0), (40, 0), (40, 10), (30, 10)],
+            &[(0, 30), (10, 30), (10, 40), (0, 40)],
+            &[(30, 30), (40, 30), (40, 40), (30, 40)],
+        ],
+        "#..# .... .... #..#",
     ),
     // a ring of one vertex, one of two, and one of none
     (

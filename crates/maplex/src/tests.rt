@@ -81,7 +81,9 @@ fn words_and_texts_are_cut(rt: HostRuntime) {
 }
 
 // Sources, their tokens, and the line of their end.
-const ON_LINES: [(&[u8], &[(Shape, &str, u64)], u64); 8] = [
+const ON_LINES: [(&[u8], &[(Shape, &str, u64)], u64); 9] = [
+    // a carriage return doesn't end a comment
+    (b"# a\rMAP\nEND", &[(Word, "END", 2)], 2),
     (b"\n", &[], 2),
     (
         b"a\nb\r\nc\r\n",

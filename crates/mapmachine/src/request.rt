@@ -98,12 +98,7 @@ fn box_of(
     ensures extent { IfSome result IsExtent }
 {
     if minx < maxx && miny < maxy {
-        Some(WorldBox::new(
-            minx.get(),
-            miny.get(),
-            maxx.get(),
-            maxy.get(),
-        ))
+        Some(WorldBox::new(minx.get(), miny.get(), maxx.get(), maxy.get()))
     } else {
         None
     }

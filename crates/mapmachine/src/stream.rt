@@ -399,6 +399,10 @@ mod tests {
         assert_eq!(rt; stream.flush(), Ok(()));
         assert_eq!(rt; (stream.put_failed(), stream.take_failed()), (false, true));
 
+        let mut stream = flagged(alloc, b"nine left", 2, 1);
+        assert_eq!(rt; stream.put(b""), Ok(0));
+        assert_eq!(rt; (stream.put_failed(), stream.take_failed()), (false, false));
+
         let mut stream = flagged(alloc, b"nine left", 2, 0);
         assert_eq!(rt; stream.flush(), Err(PutFailed));
         assert_eq!(rt; (stream.put_failed(), stream.take_failed()), (true, false));

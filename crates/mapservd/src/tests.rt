@@ -282,6 +282,52 @@ fn sessions_part_at_their_first_such_line(rt: HostRuntime) {
 }
 
 #[test]
+fn a_thousand_rings_count_together(rt: HostRuntime) -> Result<(), Fail> {
+    let alloc = rt.alloc();
+    let script = format!(in alloc; "QUERY {QUERY}\n")?;
+    for (count, rows) in [
+        (1_000, ".... .... .... ...."),
+        (1_001, ".... .##. .##. ...."),
+    ] {
+        let mut rings = String::new(alloc);
+        for _ in 0..count {
+            rings.push_str(SQUARE)?;
+            rings.push('\n')?;
+        }
+        let map = map_text(alloc, rings.as_str())?;
+        let text = played(alloc, map.as_str(), script.as_str())?;
+        assert_eq!(rt; text, drawn(alloc, rows)?, "{count} rings");
+    }
+    Ok(())
+}
+
+#[test]
+fn machines_run_over_many_events(rt: HostRuntime) -> Result<(), Fail> {
+    let alloc = rt.alloc();
+    let map = map_text(alloc, SQUARE)?;
+    let mut machine = Machine::open(alloc, parse(alloc, map.as_bytes())?);
+    let mut events = Vec::new(alloc);
+    for _ in 0..150 {
+        events.push(Event::Query(Bytes::new(b"REQUEST=GetMap")))?;
+        events.push(Event::Query(Bytes::new(QUERY.as_bytes())))?;
+    }
+    let replies = machine.run(&events)?;
+    assert_eq!(rt; replies.len(), 300);
+    for (i, reply) in replies.as_slice().iter().enumerate() {
+        let Reply::Answered(answer) = reply else {
+            return Err(Fail::from(ParseFault::NoMemory));
+        };
+        let expected = if i % 2 == 0 {
+            (7, Mime::Text)
+        } else {
+            (59, Mime::Pixmap)
+        };
+        assert_eq!(rt; (answer.body.len(), answer.mime), expected, "reply {i}");
+    }
+    Ok(())
+}
+
+#[test]
 fn machines_answer_each_event_in_order(rt: HostRuntime) -> Result<(), Fail> {
     let alloc = rt.alloc();
     let map = map_text(alloc, SQUARE)?;
