@@ -1,0 +1,40 @@
+-- Where all checks pass, no value is refused, and the request has the values.
+use Rattle.std.proofs.Common.{◌≡◌, ◌∙◌, List, All, None, Ok, ap, sym, lit<}
+use Rattle.mapdefs.specs.declared.map.MapFields.{MapFields}
+use Rattle.wmsquery.specs.declared.checks.Check.{Check}
+use Rattle.wmsquery.specs.declared.checks.Values.{Values}
+use Rattle.wmsquery.specs.declared.fault.Parameter.TheVariants as parameter
+use Rattle.wmsquery.specs.declared.pairs.Pair.{Pair}
+use Rattle.wmsquery.specs.declared.request.MapRequest.{MapRequest}
+use Rattle.wmsquery.specs.Checks.{checks, refusal_of, values_of}
+use Rattle.wmsquery.specs.Meaning.{Passes, HasValues}
+
+-- some check
+some-check : Check
+some-check = record { parameter = parameter.Service; refusal = None }
+
+pub layers-accepted : (map : MapFields) (pairs : List Pair) (v : Values) → v ≡ values_of map pairs → All Passes (checks map pairs) → refusal_of v.layers ≡ None
+layers-accepted map pairs v e h = ap (λ (w : Values). refusal_of w.layers) e ∙ h 3 some-check (lit< tt)
+
+pub area-accepted : (map : MapFields) (pairs : List Pair) (v : Values) → v ≡ values_of map pairs → All Passes (checks map pairs) → refusal_of v.area ≡ None
+area-accepted map pairs v e h = ap (λ (w : Values). refusal_of w.area) e ∙ h 6 some-check (lit< tt)
+
+pub width-accepted : (map : MapFields) (pairs : List Pair) (v : Values) → v ≡ values_of map pairs → All Passes (checks map pairs) → refusal_of v.width ≡ None
+width-accepted map pairs v e h = ap (λ (w : Values). refusal_of w.width) e ∙ h 7 some-check (lit< tt)
+
+pub height-accepted : (map : MapFields) (pairs : List Pair) (v : Values) → v ≡ values_of map pairs → All Passes (checks map pairs) → refusal_of v.height ≡ None
+height-accepted map pairs v e h = ap (λ (w : Values). refusal_of w.height) e ∙ h 8 some-check (lit< tt)
+
+pub background-accepted : (map : MapFields) (pairs : List Pair) (v : Values) → v ≡ values_of map pairs → All Passes (checks map pairs) → refusal_of v.background ≡ None
+background-accepted map pairs v e h = ap (λ (w : Values). refusal_of w.background) e ∙ h 11 some-check (lit< tt)
+
+-- a request of the values has those of the parameters
+pub has-values : (map : MapFields) (pairs : List Pair) (v : Values) (r : MapRequest) → v ≡ values_of map pairs →
+    v.layers ≡ Ok r.chosen → v.area ≡ Ok r.area → v.width ≡ Ok r.width → v.height ≡ Ok r.height → v.background ≡ Ok r.background → HasValues map pairs r
+has-values map pairs v r e chosen area width height background = record {
+  chosen = sym (ap (λ (w : Values). w.layers) e) ∙ chosen;
+  area = sym (ap (λ (w : Values). w.area) e) ∙ area;
+  width = sym (ap (λ (w : Values). w.width) e) ∙ width;
+  height = sym (ap (λ (w : Values). w.height) e) ∙ height;
+  background = sym (ap (λ (w : Values). w.background) e) ∙ background;
+}

@@ -1,0 +1,5 @@
+pub mod Checks
+pub mod Meaning
+pub mod Pairs
+pub mod Report
+pub mod Values

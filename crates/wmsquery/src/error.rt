@@ -1,0 +1,24 @@
+ghost use Rattle.std.specs.Prelude.{◌≡◌};
+
+use crate::fault::WmsFault;
+use std::alloc::AllocError;
+use thiserror::Error;
+
+/// Why a query has no request.
+#[derive(Clone, Copy, Debug, PartialEq, Eq, Error)]
+pub enum QueryError {
+    #[error("the query is refused")]
+    Fault(WmsFault),
+    #[error("out of memory")]
+    NoMemory,
+}
+
+impl From<AllocError> for QueryError {
+    ghost use Rattle.wmsquery.specs.declared.error.QueryError.TheVariants.{NoMemory};
+
+    ghost from_gives = { λ _ e. e ≡ NoMemory };
+
+    fn from(_error: AllocError) -> QueryError {
+        QueryError::NoMemory
+    }
+}

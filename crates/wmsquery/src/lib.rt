@@ -1,0 +1,27 @@
+//! What a query asks for: a request, or the first fault by the order of refusal.
+//!
+//! Proved: `read` gives the request that a query makes of a map (clause `request`), or the fault of the
+//! first check that fails (`fault`). The layers that are chosen are in the map (`layers`), and the area
+//! is one within the world (`extent`).
+//!
+//! Words: a *pair* is a name and a value of a query. A *value* is what a parameter means. A *check* of
+//! a parameter has the code that refuses its value, if there is one; the *refusal* is that code.
+#![tactic(auto)]
+
+mod checks;
+mod error;
+mod exception;
+mod fault;
+mod lists;
+mod pairs;
+mod query;
+mod request;
+#[cfg(test)]
+mod tests;
+mod values;
+
+pub use error::QueryError;
+pub use exception::report;
+pub use fault::{Code, Parameter, WmsFault};
+pub use query::read;
+pub use request::MapRequest;
