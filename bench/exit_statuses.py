@@ -10,6 +10,11 @@ import sys
 
 MAP = b'MAP LAYER NAME "a" TYPE POLYGON END END\n%%\n'
 QUERY = b"QUERY a\n"
+MISSING = b"""<?xml version="1.0" encoding="UTF-8"?>
+<ServiceExceptionReport version="1.3.0" xmlns="http://www.opengis.net/ogc">
+<ServiceException code="MissingParameterValue">REQUEST</ServiceException>
+</ServiceExceptionReport>
+"""
 FEATURE = b" FEATURE POINTS" + b" 1 2" * 60_000 + b" END END"
 LARGE = b"MAP LAYER NAME 'a' TYPE POLYGON" + FEATURE * 30 + b" END END\n%%\n"
 
@@ -26,7 +31,7 @@ def main():
     wrong = 0
     with open("/dev/full", "wb") as full:
         rows = [
-            ("played", run(MAP + QUERY), (0, b"ANSWER text/plain 7\nunread\n", b"")),
+            ("played", run(MAP + QUERY), (0, b"ANSWER text/xml 215\n" + MISSING, b"")),
             ("faulty script", run(MAP + b"x\n"), (0, b"fault script 1\n", b"")),
             ("faulty mapfile", run(b"MAP\nWEB END\n"), (1, b"", b"fault line 2 kind 2\n")),
             ("full output", run(MAP + QUERY, stdout=full), (3, None, b"")),

@@ -1,1 +1,1 @@
-pub mod Parameters
+pub mod Answering

@@ -1,4 +1,2 @@
 pub mod Machine
 pub mod Netpbm
-pub mod Query
-pub mod Request

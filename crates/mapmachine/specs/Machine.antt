@@ -1,12 +1,14 @@
 -- The map machine: its state, what it answers to a query, and its runs (docs/PROFILE.md, "The machine").
-use Rattle.std.specs.Prelude.{◌≡◌, ℕ, List, [], ◌∷◌, Option, None, Some, codes}
-use Rattle.mapdefs.specs.declared.colour.Rgb.{Rgb}
+use Rattle.std.specs.Prelude.{◌≡◌, ℕ, List, [], ◌∷◌, Result, Ok, Err}
 use Rattle.mapdefs.specs.declared.map.MapFields.{MapFields}
 use Rattle.mapdefs.specs.declared.picture.PictureFields.{PictureFields}
+use Rattle.viewport.specs.View.{ViewValue}
+use Rattle.wmsquery.specs.Meaning.{IsMeaning}
+use Rattle.wmsquery.specs.Report.{report}
+use Rattle.wmsquery.specs.declared.fault.WmsFault.{WmsFault}
+use Rattle.wmsquery.specs.declared.request.MapRequest.{MapRequest}
 use Rattle.compose.specs.Picture.{IsPictureOf}
 use Rattle.mapmachine.specs.Netpbm.{ppm}
-use Rattle.mapmachine.specs.Query.{parameters}
-use Rattle.mapmachine.specs.Request.{RequestValue, request_of}
 use Rattle.mapmachine.specs.declared.reply.Answer.{Answer}
 use Rattle.mapmachine.specs.declared.reply.Event.{Event}
 use Rattle.mapmachine.specs.declared.reply.Event.TheVariants.{Query}
@@ -19,21 +21,21 @@ pub record State : Type 0 where
   pub map : MapFields
   pub sequence : ℕ
 
--- the colour of the background
-abbrev pub white : Rgb
-white = record { red = 255; green = 255; blue = 255 }
+-- the view of a request: its area, by a picture of its sides
+abbrev pub view_of : MapRequest → ViewValue
+view_of request = record { area = request.area; width = request.width; height = request.height }
 
--- the answer to a request: the bytes of its picture; without a request, that the query is not read
-abbrev pub Answers : MapFields → Option RequestValue → Answer → Type 0
-Answers map None answer = answer ≡ record { mime = mime.Text; body = codes "unread\n" }
-Answers map (Some request) answer =
+-- the answer to what a query means: the bytes of the picture of a request, or the document of a fault
+abbrev pub Answers : MapFields → Result MapRequest WmsFault → Answer → Type 0
+Answers map (Ok request) answer =
     (picture : PictureFields)
-    × IsPictureOf map request.view (request.layer ∷ []) white picture
+    × IsPictureOf map (view_of request) request.chosen request.background picture
     × (answer ≡ record { mime = mime.Pixmap; body = ppm picture })
+Answers map (Err fault) answer = answer ≡ record { mime = mime.Xml; body = report fault }
 
--- the answer to a query in a state
+-- the answer to a query in a state is that to what the query means of the map
 abbrev pub IsAnswer : State → List ℕ → Answer → Type 0
-IsAnswer state query answer = Answers state.map (request_of state.map (parameters query)) answer
+IsAnswer state query answer = (meaning : Result MapRequest WmsFault) × IsMeaning state.map query meaning × Answers state.map meaning answer
 
 -- one event in a state has this reply and leads to that state: a query changes nothing, out of memory or not
 abbrev pub Steps : State → Event → Reply → State → Type 0

@@ -1,20 +1,14 @@
-ghost use Rattle.std.specs.Prelude.{◌≡◌, ◌<◌, length, Some, None, IfOk, OnErr};
+ghost use Rattle.std.specs.Prelude.{◌≡◌, ◌<◌, All, length, Ok, Err, IfOk, OnErr};
+ghost use Rattle.geom.specs.World.{IsExtent};
 
 use crate::netpbm::ppm;
-use crate::query::parameters;
 use crate::reply::{Answer, Event, Mime, Reply};
-use crate::request::{Request, read_request};
 use compose::picture as picture_of;
-use mapdefs::{Items, Map, Rgb};
+use mapdefs::{Items, Map};
 use std::alloc::{AllocError, Global};
 use std::marker::Model;
-
-/// The colour of the background.
-const WHITE: Rgb = Rgb {
-    red: 255,
-    green: 255,
-    blue: 255,
-};
+use viewport::View;
+use wmsquery::{MapRequest, QueryError, WmsFault, read as read_query, report};
 
 /// The map machine: it holds a map, and answers queries about it.
 #[derive(Debug, Drop)]
@@ -57,37 +51,40 @@ impl Machine {
         self.sequence
     }
 
-    // The answer to a query for a picture.
-    fn picture_answer(&self, request: Request) -> Result<Answer, AllocError>
-        requires { request.layer < length self.now.map.layers }
-        ensures { IfOk result (Answers self.now.map (Some request)) }
+    // The answer to a request: its picture.
+    fn picture_answer(&self, request: &MapRequest) -> Result<Answer, AllocError>
+        requires layers { All (λ index. index < length self.now.map.layers) request.now.chosen }
+        requires extent { IsExtent request.now.area }
+        ensures { IfOk result (Answers self.now.map (Ok request.now)) }
     {
-        let chosen = [request.layer()];
-        let picture = picture_of(self.alloc, &self.map, request.view(), &chosen, WHITE)?;
+        let view = View::new(request.area, request.width, request.height);
+        let chosen = request.chosen.as_slice();
+        let picture = picture_of(self.alloc, &self.map, view, chosen, request.background)?;
         Ok(Answer {
             mime: Mime::Pixmap,
             body: ppm(self.alloc, &picture)?,
         })
     }
 
-    // The answer to a query that makes no request.
-    fn unread(&self) -> Result<Answer, AllocError>
-        ensures { IfOk result (Answers self.now.map None) }
+    // The answer to a query that is refused: the document of its fault.
+    fn exception_answer(&self, fault: WmsFault) -> Result<Answer, AllocError>
+        ensures { IfOk result (Answers self.now.map (Err fault)) }
     {
         Ok(Answer {
-            mime: Mime::Text,
-            body: Items::of(Vec::from_slice(self.alloc, b"unread\n")?),
+            mime: Mime::Xml,
+            body: report(self.alloc, fault)?,
         })
     }
 
-    /// The answer to a query. The one error is that memory was refused.
+    /// The answer to a query: the picture that it asks for, or the document of its first fault. The one
+    /// error is that memory was refused.
     pub fn reply(&self, query: &[u8]) -> Result<Answer, AllocError>
         ensures { IfOk result (IsAnswer self.now query.now) }
     {
-        let parameters = parameters(self.alloc, query)?;
-        match read_request(&self.map, &parameters) {
-            Some(request) => self.picture_answer(request),
-            None => self.unread(),
+        match read_query(self.alloc, query, &self.map) {
+            Ok(request) => self.picture_answer(&request),
+            Err(QueryError::Fault(fault)) => self.exception_answer(fault),
+            Err(QueryError::NoMemory) => Err(AllocError),
         }
     }
 

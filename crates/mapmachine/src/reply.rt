@@ -13,8 +13,8 @@ pub enum Event<'a> {
 pub enum Mime {
     /// A picture as Netpbm's portable pixmap.
     Pixmap,
-    /// Plain text.
-    Text,
+    /// An XML document.
+    Xml,
 }
 
 /// The answer to a query.

@@ -5,7 +5,7 @@ use Rattle.std.specs.Fmt.{decimal}
 use Rattle.hex.specs.Hex.{encode_lower}
 use Rattle.mapmachine.specs.declared.reply.Answer.{Answer}
 use Rattle.mapmachine.specs.declared.reply.Mime.{Mime}
-use Rattle.mapmachine.specs.declared.reply.Mime.TheVariants.{Pixmap, Text}
+use Rattle.mapmachine.specs.declared.reply.Mime.TheVariants.{Pixmap, Xml}
 use Rattle.mapmachine.specs.declared.reply.Reply.{Reply}
 use Rattle.mapmachine.specs.declared.reply.Reply.TheVariants.{Answered, NoMemory}
 
@@ -26,12 +26,12 @@ hex_lines bytes = hex_within (length bytes) bytes
 -- what stands before the number of bytes of a body: a word, and the mime type
 abbrev pub line_start : Mime → List ℕ
 line_start Pixmap = codes "ANSWER image/x-portable-pixmap "
-line_start Text = codes "ANSWER text/plain "
+line_start Xml = codes "ANSWER text/xml "
 
 -- a body as it is written: pictures in hexadecimal
 abbrev pub body_text : Mime → List ℕ → List ℕ
 body_text Pixmap body = hex_lines body
-body_text Text body = body
+body_text Xml body = body
 
 -- the line before a body: its mime type, and how many bytes it has
 abbrev pub answer_line : Answer → List ℕ

@@ -65,7 +65,7 @@ fn line_start(mime: Mime) -> &'static [u8]
 {
     match mime {
         Mime::Pixmap => b"ANSWER image/x-portable-pixmap ",
-        Mime::Text => b"ANSWER text/plain ",
+        Mime::Xml => b"ANSWER text/xml ",
     }
 }
 
@@ -103,7 +103,7 @@ fn send_body<S: Sink>(sink: &mut S, mime: Mime, body: &[u8]) -> Result<(), PutFa
 {
     match mime {
         Mime::Pixmap => send_hex(sink, body),
-        Mime::Text => send(sink, body),
+        Mime::Xml => send(sink, body),
     }
 }
 

@@ -1,7 +1,7 @@
 use crate::input::ReadFault;
 use crate::outcome::Outcome;
 use crate::session::serve_session;
-use crate::tests::{QUERY, SQUARE, SQUARE_TEXT, map_text};
+use crate::tests::{QUERY, SQUARE, SQUARE_TEXT, exception, map_text};
 use mapmachine::Flagged;
 use std::alloc::{AllocError, Global};
 use std::io::{self, Read, Write};
@@ -88,72 +88,80 @@ fn served(alloc: Global, session: &[u8], at_once: usize, failing: [Option<usize>
     }
 }
 
-// Sessions, how they end with which status, and what their writers get.
-const SESSIONS: [(&str, Outcome, u8, &str, &str); 6] = [
-    (
-        "MAP END\n%%\nQUERY a\n",
-        Outcome::Played,
-        0,
-        "ANSWER text/plain 7\nunread\n",
-        "",
-    ),
-    ("MAP END", Outcome::Played, 0, "", ""),
-    (
-        "MAP END\n%%\nQUERY a\nQUERY b\nQUIT\n",
-        Outcome::Played,
-        0,
-        "fault script 3\n",
-        "",
-    ),
-    (
-        "MAP\n\n\n\nWEB END\n%%\nQUERY a\n",
-        Outcome::MapfileFault,
-        1,
-        "",
-        "fault line 5 kind 2\n",
-    ),
-    (
-        "MAP\n LAYER\n TYPE BLOB\n%%\n",
-        Outcome::MapfileFault,
-        1,
-        "",
-        "fault line 3 kind 3\n",
-    ),
-    // both the mapfile and the script have a fault
-    (
-        "MAP\n%%\nQUIT\n",
-        Outcome::MapfileFault,
-        1,
-        "",
-        "fault line 2 kind 4\n",
-    ),
-];
+// Sessions with `~` for a line feed, the statuses that they end with, and what their two writers get: an
+// exception where it says `x`. The last has a fault in the mapfile and one in the script.
+const SESSIONS: &str = "\
+MAP END~%%~QUERY a~|0|x|\n\
+MAP END|0||\n\
+MAP END~%%~QUERY a~QUERY b~QUIT~|0|fault script 3~|\n\
+MAP~~~~WEB END~%%~QUERY a~|1||fault line 5 kind 2~\n\
+MAP~ LAYER~ TYPE BLOB~%%~|1||fault line 3 kind 3~\n\
+MAP~%%~QUIT~|1||fault line 2 kind 4~";
 
-#[test]
-fn sessions_end_as_they_should(rt: HostRuntime) {
-    let alloc = rt.alloc();
-    for (session, outcome, status, output, errors) in SESSIONS {
-        for at_once in [1, 7, 100_000] {
-            let ending = served(alloc, session.as_bytes(), at_once, [None; 3]);
-            assert_eq!(rt; ending.outcome, outcome, "{session:?}");
-            assert_eq!(rt; ending.outcome.status(), status, "{session:?}");
-            assert_eq!(rt; ending.output.as_slice(), output.as_bytes(), "{session:?}");
-            assert_eq!(rt; ending.errors.as_slice(), errors.as_bytes(), "{session:?}");
-        }
+// A row of the table: the session, its outcome, what is written, and the fault that is told.
+#[derive(Drop)]
+struct Row {
+    session: String,
+    outcome: Outcome,
+    output: String,
+    errors: String,
+}
+
+impl Row {
+    fn read(alloc: Global, row: &str) -> Result<Row, AllocError> {
+        let row = row.replace(alloc, "~", "\n")?;
+        let (session, rest) = row.split_once('|').unwrap_or(("", ""));
+        let (status, rest) = rest.split_once('|').unwrap_or(("", ""));
+        let (output, errors) = rest.split_once('|').unwrap_or(("", ""));
+        Ok(Row {
+            session: String::from_str(alloc, session)?,
+            outcome: if status == "1" {
+                Outcome::MapfileFault
+            } else {
+                Outcome::Played
+            },
+            output: if output == "x" {
+                exception(alloc, "MissingParameterValue", "REQUEST")?
+            } else {
+                String::from_str(alloc, output)?
+            },
+            errors: String::from_str(alloc, errors)?,
+        })
+    }
+
+    // What becomes of the session with streams that move 5 bytes at once.
+    fn served(&self, alloc: Global, failing: [Option<usize>; 3]) -> Ending {
+        served(alloc, self.session.as_bytes(), 5, failing)
     }
 }
 
 #[test]
-fn sessions_whose_input_fails_write_nothing(rt: HostRuntime) {
+fn sessions_end_as_they_should(rt: HostRuntime) -> Result<(), Fail> {
     let alloc = rt.alloc();
-    for (session, ..) in SESSIONS {
-        let calls = served(alloc, session.as_bytes(), 5, [None; 3]).calls[0];
-        for failing in 0..calls {
-            let ending = served(alloc, session.as_bytes(), 5, [Some(failing), None, None]);
-            let found = (ending.outcome, ending.output.len(), ending.errors.len());
-            assert_eq!(rt; found, (Outcome::InputFailed, 0, 0), "{session:?}");
+    for line in SESSIONS.lines() {
+        let row = Row::read(alloc, line)?;
+        for at_once in [1, 7, 100_000] {
+            let ending = served(alloc, row.session.as_bytes(), at_once, [None; 3]);
+            assert_eq!(rt; ending.outcome, row.outcome, "{line}");
+            assert_eq!(rt; ending.output.as_slice(), row.output.as_bytes(), "{line}");
+            assert_eq!(rt; ending.errors.as_slice(), row.errors.as_bytes(), "{line}");
         }
     }
+    Ok(())
+}
+
+#[test]
+fn sessions_whose_input_fails_write_nothing(rt: HostRuntime) -> Result<(), Fail> {
+    let alloc = rt.alloc();
+    for line in SESSIONS.lines() {
+        let row = Row::read(alloc, line)?;
+        for failing in 0..row.served(alloc, [None; 3]).calls[0] {
+            let ending = row.served(alloc, [Some(failing), None, None]);
+            let found = (ending.outcome, ending.output.len(), ending.errors.len());
+            assert_eq!(rt; found, (Outcome::InputFailed, 0, 0), "{line}");
+        }
+    }
+    Ok(())
 }
 
 // Whether some bytes are the front of a text, and not all of it before its last call.
@@ -162,31 +170,35 @@ fn is_front(bytes: &[u8], text: &str, is_last: bool) -> bool {
 }
 
 #[test]
-fn outputs_that_fail_hold_the_first_bytes(rt: HostRuntime) {
+fn outputs_that_fail_hold_the_first_bytes(rt: HostRuntime) -> Result<(), Fail> {
     let alloc = rt.alloc();
-    for (session, _, _, output, _) in SESSIONS {
-        let calls = served(alloc, session.as_bytes(), 5, [None; 3]).calls[1];
+    for line in SESSIONS.lines() {
+        let row = Row::read(alloc, line)?;
+        let calls = row.served(alloc, [None; 3]).calls[1];
         for failing in 0..calls {
-            let ending = served(alloc, session.as_bytes(), 5, [None, Some(failing), None]);
-            let is_front = is_front(&ending.output, output, failing == calls - 1);
+            let ending = row.served(alloc, [None, Some(failing), None]);
+            let is_front = is_front(&ending.output, row.output.as_str(), failing == calls - 1);
             let found = (ending.outcome, is_front, ending.errors.len());
-            assert_eq!(rt; found, (Outcome::OutputFailed, true, 0), "{session:?}");
+            assert_eq!(rt; found, (Outcome::OutputFailed, true, 0), "{line}");
         }
     }
+    Ok(())
 }
 
 #[test]
-fn faults_that_cannot_be_told_are_faults(rt: HostRuntime) {
+fn faults_that_cannot_be_told_are_faults(rt: HostRuntime) -> Result<(), Fail> {
     let alloc = rt.alloc();
-    for (session, _, _, _, errors) in SESSIONS {
-        let calls = served(alloc, session.as_bytes(), 5, [None; 3]).calls[2];
+    for line in SESSIONS.lines() {
+        let row = Row::read(alloc, line)?;
+        let calls = row.served(alloc, [None; 3]).calls[2];
         for failing in 0..calls {
-            let ending = served(alloc, session.as_bytes(), 5, [None, None, Some(failing)]);
-            let is_front = is_front(&ending.errors, errors, failing == calls - 1);
+            let ending = row.served(alloc, [None, None, Some(failing)]);
+            let is_front = is_front(&ending.errors, row.errors.as_str(), failing == calls - 1);
             let found = (ending.outcome, is_front, ending.output.len());
-            assert_eq!(rt; found, (Outcome::MapfileFault, true, 0), "{session:?}");
+            assert_eq!(rt; found, (Outcome::MapfileFault, true, 0), "{line}");
         }
     }
+    Ok(())
 }
 
 #[test]

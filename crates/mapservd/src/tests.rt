@@ -4,6 +4,7 @@ use mapmachine::{Bytes, Event, Flagged, Machine, Mime, Reply, WriteFault};
 use mapparse::{ParseFault, parse};
 use std::alloc::{AllocError, Global};
 use std::io::{self, Write};
+use std::process::Abort;
 use std::test::Fail;
 
 /// A map of one layer `a` with one feature of these rings, in the colour 10 20 30.
@@ -13,7 +14,8 @@ pub fn map_text(alloc: Global, rings: &str) -> Result<String, AllocError> {
     )
 }
 
-/// A query for a picture of 4 by 4 pixels.
+/// A query for a picture of 4 by 4 pixels. The first pair of a name counts, so that the tests put
+/// others before it.
 pub const QUERY: &str =
     "VERSION=1.3.0&REQUEST=GetMap&LAYERS=a&STYLES=&CRS=CRS:84&BBOX=0,0,4,4&WIDTH=4&HEIGHT=4&FORMAT=image/x-portable-pixmap";
 
@@ -25,9 +27,25 @@ pub const SQUARE_TEXT: &str = "ANSWER image/x-portable-pixmap 59\n\
 50360a3420340a3235350affffffffffffffffffffffffffffff0a141e0a141e\n\
 ffffffffffff0a141e0a141effffffffffffffffffffffffffffff\n";
 
+/// What a session writes of a service exception. The document has 187 bytes beside the code and the
+/// name of the parameter.
+pub fn exception(alloc: Global, code: &str, parameter: &str) -> Result<String, AllocError> {
+    let length = code
+        .len()
+        .saturating_add(parameter.len())
+        .saturating_add(187);
+    format!(in alloc;
+        "ANSWER text/xml {length}\n\
+<?xml version=\"1.0\" encoding=\"UTF-8\"?>\n\
+<ServiceExceptionReport version=\"1.3.0\" xmlns=\"http://www.opengis.net/ogc\">\n\
+<ServiceException code=\"{code}\">{parameter}</ServiceException>\n\
+</ServiceExceptionReport>\n"
+    )
+}
+
 // What a session writes of a picture of 4 by 4 pixels that is drawn in rows, `#` for the colour and
 // `.` for the background.
-fn drawn(alloc: Global, rows: &str) -> Result<Vec<u8>, AllocError> {
+fn drawn(alloc: Global, rows: &str) -> Result<String, AllocError> {
     let mut body = Vec::from_slice(alloc, b"P6\n4 4\n255\n")?;
     for pixel in rows.bytes() {
         match pixel {
@@ -36,12 +54,23 @@ fn drawn(alloc: Global, rows: &str) -> Result<Vec<u8>, AllocError> {
             _ => {}
         }
     }
-    let mut text = Vec::from_slice(alloc, b"ANSWER image/x-portable-pixmap 59\n")?;
+    let mut text = String::from_str(alloc, "ANSWER image/x-portable-pixmap 59\n")?;
     for line in body.chunks(32) {
-        text.extend_from_slice(hex::encode(alloc, line)?.as_bytes())?;
-        text.push(b'\n')?;
+        text.push_str(hex::encode(alloc, line)?.as_str())?;
+        text.push('\n')?;
     }
     Ok(text)
+}
+
+// What a session writes of an answer: a picture that is drawn in rows, or an exception by its code and
+// the name of its parameter.
+fn answer(alloc: Global, told: &str) -> Result<String, AllocError> {
+    match told.split_once(' ') {
+        Some((code, parameter)) if !told.starts_with(['.', '#']) => {
+            exception(alloc, code, parameter)
+        }
+        _ => drawn(alloc, told),
+    }
 }
 
 /// What a session of a map and a script writes.
@@ -52,129 +81,149 @@ pub fn played(alloc: Global, map: &str, script: &str) -> Result<Vec<u8>, Fail> {
     Ok(sink.into_inner())
 }
 
-// Rings of a feature, and the picture of it, worked by hand.
-const PICTURES: [(&str, &str); 7] = [
-    (SQUARE, ".... .##. .##. ...."),
-    // cut at the pixel centres of a column
-    ("POINTS 1.5 1 3 1 3 3 1.5 3 END", ".... .##. .##. ...."),
-    ("POINTS 0 1 1.5 1 1.5 3 0 3 END", ".... #... #... ...."),
-    // a hole by a second ring
-    (
-        "POINTS 0 0 4 0 4 4 0 4 END POINTS 1 1 3 1 3 3 1 3 END",
-        "#### #..# #..# ####",
-    ),
-    // a ring that crosses itself
-    ("POINTS 1 1 3 3 3 1 1 3 END", ".... ..#. ..#. ...."),
-    // far round the picture, and left of it
-    (
-        "POINTS -200 -200 200 -200 200 200 -200 200 END",
-        "#### #### #### ####",
-    ),
-    ("POINTS -3 1 -1 1 -1 3 -3 3 END", ".... .... .... ...."),
-];
+// The parts of a row of a table, between upright lines.
+fn columns(row: &str) -> (&str, &str, &str) {
+    let (first, rest) = row.split_once('|').unwrap_or((row, ""));
+    let (second, third) = rest.split_once('|').unwrap_or((rest, ""));
+    (first, second, third)
+}
+
+// Rings of a feature, pairs before those of `QUERY`, and the answer, worked by hand.
+const ANSWERS: &str = "\
+POINTS 1 1 3 1 3 3 1 3 END||.... .##. .##. ....\n\
+POINTS 1.5 1 3 1 3 3 1.5 3 END||.... .##. .##. ....\n\
+POINTS 0 1 1.5 1 1.5 3 0 3 END||.... #... #... ....\n\
+POINTS 0 0 4 0 4 4 0 4 END POINTS 1 1 3 1 3 3 1 3 END||#### #..# #..# ####\n\
+POINTS 1 1 3 3 3 1 1 3 END||.... ..#. ..#. ....\n\
+POINTS -200 -200 200 -200 200 200 -200 200 END||#### #### #### ####\n\
+POINTS -3 1 -1 1 -1 3 -3 3 END||.... .... .... ....\n\
+POINTS 11 41 13 41 13 43 11 43 END|BBOX=10,40,14,44&CRS=CRS:84|.... .##. .##. ....\n\
+POINTS 11 41 13 41 13 43 11 43 END|BBOX=40,10,44,14&CRS=EPSG:4326|.... .##. .##. ....\n\
+POINTS 11 41 13 41 13 44 11 44 END|BBOX=40,10,44,14&CRS=EPSG:4326|.##. .##. .##. ....\n\
+POINTS 1 1 3 1 3 3 1 3 END|BBOX=0.0000000000000000,0,4.0000000000000001,4|.... .##. .##. ....\n\
+POINTS 1 1 3 1 3 3 1 3 END|BBOX=1e-7,0,4,4|.... .##. .##. ....\n\
+POINTS 1 1 3 1 3 3 1 3 END|LAYERS=a,a&STYLES=default,|.... .##. .##. ....\n\
+POINTS 1 1 3 1 3 3 1 3 END|bgcolor=0x0A141e|#### #### #### ####\n\
+POINTS 1 1 3 1 3 3 1 3 END|BBOX=0,0,0,4|InvalidParameterValue BBOX\n\
+POINTS 1 1 3 1 3 3 1 3 END|LAYERS=x&CRS=EPSG:1|LayerNotDefined LAYERS\n\
+POINTS 1 1 3 1 3 3 1 3 END|WIDTH=2049|InvalidParameterValue WIDTH\n\
+POINTS 1 1 3 1 3 3 1 3 END|WIDTH=0|InvalidParameterValue WIDTH\n\
+POINTS 1 1 3 1 3 3 1 3 END|FORMAT=image/png|InvalidFormat FORMAT\n\
+POINTS 1 1 3 1 3 3 1 3 END|STYLES=default,default|InvalidParameterValue STYLES\n\
+POINTS 1 1 3 1 3 3 1 3 END|STYLES=x|StyleNotDefined STYLES\n\
+POINTS 1 1 3 1 3 3 1 3 END|REQUEST=getmap|OperationNotSupported REQUEST";
 
 #[test]
-fn sessions_draw_their_pictures(rt: HostRuntime) -> Result<(), Fail> {
+fn sessions_answer_their_queries(rt: HostRuntime) -> Result<(), Fail> {
     let alloc = rt.alloc();
-    let script = format!(in alloc; "QUERY {QUERY}\n")?;
-    for (rings, rows) in PICTURES {
+    for row in ANSWERS.lines() {
+        let (rings, pairs, told) = columns(row);
         let map = map_text(alloc, rings)?;
+        let script = format!(in alloc; "QUERY {pairs}&{QUERY}\n")?;
         let text = played(alloc, map.as_str(), script.as_str())?;
-        assert_eq!(rt; text, drawn(alloc, rows)?, "{rings}");
+        assert_eq!(rt; text.as_slice(), answer(alloc, told)?.as_bytes(), "{row}");
     }
-    let map = map_text(alloc, SQUARE)?;
-    let text = played(alloc, map.as_str(), script.as_str())?;
-    assert_eq!(rt; text.as_slice(), SQUARE_TEXT.as_bytes());
     Ok(())
 }
 
-// A layer with the square and two classes, the second of which would paint it in 40 50 60.
-const TWO_CLASSES: &str =
-    "MAP LAYER NAME 'a' TYPE POLYGON CLASS STYLE COLOR 10 20 30 END END CLASS STYLE COLOR 40 50 60 END END FEATURE POINTS 1 1 3 1 3 3 1 3 END END END END";
-
-const WIDE_QUERY: &str =
-    "QUERY VERSION=1.3.0&REQUEST=GetMap&LAYERS=a&STYLES=&CRS=CRS:84&BBOX=0,0,4,4&WIDTH=4&HEIGHT=2&FORMAT=image/x-portable-pixmap\n";
-
-// The picture in 4 by 2 pixels, worked by hand. The pixel centres of its rows are at the heights of
-// the square's upper and lower edge: the upper edge covers them, the lower one doesn't.
-const WIDE_TEXT: &str = "ANSWER image/x-portable-pixmap 35\n\
-50360a3420320a3235350affffff0a141e0a141effffffffffffffffffffffff\n\
-ffffff\n";
+// Maps, scripts of one query, and what is written of them, worked by hand: the square by itself; with a
+// name of a parameter in lower case; with a second pair of a name; a layer with two classes, the second
+// of which would paint it in 40 50 60, in 4 by 2 pixels. The pixel centres of these two rows are at the
+// heights of the square's upper and lower edge: the upper edge covers them, the lower one doesn't.
+const WRITTEN: &str = "\
+CLASS STYLE COLOR 10 20 30 END END|VERSION=1.3.0&REQUEST=GetMap&LAYERS=a&STYLES=&CRS=CRS:84&BBOX=0,0,4,4&WIDTH=4&HEIGHT=4&FORMAT=image/x-portable-pixmap|59 50360a3420340a3235350affffffffffffffffffffffffffffff0a141e0a141e ffffffffffff0a141e0a141effffffffffffffffffffffffffffff\n\
+CLASS STYLE COLOR 10 20 30 END END|VERSION=1.3.0&REQUEST=GetMap&layers=a&STYLES=&CRS=CRS:84&BBOX=0,0,4,4&WIDTH=4&HEIGHT=4&FORMAT=image/x-portable-pixmap|59 50360a3420340a3235350affffffffffffffffffffffffffffff0a141e0a141e ffffffffffff0a141e0a141effffffffffffffffffffffffffffff\n\
+CLASS STYLE COLOR 10 20 30 END END|VERSION=1.3.0&REQUEST=GetMap&LAYERS=a&STYLES=&CRS=CRS:84&BBOX=0,0,4,4&WIDTH=4&HEIGHT=4&FORMAT=image/x-portable-pixmap&LAYERS=x|59 50360a3420340a3235350affffffffffffffffffffffffffffff0a141e0a141e ffffffffffff0a141e0a141effffffffffffffffffffffffffffff\n\
+CLASS STYLE COLOR 10 20 30 END END CLASS STYLE COLOR 40 50 60 END END|VERSION=1.3.0&REQUEST=GetMap&LAYERS=a&STYLES=&CRS=CRS:84&BBOX=0,0,4,4&WIDTH=4&HEIGHT=2&FORMAT=image/x-portable-pixmap|35 50360a3420320a3235350affffff0a141e0a141effffffffffffffffffffffff ffffff";
 
 #[test]
-fn pictures_have_the_sides_that_are_asked_for(rt: HostRuntime) -> Result<(), Fail> {
-    let text = played(rt.alloc(), TWO_CLASSES, WIDE_QUERY)?;
-    assert_eq!(rt; text.as_slice(), WIDE_TEXT.as_bytes());
+fn pictures_are_written_as_worked(rt: HostRuntime) -> Result<(), Fail> {
+    let alloc = rt.alloc();
+    for row in WRITTEN.lines() {
+        let (classes, query, written) = columns(row);
+        let map = format!(in alloc;
+            "MAP LAYER NAME 'a' TYPE POLYGON {classes} FEATURE {SQUARE} END END END"
+        )?;
+        let script = format!(in alloc; "QUERY {query}\n")?;
+        let lines = written.replace(alloc, " ", "\n")?;
+        let expected = format!(in alloc; "ANSWER image/x-portable-pixmap {lines}\n")?;
+        let text = played(alloc, map.as_str(), script.as_str())?;
+        assert_eq!(rt; text.as_slice(), expected.as_bytes(), "{row}");
+    }
     Ok(())
 }
-
-const LARGEST_QUERY: &str =
-    "QUERY VERSION=1.3.0&REQUEST=GetMap&LAYERS=a&STYLES=&CRS=CRS:84&BBOX=0,0,4,4&WIDTH=2048&HEIGHT=2048&FORMAT=image/x-portable-pixmap\n";
 
 // Columns, rows and components of pixels beside the corners of the square, which are at 512 and 1536,
 // and the hexadecimal digits.
-const SAMPLES: [(u16, u16, u16, &str); 8] = [
-    (512, 512, 0, "0a"),
-    (512, 512, 1, "14"),
-    (512, 512, 2, "1e"),
-    (511, 512, 2, "ff"),
-    (512, 511, 0, "ff"),
-    (1_535, 1_535, 0, "0a"),
-    (1_536, 1_535, 0, "ff"),
-    (1_000, 1_200, 1, "14"),
-];
+const SAMPLES: &str = "\
+512 512 0 0a\n\
+512 512 1 14\n\
+512 512 2 1e\n\
+511 512 2 ff\n\
+512 511 0 ff\n\
+1535 1535 0 0a\n\
+1536 1535 0 ff\n\
+1000 1200 1 14";
 
-// Whether a component of a pixel has these digits in the text of a picture of 2,048 by 2,048 pixels.
-fn has_digits(text: &[u8], column: u16, row: u16, component: u16, digits: &str) -> bool {
-    let pixel = 2_048 * usize::from(row) + usize::from(column);
-    let byte = 17 + 3 * pixel + usize::from(component);
-    let at = 40 + 65 * (byte / 32) + 2 * (byte % 32);
-    text.get(at..at + 2) == Some(digits.as_bytes())
+// Where a component of a pixel stands in the text of a picture of 2,048 by 2,048 pixels, and its digits.
+fn sample(row: &str) -> Option<(usize, &str)> {
+    let mut columns = row.split(' ');
+    let column: usize = columns.next()?.parse().ok()?;
+    let row: usize = columns.next()?.parse().ok()?;
+    let component: usize = columns.next()?.parse().ok()?;
+    let byte = row.checked_mul(2_048)?.checked_add(column)?.checked_mul(3)?;
+    let byte = byte.checked_add(component)?.checked_add(17)?;
+    let at = (byte / 32).checked_mul(65)?.checked_add(2 * (byte % 32))?;
+    Some((at.checked_add(40)?, columns.next()?))
 }
 
 #[test]
 fn largest_pictures_are_written_whole(rt: HostRuntime) -> Result<(), Fail> {
     let alloc = rt.alloc();
     let map = map_text(alloc, SQUARE)?;
-    let text = played(alloc, map.as_str(), LARGEST_QUERY)?;
+    let script = format!(in alloc; "QUERY WIDTH=2048&HEIGHT=2048&{QUERY}\n")?;
+    let text = played(alloc, map.as_str(), script.as_str())?;
     // 17 bytes of header and 2,048 times 2,048 pixels are 12,582,929 bytes in 393,217 lines
     let front = "ANSWER image/x-portable-pixmap 12582929\n\
 50360a3230343820323034380a3235350affffffffffffffffffffffffffffff\n";
     assert_eq!(rt; text.len(), 40 + 2 * 12_582_929 + 393_217);
     assert_eq!(rt; text.starts_with(front.as_bytes()), true);
-    let text = text.as_slice();
-    for (column, row, component, digits) in SAMPLES {
-        let is_there = has_digits(text, column, row, component, digits);
-        assert_eq!(rt; is_there, true, "{column} {row} {component}");
+    for row in SAMPLES.lines() {
+        let (at, digits) = sample(row).unwrap_or((0, row));
+        let there = text.get(at..).unwrap_or(b"");
+        assert_eq!(rt; there.starts_with(digits.as_bytes()), true, "{row}");
     }
     Ok(())
 }
 
-// Scripts, and what is written of them.
-const SCRIPTS: [(&str, &str); 10] = [
-    ("", ""),
-    ("QUERY \n", "ANSWER text/plain 7\nunread\n"),
-    (
-        "QUERY a\nQUERY b\r\n",
-        "ANSWER text/plain 7\nunread\nANSWER text/plain 7\nunread\n",
-    ),
-    // the last command has no LF
-    ("QUERY a\nQUERY b", "fault script 2\n"),
-    ("QUERY", "fault script 1\n"),
-    ("QUERY\n", "fault script 1\n"),
-    ("query a\n", "fault script 1\n"),
-    ("\n", "fault script 1\n"),
-    ("QUERY a\nBATCH 0\nQUERY b\n", "fault script 2\n"),
-    ("QUERY a\nQUERY b\nQUERY c\n QUERY d\n", "fault script 4\n"),
-];
+// Scripts, with `~` for a line feed, and what is written: an exception for each `x`, or a fault.
+const SCRIPTS: &str = "\
+|\n\
+QUERY ~|x\n\
+QUERY a~QUERY b\r~|xx\n\
+QUERY a~QUERY b|fault script 2~\n\
+QUERY|fault script 1~\n\
+QUERY~|fault script 1~\n\
+query a~|fault script 1~\n\
+~|fault script 1~\n\
+QUERY a~BATCH 0~QUERY b~|fault script 2~\n\
+QUERY a~QUERY b~QUERY c~ QUERY d~|fault script 4~";
 
 #[test]
 fn unreadable_scripts_play_nothing(rt: HostRuntime) -> Result<(), Fail> {
     let alloc = rt.alloc();
     let map = map_text(alloc, SQUARE)?;
-    for (script, expected) in SCRIPTS {
-        let text = played(alloc, map.as_str(), script)?;
-        assert_eq!(rt; text.as_slice(), expected.as_bytes(), "{script:?}");
+    let document = exception(alloc, "MissingParameterValue", "REQUEST")?;
+    for row in SCRIPTS.lines() {
+        let (script, written, _) = columns(row);
+        let script = script.replace(alloc, "~", "\n")?;
+        let text = played(alloc, map.as_str(), script.as_str())?;
+        let expected = if written.starts_with('f') {
+            written.replace(alloc, "~", "\n")?
+        } else {
+            document.repeat(alloc, written.len())?
+        };
+        assert_eq!(rt; text.as_slice(), expected.as_bytes(), "{row:?}");
     }
     Ok(())
 }
@@ -183,32 +232,22 @@ fn unreadable_scripts_play_nothing(rt: HostRuntime) -> Result<(), Fail> {
 fn long_scripts_are_played_to_their_end(rt: HostRuntime) -> Result<(), Fail> {
     let alloc = rt.alloc();
     let map = map_text(alloc, SQUARE)?;
-    let (mut script, mut expected) = (String::new(alloc), String::new(alloc));
-    for turn in 0..300 {
-        if turn % 3 == 0 {
-            script.push_str("QUERY ")?;
-            script.push_str(QUERY)?;
-            expected.push_str(SQUARE_TEXT)?;
-        } else {
-            script.push_str("QUERY a")?;
-            expected.push_str("ANSWER text/plain 7\nunread\n")?;
-        }
-        script.push('\n')?;
-    }
+    let document = exception(alloc, "MissingParameterValue", "REQUEST")?;
     // a query of 100,000 bytes, most of them the zeros before a number
     let zeros = "0".repeat(alloc, 100_000 - QUERY.len())?;
-    let query = QUERY.replace(
+    let long = QUERY.replace(
         alloc,
         "BBOX=0",
         format!(in alloc; "BBOX={zeros}0")?.as_str(),
     )?;
-    assert_eq!(rt; query.len(), 100_000);
-    script.push_str(format!(in alloc; "QUERY {query}\n")?.as_str())?;
-    expected.push_str(SQUARE_TEXT)?;
+    assert_eq!(rt; long.len(), 100_000);
+    let turns = format!(in alloc; "QUERY {QUERY}\nQUERY a\nQUERY a\n")?.repeat(alloc, 100)?;
+    let script = format!(in alloc; "{turns}QUERY {long}\n")?;
+    let turns = format!(in alloc; "{SQUARE_TEXT}{document}{document}")?.repeat(alloc, 100)?;
+    let expected = format!(in alloc; "{turns}{SQUARE_TEXT}")?;
     let text = played(alloc, map.as_str(), script.as_str())?;
     assert_eq!(rt; text.as_slice() == expected.as_bytes(), true);
-
-    script.push_str("QUERY b")?;
+    let script = format!(in alloc; "{script}QUERY b")?;
     let text = played(alloc, map.as_str(), script.as_str())?;
     assert_eq!(rt; text.as_slice(), b"fault script 302\n".as_slice());
     Ok(())
@@ -258,47 +297,49 @@ fn writers_that_fail_hold_the_first_bytes(rt: HostRuntime) -> Result<(), Fail> {
     Ok(())
 }
 
-// Sessions, their mapfiles and their scripts.
-const SESSIONS: [(&str, &str, &str); 9] = [
-    ("MAP\n%%\nQUERY a\n", "MAP\n", "QUERY a\n"),
-    ("MAP\n%%\n%%\n", "MAP\n", "%%\n"),
-    ("%%\nQUERY a\n", "", "QUERY a\n"),
-    ("MAP\n%%", "MAP\n", ""),
-    ("MAP\n", "MAP\n", ""),
-    ("", "", ""),
-    // no such lines
-    ("MAP\n%%\r\nEND\n", "MAP\n%%\r\nEND\n", ""),
-    ("MAP %%\n %%\n%%%\n", "MAP %%\n %%\n%%%\n", ""),
-    ("MAP\n%\n%%x\n", "MAP\n%\n%%x\n", ""),
-];
+// Sessions, their mapfiles and their scripts, with `~` for a line feed.
+const SESSIONS: &str = "\
+MAP~%%~QUERY a~|MAP~|QUERY a~\n\
+MAP~%%~%%~|MAP~|%%~\n\
+%%~QUERY a~||QUERY a~\n\
+MAP~%%|MAP~|\n\
+MAP~|MAP~|\n\
+||\n\
+MAP~%%\r~END~|MAP~%%\r~END~|\n\
+MAP %%~ %%~%%%~|MAP %%~ %%~%%%~|\n\
+MAP~%~%%x~|MAP~%~%%x~|";
 
 #[test]
-fn sessions_part_at_their_first_such_line(rt: HostRuntime) {
-    for (session, mapfile, script) in SESSIONS {
+fn sessions_part_at_their_first_such_line(rt: HostRuntime) -> Result<(), Fail> {
+    let alloc = rt.alloc();
+    for row in SESSIONS.lines() {
+        let row = row.replace(alloc, "~", "\n")?;
+        let (session, mapfile, script) = columns(row.as_str());
         let parts = split_session(session.as_bytes());
-        assert_eq!(rt; parts.0, mapfile.as_bytes(), "{session:?}");
-        assert_eq!(rt; parts.1, script.as_bytes(), "{session:?}");
+        assert_eq!(rt; parts.0, mapfile.as_bytes(), "{row:?}");
+        assert_eq!(rt; parts.1, script.as_bytes(), "{row:?}");
     }
+    Ok(())
+}
+
+// Whether a session of the square so many times, as rings of one feature, has this picture.
+fn assert_rings(rt: &impl Abort, alloc: Global, count: usize, rows: &str) -> Result<(), Fail> {
+    let rings = format!(in alloc; "{SQUARE}\n")?.repeat(alloc, count)?;
+    let map = map_text(alloc, rings.as_str())?;
+    let script = format!(in alloc; "QUERY {QUERY}\n")?;
+    let text = played(alloc, map.as_str(), script.as_str())?;
+    assert_eq!(rt;
+        text.as_slice(),
+        drawn(alloc, rows)?.as_bytes(),
+        "{count} rings"
+    );
+    Ok(())
 }
 
 #[test]
 fn a_thousand_rings_count_together(rt: HostRuntime) -> Result<(), Fail> {
-    let alloc = rt.alloc();
-    let script = format!(in alloc; "QUERY {QUERY}\n")?;
-    for (count, rows) in [
-        (1_000, ".... .... .... ...."),
-        (1_001, ".... .##. .##. ...."),
-    ] {
-        let mut rings = String::new(alloc);
-        for _ in 0..count {
-            rings.push_str(SQUARE)?;
-            rings.push('\n')?;
-        }
-        let map = map_text(alloc, rings.as_str())?;
-        let text = played(alloc, map.as_str(), script.as_str())?;
-        assert_eq!(rt; text, drawn(alloc, rows)?, "{count} rings");
-    }
-    Ok(())
+    assert_rings(&rt, rt.alloc(), 1_000, ".... .... .... ....")?;
+    assert_rings(&rt, rt.alloc(), 1_001, ".... .##. .##. ....")
 }
 
 #[test]
@@ -312,38 +353,19 @@ fn machines_run_over_many_events(rt: HostRuntime) -> Result<(), Fail> {
         events.push(Event::Query(Bytes::new(QUERY.as_bytes())))?;
     }
     let replies = machine.run(&events)?;
+    assert_eq!(rt; machine.sequence(), 0);
     assert_eq!(rt; replies.len(), 300);
     for (i, reply) in replies.as_slice().iter().enumerate() {
         let Reply::Answered(answer) = reply else {
             return Err(Fail::from(ParseFault::NoMemory));
         };
+        // an exception without VERSION has 187 and 21 and 7 bytes
         let expected = if i % 2 == 0 {
-            (7, Mime::Text)
+            (215, Mime::Xml)
         } else {
             (59, Mime::Pixmap)
         };
         assert_eq!(rt; (answer.body.len(), answer.mime), expected, "reply {i}");
     }
-    Ok(())
-}
-
-#[test]
-fn machines_answer_each_event_in_order(rt: HostRuntime) -> Result<(), Fail> {
-    let alloc = rt.alloc();
-    let map = map_text(alloc, SQUARE)?;
-    let mut machine = Machine::open(alloc, parse(alloc, map.as_bytes())?);
-    let events = [
-        Event::Query(Bytes::new(b"REQUEST=GetMap")),
-        Event::Query(Bytes::new(QUERY.as_bytes())),
-    ];
-    let replies = machine.run(&events)?;
-    assert_eq!(rt; machine.sequence(), 0);
-    let [Reply::Answered(unread), Reply::Answered(picture)] = replies.as_slice() else {
-        return Err(Fail::from(ParseFault::NoMemory));
-    };
-    assert_eq!(rt; unread.mime, Mime::Text);
-    assert_eq!(rt; unread.body.as_slice(), b"unread\n".as_slice());
-    assert_eq!(rt; picture.mime, Mime::Pixmap);
-    assert_eq!(rt; picture.body.len(), 59);
     Ok(())
 }

@@ -7,7 +7,7 @@ use thiserror::Error;
 /// Why a query has no request.
 #[derive(Clone, Copy, Debug, PartialEq, Eq, Error)]
 pub enum QueryError {
-    #[error("the query is refused")]
+    #[error("{0}")]
     Fault(WmsFault),
     #[error("out of memory")]
     NoMemory,

@@ -1,3 +1,5 @@
+use thiserror::Error;
+
 /// The parameters of a query that are looked at, in the order in which their faults are told.
 #[derive(Clone, Copy, Debug, PartialEq, Eq)]
 pub enum Parameter {
@@ -28,7 +30,8 @@ pub enum Code {
 }
 
 /// Why a query is refused: the code of the service exception, and the parameter at fault.
-#[derive(Clone, Copy, Debug, PartialEq, Eq)]
+#[derive(Clone, Copy, Debug, PartialEq, Eq, Error)]
+#[error("{}: {}", .code.text(), .parameter.text())]
 pub struct WmsFault {
     pub code: Code,
     pub parameter: Parameter,

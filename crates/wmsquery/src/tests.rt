@@ -60,71 +60,68 @@ fn test_map(alloc: Global) -> Result<Map, AllocError> {
 
 // Pairs with a fault of the names, and its code and parameter where they stand before those of `QUERY`.
 const NAME_FAULTS: &str = "\
-SERVICE=wms InvalidParameterValue SERVICE\n\
-REQUEST= MissingParameterValue REQUEST\n\
-REQUEST=getmap OperationNotSupported REQUEST\n\
-VERSION= MissingParameterValue VERSION\n\
-VERSION=1.1.1 InvalidParameterValue VERSION\n\
-LAYERS= MissingParameterValue LAYERS\n\
-LAYERS=x LayerNotDefined LAYERS\n\
-LAYERS=A LayerNotDefined LAYERS\n\
-LAYERS=b LayerNotDefined LAYERS\n\
-LAYERS=a, LayerNotDefined LAYERS\n\
-STYLES=x StyleNotDefined STYLES\n\
-STYLES=Default StyleNotDefined STYLES\n\
-STYLES=default,default InvalidParameterValue STYLES\n\
-LAYERS=a,c&STYLES=default InvalidParameterValue STYLES\n\
-CRS= MissingParameterValue CRS\n\
-CRS=EPSG:1 InvalidCRS CRS";
+SERVICE=wms InvalidParameterValue: SERVICE\n\
+REQUEST= MissingParameterValue: REQUEST\n\
+REQUEST=getmap OperationNotSupported: REQUEST\n\
+VERSION= MissingParameterValue: VERSION\n\
+VERSION=1.1.1 InvalidParameterValue: VERSION\n\
+LAYERS= MissingParameterValue: LAYERS\n\
+LAYERS=x LayerNotDefined: LAYERS\n\
+LAYERS=A LayerNotDefined: LAYERS\n\
+LAYERS=b LayerNotDefined: LAYERS\n\
+LAYERS=a, LayerNotDefined: LAYERS\n\
+STYLES=x StyleNotDefined: STYLES\n\
+STYLES=Default StyleNotDefined: STYLES\n\
+STYLES=default,default InvalidParameterValue: STYLES\n\
+LAYERS=a,c&STYLES=default InvalidParameterValue: STYLES\n\
+CRS= MissingParameterValue: CRS\n\
+CRS=EPSG:1 InvalidCRS: CRS";
 
 // Pairs with a fault of the numbers, the format and the colours, likewise.
 const NUMBER_FAULTS: &str = "\
-BBOX= MissingParameterValue BBOX\n\
-BBOX=0,0,0,4 InvalidParameterValue BBOX\n\
-WIDTH= MissingParameterValue WIDTH\n\
-WIDTH=0 InvalidParameterValue WIDTH\n\
-WIDTH=2049 InvalidParameterValue WIDTH\n\
-WIDTH=4.0 InvalidParameterValue WIDTH\n\
-HEIGHT= MissingParameterValue HEIGHT\n\
-HEIGHT=0 InvalidParameterValue HEIGHT\n\
-HEIGHT=2049 InvalidParameterValue HEIGHT\n\
-HEIGHT=-4 InvalidParameterValue HEIGHT\n\
-FORMAT= MissingParameterValue FORMAT\n\
-FORMAT=image/png InvalidFormat FORMAT\n\
-TRANSPARENT=yes InvalidParameterValue TRANSPARENT\n\
-BGCOLOR=%23102030 InvalidParameterValue BGCOLOR\n\
-BGCOLOR=0x1020 InvalidParameterValue BGCOLOR\n\
-BGCOLOR=0x10203040 InvalidParameterValue BGCOLOR\n\
-BGCOLOR=0x10203g InvalidParameterValue BGCOLOR";
+BBOX= MissingParameterValue: BBOX\n\
+BBOX=0,0,0,4 InvalidParameterValue: BBOX\n\
+WIDTH= MissingParameterValue: WIDTH\n\
+WIDTH=0 InvalidParameterValue: WIDTH\n\
+WIDTH=2049 InvalidParameterValue: WIDTH\n\
+WIDTH=4.0 InvalidParameterValue: WIDTH\n\
+HEIGHT= MissingParameterValue: HEIGHT\n\
+HEIGHT=0 InvalidParameterValue: HEIGHT\n\
+HEIGHT=2049 InvalidParameterValue: HEIGHT\n\
+HEIGHT=-4 InvalidParameterValue: HEIGHT\n\
+FORMAT= MissingParameterValue: FORMAT\n\
+FORMAT=image/png InvalidFormat: FORMAT\n\
+TRANSPARENT=yes InvalidParameterValue: TRANSPARENT\n\
+BGCOLOR=%23102030 InvalidParameterValue: BGCOLOR\n\
+BGCOLOR=0x1020 InvalidParameterValue: BGCOLOR\n\
+BGCOLOR=0x10203040 InvalidParameterValue: BGCOLOR\n\
+BGCOLOR=0x10203g InvalidParameterValue: BGCOLOR";
 
 // Pairs with two faults, of which the earlier in the order of refusal is told.
 const TWO_FAULTS: &str = "\
-SERVICE=x&REQUEST=x InvalidParameterValue SERVICE\n\
-REQUEST=x&VERSION=x OperationNotSupported REQUEST\n\
-VERSION=x&LAYERS=x InvalidParameterValue VERSION\n\
-LAYERS=x&STYLES=x LayerNotDefined LAYERS\n\
-LAYERS=x&CRS=EPSG:1 LayerNotDefined LAYERS\n\
-STYLES=x&CRS=x StyleNotDefined STYLES\n\
-CRS=x&BBOX=x InvalidCRS CRS\n\
-BBOX=x&WIDTH=x InvalidParameterValue BBOX\n\
-WIDTH=x&HEIGHT= InvalidParameterValue WIDTH\n\
-HEIGHT=x&FORMAT=x InvalidParameterValue HEIGHT\n\
-FORMAT=x&TRANSPARENT=x InvalidFormat FORMAT\n\
-TRANSPARENT=x&BGCOLOR=x InvalidParameterValue TRANSPARENT\n\
-BGCOLOR=x&SERVICE=x InvalidParameterValue SERVICE";
+SERVICE=x&REQUEST=x InvalidParameterValue: SERVICE\n\
+REQUEST=x&VERSION=x OperationNotSupported: REQUEST\n\
+VERSION=x&LAYERS=x InvalidParameterValue: VERSION\n\
+LAYERS=x&STYLES=x LayerNotDefined: LAYERS\n\
+LAYERS=x&CRS=EPSG:1 LayerNotDefined: LAYERS\n\
+STYLES=x&CRS=x StyleNotDefined: STYLES\n\
+CRS=x&BBOX=x InvalidCRS: CRS\n\
+BBOX=x&WIDTH=x InvalidParameterValue: BBOX\n\
+WIDTH=x&HEIGHT= InvalidParameterValue: WIDTH\n\
+HEIGHT=x&FORMAT=x InvalidParameterValue: HEIGHT\n\
+FORMAT=x&TRANSPARENT=x InvalidFormat: FORMAT\n\
+TRANSPARENT=x&BGCOLOR=x InvalidParameterValue: TRANSPARENT\n\
+BGCOLOR=x&SERVICE=x InvalidParameterValue: SERVICE";
 
-// Reads each line: pairs, a space, and the fault of the query in which they stand first.
+// Reads each line: pairs, a space, and the message of the fault of the query in which they stand first.
 fn assert_faults(rt: &impl Abort, alloc: Global, lines: &str) -> Result<(), Fail> {
     let map = test_map(alloc)?;
     for line in lines.lines() {
         let (pairs, expected) = line.split_once(' ').unwrap_or((line, ""));
         let query = format!(in alloc; "{pairs}&{QUERY}")?;
         let told = match read(alloc, query.as_bytes(), &map) {
-            Err(QueryError::Fault(fault)) => {
-                let (code, parameter) = (fault.code.text(), fault.parameter.text());
-                format!(in alloc; "{code} {parameter}")?
-            }
-            _ => String::new(alloc),
+            Ok(_) => String::new(alloc),
+            Err(error) => error.to_string(alloc)?,
         };
         assert_eq!(rt; told.as_str(), expected, "{pairs}");
     }
