@@ -3,6 +3,7 @@ pub mod Caps
 pub mod Cuts
 pub mod Digits
 pub mod Integers
+pub mod Numerals
 pub mod Readings
 pub mod Rounding
 pub mod Written

@@ -14,7 +14,7 @@ use Rattle.geom.proofs.Digits.{number_of-append, digit-range, digits-cons}
 use Rattle.geom.proofs.Rounding.{nearest-is}
 
 -- the text is the number's digits, one at least
-record IsNumeralOf (n : ℕ) (text : List ℕ) : Type 0 where
+pub record IsNumeralOf (n : ℕ) (text : List ℕ) : Type 0 where
   pub number : number_of text ≡ n
   pub digits : list_all is_ascii_digit text ≡ true
   pub some : 1 ≤ length text
@@ -36,7 +36,7 @@ numeral-more n ds h is = record {
 }
 
 -- a number is its decimal digits
-numeral : (n : ℕ) → n < 2 ^ 64 → IsNumeralOf n (decimal n)
+pub numeral : (n : ℕ) → n < 2 ^ 64 → IsNumeralOf n (decimal n)
 numeral n h = decimal_by_steps IsNumeralOf numeral-one numeral-more n h
 
 -- six digits are the number's last ones
@@ -44,14 +44,14 @@ six-number : (n : ℕ) → number_of (six_digits n) ≡ n % 1000000
 six-number n = omega arith
 
 -- and are digits
-six-are : (n : ℕ) → list_all is_ascii_digit (six_digits n) ≡ true
+pub six-are : (n : ℕ) → list_all is_ascii_digit (six_digits n) ≡ true
 six-are n =
     and_from _ _ (one-digit (n / 100000 % 10) (omega arith)) (and_from _ _ (one-digit (n / 10000 % 10) (omega arith))
     (and_from _ _ (one-digit (n / 1000 % 10) (omega arith)) (and_from _ _ (one-digit (n / 100 % 10) (omega arith))
     (and_from _ _ (one-digit (n / 10 % 10) (omega arith)) (and_from _ true (one-digit (n % 10) (omega arith)) refl)))))
 
 -- a digit is no point and no sign
-digit-not : (d b : ℕ) → is_ascii_digit d ≡ true → b < 48 → (d == b) ≡ false
+pub digit-not : (d b : ℕ) → is_ascii_digit d ≡ true → b < 48 → (d == b) ≡ false
 digit-not d b h low = let range = digit-range d h in grind (arith, nat_tests)
 
 -- nor a letter of an exponent
@@ -59,7 +59,7 @@ digit-no_letter : (d : ℕ) → is_ascii_digit d ≡ true → is_exponent_letter
 digit-no_letter d h = let range = digit-range d h in grind (arith, nat_tests)
 
 -- nor are many digits
-no-letters : (digits : List ℕ) → list_all is_ascii_digit digits ≡ true → list_any is_exponent_letter digits ≡ false
+pub no-letters : (digits : List ℕ) → list_all is_ascii_digit digits ≡ true → list_any is_exponent_letter digits ≡ false
 no-letters [] h = refl
 no-letters (d ∷ ds) h = rw (digit-no_letter d (digits-cons d ds h).0) (no-letters ds (digits-cons d ds h).1)
 
@@ -69,7 +69,7 @@ or-none true y h = cc
 or-none false y h = (refl, h)
 
 -- where no byte is of a kind, the first one would stand at the end
-none-at_end : (p : ℕ → Bool) (text : List ℕ) → list_any p text ≡ false → position_or_len p text ≡ length text
+pub none-at_end : (p : ℕ → Bool) (text : List ℕ) → list_any p text ≡ false → position_or_len p text ≡ length text
 none-at_end p [] h = refl
 none-at_end p (b ∷ bs) h =
     let parts = or-none (p b) (list_any p bs) h in
@@ -104,7 +104,7 @@ parts-read whole decimals front back some =
     ∙ rw digits refl
 
 -- a text that begins with a digit has no sign
-no-sign : (digits rest : List ℕ) → list_all is_ascii_digit digits ≡ true → 1 ≤ length digits →
+pub no-sign : (digits rest : List ℕ) → list_all is_ascii_digit digits ≡ true → 1 ≤ length digits →
     (is_negative (digits ++ rest) ≡ false) × (unsigned (digits ++ rest) ≡ digits ++ rest)
 no-sign [] rest h some = absurd (omega arith)
 no-sign (d ∷ ds) rest h some = rw (digit-not d 45 (digits-cons d ds h).0 (omega arith), digit-not d 43 (digits-cons d ds h).0 (omega arith)) (refl, refl)

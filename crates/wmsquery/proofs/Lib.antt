@@ -1,3 +1,10 @@
 pub mod Accepted
 pub mod FirstFault
 pub mod FoundPairs
+pub mod OneMeaning
+pub mod WrittenAreas
+pub mod WrittenLayers
+pub mod WrittenPairs
+pub mod WrittenQuery
+pub mod WrittenTexts
+pub mod WrittenValues

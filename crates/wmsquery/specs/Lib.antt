@@ -3,3 +3,4 @@ pub mod Meaning
 pub mod Pairs
 pub mod Report
 pub mod Values
+pub mod Written

@@ -50,3 +50,7 @@ IsMeaningErrorOf map pairs NoMemory = Unit {0}
 -- an error is the fault that a query means, or that memory was refused
 abbrev pub IsMeaningError : MapFields → List ℕ → QueryError → Type 0
 IsMeaningError map query e = IsMeaningErrorOf map (pairs_of query) e
+
+-- the law that a query has one meaning: a request or a fault, never both, and never two of either
+abbrev pub MeaningIsOne : Type 0
+MeaningIsOne = (map : MapFields) (query : List ℕ) (a b : Result MapRequest WmsFault) → IsMeaning map query a → IsMeaning map query b → a ≡ b

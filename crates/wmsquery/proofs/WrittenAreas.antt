@@ -1,0 +1,120 @@
+-- Boxes and colours that are written out are read again.
+use Rattle.std.proofs.Common.{◌≡◌, ◌≢◌, ℕ, zero, suc, ℤ, pos, negsuc, ◌+◌, ◌/◌, ◌%◌, ◌^◌, ◌<◌, ◌≤◌, ◌<ℤ◌, ◌++◌, ◌&&◌, Bool, true, false, int_lt, unsigned_abs, List, [], ◌∷◌, All, length, length-append, Some, None, Ok, Err, codes, ap, refl, sym, ◌∙◌, inl, inr, arith, cond, append-nil}
+use Rattle.std.proofs.lemmas.Bool.{and_from, lt-ltb}
+use Rattle.std.proofs.lemmas.List.Elements.{All-nil, All-cons, All-append, All-head, All-tail, All-weaker}
+use Rattle.std.proofs.lemmas.Int.{ints}
+use Rattle.std.specs.Char.{is_ascii_digit}
+use Rattle.std.specs.Fmt.{decimal}
+use Rattle.std.specs.List.{list_all, join_with_byte}
+use Rattle.std.specs.Option.{option_map, option_map_or, option_and_then}
+use Rattle.std.specs.Result.{result_ok}
+use Rattle.hex.specs.Hex.{encode_lower, decode_sized, decode_of, IsBytes}
+use Rattle.hex.proofs.HexLemmas.{decode_of-encode_lower, decode_sized-twice, length-encode_with}
+use Rattle.geom.specs.Number.{coordinate_of}
+use Rattle.geom.specs.World.{Area, IsCoordinate, IsExtent}
+use Rattle.geom.specs.Written.{written, written_size, six_digits}
+use Rattle.geom.specs.declared.micro.TheConstants.{COORDINATE_LIMIT}
+use Rattle.geom.proofs.Written.{numeral, six-are, written-law}
+use Rattle.geom.proofs.Digits.{digit-range, digits-cons}
+use Rattle.crsaxes.specs.Axes.{bbox, parts, box_of, box_of_parts, box_in, with_area, is_comma}
+use Rattle.crsaxes.specs.declared.crs.Crs.{Crs}
+use Rattle.crsaxes.specs.declared.crs.Crs.TheVariants.{Crs84, Epsg4326}
+use Rattle.mapdefs.specs.declared.colour.Rgb.{Rgb}
+use Rattle.wmsquery.specs.Values.{area_of, background_of, colour_of, rgb_of_bytes, or_refused}
+use Rattle.wmsquery.specs.declared.fault.Code.TheVariants as code
+use Rattle.wmsquery.specs.Written.{crs_text, bbox_text, colour_text, IsColour, with_commas}
+use Rattle.wmsquery.proofs.WrittenValues.{split-joined}
+
+-- three bytes are bytes
+three-bytes : (colour : Rgb) → IsColour colour → IsBytes (colour.red ∷ colour.green ∷ colour.blue ∷ [])
+three-bytes colour is zero = is.red
+three-bytes colour is (suc zero) = is.green
+three-bytes colour is (suc (suc zero)) = is.blue
+three-bytes colour is (suc (suc (suc i))) = omega arith
+
+-- the digits of a colour mean that colour
+pub colour-written : (colour : Rgb) → IsColour colour → background_of (Some (colour_text colour)) ≡ Ok colour
+colour-written colour is =
+    let bytes = colour.red ∷ colour.green ∷ colour.blue ∷ [] in
+    let decoded : decode_sized (encode_lower bytes) 3 ≡ Ok bytes =
+    decode_sized-twice (encode_lower bytes) 3 (length-encode_with _ bytes) ∙ decode_of-encode_lower bytes (three-bytes colour is) in
+    ap (λ d. or_refused code.InvalidParameterValue (option_and_then rgb_of_bytes (result_ok d))) decoded
+
+-- a coordinate's size is within the limit
+coordinate-size : (z : ℤ) → IsCoordinate z → unsigned_abs z ≤ COORDINATE_LIMIT
+coordinate-size (pos n) is = omega (arith, ints, is.least, is.most)
+coordinate-size (negsuc n) is = omega (arith, ints, is.least, is.most)
+
+-- a coordinate that is written out is that coordinate
+coordinate-written : (z : ℤ) → IsCoordinate z → coordinate_of (written z) ≡ Some z
+coordinate-written z is = ap result_ok (written-law z COORDINATE_LIMIT (coordinate-size z is) (omega arith))
+
+-- a byte of a number: ASCII, and no comma
+pub record IsNumberByte (b : ℕ) : Type 0 where
+  pub ascii : b < 128
+  pub no_comma : b ≢ 44
+
+-- digits are such bytes
+pub digits-plain : (digits : List ℕ) → list_all is_ascii_digit digits ≡ true → All IsNumberByte digits
+digits-plain [] h = All-nil IsNumberByte
+digits-plain (d ∷ ds) h =
+    let range = digit-range d (digits-cons d ds h).0 in
+    All-cons IsNumberByte d ds (record { ascii = omega (arith, range); no_comma = λ e. omega (arith, range, e) }) (digits-plain ds (digits-cons d ds h).1)
+
+-- and so are those of a number that is written out
+size-plain : (n : ℕ) → n < 2 ^ 64 → All IsNumberByte (written_size n)
+size-plain n small =
+    All-append IsNumberByte (decimal (n / 1000000)) (46 ∷ six_digits n) (digits-plain _ (numeral (n / 1000000) (omega arith)).digits)
+    (All-cons IsNumberByte 46 (six_digits n) (record { ascii = omega arith; no_comma = λ e. omega (arith, e) }) (digits-plain (six_digits n) (six-are n)))
+
+pub written-plain : (z : ℤ) → IsCoordinate z → All IsNumberByte (written z)
+written-plain (pos n) is = size-plain n (omega (arith, coordinate-size (pos n) is))
+written-plain (negsuc n) is =
+    All-cons IsNumberByte 45 (written_size (suc n)) (record { ascii = omega arith; no_comma = λ e. omega (arith, e) })
+    (size-plain (suc n) (omega (arith, coordinate-size (negsuc n) is)))
+
+-- a coordinate has no comma
+coordinate-commas : (z : ℤ) → IsCoordinate z → All (λ b. b ≢ 44) (written z)
+coordinate-commas z is = All-weaker IsNumberByte (λ b. b ≢ 44) (λ b h. h.no_comma) (written z) (written-plain z is)
+
+-- four coordinates between commas are four parts
+four-parts : (a b c d : ℤ) → IsCoordinate a → IsCoordinate b → IsCoordinate c → IsCoordinate d →
+    parts (with_commas (written a ∷ written b ∷ written c ∷ written d ∷ [])) ≡ written a ∷ written b ∷ written c ∷ written d ∷ []
+four-parts a b c d ha hb hc hd =
+    let Plain = All (λ (b : ℕ). b ≢ 44) in
+    split-joined (written a) (written b ∷ written c ∷ written d ∷ []) (coordinate-commas a ha)
+    (All-cons Plain (written b) (written c ∷ written d ∷ []) (coordinate-commas b hb)
+    (All-cons Plain (written c) (written d ∷ []) (coordinate-commas c hc) (All-cons Plain (written d) [] (coordinate-commas d hd) (All-nil Plain))))
+
+-- four coordinates are the box of them
+four-box : (crs : Crs) (a b c d : ℤ) → IsCoordinate a → IsCoordinate b → IsCoordinate c → IsCoordinate d →
+    box_of_parts crs (parts (with_commas (written a ∷ written b ∷ written c ∷ written d ∷ []))) ≡ with_area (box_in crs a b c d)
+four-box crs a b c d ha hb hc hd =
+    ap (box_of_parts crs) (four-parts a b c d ha hb hc hd)
+    ∙ ap (λ x. box_of crs x (coordinate_of (written b)) (coordinate_of (written c)) (coordinate_of (written d))) (coordinate-written a ha)
+    ∙ ap (λ x. box_of crs (Some a) x (coordinate_of (written c)) (coordinate_of (written d))) (coordinate-written b hb)
+    ∙ ap (λ x. box_of crs (Some a) (Some b) x (coordinate_of (written d))) (coordinate-written c hc)
+    ∙ ap (λ x. box_of crs (Some a) (Some b) (Some c) x) (coordinate-written d hd)
+
+-- the lesser of two numbers is tested so
+lesser-test : (a b : ℤ) → a <ℤ b → int_lt a b ≡ true
+lesser-test (pos a) (pos b) h = lt-ltb a b (omega (arith, ints, h))
+lesser-test (pos a) (negsuc b) h = absurd (omega (arith, ints, h))
+lesser-test (negsuc a) (pos b) h = refl
+lesser-test (negsuc a) (negsuc b) h = lt-ltb b a (omega (arith, ints, h))
+
+-- an extent has an area
+extent-area : (area : Area) → IsExtent area → with_area area ≡ Ok area
+extent-area area is =
+    let test : (int_lt area.minx area.maxx && int_lt area.miny area.maxy) ≡ true =
+    and_from _ _ (lesser-test area.minx area.maxx is.columns) (lesser-test area.miny area.maxy is.rows) in
+    rw test refl
+
+-- the sides of a box in the axis order of a system mean that box
+pub area-written : (crs : Crs) (area : Area) → IsExtent area → area_of (Some (crs_text crs)) (Some (bbox_text crs area)) ≡ Ok area
+area-written Crs84 area is =
+    ap (λ r. or_refused code.InvalidParameterValue (result_ok r))
+    (four-box Crs84 area.minx area.miny area.maxx area.maxy is.world.west is.world.south is.world.east is.world.north ∙ extent-area area is)
+area-written Epsg4326 area is =
+    ap (λ r. or_refused code.InvalidParameterValue (result_ok r))
+    (four-box Epsg4326 area.miny area.minx area.maxy area.maxx is.world.south is.world.west is.world.north is.world.east ∙ extent-area area is)

@@ -1,0 +1,52 @@
+-- Values that are written out are read again.
+use Rattle.std.proofs.Common.{◌≡◌, ◌≢◌, ℕ, suc, pos, ◌+◌, ◌*◌, ◌<◌, ◌≤◌, ◌==◌, ◌&&◌, ◌++◌, true, false, nat_le, nat_lt, int_lt, List, [], ◌∷◌, All, length, Some, None, Ok, codes, ap, refl, sym, ◌∙◌, inl, inr, arith, cond}
+use Rattle.std.proofs.lemmas.Bool.{and_from, le-leb, lt-ltb, ne_eqb}
+use Rattle.std.proofs.lemmas.Bool.Decides.{nat_tests}
+use Rattle.std.proofs.lemmas.List.Elements.{All-nil, All-cons, All-head, All-tail, All-weaker}
+use Rattle.std.proofs.lemmas.List.Splits.{slice_split_none, slice_split_at}
+use Rattle.std.specs.Char.{is_ascii_digit}
+use Rattle.std.specs.Fmt.{decimal}
+use Rattle.std.specs.List.{list_all, slice_split, join_with_byte}
+use Rattle.std.specs.Option.{option_map, option_and_then}
+use Rattle.std.specs.Result.{result_ok}
+use Rattle.geom.specs.Decimal.{reading, whole_of}
+use Rattle.geom.specs.Number.{count_of}
+use Rattle.geom.specs.Side.{IsPictureSide, picture_side}
+use Rattle.geom.specs.declared.micro.TheConstants.{NUMBER_LIMIT}
+use Rattle.geom.proofs.Numerals.{numeral-read, whole-read}
+use Rattle.geom.proofs.Written.{numeral}
+use Rattle.crsaxes.specs.Axes.{is_comma}
+use Rattle.wmsquery.specs.Values.{side_within, side_of, names_of, or_refused}
+use Rattle.wmsquery.specs.declared.fault.Code.TheVariants as code
+
+-- a side that a picture may have
+side-within : (n : ℕ) → IsPictureSide n → picture_side n ≡ Some n
+side-within n is =
+    let tests : (nat_le 1 n && nat_le n 2048) ≡ true = and_from _ _ (le-leb 1 n is.some) (le-leb n 2048 is.most) in
+    rw tests refl
+
+-- the count of a side's digits
+count-read : (n : ℕ) → IsPictureSide n → count_of (decimal n) ≡ Some (pos n)
+count-read n is =
+    ap (λ r. option_map whole_of (result_ok r)) (numeral-read n NUMBER_LIMIT (omega (arith, is.most)) (omega arith))
+    ∙ ap Some (whole-read n)
+
+-- a side's digits mean that side
+pub side-written : (n : ℕ) → IsPictureSide n → side_of (Some (decimal n)) ≡ Ok n
+side-written n is =
+    let digits = (numeral n (omega (arith, is.most))).digits in
+    ap (λ b. or_refused code.InvalidParameterValue (cond b (option_and_then side_within (count_of (decimal n))) None)) digits
+    ∙ ap (λ c. or_refused code.InvalidParameterValue (option_and_then side_within c)) (count-read n is)
+    ∙ ap (or_refused code.InvalidParameterValue) (side-within n is)
+
+-- bytes that are no commas
+commas-none : (text : List ℕ) → All (λ b. b ≢ 44) text → All (λ b. is_comma b ≡ false) text
+commas-none text h = All-weaker (λ b. b ≢ 44) (λ b. is_comma b ≡ false) (λ b ne. ne_eqb b 44 ne) text h
+
+-- texts without commas are what stands between the commas
+pub split-joined : (text : List ℕ) (texts : List (List ℕ)) → All (λ b. b ≢ 44) text → All (All (λ b. b ≢ 44)) texts →
+    slice_split is_comma (join_with_byte 44 (text ∷ texts)) ≡ text ∷ texts
+split-joined text [] one others = slice_split_none is_comma text (commas-none text one)
+split-joined text (next ∷ texts) one others =
+    slice_split_at is_comma text 44 (join_with_byte 44 (next ∷ texts)) (commas-none text one) refl
+    ∙ ap (λ ts. text ∷ ts) (split-joined next texts (All-head (All (λ b. b ≢ 44)) next texts others) (All-tail (All (λ b. b ≢ 44)) next texts others))
