@@ -2,6 +2,7 @@ pub mod Accepted
 pub mod FirstFault
 pub mod FoundPairs
 pub mod OneMeaning
+pub mod SameValues
 pub mod WrittenAreas
 pub mod WrittenLayers
 pub mod WrittenPairs

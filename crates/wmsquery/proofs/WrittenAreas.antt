@@ -1,14 +1,14 @@
 -- Boxes and colours that are written out are read again.
-use Rattle.std.proofs.Common.{◌≡◌, ◌≢◌, ℕ, zero, suc, ℤ, pos, negsuc, ◌+◌, ◌/◌, ◌%◌, ◌^◌, ◌<◌, ◌≤◌, ◌<ℤ◌, ◌++◌, ◌&&◌, Bool, true, false, int_lt, unsigned_abs, List, [], ◌∷◌, All, length, length-append, Some, None, Ok, Err, codes, ap, refl, sym, ◌∙◌, inl, inr, arith, cond, append-nil}
+use Rattle.std.proofs.Common.{◌≡◌, ◌≢◌, ℕ, zero, suc, ℤ, pos, negsuc, ◌/◌, ◌^◌, ◌<◌, ◌≤◌, ◌<ℤ◌, ◌&&◌, true, int_lt, unsigned_abs, List, [], ◌∷◌, All, Some, Ok, ap, refl, ◌∙◌, arith}
 use Rattle.std.proofs.lemmas.Bool.{and_from, lt-ltb}
-use Rattle.std.proofs.lemmas.List.Elements.{All-nil, All-cons, All-append, All-head, All-tail, All-weaker}
+use Rattle.std.proofs.lemmas.List.Elements.{All-nil, All-cons, All-append, All-weaker}
 use Rattle.std.proofs.lemmas.Int.{ints}
 use Rattle.std.specs.Char.{is_ascii_digit}
 use Rattle.std.specs.Fmt.{decimal}
-use Rattle.std.specs.List.{list_all, join_with_byte}
-use Rattle.std.specs.Option.{option_map, option_map_or, option_and_then}
+use Rattle.std.specs.List.{list_all}
+use Rattle.std.specs.Option.{option_and_then}
 use Rattle.std.specs.Result.{result_ok}
-use Rattle.hex.specs.Hex.{encode_lower, decode_sized, decode_of, IsBytes}
+use Rattle.hex.specs.Hex.{encode_lower, decode_sized, IsBytes}
 use Rattle.hex.proofs.HexLemmas.{decode_of-encode_lower, decode_sized-twice, length-encode_with}
 use Rattle.geom.specs.Number.{coordinate_of}
 use Rattle.geom.specs.World.{Area, IsCoordinate, IsExtent}
@@ -16,11 +16,11 @@ use Rattle.geom.specs.Written.{written, written_size, six_digits}
 use Rattle.geom.specs.declared.micro.TheConstants.{COORDINATE_LIMIT}
 use Rattle.geom.proofs.Written.{numeral, six-are, written-law}
 use Rattle.geom.proofs.Digits.{digit-range, digits-cons}
-use Rattle.crsaxes.specs.Axes.{bbox, parts, box_of, box_of_parts, box_in, with_area, is_comma}
+use Rattle.crsaxes.specs.Axes.{parts, box_of, box_of_parts, box_in, with_area}
 use Rattle.crsaxes.specs.declared.crs.Crs.{Crs}
 use Rattle.crsaxes.specs.declared.crs.Crs.TheVariants.{Crs84, Epsg4326}
 use Rattle.mapdefs.specs.declared.colour.Rgb.{Rgb}
-use Rattle.wmsquery.specs.Values.{area_of, background_of, colour_of, rgb_of_bytes, or_refused}
+use Rattle.wmsquery.specs.Values.{area_of, background_of, rgb_of_bytes, or_refused}
 use Rattle.wmsquery.specs.declared.fault.Code.TheVariants as code
 use Rattle.wmsquery.specs.Written.{crs_text, bbox_text, colour_text, IsColour, with_commas}
 use Rattle.wmsquery.proofs.WrittenValues.{split-joined}

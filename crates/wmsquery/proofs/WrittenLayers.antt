@@ -1,10 +1,10 @@
 -- Layers that are named are those that the names mean.
-use Rattle.std.proofs.Common.{◌≡◌, ◌≢◌, ℕ, suc, ◌+◌, ◌<◌, ◌≤◌, ◌++◌, Bool, true, false, ◌⊎◌, nat_eq, nat_lt, nat_le, List, [], ◌∷◌, All, length, Some, None, Ok, codes, ap, refl, sym, subst, ◌∙◌, inl, inr, arith, cond, length-append, slice_get, IsUtf8}
+use Rattle.std.proofs.Common.{◌≡◌, ◌≢◌, ℕ, suc, ◌≤◌, ◌++◌, Bool, true, false, ◌⊎◌, nat_lt, nat_le, List, [], ◌∷◌, All, length, Some, None, Ok, ap, refl, sym, ◌∙◌, inl, inr, arith, cond, length-append, slice_get}
 use Rattle.std.proofs.lemmas.Bool.{le-leb, lt-ltb}
-use Rattle.std.proofs.lemmas.List.Elements.{All-nil, All-cons, All-head, All-tail, All-weaker}
-use Rattle.std.specs.List.{join_with_byte, position_or_len}
+use Rattle.std.proofs.lemmas.List.Elements.{All-nil, All-cons, All-head, All-tail}
+use Rattle.std.specs.List.{position_or_len}
 use Rattle.std.specs.Option.{option_map_or, option_and_then}
-use Rattle.std.specs.Cmp.Lexicographic.{pointwise, same_text, other_text}
+use Rattle.std.specs.Cmp.Lexicographic.{same_text, other_text}
 use Rattle.mapdefs.specs.declared.layer.LayerFields.{LayerFields}
 use Rattle.mapdefs.specs.declared.map.MapFields.{MapFields}
 use Rattle.mapdefs.specs.Name.{index_of, is_same_name}

@@ -1,5 +1,5 @@
 -- A query that is written out from a request means that request.
-use Rattle.std.proofs.Common.{◌≡◌, ℕ, ◌+◌, ◌<◌, ◌≤◌, ◌++◌, List, [], ◌∷◌, All, map, length, length-append, Some, None, Ok, Err, Result, codes, refl, sym, ap, subst, ◌∙◌, arith}
+use Rattle.std.proofs.Common.{◌≡◌, ℕ, ◌<◌, ◌≤◌, List, [], ◌∷◌, All, map, length, length-append, Some, Ok, codes, refl, sym, ap, subst, ◌∙◌, arith}
 use Rattle.std.proofs.lemmas.List.Elements.{All-nil, All-cons, All-head, All-weaker}
 use Rattle.std.specs.Fmt.{decimal}
 use Rattle.crsaxes.specs.declared.crs.Crs.{Crs}
@@ -10,14 +10,13 @@ use Rattle.geom.specs.Written.{written}
 use Rattle.geom.proofs.Written.{numeral}
 use Rattle.mapdefs.specs.declared.map.MapFields.{MapFields}
 use Rattle.wmsquery.specs.declared.checks.Check.{Check}
-use Rattle.wmsquery.specs.declared.fault.Code.{Code}
 use Rattle.wmsquery.specs.declared.pairs.Pair.{Pair}
 use Rattle.wmsquery.specs.declared.request.MapRequest.{MapRequest}
-use Rattle.wmsquery.specs.Pairs.{pairs_of, some_text, given}
-use Rattle.wmsquery.specs.Values.{layers_of, side_of, area_of, background_of, crs_value, styles_of}
+use Rattle.wmsquery.specs.Pairs.{some_text, given}
+use Rattle.wmsquery.specs.Values.{layers_of, side_of, area_of, background_of, crs_value}
 use Rattle.wmsquery.specs.Checks.{checks, refusal_of}
 use Rattle.wmsquery.specs.Meaning.{Passes, HasValues, IsMeaningOf}
-use Rattle.wmsquery.specs.Written.{with_commas, crs_text, bbox_text, colour_text, written_pairs, written_query, AreNamed, IsRequest, WrittenIsMeant}
+use Rattle.wmsquery.specs.Written.{with_commas, crs_text, bbox_text, written_pairs, AreNamed, IsRequest, WrittenIsMeant}
 use Rattle.wmsquery.proofs.WrittenAreas.{IsNumberByte, written-plain, digits-plain, area-written, colour-written}
 use Rattle.wmsquery.proofs.WrittenLayers.{layers-written, same-count}
 use Rattle.wmsquery.proofs.WrittenPairs.{IsTextPair, plain_pair, pairs-written}

@@ -1,22 +1,20 @@
 -- Values that are written out are read again.
-use Rattle.std.proofs.Common.{◌≡◌, ◌≢◌, ℕ, suc, pos, ◌+◌, ◌*◌, ◌<◌, ◌≤◌, ◌==◌, ◌&&◌, ◌++◌, true, false, nat_le, nat_lt, int_lt, List, [], ◌∷◌, All, length, Some, None, Ok, codes, ap, refl, sym, ◌∙◌, inl, inr, arith, cond}
-use Rattle.std.proofs.lemmas.Bool.{and_from, le-leb, lt-ltb, ne_eqb}
-use Rattle.std.proofs.lemmas.Bool.Decides.{nat_tests}
-use Rattle.std.proofs.lemmas.List.Elements.{All-nil, All-cons, All-head, All-tail, All-weaker}
+use Rattle.std.proofs.Common.{◌≡◌, ◌≢◌, ℕ, pos, ◌&&◌, true, false, nat_le, List, [], ◌∷◌, All, Some, None, Ok, ap, refl, ◌∙◌, arith, cond}
+use Rattle.std.proofs.lemmas.Bool.{and_from, le-leb, ne_eqb}
+use Rattle.std.proofs.lemmas.List.Elements.{All-head, All-tail, All-weaker}
 use Rattle.std.proofs.lemmas.List.Splits.{slice_split_none, slice_split_at}
-use Rattle.std.specs.Char.{is_ascii_digit}
 use Rattle.std.specs.Fmt.{decimal}
-use Rattle.std.specs.List.{list_all, slice_split, join_with_byte}
+use Rattle.std.specs.List.{slice_split, join_with_byte}
 use Rattle.std.specs.Option.{option_map, option_and_then}
 use Rattle.std.specs.Result.{result_ok}
-use Rattle.geom.specs.Decimal.{reading, whole_of}
+use Rattle.geom.specs.Decimal.{whole_of}
 use Rattle.geom.specs.Number.{count_of}
 use Rattle.geom.specs.Side.{IsPictureSide, picture_side}
 use Rattle.geom.specs.declared.micro.TheConstants.{NUMBER_LIMIT}
 use Rattle.geom.proofs.Numerals.{numeral-read, whole-read}
 use Rattle.geom.proofs.Written.{numeral}
 use Rattle.crsaxes.specs.Axes.{is_comma}
-use Rattle.wmsquery.specs.Values.{side_within, side_of, names_of, or_refused}
+use Rattle.wmsquery.specs.Values.{side_within, side_of, or_refused}
 use Rattle.wmsquery.specs.declared.fault.Code.TheVariants as code
 
 -- a side that a picture may have

@@ -1,6 +1,5 @@
 -- The order of refusal: a list of checks, each of one parameter (OGC 06-042, 7.3; docs/PROFILE.md, "Queries").
 use Rattle.std.specs.Prelude.{ℕ, List, [], ◌∷◌, length, Option, None, Some, Result, Ok, Err, codes}
-use Rattle.std.specs.Result.{result_ok}
 use Rattle.std.specs.Option.{option_map_or}
 use Rattle.mapdefs.specs.declared.map.MapFields.{MapFields}
 use Rattle.wmsquery.specs.declared.checks.Check.{Check}

@@ -1,7 +1,10 @@
-ghost use Rattle.std.specs.Prelude.{◌≡◌, IfOk};
+ghost use Rattle.std.specs.Prelude.{◌≡◌, ◌++◌, List, ◌∷◌, IfOk, OnOk};
 ghost use Rattle.std.specs.Option.{option_copied};
-ghost use Rattle.wmsquery.specs.Pairs.{pairs_of, value_of, given, some_text};
+ghost use Rattle.std.specs.List.{list_any};
+ghost use Rattle.wmsquery.specs.declared.pairs.Pair.{Pair};
+ghost use Rattle.wmsquery.specs.Pairs.{pairs_of, value_of, given, some_text, parameters, is_first_of, HaveSameValues};
 
+use crate::fault::Parameter;
 use mapdefs::Text;
 use std::alloc::{AllocError, Global};
 
@@ -22,19 +25,6 @@ fn pair_of(alloc: Global, name: &str, value: &str) -> Result<Pair, AllocError>
     })
 }
 
-/// The pairs of a query, in order.
-pub fn pairs(alloc: Global, query: &[u8]) -> Result<Vec<Pair>, AllocError>
-    ensures { IfOk result (λ found. found.items ≡ pairs_of query.now) }
-{
-    let mut found = Vec::new(alloc);
-    for pair in form_urlencoded::parse(alloc, query) {
-        let (name, value) = pair?;
-        let named = pair_of(alloc, &name, &value)?;
-        found.push(named)?;
-    }
-    Ok(found)
-}
-
 /// The value of the first pair of a name, which is read without case.
 pub fn value_of<'a>(pairs: &'a [Pair], name: &str) -> Option<&'a str>
     ensures { option_copied result ≡ value_of name.now pairs.now }
@@ -43,6 +33,53 @@ pub fn value_of<'a>(pairs: &'a [Pair], name: &str) -> Option<&'a str>
         .iter()
         .find(|pair| pair.name.as_str().eq_ignore_ascii_case(name))?;
     Some(pair.value.as_str())
+}
+
+// Whether a name is that of a parameter which has no value yet.
+fn is_first(found: &[Pair], name: &str) -> bool
+    ensures { result ≡ list_any (is_first_of found.now name.now) parameters }
+{
+    let parameters = [
+        Parameter::Service,
+        Parameter::Request,
+        Parameter::Version,
+        Parameter::Layers,
+        Parameter::Styles,
+        Parameter::Crs,
+        Parameter::Bbox,
+        Parameter::Width,
+        Parameter::Height,
+        Parameter::Format,
+        Parameter::Transparent,
+        Parameter::Bgcolor,
+    ];
+    parameters.iter().any(|parameter| {
+        name.eq_ignore_ascii_case(parameter.text()) && value_of(found, parameter.text()).is_none()
+    })
+}
+
+// Keeps a pair, if it is the first of a parameter. Whatever follows, each parameter has the value that
+// it would have with the pair.
+fn keep(alloc: Global, found: &mut Vec<Pair>, name: &str, value: &str) -> Result<(), AllocError>
+    ensures { OnOk result ((rest : List Pair) → HaveSameValues (found.new.items ++ rest) (found.old.items ++ record { name = name.now; value = value.now } ∷ rest)) }
+{
+    if is_first(found, name) {
+        let pair = pair_of(alloc, name, value)?;
+        found.push(pair)?;
+    }
+    Ok(())
+}
+
+/// The first pair of each parameter that a query has, in order. No other pair is kept.
+pub fn first_pairs(alloc: Global, query: &[u8]) -> Result<Vec<Pair>, AllocError>
+    ensures { IfOk result (λ found. HaveSameValues found.items (pairs_of query.now)) }
+{
+    let mut found = Vec::new(alloc);
+    for pair in form_urlencoded::parse(alloc, query) {
+        let (name, value) = pair?;
+        keep(alloc, &mut found, &name, &value)?;
+    }
+    Ok(found)
 }
 
 // A text that is not empty.

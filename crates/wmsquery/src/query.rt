@@ -6,7 +6,7 @@ ghost use Rattle.wmsquery.specs.Meaning.{IsMeaning, IsMeaningOf, IsMeaningError,
 use crate::checks::{Values, checks, evaluate, first_fault};
 use crate::error::QueryError;
 use crate::fault::Code;
-use crate::pairs::{Pair, pairs};
+use crate::pairs::{Pair, first_pairs};
 use crate::request::MapRequest;
 use mapdefs::Map;
 use std::alloc::Global;
@@ -77,6 +77,6 @@ pub fn read(alloc: Global, query: &[u8], map: &Map) -> Result<MapRequest, QueryE
     ensures layers { IfOk result (λ r. All (λ index. index < length map.now.layers) r.chosen) }
     ensures extent { IfOk result (λ r. IsExtent r.area) }
 {
-    let pairs = pairs(alloc, query)?;
+    let pairs = first_pairs(alloc, query)?;
     read_pairs(alloc, &pairs, map)
 }

@@ -2,7 +2,7 @@ ghost use Rattle.std.specs.Prelude.{◌≡◌, ◌≤◌, [], length, All, IfOk}
 ghost use Rattle.mapdefs.specs.MapLimits.{LayerNamesSymbolsOf};
 ghost use Rattle.mapdefs.specs.declared.limits.TheConstants.{MAX_LAYERS};
 
-use crate::{Code, Parameter, QueryError, WmsFault, read};
+use crate::{QueryError, read};
 use geom::{Micro, WorldBox};
 use mapdefs::{Items, Kind, Layer, LayerFields, MAX_LAYERS, Map, MapFields, Rgb, Text};
 use std::alloc::{AllocError, Global};
@@ -113,17 +113,25 @@ FORMAT=x&TRANSPARENT=x InvalidFormat: FORMAT\n\
 TRANSPARENT=x&BGCOLOR=x InvalidParameterValue: TRANSPARENT\n\
 BGCOLOR=x&SERVICE=x InvalidParameterValue: SERVICE";
 
-// Reads each line: pairs, a space, and the message of the fault of the query in which they stand first.
+// The message of what refuses a query, and nothing where it makes a request.
+fn told(alloc: Global, map: &Map, query: &str) -> Result<String, Fail> {
+    match read(alloc, query.as_bytes(), map) {
+        Ok(_) => Ok(String::new(alloc)),
+        Err(error) => Ok(error.to_string(alloc)?),
+    }
+}
+
+// Reads each line: pairs, a space, and what is told of the query in which they stand first.
 fn assert_faults(rt: &impl Abort, alloc: Global, lines: &str) -> Result<(), Fail> {
     let map = test_map(alloc)?;
     for line in lines.lines() {
-        let (pairs, expected) = line.split_once(' ').unwrap_or((line, ""));
+        let (pairs, expected) = line.split_once(' ').unwrap_or((line, "no fault"));
         let query = format!(in alloc; "{pairs}&{QUERY}")?;
-        let told = match read(alloc, query.as_bytes(), &map) {
-            Ok(_) => String::new(alloc),
-            Err(error) => error.to_string(alloc)?,
-        };
-        assert_eq!(rt; told.as_str(), expected, "{pairs}");
+        assert_eq!(rt;
+            told(alloc, &map, query.as_str())?.as_str(),
+            expected,
+            "{pairs}"
+        );
     }
     Ok(())
 }
@@ -143,48 +151,63 @@ fn the_earlier_of_two_faults_is_told(rt: HostRuntime) -> Result<(), Fail> {
     assert_faults(&rt, rt.alloc(), TWO_FAULTS)
 }
 
-#[test]
-fn styles_have_to_be_there(rt: HostRuntime) -> Result<(), Fail> {
-    let alloc = rt.alloc();
-    let map = test_map(alloc)?;
-    let query =
-        b"VERSION=1.3.0&REQUEST=GetMap&LAYERS=a&CRS=CRS:84&BBOX=0,0,4,4&WIDTH=4&HEIGHT=4&FORMAT=image/x-portable-pixmap";
-    let expected = WmsFault {
-        code: Code::MissingParameterValue,
-        parameter: Parameter::Styles,
-    };
-    assert_eq!(rt;
-        read(alloc, query, &map).err(),
-        Some(QueryError::Fault(expected))
-    );
-    Ok(())
-}
-
 // Pairs that cause no fault before those of `QUERY`, and others that cause none after them.
-const PASSING: [(&str, &str); 9] = [
-    ("SERVICE=WMS", ""),
-    ("layers=c", "LAYERS=x"),
-    ("StYlEs=default", "STYLES=x"),
-    ("LAYERS=a,c&STYLES=,default", "WIDTH=0"),
-    ("LAYERS=%61", "HEIGHT=0"),
-    ("TRANSPARENT=True", "FORMAT=image/png"),
-    ("transparent=false", "CRS=EPSG:1"),
-    ("BGCOLOR=0X0a141E", "BGCOLOR=x"),
-    ("WIDTH=2048&HEIGHT=0001", "other"),
-];
+const PASSING: &str = "\
+SERVICE=WMS \n\
+layers=c LAYERS=x\n\
+StYlEs=default STYLES=x\n\
+LAYERS=a,c&STYLES=,default WIDTH=0\n\
+LAYERS=%61 HEIGHT=0\n\
+TRANSPARENT=True FORMAT=image/png\n\
+transparent=false CRS=EPSG:1\n\
+BGCOLOR=0X0a141E BGCOLOR=x\n\
+WIDTH=2048&HEIGHT=0001 other\n\
+EXCEPTIONS=x&=&&TIME=x request=x";
 
 #[test]
 fn queries_without_a_fault_pass(rt: HostRuntime) -> Result<(), Fail> {
     let alloc = rt.alloc();
     let map = test_map(alloc)?;
-    for (before, after) in PASSING {
+    for line in PASSING.lines() {
+        let (before, after) = line.split_once(' ').unwrap_or(("LAYERS=x", line));
         let query = format!(in alloc; "{before}&{QUERY}&{after}")?;
-        assert_eq!(rt;
-            read(alloc, query.as_bytes(), &map).err(),
-            None,
-            "{before} {after}"
-        );
+        assert_eq!(rt; told(alloc, &map, query.as_str())?.as_str(), "", "{line}");
     }
+    Ok(())
+}
+
+#[test]
+fn parameters_are_missed(rt: HostRuntime) -> Result<(), Fail> {
+    let alloc = rt.alloc();
+    let map = test_map(alloc)?;
+    assert_eq!(rt;
+        told(alloc, &map, "")?.as_str(),
+        "MissingParameterValue: REQUEST"
+    );
+    let query = QUERY.replace(alloc, "&STYLES=", "")?;
+    assert_eq!(rt;
+        told(alloc, &map, query.as_str())?.as_str(),
+        "MissingParameterValue: STYLES"
+    );
+    assert_eq!(rt;
+        QueryError::NoMemory.to_string(alloc)?.as_str(),
+        "out of memory"
+    );
+    Ok(())
+}
+
+#[test]
+fn a_query_may_have_many_parameters(rt: HostRuntime) -> Result<(), Fail> {
+    let alloc = rt.alloc();
+    let map = test_map(alloc)?;
+    let others = "LAYER=%78&l=2&".repeat(alloc, 50_000)?;
+    let query = format!(in alloc; "{others}{QUERY}&{others}LAYERS=x")?;
+    assert_eq!(rt; told(alloc, &map, query.as_str())?.as_str(), "");
+    let query = format!(in alloc; "{others}LAYERS=x&{QUERY}")?;
+    assert_eq!(rt;
+        told(alloc, &map, query.as_str())?.as_str(),
+        "LayerNotDefined: LAYERS"
+    );
     Ok(())
 }
 
@@ -232,21 +255,13 @@ fn backgrounds_are_white_where_none_is_given(rt: HostRuntime) -> Result<(), Fail
 fn sixty_four_layers_may_be_listed(rt: HostRuntime) -> Result<(), Fail> {
     let alloc = rt.alloc();
     let map = test_map(alloc)?;
-    let mut names = String::from_str(alloc, "LAYERS=a")?;
-    for _ in 0..63 {
-        names.push_str(",c")?;
-    }
-    let query = format!(in alloc; "{names}&{QUERY}")?;
-    assert_eq!(rt; read(alloc, query.as_bytes(), &map).err(), None);
-    names.push_str(",c")?;
-    let query = format!(in alloc; "{names}&{QUERY}")?;
-    let expected = WmsFault {
-        code: Code::InvalidParameterValue,
-        parameter: Parameter::Layers,
-    };
+    let names = ",c".repeat(alloc, 63)?;
+    let query = format!(in alloc; "LAYERS=a{names}&{QUERY}")?;
+    assert_eq!(rt; told(alloc, &map, query.as_str())?.as_str(), "");
+    let query = format!(in alloc; "LAYERS=a{names},c&{QUERY}")?;
     assert_eq!(rt;
-        read(alloc, query.as_bytes(), &map).err(),
-        Some(QueryError::Fault(expected))
+        told(alloc, &map, query.as_str())?.as_str(),
+        "InvalidParameterValue: LAYERS"
     );
     Ok(())
 }
