@@ -13,5 +13,5 @@ mod fault;
 pub mod laws;
 
 pub use area::bbox;
-pub use crs::Crs;
+pub use crs::{Crs, crs_of};
 pub use fault::AxisFault;

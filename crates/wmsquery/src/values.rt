@@ -8,7 +8,7 @@ ghost use Rattle.wmsquery.specs.Checks.{refusal_of};
 ghost use Rattle.wmsquery.specs.Values.{fixed, service_of, request_of, version_of, crs_value, area_of, side_within, side_of, format_of, transparent_of, colour_of, background_of};
 
 use crate::fault::Code;
-use crsaxes::bbox;
+use crsaxes::{bbox, crs_of};
 use geom::{Micro, NUMBER_LIMIT, PictureSide, WorldBox};
 use hex::FromHex;
 use mapdefs::Rgb;
@@ -54,10 +54,12 @@ pub fn version(value: Option<&str>) -> Option<Code>
 pub fn crs(value: Option<&str>) -> Option<Code>
     ensures { result ≡ refusal_of (crs_value (option_copied value.entry)) }
 {
-    match value {
-        Some("CRS:84" | "EPSG:4326") => None,
-        Some(_) => Some(Code::InvalidCrs),
-        None => Some(Code::MissingParameterValue),
+    let Some(name) = value else {
+        return Some(Code::MissingParameterValue);
+    };
+    match crs_of(name) {
+        Some(_) => None,
+        None => Some(Code::InvalidCrs),
     }
 }
 
