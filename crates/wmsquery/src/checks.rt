@@ -1,11 +1,8 @@
-ghost use Rattle.std.specs.Prelude.{◌≡◌, ◌<◌, All, List, length, codes, IfOk, MatchOption};
+ghost use Rattle.std.specs.Prelude.{◌≡◌, ◌<◌, All, length, IfOk, MatchOption};
 ghost use Rattle.geom.specs.World.{IsExtent};
 ghost use Rattle.mapdefs.specs.declared.map.MapFields.{MapFields};
-ghost use Rattle.wmsquery.specs.Checks.{check, checks, refusal_of, values_of};
+ghost use Rattle.wmsquery.specs.Checks.{checks, values_of};
 ghost use Rattle.wmsquery.specs.Meaning.{Passes, IsFirstFault};
-ghost use Rattle.wmsquery.specs.Pairs.{given};
-ghost use Rattle.wmsquery.specs.Values.{service_of, request_of, version_of, crs_value, format_of, transparent_of};
-ghost use Rattle.wmsquery.specs.declared.fault.Parameter.TheVariants as parameter;
 
 use crate::fault::{Code, Parameter, WmsFault};
 use crate::lists::{layer_count, layers, styles};
@@ -51,75 +48,26 @@ pub fn evaluate(alloc: Global, map: &Map, pairs: &[Pair]) -> Result<Values, Allo
     })
 }
 
-// The check of SERVICE.
-fn service_check(pairs: &[Pair]) -> Check
-    ensures { result ≡ check parameter.Service (service_of (given (codes "SERVICE") pairs.now)) }
-{
-    Check {
-        parameter: Parameter::Service,
-        refusal: service(given(pairs, "SERVICE")),
-    }
-}
+impl Check {
+    ghost use Rattle.wmsquery.specs.Checks.{check};
 
-// The check of REQUEST.
-fn request_check(pairs: &[Pair]) -> Check
-    ensures { result ≡ check parameter.Request (request_of (given (codes "REQUEST") pairs.now)) }
-{
-    Check {
-        parameter: Parameter::Request,
-        refusal: request(given(pairs, "REQUEST")),
+    // The check of a parameter whose value has this refusal, if it has one.
+    fn new(parameter: Parameter, refusal: Option<Code>) -> Check
+        ensures { result ≡ record { parameter = parameter; refusal = refusal } }
+    {
+        Check { parameter, refusal }
     }
-}
 
-// The check of VERSION.
-fn version_check(pairs: &[Pair]) -> Check
-    ensures { result ≡ check parameter.Version (version_of (given (codes "VERSION") pairs.now)) }
-{
-    Check {
-        parameter: Parameter::Version,
-        refusal: version(given(pairs, "VERSION")),
+    // The check of a parameter that has this value or refusal.
+    fn of<T>(parameter: Parameter, value: &Result<T, Code>) -> Check
+        ensures { result ≡ check parameter value.now }
+    {
+        let refusal = match value {
+            Ok(_) => None,
+            Err(code) => Some(*code),
+        };
+        Check { parameter, refusal }
     }
-}
-
-// The check of CRS.
-fn crs_check(pairs: &[Pair]) -> Check
-    ensures { result ≡ check parameter.Crs (crs_value (given (codes "CRS") pairs.now)) }
-{
-    Check {
-        parameter: Parameter::Crs,
-        refusal: crs(given(pairs, "CRS")),
-    }
-}
-
-// The check of FORMAT.
-fn format_check(pairs: &[Pair]) -> Check
-    ensures { result ≡ check parameter.Format (format_of (given (codes "FORMAT") pairs.now)) }
-{
-    Check {
-        parameter: Parameter::Format,
-        refusal: format(given(pairs, "FORMAT")),
-    }
-}
-
-// The check of TRANSPARENT.
-fn transparent_check(pairs: &[Pair]) -> Check
-    ensures { result ≡ check parameter.Transparent (transparent_of (given (codes "TRANSPARENT") pairs.now)) }
-{
-    Check {
-        parameter: Parameter::Transparent,
-        refusal: transparent(given(pairs, "TRANSPARENT")),
-    }
-}
-
-// The check of a parameter that has this value or refusal.
-fn check_of<T>(parameter: Parameter, value: &Result<T, Code>) -> Check
-    ensures { result ≡ check parameter value.now }
-{
-    let refusal = match value {
-        Ok(_) => None,
-        Err(code) => Some(*code),
-    };
-    Check { parameter, refusal }
 }
 
 /// The checks of a request, in the order in which their faults are told.
@@ -127,21 +75,21 @@ pub fn checks(pairs: &[Pair], values: &Values) -> [Check; 12]
     ensures { (map : MapFields) → values.now ≡ values_of map pairs.now → result ≡ checks map pairs.now }
 {
     [
-        service_check(pairs),
-        request_check(pairs),
-        version_check(pairs),
-        check_of(Parameter::Layers, &values.layers),
-        Check {
-            parameter: Parameter::Styles,
-            refusal: values.styles,
-        },
-        crs_check(pairs),
-        check_of(Parameter::Bbox, &values.area),
-        check_of(Parameter::Width, &values.width),
-        check_of(Parameter::Height, &values.height),
-        format_check(pairs),
-        transparent_check(pairs),
-        check_of(Parameter::Bgcolor, &values.background),
+        Check::new(Parameter::Service, service(given(pairs, "SERVICE"))),
+        Check::new(Parameter::Request, request(given(pairs, "REQUEST"))),
+        Check::new(Parameter::Version, version(given(pairs, "VERSION"))),
+        Check::of(Parameter::Layers, &values.layers),
+        Check::new(Parameter::Styles, values.styles),
+        Check::new(Parameter::Crs, crs(given(pairs, "CRS"))),
+        Check::of(Parameter::Bbox, &values.area),
+        Check::of(Parameter::Width, &values.width),
+        Check::of(Parameter::Height, &values.height),
+        Check::new(Parameter::Format, format(given(pairs, "FORMAT"))),
+        Check::new(
+            Parameter::Transparent,
+            transparent(given(pairs, "TRANSPARENT")),
+        ),
+        Check::of(Parameter::Bgcolor, &values.background),
     ]
 }
 
