@@ -1,3 +1,4 @@
+pub mod Areas
 pub mod Boxes
 pub mod Caps
 pub mod Cuts

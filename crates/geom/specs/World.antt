@@ -1,5 +1,5 @@
 -- Places and boxes of the world (docs/MAPFILE.md, "Numbers").
-use Rattle.std.specs.Prelude.{ℤ, ◌<ℤ◌}
+use Rattle.std.specs.Prelude.{ℤ, ◌<ℤ◌, ◌≤ℤ◌}
 use Rattle.geom.specs.declared.micro.TheConstants.{COORDINATE_LIMIT}
 use Rattle.geom.specs.Range.{IsWithin}
 
@@ -14,6 +14,22 @@ pub record Area : Type 0 where
   pub miny : ℤ
   pub maxx : ℤ
   pub maxy : ℤ
+
+-- the place lies in the box, or on its border
+pub record HasPlace (area : Area) (place : Place) : Type 0 where
+  pub west : area.minx ≤ℤ place.x
+  pub east : place.x ≤ℤ area.maxx
+  pub south : area.miny ≤ℤ place.y
+  pub north : place.y ≤ℤ area.maxy
+
+-- some place lies in both boxes
+abbrev pub Meets : Area → Area → Type 0
+Meets a b = (place : Place) × HasPlace a place × HasPlace b place
+
+-- some number lies in both ranges, their ends included
+abbrev pub Overlap : ℤ → ℤ → ℤ → ℤ → Type 0
+Overlap start end other_start other_end =
+    (z : ℤ) × (start ≤ℤ z) × (z ≤ℤ end) × (other_start ≤ℤ z) × (z ≤ℤ other_end)
 
 -- a coordinate: a longitude or a latitude of at most 1,000 degrees in size
 abbrev pub IsCoordinate : ℤ → Type 0

@@ -3,6 +3,7 @@
 //! Proved: `Micro::read` reads the number that a decimal text means, by its clause `value`, and
 //! `laws::nearest` states that this is the nearest number of millionths. `Device::pixel` rounds down,
 //! and `Edge::crosses_at_or_left` decides the crossings that the even-odd rule counts.
+//! `PxBox::meets` and `WorldBox::meets` say whether two boxes share a pixel, and a place.
 //!
 //! Words: a *coordinate* is a longitude or a latitude, in millionths of a degree. A *place* is a point
 //! of the world, of longitude `x` and latitude `y`. A *device point* is a point of the picture in
