@@ -1,0 +1,14 @@
+-- The boxes of a list that meet a window (docs/PROFILE.md, "From the world to the picture").
+use Rattle.std.specs.Prelude.{ℕ, List, ◌≡◌, ◌↔◌, Some}
+use Rattle.std.specs.List.{Contains, slice_get}
+use Rattle.std.specs.List.Sorted.{IsStrictlyIncreasing}
+use Rattle.geom.specs.World.{Area, Meets}
+
+-- the list has a box of that index, and it meets the window
+abbrev pub MeetsAt : Area → List Area → ℕ → Type 0
+MeetsAt window boxes k = (area : Area) × (slice_get boxes k ≡ Some area) × Meets window area
+
+-- the numbers are exactly the indices of the boxes that meet the window, each below the next
+pub record IsAnswer (window : Area) (boxes : List Area) (found : List ℕ) : Type 0 where
+  pub rising : IsStrictlyIncreasing found
+  pub exact : (k : ℕ) → Contains found k ↔ MeetsAt window boxes k

@@ -1,0 +1,141 @@
+ghost use Rattle.std.specs.Prelude.{nat_eq, ◌≡◌, ◌≤◌, ◌<◌, ◌^◌, ◌↔◌, [], ◌∷◌, ◌++◌, List, length, IsTrue, IfOk, OnOk, OnErr};
+ghost use Rattle.std.specs.List.{IsDistinct};
+ghost use Rattle.geom.specs.World.{Area};
+ghost use Rattle.gridindex.specs.Groups.{HasFound, IsKept};
+ghost use Rattle.gridindex.specs.Window.{IsAnswer, MeetsAt};
+
+use crate::level::{Level, SMALLEST, levels_of, past_missed};
+use crate::order::order_of;
+use geom::WorldBox;
+use std::alloc::{AllocError, Global};
+
+/// The order of some boxes. The first `grouped` indices of it are in the groups of the levels, those
+/// of boxes that were added later follow.
+#[derive(Debug, Drop)]
+pub struct Groups {
+    order: Vec<u32>,
+    levels: Vec<Level>,
+    grouped: usize,
+}
+
+impl Groups {
+    /// All boxes in groups.
+    pub fn of(alloc: Global, boxes: &[WorldBox]) -> Result<Self, AllocError>
+        requires { length boxes.now ≤ 2 ^ 32 }
+        ensures { IfOk result (λ groups. IsKept groups boxes.now) }
+    {
+        let order = order_of(alloc, boxes)?;
+        let levels = levels_of(alloc, boxes, &order)?;
+        let grouped = order.len();
+        Ok(Groups {
+            order,
+            levels,
+            grouped,
+        })
+    }
+
+    /// Whether so many boxes were added since all were grouped that they should be again: a 64th of
+    /// those, and at least 64.
+    pub fn are_due(&self) -> bool {
+        let added = self.order.len().saturating_sub(self.grouped);
+        added / 64 > self.grouped / 4_096
+    }
+
+    /// Adds the index of a further box. Where memory is refused nothing changes.
+    pub fn add(&mut self, index: u32) -> Result<(), AllocError>
+        ensures ok { OnOk result ((boxes : List Area) (area : Area) → IsKept self.old boxes → length boxes ≡ index →
+            IsKept self.new (boxes ++ area ∷ [])) }
+        ensures err { OnErr result ((boxes : List Area) → IsKept self.old boxes → IsKept self.new boxes) }
+    {
+        self.order.push(index)?;
+        Ok(())
+    }
+
+    /// No boxes. It takes no memory.
+    pub fn clear(&mut self)
+        ensures { IsKept self.new [] }
+    {
+        self.order.clear();
+        self.levels.clear();
+        self.grouped = 0;
+    }
+
+    /// The indices of the boxes that meet the window.
+    pub fn find(
+        &self,
+        alloc: Global,
+        boxes: &[WorldBox],
+        window: WorldBox,
+    ) -> Result<Vec<u32>, AllocError>
+        requires { IsKept self.now boxes.now }
+        ensures { IfOk result (λ found. IsAnswer window boxes.now found.items) }
+    {
+        let mut found = Vec::new(alloc);
+        let mut at = 0;
+        while at < self.grouped {
+            at = self.step(boxes, window, at, &mut found)?;
+        }
+        add_hits(boxes, &self.order, at, self.order.len(), window, &mut found)?;
+        found.sort_unstable();
+        Ok(found)
+    }
+
+    // Leaves out the largest group at `at` that misses the window, or tries the boxes of the smallest
+    // group. Gives where it ends.
+    fn step(
+        &self,
+        boxes: &[WorldBox],
+        window: WorldBox,
+        at: usize,
+        found: &mut Vec<u32>,
+    ) -> Result<usize, AllocError>
+        requires kept { IsKept self.now boxes.now }
+        requires grouped { at < self.now.grouped }
+        ensures further { IfOk result (λ end. at < end) }
+        ensures bound { IfOk result (λ end. end ≤ self.now.grouped) }
+        ensures found { IfOk result (λ end. HasFound window boxes.now self.now.order.items at found.old.items →
+            HasFound window boxes.now self.now.order.items end found.new.items) }
+    {
+        let past = past_missed(&self.levels, at, window).min(self.grouped);
+        if past > at {
+            return Ok(past);
+        }
+        let end = at.saturating_add(SMALLEST).min(self.grouped);
+        add_hits(boxes, &self.order, at, end, window, found)?;
+        Ok(end)
+    }
+}
+
+// Adds the indices from `from` to before `end` of the order whose boxes meet the window.
+fn add_hits(
+    boxes: &[WorldBox],
+    order: &[u32],
+    from: usize,
+    end: usize,
+    window: WorldBox,
+    found: &mut Vec<u32>,
+) -> Result<(), AllocError>
+    requires once { IsDistinct nat_eq order.now }
+    requires rising { from ≤ end }
+    requires bound { end ≤ length order.now }
+    ensures { OnOk result (HasFound window boxes.now order.now from found.old.items →
+        HasFound window boxes.now order.now end found.new.items) }
+{
+    for at in from..end {
+        let index = order[at];
+        if is_hit(boxes, index, window) {
+            found.push(index)?;
+        }
+    }
+    Ok(())
+}
+
+// Whether the box of that index meets the window.
+fn is_hit(boxes: &[WorldBox], index: u32, window: WorldBox) -> bool
+    ensures { IsTrue result ↔ MeetsAt window boxes.now index }
+{
+    match boxes.get(index as usize) {
+        Some(area) => window.meets(*area),
+        None => false,
+    }
+}

@@ -1,0 +1,18 @@
+//! Boxes of the world in a list, and which of them meet a window, without asking each.
+//!
+//! Proved: `Grid::candidates` gives exactly the indices of the boxes that meet the window, ends
+//! included, rising and without repeats, by `IsAnswer`. `build`, `add` and `clear` say what list the
+//! grid holds.
+//!
+//! Words: the *order* of a grid has the indices of its boxes, those of boxes that lie near one another
+//! side by side. A *group* is a run of the order, and its *cover* a box that encloses its boxes. A
+//! *level* has groups of one size.
+#![tactic(auto)]
+
+mod cover;
+mod grid;
+mod groups;
+mod level;
+mod order;
+
+pub use grid::Grid;
