@@ -14,5 +14,7 @@ mod grid;
 mod groups;
 mod level;
 mod order;
+#[cfg(test)]
+mod tests;
 
 pub use grid::Grid;
