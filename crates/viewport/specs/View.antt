@@ -1,9 +1,10 @@
 -- From the world to the picture (docs/PROFILE.md, "From the world to the picture").
-use Rattle.std.specs.Prelude.{ℕ, ◌*◌, ◌≤◌, ℤ, pos, ◌-ℤ◌, ◌*ℤ◌, ◌<ℤ◌, ◌≤ℤ◌, unsigned_abs}
-use Rattle.std.specs.Int.{int_div_euclid}
-use Rattle.geom.specs.Device.{DevicePoint}
+use Rattle.std.specs.Prelude.{ℕ, ◌+◌, ◌*◌, ◌≤◌, ℤ, pos, neg_ℤ, ◌+ℤ◌, ◌-ℤ◌, ◌*ℤ◌, ◌<ℤ◌, ◌≤ℤ◌, unsigned_abs}
+use Rattle.std.specs.Int.{div_ceil, int_div_euclid}
+use Rattle.geom.specs.Device.{DevicePoint, PixelPlace, pixel_of}
 use Rattle.geom.specs.Scale.{PictureScale}
-use Rattle.geom.specs.World.{Place, Area}
+use Rattle.geom.specs.Side.{IsPictureSide}
+use Rattle.geom.specs.World.{Place, Area, HasPlace, IsExtent}
 
 -- a view: the part of the world that is shown, and the sides of the picture in pixels
 pub record ViewValue : Type 0 where
@@ -34,3 +35,40 @@ device_point view p = record {
 -- the scale of the picture, from left to right
 abbrev pub scale_of : ViewValue → PictureScale
 scale_of view = record { span = unsigned_abs (view.area.maxx -ℤ view.area.minx); width = view.width }
+
+-- how many millionths of a degree so many pixels show, where a side of that many shows a span: rounded up
+unfoldable pub shown_by : ℕ → ℕ → ℕ → ℕ
+shown_by margin pixels span = div_ceil (margin * span) pixels
+
+-- so many millionths are enough for the margin's share of the span, and they are the fewest that are
+pub record IsRoundedUp (margin pixels span n : ℕ) : Type 0 where
+  pub enough : margin * span ≤ n * pixels
+  pub fewest : (m : ℕ) → margin * span ≤ m * pixels → n ≤ m
+
+-- the law that it is so
+abbrev pub MarginsAreRoundedUp : Type 0
+MarginsAreRoundedUp = (margin pixels span : ℕ) → 1 ≤ pixels → IsRoundedUp margin pixels span (shown_by margin pixels span)
+
+-- the part of the world that the picture shows, and so many pixels on each side of it
+abbrev pub window : ViewValue → ℕ → Area
+window view margin =
+    let across = shown_by margin view.width (unsigned_abs (view.area.maxx -ℤ view.area.minx)) in
+    let down = shown_by margin view.height (unsigned_abs (view.area.maxy -ℤ view.area.miny)) in
+    record {
+      minx = view.area.minx -ℤ pos across;
+      miny = view.area.miny -ℤ pos down;
+      maxx = view.area.maxx +ℤ pos across;
+      maxy = view.area.maxy +ℤ pos down;
+    }
+
+-- the pixel lies in the picture, or at most so many columns left or right of it and so many rows above or below
+pub record IsNear (view : ViewValue) (margin : ℕ) (pixel : PixelPlace) : Type 0 where
+  pub left : neg_ℤ (pos margin) ≤ℤ pixel.i
+  pub right : pixel.i <ℤ pos (view.width + margin)
+  pub top : neg_ℤ (pos margin) ≤ℤ pixel.j
+  pub bottom : pixel.j <ℤ pos (view.height + margin)
+
+-- the law that the window has each place whose pixel is so near to the picture
+abbrev pub WindowHasNearPlaces : Type 0
+WindowHasNearPlaces = (view : ViewValue) (margin : ℕ) (place : Place) → IsExtent view.area → IsPictureSide view.width → IsPictureSide view.height →
+    IsNear view margin (pixel_of (device_point view place)) → HasPlace (window view margin) place

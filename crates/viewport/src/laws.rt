@@ -1,8 +1,19 @@
 //! Laws of the definitions. A law is a function without arguments whose contract states it.
 
-ghost use Rattle.viewport.specs.View.{SixteenthsAreRoundedDown};
+ghost use Rattle.viewport.specs.View.{MarginsAreRoundedUp, SixteenthsAreRoundedDown, WindowHasNearPlaces};
 
 /// Sixteenths are rounded down: they are the greatest number that isn't more than the part's share.
 pub fn sixteenths()
     ensures { SixteenthsAreRoundedDown }
+{}
+
+/// Margins are rounded up: they are the fewest millionths of a degree that are no less than their share.
+pub fn margins()
+    ensures { MarginsAreRoundedUp }
+{}
+
+/// A place whose pixel is in the picture, or at most `margin` columns left or right of it and `margin`
+/// rows above or below it, lies in the window of that margin.
+pub fn window()
+    ensures { WindowHasNearPlaces }
 {}

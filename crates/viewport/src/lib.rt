@@ -2,7 +2,8 @@
 //!
 //! Proved: `View::device` gives the device point of a place, rounded down to a sixteenth of a pixel,
 //! and `View::pixel` the pixel that it lies in. `laws::sixteenths` says what rounded down means.
-//! A place outside of the area has its device point too, off the picture.
+//! A place outside of the area has its device point too, off the picture. `View::window` gives the part
+//! of the world that the picture and a margin show, and `laws::window` says which places lie in it.
 //!
 //! Words: the *area* of a view is the part of the world that it shows, its *width* and *height* the
 //! sides of the picture in pixels, and its *scale* how many millionths of a degree its pixels show
@@ -12,4 +13,4 @@
 pub mod laws;
 mod view;
 
-pub use view::View;
+pub use view::{MAX_MARGIN, View};

@@ -1,11 +1,15 @@
-ghost use Rattle.std.specs.Prelude.{◌≡◌, ◌^◌, pos, ◌-ℤ◌, ◌<ℤ◌};
+ghost use Rattle.std.specs.Prelude.{◌≡◌, ◌≤◌, ◌<◌, ◌^◌, pos, ◌+ℤ◌, ◌-ℤ◌, ◌<ℤ◌, unsigned_abs};
 ghost use Rattle.geom.specs.Device.{pixel_of};
 ghost use Rattle.geom.specs.Range.{IsBelow};
 ghost use Rattle.geom.specs.World.{IsCoordinate, IsExtent};
-ghost use Rattle.viewport.specs.View.{sixteenths};
+ghost use Rattle.viewport.specs.View.{shown_by, sixteenths};
+ghost use Rattle.viewport.specs.declared.view.TheConstants.{MAX_MARGIN};
 
 use geom::{Coordinate, Device, Micro, PictureSide, Pixel, World, WorldBox};
 use std::marker::Model;
+
+/// The most pixels that a window has on each side of the picture.
+pub const MAX_MARGIN: u16 = 4_096;
 
 /// A view: the part of the world that is shown, and the sides of the picture that shows it. The area
 /// is an extent of the world.
@@ -30,7 +34,7 @@ impl Model for View {
 }
 
 impl View {
-    ghost use Rattle.viewport.specs.View.{device_point};
+    ghost use Rattle.viewport.specs.View.{device_point, window};
 
     /// The view of an area by a picture of that many columns and rows.
     pub fn new(area: WorldBox, width: PictureSide, height: PictureSide) -> Self
@@ -80,6 +84,28 @@ impl View {
         self.device(place).pixel()
     }
 
+    /// The part of the world that the picture shows, and `margin` pixels on each side of it, rounded
+    /// up to a millionth of a degree. It may reach beyond 1,000 degrees. By `laws::window` it has each
+    /// place whose pixel is at most so many columns and rows off the picture.
+    pub fn window(self, margin: u16) -> WorldBox
+        requires { margin ≤ MAX_MARGIN }
+        ensures { result ≡ window self margin }
+    {
+        let View {
+            area,
+            width,
+            height,
+        } = self;
+        let across = shown_by(margin, width, span(area.minx(), area.maxx()));
+        let down = shown_by(margin, height, span(area.miny(), area.maxy()));
+        WorldBox::new(
+            less(area.minx(), across),
+            less(area.miny(), down),
+            more(area.maxx(), across),
+            more(area.maxy(), down),
+        )
+    }
+
     // How far a longitude is from the left, in sixteenths of a pixel.
     fn across(self, longitude: Coordinate) -> i64
         ensures value { result ≡ sixteenths self.width (longitude -ℤ self.area.minx) (self.area.maxx -ℤ self.area.minx) }
@@ -124,10 +150,50 @@ fn sixteenths(side: PictureSide, part: i64, whole: i64) -> i64
     (16 * i64::from(side.pixels()) * part).div_euclid(whole)
 }
 
+// How far two coordinates are apart, in millionths of a degree.
+fn span(low: Micro, high: Micro) -> u64
+    requires low { IsCoordinate low }
+    requires high { IsCoordinate high }
+    ensures value { result ≡ unsigned_abs (high -ℤ low) }
+    ensures range { result < 2 ^ 31 }
+{
+    difference(high, low).unsigned_abs()
+}
+
+// How many millionths of a degree so many pixels show, of a side that shows a span, rounded up.
+#[tactic(auto, unfolding(crate::specs::View::shown_by))]
+fn shown_by(margin: u16, side: PictureSide, span: u64) -> u64
+    requires margin { margin ≤ MAX_MARGIN }
+    requires span { span < 2 ^ 31 }
+    ensures value { result ≡ shown_by margin side span }
+    ensures range { result < 2 ^ 44 }
+{
+    (u64::from(margin) * span).div_ceil(u64::from(side.pixels()))
+}
+
+// A coordinate less a number of millionths.
+fn less(a: Micro, by: u64) -> Micro
+    requires a { IsCoordinate a }
+    requires by { by < 2 ^ 44 }
+    ensures { result ≡ a -ℤ pos by }
+{
+    Micro::new(a.millionths() - by as i64)
+}
+
+// A coordinate and a number of millionths.
+fn more(a: Micro, by: u64) -> Micro
+    requires a { IsCoordinate a }
+    requires by { by < 2 ^ 44 }
+    ensures { result ≡ a +ℤ pos by }
+{
+    Micro::new(a.millionths() + by as i64)
+}
+
 #[cfg(test)]
 mod tests {
     use super::*;
     use geom::MAX_PICTURE_SIDE;
+    use std::test::Fail;
 
     // A coordinate in millionths of a degree. Those of the tests are within the limit.
     fn coordinate(millionths: i64) -> Coordinate {
@@ -227,6 +293,51 @@ mod tests {
                 assert_eq!(rt; (pixel.i(), pixel.j()), (*column, *row), "at {x}, {y}");
             }
         }
+    }
+
+    // The greatest area in a picture of one row, three pixels wide.
+    fn world() -> View {
+        let low = Micro::new(-1_000_000_000);
+        let high = Micro::new(1_000_000_000);
+        View::new(WorldBox::new(low, low, high, high), side(3), side(1))
+    }
+
+    // A view, a margin, and the west, south, east and north side of its window, worked by hand. A
+    // pixel of the oblong is 750,000 by 3,000,000 millionths, one of the dot a 2,048th of a millionth,
+    // and one of the world 666,666,666 and two thirds by 2,000,000,000.
+    const WINDOWS: &str = "\
+square 0 0 0 4000000 4000000
+square 3 -3000000 -3000000 7000000 7000000
+oblong 1 -750000 -3000000 3750000 9000000
+oblong 5 -3750000 -15000000 6750000 21000000
+dot 0 0 0 1 1
+dot 1 -1 -1 2 2
+dot 2048 -1 -1 2 2
+dot 2049 -2 -2 3 3
+dot 4096 -2 -2 3 3
+world 1 -1666666667 -3000000000 1666666667 3000000000
+world 3 -3000000000 -7000000000 3000000000 7000000000
+world 4096 -2731666666667 -8193000000000 2731666666667 8193000000000";
+
+    #[test]
+    fn windows_have_worked_sides(rt: HostRuntime) -> Result<(), Fail> {
+        for row in WINDOWS.lines() {
+            let mut words = row.split(' ');
+            let view = match words.next() {
+                Some("square") => square(),
+                Some("oblong") => oblong(),
+                Some("dot") => dot(),
+                _ => world(),
+            };
+            let margin = words.next().unwrap_or("").parse::<u16>()?;
+            let window = view.window(margin.min(MAX_MARGIN));
+            let sides = [window.minx(), window.miny(), window.maxx(), window.maxy()];
+            for (side, word) in sides.iter().zip(words) {
+                assert_eq!(rt; side.millionths(), word.parse::<i64>()?, "{row}");
+            }
+        }
+        assert_eq!(rt; MAX_MARGIN, 4_096);
+        Ok(())
     }
 
     // Views that differ in their area or in one side are two.
