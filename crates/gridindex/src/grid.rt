@@ -43,7 +43,7 @@ impl Grid {
         ensures ok { OnOk result (self.new ≡ self.old ++ area ∷ []) }
         ensures err { OnErr result (self.new ≡ self.old) }
     {
-        if self.groups.are_due() {
+        if self.groups.is_grouping_due() {
             self.groups = Groups::of(alloc, &self.boxes)?;
         }
         self.boxes.reserve(1)?;

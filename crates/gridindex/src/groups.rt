@@ -34,9 +34,9 @@ impl Groups {
         })
     }
 
-    /// Whether so many boxes were added since all were grouped that they should be again: a 64th of
-    /// those, and at least 64.
-    pub fn are_due(&self) -> bool {
+    /// Whether so many boxes were added since all were grouped that they should be again: about a 64th
+    /// of those, and at least 64. No answer rests on it, speed does.
+    pub fn is_grouping_due(&self) -> bool {
         let added = self.order.len().saturating_sub(self.grouped);
         added / 64 > self.grouped / 4_096
     }

@@ -7,10 +7,10 @@ use crate::cover::cover_of;
 use geom::WorldBox;
 use std::alloc::{AllocError, Global};
 
-// The sizes of the largest groups and of the smallest ones. A group is a sixteenth of one of the
-// next level.
+// The size of the largest groups, 16^7.
 const LARGEST: usize = 268_435_456;
 
+/// The size of the smallest groups. A group of each further level has 16 of those before.
 pub const SMALLEST: usize = 16;
 
 /// The order in groups of one size, the last perhaps smaller, and the cover of each.

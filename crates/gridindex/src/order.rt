@@ -4,7 +4,7 @@ ghost use Rattle.gridindex.specs.Groups.{IsOrder};
 use geom::{Micro, WorldBox};
 use std::alloc::{AllocError, Global};
 
-// The indices of the boxes, those of boxes that lie near one another side by side.
+/// The indices of the boxes, those of boxes that lie near one another side by side.
 pub fn order_of(alloc: Global, boxes: &[WorldBox]) -> Result<Vec<u32>, AllocError>
     requires { length boxes.now ≤ 2 ^ 32 }
     ensures { IfOk result (λ order. IsOrder (length boxes.now) order.items) }
@@ -27,7 +27,7 @@ fn indices_below(alloc: Global, count: usize) -> Result<Vec<u32>, AllocError>
 }
 
 // Where the middle of a box lies, as a number: the bits of its longitude and of its latitude by
-// turns, so that near numbers are near places. Speed rests on it, and no answer does.
+// turns, so that near numbers are of places near one another. No answer rests on it, speed does.
 fn key_at(boxes: &[WorldBox], index: u32) -> u64 {
     match boxes.get(index as usize) {
         Some(area) => {
@@ -39,7 +39,7 @@ fn key_at(boxes: &[WorldBox], index: u32) -> u64 {
     }
 }
 
-// Twice the middle of two coordinates, counted from below the least.
+// Twice the middle of two coordinates, counted from one below all of them.
 fn middle(low: Micro, high: Micro) -> u32 {
     let sum = low.millionths().saturating_add(high.millionths());
     let limit = 2_147_483_647;

@@ -156,7 +156,7 @@ fn assert_same(
 fn answers_are_those_of_a_plain_list(rt: HostRuntime) -> Result<(), Fail> {
     let alloc = rt.alloc();
     let mut state = 20_261;
-    let mut list = some_boxes(alloc, &mut state, 400)?;
+    let mut list = some_boxes(alloc, &mut state, 5_000)?;
     let mut grid = Grid::build(alloc, Vec::from_slice(alloc, &list)?)?;
     assert_same(&rt, alloc, &grid, &list, 1_000)?;
     for _number in 0..300_u16 {

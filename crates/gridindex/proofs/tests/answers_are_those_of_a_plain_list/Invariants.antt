@@ -2,4 +2,4 @@ use Rattle.std.proofs.Common.{◌≡◌, ◌+◌, length}
 use Rattle.gridindex.proofs.tests.answers_are_those_of_a_plain_list.Given as goal
 
 abbrev pub invariant-loop-number : goal.invariant-loop-number
-invariant-loop-number g l = length l.grid ≡ 400 + l._number
+invariant-loop-number g l = length l.grid ≡ 5000 + l._number
