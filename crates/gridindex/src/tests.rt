@@ -67,20 +67,20 @@ fn next(state: &mut u64, limit: i64) -> i64 {
     ((*state >> 33) as i64).wrapping_mul(limit) >> 31
 }
 
-// A box of whole steps, many of them points: one in 20 is large, another without a place, one reaches
-// the greatest numbers, and four lie beyond a corner of the others.
-fn next_box(state: &mut u64, step: i64) -> WorldBox {
+// A box of whole degrees within 30 of the middle, one in nine of them a point, so that many touch. Of 20
+// boxes one is large, one has no place, and seven reach or lie at the greatest numbers, on each side.
+fn next_box(state: &mut u64) -> WorldBox {
     let (x, y) = (next(state, 60), next(state, 60));
     let (width, height) = (next(state, 3), next(state, 3));
     let [west, south, east, north] = [x, y, x.wrapping_add(width), y.wrapping_add(height)].map(
-        |side| side.wrapping_sub(30).wrapping_mul(step),
+        |side| side.wrapping_sub(30).wrapping_mul(1_000_000),
     );
     match next(state, 20) {
         0 => boxed(
             west.wrapping_mul(9),
             south,
             east.wrapping_add(FAR >> 8),
-            north.wrapping_add(step << 5),
+            north.wrapping_add(32_000_000),
         ),
         1 => boxed(east.wrapping_add(1), south, west, north),
         2 => boxed(-FAR, -FAR, west, FAR),
@@ -88,6 +88,8 @@ fn next_box(state: &mut u64, step: i64) -> WorldBox {
         4 => boxed(-1 - FAR, north, -1 - FAR, FAR),
         5 => boxed(west, -FAR, west, -FAR),
         6 => boxed(FAR - 1, south, FAR, south),
+        7 => boxed(-1 - FAR, -1 - FAR, -1 - FAR, -FAR),
+        8 => boxed(west, FAR - 1, east, FAR),
         _ => boxed(west, south, east, north),
     }
 }
@@ -126,7 +128,7 @@ fn some_boxes(alloc: Global, state: &mut u64, count: u16) -> Result<Vec<WorldBox
 {
     let mut boxes = Vec::new(alloc);
     for _number in 0..count {
-        boxes.push(next_box(state, 1_000_000))?;
+        boxes.push(next_box(state))?;
     }
     Ok(boxes)
 }
@@ -142,7 +144,7 @@ fn assert_same(
     let mut state = 20_262;
     let mut found = 0_usize;
     for _ in 0..windows {
-        let window = next_box(&mut state, 1_000_000);
+        let window = next_box(&mut state);
         let indices = grid.candidates(alloc, window)?;
         assert_eq!(rt; indices, asked(alloc, list, window)?, "{window:?}");
         found = found.saturating_add(indices.len());
@@ -160,7 +162,7 @@ fn answers_are_those_of_a_plain_list(rt: HostRuntime) -> Result<(), Fail> {
     let mut grid = Grid::build(alloc, Vec::from_slice(alloc, &list)?)?;
     assert_same(&rt, alloc, &grid, &list, 1_000)?;
     for _number in 0..300_u16 {
-        add_next(alloc, &mut grid, &mut list, next_box(&mut state, 1_000_000))?;
+        add_next(alloc, &mut grid, &mut list, next_box(&mut state))?;
     }
     assert_same(&rt, alloc, &grid, &list, 1_000)
 }
