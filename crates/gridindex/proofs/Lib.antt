@@ -1,3 +1,4 @@
 pub mod Covering
 pub mod Hits
 pub mod Orders
+pub mod Rising

@@ -12,3 +12,7 @@ MeetsAt window boxes k = (area : Area) × (slice_get boxes k ≡ Some area) × M
 pub record IsAnswer (window : Area) (boxes : List Area) (found : List ℕ) : Type 0 where
   pub rising : IsStrictlyIncreasing found
   pub exact : (k : ℕ) → Contains found k ↔ MeetsAt window boxes k
+
+-- the law that a window has one answer
+abbrev pub AnswersAreOne : Type 0
+AnswersAreOne = (window : Area) (boxes : List Area) (found other : List ℕ) → IsAnswer window boxes found → IsAnswer window boxes other → found ≡ other

@@ -1,7 +1,7 @@
 //! Boxes of the world in a list, and which of them meet a window, without asking each.
 //!
 //! Proved: `Grid::candidates` gives exactly the indices of the boxes that meet the window, ends
-//! included, rising and without repeats, by `IsAnswer`. `build`, `add` and `clear` say what list the
+//! included, rising and without repeats, by `IsAnswer`. `laws::answers` says that there is one such list. `build`, `add` and `clear` say what list the
 //! grid holds.
 //!
 //! Words: the *order* of a grid has the indices of its boxes, those of boxes that lie near one another
@@ -12,6 +12,7 @@
 mod cover;
 mod grid;
 mod groups;
+pub mod laws;
 mod level;
 mod order;
 #[cfg(test)]
