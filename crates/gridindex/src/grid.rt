@@ -10,6 +10,7 @@ use std::marker::Model;
 /// window. It takes memory in proportion to their number, whatever their sizes.
 #[derive(Debug, Drop)]
 pub struct Grid {
+    alloc: Global,
     boxes: Vec<WorldBox>,
     groups: Groups,
 }
@@ -27,24 +28,28 @@ impl Model for Grid {
 }
 
 impl Grid {
-    /// The grid of those boxes.
+    /// The grid of those boxes. It keeps the allocator.
     pub fn build(alloc: Global, boxes: Vec<WorldBox>) -> Result<Self, AllocError>
         requires { length boxes.items ≤ 2 ^ 32 }
         ensures { IfOk result (λ grid. grid ≡ boxes.items) }
     {
         let groups = Groups::of(alloc, &boxes)?;
-        Ok(Grid { boxes, groups })
+        Ok(Grid {
+            alloc,
+            boxes,
+            groups,
+        })
     }
 
     /// Adds a box, whose index is the number of boxes before. Where memory is refused nothing
     /// changes.
-    pub fn add(&mut self, alloc: Global, area: WorldBox) -> Result<(), AllocError>
+    pub fn add(&mut self, area: WorldBox) -> Result<(), AllocError>
         requires { length self.old < 2 ^ 32 }
         ensures ok { OnOk result (self.new ≡ self.old ++ area ∷ []) }
         ensures err { OnErr result (self.new ≡ self.old) }
     {
         if self.groups.is_grouping_due() {
-            self.groups = Groups::of(alloc, &self.boxes)?;
+            self.groups = Groups::of(self.alloc, &self.boxes)?;
         }
         self.boxes.reserve(1)?;
         self.groups.add(self.boxes.len() as u32)?;
@@ -61,9 +66,9 @@ impl Grid {
     }
 
     /// The indices of all boxes that meet the window, ends included, rising and each once.
-    pub fn candidates(&self, alloc: Global, window: WorldBox) -> Result<Vec<u32>, AllocError>
+    pub fn candidates(&self, window: WorldBox) -> Result<Vec<u32>, AllocError>
         ensures { IfOk result (λ found. IsAnswer window self.now found.items) }
     {
-        self.groups.find(alloc, &self.boxes, window)
+        self.groups.find(self.alloc, &self.boxes, window)
     }
 }

@@ -35,7 +35,7 @@ fn assert_found(
     window: WorldBox,
     indices: &[u32],
 ) -> Result<(), Fail> {
-    assert_eq!(rt; grid.candidates(alloc, window)?.as_slice(), indices);
+    assert_eq!(rt; grid.candidates(window)?.as_slice(), indices);
     Ok(())
 }
 
@@ -49,12 +49,12 @@ fn windows_find_worked_boxes(rt: HostRuntime) -> Result<(), Fail> {
     )?;
     let window = degrees("0 0 1 1");
     assert_found(&rt, alloc, &grid, window, &[0, 2])?;
-    grid.add(alloc, degrees("1 1 1 1"))?;
+    grid.add(degrees("1 1 1 1"))?;
     assert_found(&rt, alloc, &grid, window, &[0, 2, 3])?;
     assert_found(&rt, alloc, &grid, degrees("6 -9 7 5"), &[1, 2])?;
     grid.clear();
     assert_found(&rt, alloc, &grid, window, &[])?;
-    grid.add(alloc, degrees("1 1 1 1"))?;
+    grid.add(degrees("1 1 1 1"))?;
     assert_found(&rt, alloc, &grid, window, &[0])?;
     Ok(())
 }
@@ -117,7 +117,7 @@ fn add_next(
     requires { length grid.old < 2 ^ 32 }
     ensures { OnOk result (length grid.new ≡ length grid.old + 1) }
 {
-    grid.add(alloc, area)?;
+    grid.add(area)?;
     list.push(area)?;
     Ok(())
 }
@@ -145,7 +145,7 @@ fn assert_same(
     let mut found = 0_usize;
     for _ in 0..windows {
         let window = next_box(&mut state);
-        let indices = grid.candidates(alloc, window)?;
+        let indices = grid.candidates(window)?;
         assert_eq!(rt; indices, asked(alloc, list, window)?, "{window:?}");
         found = found.saturating_add(indices.len());
     }
@@ -173,7 +173,7 @@ fn no_boxes_and_one_are_asked(rt: HostRuntime) -> Result<(), Fail> {
     let mut grid = Grid::build(alloc, Vec::new(alloc))?;
     let world = boxed(-1 - FAR, -1 - FAR, FAR, FAR);
     assert_found(&rt, alloc, &grid, world, &[])?;
-    grid.add(alloc, boxed(FAR, -1 - FAR, FAR, -1 - FAR))?;
+    grid.add(boxed(FAR, -1 - FAR, FAR, -1 - FAR))?;
     assert_found(&rt, alloc, &grid, world, &[0])?;
     assert_found(&rt, alloc, &grid, boxed(FAR, FAR, -1 - FAR, -1 - FAR), &[])?;
     Ok(())
