@@ -1,7 +1,7 @@
 -- The parts of a text between commas.
-use Rattle.std.proofs.Common.{Bor, ◌≡◌, ℕ, ◌+◌, ◌<◌, Bool, true, false, List, [], ◌∷◌, length, refl, ap, sym, arith, cond}
-use Rattle.std.specs.Prelude.{Option, None, Some, MatchOption, Result, Err}
-use Rattle.std.specs.List.{position_or_len, before_first, after_first, slice_split}
+use Rattle.std.proofs.Common.{Bor, ◌≡◌, ℕ, ◌<◌, Bool, true, false, List, [], ◌∷◌, length, refl, arith}
+use Rattle.std.specs.Prelude.{Option, None, Some, MatchOption, Err}
+use Rattle.std.specs.List.{position_or_len, before_first, after_first}
 use Rattle.std.proofs.lemmas.List.Splits.{slice_split_first, length-slice_split}
 use Rattle.crsaxes.specs.Axes.{is_comma, parts, box_of_parts}
 use Rattle.crsaxes.specs.declared.crs.Crs.{Crs}

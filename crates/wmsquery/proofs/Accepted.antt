@@ -6,27 +6,21 @@ use Rattle.wmsquery.specs.declared.checks.Values.{Values}
 use Rattle.wmsquery.specs.declared.fault.Parameter.TheVariants as parameter
 use Rattle.wmsquery.specs.declared.pairs.Pair.{Pair}
 use Rattle.wmsquery.specs.declared.request.MapRequest.{MapRequest}
-use Rattle.wmsquery.specs.Checks.{checks, refusal_of, values_of}
+use Rattle.wmsquery.specs.Checks.{AreAccepted, checks, refusal_of, values_of}
 use Rattle.wmsquery.specs.Meaning.{Passes, HasValues}
 
 -- some check
 some-check : Check
 some-check = record { parameter = parameter.Service; refusal = None }
 
-pub layers-accepted : (map : MapFields) (pairs : List Pair) (v : Values) → v ≡ values_of map pairs → All Passes (checks map pairs) → refusal_of v.layers ≡ None
-layers-accepted map pairs v e h = ap (λ (w : Values). refusal_of w.layers) e ∙ h 3 some-check (lit< tt)
-
-pub area-accepted : (map : MapFields) (pairs : List Pair) (v : Values) → v ≡ values_of map pairs → All Passes (checks map pairs) → refusal_of v.area ≡ None
-area-accepted map pairs v e h = ap (λ (w : Values). refusal_of w.area) e ∙ h 6 some-check (lit< tt)
-
-pub width-accepted : (map : MapFields) (pairs : List Pair) (v : Values) → v ≡ values_of map pairs → All Passes (checks map pairs) → refusal_of v.width ≡ None
-width-accepted map pairs v e h = ap (λ (w : Values). refusal_of w.width) e ∙ h 7 some-check (lit< tt)
-
-pub height-accepted : (map : MapFields) (pairs : List Pair) (v : Values) → v ≡ values_of map pairs → All Passes (checks map pairs) → refusal_of v.height ≡ None
-height-accepted map pairs v e h = ap (λ (w : Values). refusal_of w.height) e ∙ h 8 some-check (lit< tt)
-
-pub background-accepted : (map : MapFields) (pairs : List Pair) (v : Values) → v ≡ values_of map pairs → All Passes (checks map pairs) → refusal_of v.background ≡ None
-background-accepted map pairs v e h = ap (λ (w : Values). refusal_of w.background) e ∙ h 11 some-check (lit< tt)
+pub are-accepted : (map : MapFields) (pairs : List Pair) (v : Values) → v ≡ values_of map pairs → All Passes (checks map pairs) → AreAccepted v
+are-accepted map pairs v e h = record {
+  layers = ap (λ (w : Values). refusal_of w.layers) e ∙ h 3 some-check (lit< tt);
+  area = ap (λ (w : Values). refusal_of w.area) e ∙ h 6 some-check (lit< tt);
+  width = ap (λ (w : Values). refusal_of w.width) e ∙ h 7 some-check (lit< tt);
+  height = ap (λ (w : Values). refusal_of w.height) e ∙ h 8 some-check (lit< tt);
+  background = ap (λ (w : Values). refusal_of w.background) e ∙ h 11 some-check (lit< tt);
+}
 
 -- a request of the values has those of the parameters
 pub has-values : (map : MapFields) (pairs : List Pair) (v : Values) (r : MapRequest) → v ≡ values_of map pairs →

@@ -1,5 +1,5 @@
 -- The order of refusal: a list of checks, each of one parameter (OGC 06-042, 7.3; docs/PROFILE.md, "Queries").
-use Rattle.std.specs.Prelude.{ℕ, List, [], ◌∷◌, length, Option, None, Some, Result, Ok, Err, codes}
+use Rattle.std.specs.Prelude.{◌≡◌, ℕ, List, [], ◌∷◌, length, Option, None, Some, Result, Ok, Err, codes}
 use Rattle.std.specs.Option.{option_map_or}
 use Rattle.mapdefs.specs.declared.map.MapFields.{MapFields}
 use Rattle.wmsquery.specs.declared.checks.Check.{Check}
@@ -34,6 +34,14 @@ values_of map pairs = record {
   height = side_of (given (codes "HEIGHT") pairs);
   background = background_of (given (codes "BGCOLOR") pairs);
 }
+
+-- none of the values that a request takes is refused
+pub record AreAccepted (values : Values) : Type 0 where
+  pub layers : refusal_of values.layers ≡ None
+  pub area : refusal_of values.area ≡ None
+  pub width : refusal_of values.width ≡ None
+  pub height : refusal_of values.height ≡ None
+  pub background : refusal_of values.background ≡ None
 
 -- the checks of GetMap, in the order in which their faults are told
 abbrev pub checks : MapFields → List Pair → List Check

@@ -1,6 +1,6 @@
 ghost use Rattle.std.specs.Prelude.{◌≡◌, ◌<◌, All, None, Ok, length, IfOk, IfErr};
 ghost use Rattle.geom.specs.World.{IsExtent};
-ghost use Rattle.wmsquery.specs.Checks.{refusal_of};
+ghost use Rattle.wmsquery.specs.Checks.{AreAccepted, refusal_of};
 ghost use Rattle.wmsquery.specs.Meaning.{IsMeaning, IsMeaningOf, IsMeaningError, IsMeaningErrorOf};
 
 use crate::checks::{Values, checks, evaluate, first_fault};
@@ -24,11 +24,7 @@ fn accepted<T>(value: Result<T, Code>) -> T
 
 // The request for values that are not refused.
 fn request_of(values: Values) -> MapRequest
-    requires layers { refusal_of values.layers ≡ None }
-    requires area { refusal_of values.area ≡ None }
-    requires width { refusal_of values.width ≡ None }
-    requires height { refusal_of values.height ≡ None }
-    requires background { refusal_of values.background ≡ None }
+    requires { AreAccepted values }
     ensures layers { values.layers ≡ Ok result.chosen }
     ensures area { values.area ≡ Ok result.area }
     ensures width { values.width ≡ Ok result.width }

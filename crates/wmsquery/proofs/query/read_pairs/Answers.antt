@@ -1,32 +1,12 @@
 use Rattle.std.proofs.Common.{All, subst}
 use Rattle.wmsquery.specs.Meaning.{Passes, IsFirstFault}
-use Rattle.wmsquery.proofs.Accepted.{layers-accepted, area-accepted, width-accepted, height-accepted, background-accepted, has-values}
+use Rattle.wmsquery.proofs.Accepted.{are-accepted, has-values}
 use Rattle.wmsquery.proofs.query.read_pairs.Goals as goal
 
-pub request_of-requires-clause-layers : goal.request_of-requires-clause-layers
-request_of-requires-clause-layers c =
+pub request_of-requires : goal.request_of-requires
+request_of-requires c =
     let e = c.checks-checks.ensures c.args.map.now c.in_ok-values.ensures.value in
-    layers-accepted c.args.map.now c.args.pairs.now _ c.in_ok-values.ensures.value (subst (All Passes) e c.in-None.ensures)
-
-pub request_of-requires-clause-area : goal.request_of-requires-clause-area
-request_of-requires-clause-area c =
-    let e = c.checks-checks.ensures c.args.map.now c.in_ok-values.ensures.value in
-    area-accepted c.args.map.now c.args.pairs.now _ c.in_ok-values.ensures.value (subst (All Passes) e c.in-None.ensures)
-
-pub request_of-requires-clause-width : goal.request_of-requires-clause-width
-request_of-requires-clause-width c =
-    let e = c.checks-checks.ensures c.args.map.now c.in_ok-values.ensures.value in
-    width-accepted c.args.map.now c.args.pairs.now _ c.in_ok-values.ensures.value (subst (All Passes) e c.in-None.ensures)
-
-pub request_of-requires-clause-height : goal.request_of-requires-clause-height
-request_of-requires-clause-height c =
-    let e = c.checks-checks.ensures c.args.map.now c.in_ok-values.ensures.value in
-    height-accepted c.args.map.now c.args.pairs.now _ c.in_ok-values.ensures.value (subst (All Passes) e c.in-None.ensures)
-
-pub request_of-requires-clause-background : goal.request_of-requires-clause-background
-request_of-requires-clause-background c =
-    let e = c.checks-checks.ensures c.args.map.now c.in_ok-values.ensures.value in
-    background-accepted c.args.map.now c.args.pairs.now _ c.in_ok-values.ensures.value (subst (All Passes) e c.in-None.ensures)
+    are-accepted c.args.map.now c.args.pairs.now _ c.in_ok-values.ensures.value (subst (All Passes) e c.in-None.ensures)
 
 pub returns-in-Some-clause-fault : goal.returns-in-Some-clause-fault
 returns-in-Some-clause-fault c =
