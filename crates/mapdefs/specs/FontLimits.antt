@@ -1,5 +1,6 @@
 -- The sizes of fonts (Glyph Bitmap Distribution Format 2.1; docs/PROFILE.md, "Limits").
-use Rattle.std.specs.Prelude.{◌≡◌, ◌*◌, ◌≤◌, length, All}
+use Rattle.std.specs.Prelude.{◌≡◌, ◌*◌, ◌<◌, ◌≤◌, List, length, All}
+use Rattle.std.specs.List.{AllPairs}
 use Rattle.geom.specs.Range.{IsWithin}
 use Rattle.mapdefs.specs.declared.font.BitmapBox.{BitmapBox}
 use Rattle.mapdefs.specs.declared.font.Glyph.{Glyph}
@@ -18,8 +19,13 @@ pub record IsGlyphWithinLimits (g : Glyph) : Type 0 where
   pub bounds : IsBoxWithinLimits g.bounds
   pub area : length g.rows ≡ g.bounds.width * g.bounds.height
 
--- the box and each glyph are within the limits, and there are not too many glyphs
+-- the encoding of each glyph is below those of the glyphs after it
+abbrev pub IsRising : List Glyph → Type 0
+IsRising glyphs = AllPairs (λ a b. a.encoding < b.encoding) glyphs
+
+-- the box and each glyph are within the limits, there are not too many glyphs, and they stand by their encodings
 pub record IsFontWithinLimits (f : FontFields) : Type 0 where
   pub bounds : IsBoxWithinLimits f.bounds
   pub count : length f.glyphs ≤ MAX_GLYPHS
   pub each : ∥ All IsGlyphWithinLimits f.glyphs ∥₁
+  pub rising : IsRising f.glyphs

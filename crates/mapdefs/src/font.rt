@@ -22,7 +22,7 @@ pub struct Glyph {
     pub rows: Items<bool>,
 }
 
-/// What a font is made of: the box of all its characters, and its glyphs.
+/// What a font is made of: the box of all its characters, and its glyphs by rising encodings.
 #[derive(Debug, Drop)]
 pub struct FontFields {
     pub bounds: BitmapBox,
@@ -36,5 +36,5 @@ impl Limits for FontFields {
 }
 
 /// A bitmap font. Sides and offsets are at most `MAX_GLYPH_SIDE` in size, and it has at most
-/// `MAX_GLYPHS` glyphs.
+/// `MAX_GLYPHS` glyphs, whose encodings rise: no two have the same one, and a search by halves finds it.
 pub type Font = Limited<FontFields>;

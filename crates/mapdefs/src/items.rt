@@ -37,6 +37,14 @@ impl<T> Items<T> {
         Items { items }
     }
 
+    /// The elements as a `Vec`, which is given out as it is.
+    pub fn into_vec(self) -> Vec<T>
+        ensures { result.items ≡ self }
+    {
+        let Items { items } = self;
+        items
+    }
+
     /// The elements, in order.
     pub fn as_slice(&self) -> &[T]
         ensures { result.now ≡ self.now }
