@@ -1,0 +1,5 @@
+pub mod Firsts
+pub mod Reading
+pub mod Sizes
+pub mod Within
+pub mod Words

@@ -1,0 +1,24 @@
+-- The rows of a glyph's bitmap (Glyph Bitmap Distribution Format 2.1, BITMAP).
+use Rattle.std.specs.Prelude.{ℕ, ◌+◌, ◌-◌, ◌*◌, ◌/◌, ◌%◌, Bool, ◌==◌, ◌&&◌, nat_le, if◌then◌else◌, List, [], ◌∷◌, length, take}
+use Rattle.std.specs.List.{list_all, flat_map}
+use Rattle.std.specs.Char.{is_ascii_hexdigit}
+
+-- the value of a hexadecimal digit
+abbrev pub hex_value : ℕ → ℕ
+hex_value digit = if nat_le digit 57 then digit - 48 else (if nat_le digit 70 then digit - 65 + 10 else digit - 97 + 10)
+
+-- the four bits of a value below 16, the highest first
+abbrev pub bits_of : ℕ → List Bool
+bits_of value = (value / 8 % 2 == 1) ∷ (value / 4 % 2 == 1) ∷ (value / 2 % 2 == 1) ∷ (value % 2 == 1) ∷ []
+
+-- the bits of hexadecimal digits, one digit after another
+abbrev pub bits : List ℕ → List Bool
+bits digits = flat_map (λ digit. bits_of (hex_value digit)) digits
+
+-- a line is a row of so many pixels: two digits for each eight of them, or part of eight, all hexadecimal
+abbrev pub is_row : ℕ → List ℕ → Bool
+is_row width line = length line == ((width + 7) / 8) * 2 && list_all is_ascii_hexdigit line
+
+-- the pixels of a row: its first bits, as many as it is wide
+abbrev pub row_pixels : ℕ → List ℕ → List Bool
+row_pixels width line = take width (bits line)

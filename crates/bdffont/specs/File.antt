@@ -1,0 +1,70 @@
+-- What a BDF file says, line by line (Glyph Bitmap Distribution Format 2.1; docs/FILES.md, "Bitmap fonts").
+use Rattle.std.specs.Prelude.{◌≡◌, ℕ, ◌+◌, Bool, true, ◌==◌, nat_lt, List, [], ◌∷◌, find, Option, None, Some, Result, Ok, Err}
+use Rattle.std.specs.Str.Lines.{lines}
+use Rattle.mapdefs.specs.declared.font.FontFields.{FontFields}
+use Rattle.mapdefs.specs.declared.font.Glyph.{Glyph}
+use Rattle.mapdefs.specs.FontLimits.{IsRising}
+use Rattle.bdffont.specs.declared.fault.FontError.{FontError}
+use Rattle.bdffont.specs.declared.fault.FontError.TheVariants.{Fault, NoMemory}
+use Rattle.bdffont.specs.declared.fault.FontFault.{FontFault}
+use Rattle.bdffont.specs.declared.fault.FontKind.{FontKind}
+use Rattle.bdffont.specs.declared.fault.FontKind.TheVariants.{Start, Truncated}
+use Rattle.bdffont.specs.declared.place.Place.{Place}
+use Rattle.bdffont.specs.declared.place.Place.TheVariants.{Before, Ended}
+use Rattle.bdffont.specs.declared.place.State.{State}
+use Rattle.bdffont.specs.declared.says.Stop.{Stop}
+use Rattle.bdffont.specs.declared.says.Stop.TheVariants as stop
+use Rattle.bdffont.specs.Places.{says, start}
+
+-- a fault on a line
+abbrev pub fault_on : ℕ → FontKind → FontFault
+fault_on line kind = record { line = line; kind = kind }
+
+-- what is read where no line is left: the font after ENDFONT, else a fault on the line that would come
+abbrev pub at_end : ℕ → Place → Result FontFields FontFault
+at_end line Before = Err (fault_on line Start)
+at_end line (Ended font) = Ok font
+at_end line _ = Err (fault_on line Truncated)
+
+-- what is read after a line: what follows from the state that the line makes, or its fault
+abbrev pub after_line : ℕ → Result State FontKind → (State → Result FontFields FontFault) → Result FontFields FontFault
+after_line line (Ok next) others = others next
+after_line line (Err kind) others = Err (fault_on line kind)
+
+-- what is read in lines from a state on: the font, with its glyphs in the order of the file, or the first fault
+unfoldable pub reads : State → ℕ → List (List ℕ) → Result FontFields FontFault
+reads s line [] = at_end line s.place
+reads s line (text ∷ texts) = after_line line (says s text) (λ next. reads next (line + 1) texts)
+
+-- what is read in a file
+abbrev pub file_of : List ℕ → Result FontFields FontFault
+file_of bytes = reads start 1 (lines bytes)
+
+-- a glyph has the encoding
+abbrev pub has_encoding : ℕ → Glyph → Bool
+has_encoding e glyph = glyph.encoding == e
+
+-- glyphs by rising encodings: for each encoding the first glyph that the file has of it
+pub record AreFirstsOf (file glyphs : List Glyph) : Type 0 where
+  pub rising : IsRising glyphs
+  pub firsts : (e : ℕ) → find (has_encoding e) glyphs ≡ find (has_encoding e) file
+
+-- the font of a file
+pub record IsFontOf (file font : FontFields) : Type 0 where
+  pub bounds : font.bounds ≡ file.bounds
+  pub glyphs : AreFirstsOf file.glyphs font.glyphs
+
+-- an encoding is above the last one, if there is one
+abbrev pub follows : Option ℕ → ℕ → Bool
+follows None e = true
+follows (Some last) e = nat_lt last e
+
+-- the error of a stop on a line
+abbrev pub error_on : ℕ → Stop → FontError
+error_on line (stop.Fault kind) = Fault (fault_on line kind)
+error_on line stop.NoMemory = NoMemory
+
+-- the error of a file: its fault, or want of memory
+abbrev pub IsErrorOf : Result FontFields FontFault → FontError → Type 0
+IsErrorOf file (Fault fault) = file ≡ Err fault
+IsErrorOf file NoMemory = Unit {0}

@@ -1,0 +1,33 @@
+-- The numbers of a line (Glyph Bitmap Distribution Format 2.1; docs/FILES.md, "Lines of a font").
+use Rattle.std.specs.Prelude.{ℕ, ◌^◌, ◌==◌, ◌&&◌, nat_lt, if◌then◌else◌, min, List, [], ◌∷◌, length, Option, None, Some, slice_get}
+use Rattle.std.specs.List.{list_all}
+use Rattle.std.specs.Option.{option_map, option_and_then}
+use Rattle.std.specs.Char.{is_ascii_digit}
+use Rattle.geom.specs.Decimal as decimal
+use Rattle.bdffont.specs.declared.number.Number.{Number}
+use Rattle.bdffont.specs.Words.{words}
+
+-- a size, or 2^32, which is past every limit of a font: so far a size is read
+abbrev pub capped : ℕ → ℕ
+capped n = min n (2 ^ 32)
+
+-- the size that some digits are, one at least
+abbrev pub size_of : List ℕ → Option ℕ
+size_of digits = if nat_lt 0 (length digits) && list_all is_ascii_digit digits then Some (capped (decimal.number_of digits)) else None
+
+-- the digits of a word, behind a minus if it begins with one
+abbrev pub digits_of : List ℕ → List ℕ
+digits_of [] = []
+digits_of (b ∷ bs) = if b == 45 then bs else b ∷ bs
+
+-- a size with the sign of a word; 0 is not negative
+abbrev pub with_sign : List ℕ → ℕ → Number
+with_sign word size = record { is_negative = decimal.is_negative word && nat_lt 0 size; size = size }
+
+-- the number that a word is: digits, behind a minus or not
+abbrev pub number_of : List ℕ → Option Number
+number_of word = option_map (with_sign word) (size_of (digits_of word))
+
+-- the number that the word of a line with this index is, the first word having index 0
+abbrev pub number_at : ℕ → List ℕ → Option Number
+number_at index line = option_and_then number_of (slice_get (words line) index)

@@ -1,0 +1,158 @@
+-- What each line of a BDF file says, by where it stands (Glyph Bitmap Distribution Format 2.1; docs/FILES.md, "Lines of a font").
+use Rattle.std.specs.Prelude.{◌≡◌, ℕ, ◌+◌, ◌-◌, Bool, true, false, not, ◌==◌, ◌&&◌, nat_lt, if◌then◌else◌, List, [], ◌∷◌, ◌++◌, Option, None, Some, Result, Ok, Err}
+use Rattle.mapdefs.specs.declared.font.BitmapBox.{BitmapBox}
+use Rattle.mapdefs.specs.declared.limits.TheConstants.{MAX_GLYPHS}
+use Rattle.bdffont.specs.declared.fault.FontKind.{FontKind}
+use Rattle.bdffont.specs.declared.fault.FontKind.TheVariants.{Start, Field, Row, Count, Limit}
+use Rattle.bdffont.specs.declared.fields.Encoding.{Encoding}
+use Rattle.bdffont.specs.declared.fields.Encoding.TheVariants.{Negative, Character}
+use Rattle.bdffont.specs.declared.keyword.Keyword.{Keyword}
+use Rattle.bdffont.specs.declared.keyword.Keyword.TheVariants as word
+use Rattle.bdffont.specs.declared.place.Draft.{Draft}
+use Rattle.bdffont.specs.declared.place.FontHeader.{FontHeader}
+use Rattle.bdffont.specs.declared.place.GlyphHeader.{GlyphHeader}
+use Rattle.bdffont.specs.declared.place.Place.{Place}
+use Rattle.bdffont.specs.declared.place.Place.TheVariants.{Before, InHeader, Between, InGlyph, InRows, Ended}
+use Rattle.bdffont.specs.declared.place.Rows.{Rows}
+use Rattle.bdffont.specs.declared.place.State.{State}
+use Rattle.bdffont.specs.declared.says.Stop.{Stop}
+use Rattle.bdffont.specs.declared.says.Stop.TheVariants.{Fault, NoMemory}
+use Rattle.bdffont.specs.Bits.{is_row, row_pixels}
+use Rattle.bdffont.specs.Fields.{box_at, encoding_at, advance_at, count_at}
+use Rattle.bdffont.specs.Keyword.{keyword_in}
+
+-- what follows from a result, unless it is a fault
+abbrev pub and_then : {X Y : Type 0} → Result X FontKind → (X → Result Y FontKind) → Result Y FontKind
+and_then (Ok x) f = f x
+and_then (Err kind) f = Err kind
+
+-- a glyph begins, if there is room for a further one; its header has named no field
+abbrev pub opened : Draft → Result Place FontKind
+opened d =
+    if nat_lt d.started MAX_GLYPHS
+    then Ok (InGlyph (record d { started = d.started + 1 }) (record { encoding = None; advance = None; bounds = None }))
+    else Err Limit
+
+-- the font ends, if as many glyphs have begun as there are to be
+abbrev pub closed : Draft → Result Place FontKind
+closed d = if d.started == d.count then Ok (Ended (record { bounds = d.bounds; glyphs = d.glyphs })) else Err Count
+
+-- the font of a header that has both its fields
+abbrev pub draft_with : Option BitmapBox → Option ℕ → Result Draft FontKind
+draft_with (Some bounds) (Some count) = Ok (record { bounds = bounds; count = count; started = 0; glyphs = [] })
+draft_with _ _ = Err Field
+
+abbrev pub draft_of : FontHeader → Result Draft FontKind
+draft_of h = draft_with h.bounds h.count
+
+-- the first line
+abbrev pub before : Option Keyword → Result Place FontKind
+before (Some word.StartFont) = Ok (InHeader (record { bounds = None; count = None }))
+before _ = Err Start
+
+-- a line of the font's header
+abbrev pub in_header : FontHeader → Option Keyword → List ℕ → Result Place FontKind
+in_header h None line = Ok (InHeader h)
+in_header h (Some word.FontBoundingBox) line = and_then (box_at line) (λ b. Ok (InHeader (record h { bounds = Some b })))
+in_header h (Some word.Chars) line = and_then (count_at line) (λ n. Ok (InHeader (record h { count = Some n })))
+in_header h (Some word.StartChar) line = and_then (draft_of h) opened
+in_header h (Some word.EndFont) line = and_then (draft_of h) closed
+in_header h (Some _) line = Err Field
+
+-- a line between two glyphs, or after the last
+abbrev pub between : Draft → Option Keyword → Result Place FontKind
+between d None = Ok (Between d)
+between d (Some word.StartChar) = opened d
+between d (Some word.EndFont) = closed d
+between d (Some _) = Err Field
+
+-- the header of a glyph with a further field
+abbrev pub encoded : GlyphHeader → List ℕ → Result GlyphHeader FontKind
+encoded g line = and_then (encoding_at line) (λ e. Ok (record g { encoding = Some e }))
+
+abbrev pub advanced : GlyphHeader → List ℕ → Result GlyphHeader FontKind
+advanced g line = and_then (advance_at line) (λ a. Ok (record g { advance = Some a }))
+
+abbrev pub bounded : GlyphHeader → List ℕ → Result GlyphHeader FontKind
+bounded g line = and_then (box_at line) (λ b. Ok (record g { bounds = Some b }))
+
+-- before the rows of a glyph whose header has all its fields, all rows are to come
+abbrev pub rows_with : Option Encoding → Option ℕ → Option BitmapBox → Result Rows FontKind
+rows_with (Some e) (Some a) (Some b) = Ok (record { encoding = e; advance = a; bounds = b; pixels = []; left = b.height })
+rows_with _ _ _ = Err Field
+
+abbrev pub rows_of : GlyphHeader → Result Rows FontKind
+rows_of g = rows_with g.encoding g.advance g.bounds
+
+-- a line of a glyph's header
+abbrev pub in_glyph : Draft → GlyphHeader → Option Keyword → List ℕ → Result Place FontKind
+in_glyph d g None line = Ok (InGlyph d g)
+in_glyph d g (Some word.Encoding) line = and_then (encoded g line) (λ next. Ok (InGlyph d next))
+in_glyph d g (Some word.Dwidth) line = and_then (advanced g line) (λ next. Ok (InGlyph d next))
+in_glyph d g (Some word.Bbx) line = and_then (bounded g line) (λ next. Ok (InGlyph d next))
+in_glyph d g (Some word.Bitmap) line = and_then (rows_of g) (λ rows. Ok (InRows d rows))
+in_glyph d g (Some _) line = Err Field
+
+-- the font with a glyph whose rows are read; one with a negative encoding is dropped
+abbrev pub with_encoded : Draft → Rows → Encoding → Draft
+with_encoded d r Negative = d
+with_encoded d r (Character n) =
+    record d { glyphs = d.glyphs ++ record { encoding = n; advance = r.advance; bounds = r.bounds; rows = r.pixels } ∷ [] }
+
+abbrev pub with_glyph : Draft → Rows → Draft
+with_glyph d r = with_encoded d r r.encoding
+
+-- the line after the last row
+abbrev pub after_rows : Draft → Rows → Option Keyword → Result Place FontKind
+after_rows d r (Some word.EndChar) = Ok (Between (with_glyph d r))
+after_rows d r _ = Err Row
+
+-- a row, while rows are to come, and then the line after the last one
+abbrev pub in_rows : Draft → Rows → List ℕ → Result Place FontKind
+in_rows d r line =
+    if nat_lt 0 r.left
+    then (if is_row r.bounds.width line
+    then Ok (InRows d (record r { pixels = r.pixels ++ row_pixels r.bounds.width line; left = r.left - 1 }))
+    else Err Row)
+    else after_rows d r (keyword_in line)
+
+-- the place after a line that is none of the properties; after ENDFONT all lines are skipped
+abbrev pub place_after : Place → List ℕ → Result Place FontKind
+place_after Before line = before (keyword_in line)
+place_after (InHeader h) line = in_header h (keyword_in line) line
+place_after (Between d) line = between d (keyword_in line)
+place_after (InGlyph d g) line = in_glyph d g (keyword_in line) line
+place_after (InRows d r) line = in_rows d r line
+place_after (Ended font) line = Ok (Ended font)
+
+-- properties may stand in a header and between glyphs
+abbrev pub has_properties : Place → Bool
+has_properties (InHeader h) = true
+has_properties (Between d) = true
+has_properties (InGlyph d g) = true
+has_properties _ = false
+
+-- they begin with STARTPROPERTIES, and end with ENDPROPERTIES
+abbrev pub opens_properties : Option Keyword → Bool
+opens_properties (Some word.StartProperties) = true
+opens_properties _ = false
+
+abbrev pub closes_properties : Option Keyword → Bool
+closes_properties (Some word.EndProperties) = true
+closes_properties _ = false
+
+-- the state before the first line
+abbrev pub start : State
+start = record { place = Before; in_properties = false }
+
+-- what a line makes of the state: the properties are skipped, and every other line counts by its place
+abbrev pub says : State → List ℕ → Result State FontKind
+says s line =
+    if s.in_properties then Ok (record s { in_properties = not (closes_properties (keyword_in line)) })
+    else (if opens_properties (keyword_in line) && has_properties s.place then Ok (record s { in_properties = true })
+    else and_then (place_after s.place line) (λ next. Ok (record { place = next; in_properties = false })))
+
+-- why reading stops at a line: at the fault that the line gives, or for want of memory
+abbrev pub IsStop : {X : Type 0} → Stop → Result X FontKind → Type 0
+IsStop (Fault kind) said = said ≡ Err kind
+IsStop NoMemory said = Unit {0}

@@ -1,0 +1,16 @@
+//! Bitmap fonts: a reader of BDF files, the extent of a text, and which pixels it inks.
+#![tactic(auto)]
+
+mod bits;
+mod fault;
+mod fields;
+mod file;
+mod glyphs;
+mod keyword;
+mod line;
+mod number;
+mod place;
+mod says;
+
+pub use fault::{FontError, FontFault, FontKind};
+pub use file::read;

@@ -1,0 +1,66 @@
+use crate::fields::Encoding;
+use mapdefs::{BitmapBox, FontFields, Glyph, Items};
+
+/// The fields of a font that its header has named.
+#[derive(Clone, Copy)]
+pub struct FontHeader {
+    pub bounds: Option<BitmapBox>,
+    /// What CHARS says.
+    pub count: Option<u64>,
+}
+
+/// A font so far as it is read: the fields of its header, and its glyphs.
+#[derive(Drop)]
+pub struct Draft {
+    pub bounds: BitmapBox,
+    /// How many glyphs there are to be.
+    pub count: u64,
+    /// How many have begun.
+    pub started: usize,
+    /// Those that are read and have an encoding, in the order of the file.
+    pub glyphs: Items<Glyph>,
+}
+
+/// The fields of a glyph that its header has named.
+#[derive(Clone, Copy)]
+pub struct GlyphHeader {
+    pub encoding: Option<Encoding>,
+    pub advance: Option<u8>,
+    pub bounds: Option<BitmapBox>,
+}
+
+/// A glyph so far as its rows are read.
+#[derive(Drop)]
+pub struct Rows {
+    pub encoding: Encoding,
+    pub advance: u8,
+    pub bounds: BitmapBox,
+    /// The pixels of the rows that are read.
+    pub pixels: Items<bool>,
+    /// How many rows are to come.
+    pub left: u8,
+}
+
+/// Where a line stands.
+#[derive(Drop)]
+pub enum Place {
+    /// Before STARTFONT.
+    Before,
+    /// In the font's header, before the first glyph.
+    InHeader(FontHeader),
+    /// Between two glyphs, or after the last.
+    Between(Draft),
+    /// In the header of a glyph.
+    InGlyph(Draft, GlyphHeader),
+    /// In the rows of a glyph, or after the last of them.
+    InRows(Draft, Rows),
+    /// After ENDFONT. The glyphs stand in the order of the file.
+    Ended(FontFields),
+}
+
+/// Where a line stands, and whether it is one of the properties, which are skipped.
+#[derive(Drop)]
+pub struct State {
+    pub place: Place,
+    pub in_properties: bool,
+}
