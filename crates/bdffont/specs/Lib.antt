@@ -2,6 +2,7 @@ pub mod Bits
 pub mod Fault
 pub mod Fields
 pub mod File
+pub mod Ink
 pub mod Keyword
 pub mod Number
 pub mod Places

@@ -11,6 +11,8 @@ mod line;
 mod number;
 mod place;
 mod says;
+mod text;
 
 pub use fault::{FontError, FontFault, FontKind};
 pub use file::read;
+pub use text::{extent, ink};
