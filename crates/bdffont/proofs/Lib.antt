@@ -1,7 +1,10 @@
+pub mod Characters
 pub mod Firsts
 pub mod Inking
+pub mod OneFont
 pub mod Reading
 pub mod Search
 pub mod Sizes
 pub mod Within
 pub mod Words
+pub mod Written

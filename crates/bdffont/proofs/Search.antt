@@ -28,7 +28,7 @@ found-glyph glyphs e index g rising within equal is =
 none-cons : (e : ℕ) (x : Glyph) (xs : List Glyph) → x.encoding ≢ e → find (has_encoding e) xs ≡ None → find (has_encoding e) (x ∷ xs) ≡ None
 none-cons e x xs other h = let differs : (x.encoding == e) ≡ false = grind (arith, nat_tests) in rw differs h
 
-find-none : (glyphs : List Glyph) (e : ℕ) → ((k : ℕ) (d : Glyph) → k < length glyphs → (get_or glyphs k d).encoding ≢ e) → find (has_encoding e) glyphs ≡ None
+pub find-none : (glyphs : List Glyph) (e : ℕ) → ((k : ℕ) (d : Glyph) → k < length glyphs → (get_or glyphs k d).encoding ≢ e) → find (has_encoding e) glyphs ≡ None
 find-none [] e other = refl
 find-none (x ∷ xs) e other = none-cons e x xs (other 0 x (omega arith)) (find-none xs e (λ k d within. other (suc k) d (omega arith)))
 

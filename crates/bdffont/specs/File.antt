@@ -54,6 +54,10 @@ pub record IsFontOf (file font : FontFields) : Type 0 where
   pub bounds : font.bounds ≡ file.bounds
   pub glyphs : AreFirstsOf file.glyphs font.glyphs
 
+-- the law that a file has one font, however its glyphs came to stand by their encodings
+abbrev pub FileHasOneFont : Type 0
+FileHasOneFont = (file a b : FontFields) → IsFontOf file a → IsFontOf file b → a ≡ b
+
 -- an encoding is above the last one, if there is one
 abbrev pub follows : Option ℕ → ℕ → Bool
 follows None e = true

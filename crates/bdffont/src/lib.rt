@@ -7,12 +7,15 @@ mod fields;
 mod file;
 mod glyphs;
 mod keyword;
+pub mod laws;
 mod line;
 mod number;
 mod place;
 mod says;
+#[cfg(test)]
+mod tests;
 mod text;
 
 pub use fault::{FontError, FontFault, FontKind};
 pub use file::read;
-pub use text::{extent, ink};
+pub use text::{MAX_CHARACTERS, extent, ink, is_short};

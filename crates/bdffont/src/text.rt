@@ -1,5 +1,6 @@
-ghost use Rattle.std.specs.Prelude.{◌≡◌, ◌+◌, ◌*◌, ◌^◌, ◌<◌, ◌≤◌, [], ◌∷◌, length, pos, ◌+ℤ◌, ◌-ℤ◌, find, IfSome, MatchOption, None, Some};
+ghost use Rattle.std.specs.Prelude.{◌≡◌, ◌+◌, ◌*◌, ◌^◌, ◌<◌, ◌≤◌, [], ◌∷◌, length, pos, ◌+ℤ◌, ◌-ℤ◌, find, IfSome, IsTrue, ◌↔◌, MatchOption, None, Some};
 ghost use Rattle.std.specs.Str.{chars, IsUtf8};
+ghost use Rattle.bdffont.specs.declared.text.TheConstants.{MAX_CHARACTERS};
 ghost use Rattle.geom.specs.Range.{IsBelow};
 ghost use Rattle.mapdefs.specs.FontLimits.{IsRising};
 ghost use Rattle.bdffont.specs.File.{has_encoding};
@@ -54,13 +55,30 @@ fn split_char(text: &str) -> Option<(u32, &str)>
     }
 }
 
+// How many characters a text has.
+fn characters_len(text: &str) -> usize
+    ensures { result ≡ length (chars text.now) }
+{
+    text.chars().count()
+}
+
+/// The most characters of a text that is measured or drawn.
+pub const MAX_CHARACTERS: usize = 256;
+
+/// Whether a text has at most `MAX_CHARACTERS` characters, which `extent` and `ink` ask for.
+pub fn is_short(text: &str) -> bool
+    ensures { IsTrue result ↔ (length (chars text.now) ≤ MAX_CHARACTERS) }
+{
+    characters_len(text) <= MAX_CHARACTERS
+}
+
 /// The width and the height of a text, in pixels: the sum of the advances of its characters, and the
 /// height of the font's box. A character without a glyph has the glyph 63, or no advance where the font
 /// has none. It takes no memory.
 ///
-/// A text has at most 256 characters.
+/// The text has at most `MAX_CHARACTERS` characters, as `is_short` tells.
 pub fn extent(font: &Font, text: &str) -> (u32, u32)
-    requires { length (chars text.now) ≤ 256 }
+    requires { length (chars text.now) ≤ MAX_CHARACTERS }
     ensures width { result.0 ≡ text_width font.now.glyphs (chars text.now) }
     ensures height { result.1 ≡ font.now.bounds.height }
 {
@@ -156,9 +174,9 @@ fn covers(font: BitmapBox, at: Pixel, pen: u32, i: i64, j: i64, glyph: &Glyph) -
 /// without a glyph has the glyph 63, or no ink and no advance where the font has none. Ink may lie
 /// outside of the text's extent. It takes no memory.
 ///
-/// A text has at most 256 characters.
+/// The text has at most `MAX_CHARACTERS` characters, as `is_short` tells.
 pub fn ink(font: &Font, text: &str, at: Pixel, i: i64, j: i64) -> bool
-    requires { length (chars text.now) ≤ 256 }
+    requires { length (chars text.now) ≤ MAX_CHARACTERS }
     ensures { result ≡ has_ink font.now (chars text.now) at i j }
 {
     let fields = font.get();

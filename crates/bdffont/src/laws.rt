@@ -1,0 +1,23 @@
+//! Laws of the definitions. A law is a function without arguments whose contract states it.
+
+ghost use Rattle.bdffont.specs.Bits.{WrittenRowIsRead};
+ghost use Rattle.bdffont.specs.File.{FileHasOneFont};
+ghost use Rattle.bdffont.specs.Ink.{InkIsOfACharacter};
+
+/// A row of pixels that is written out in hexadecimal digits, four pixels in each and the leftmost as
+/// its highest bit, is a row of its width and is read as itself.
+pub fn written_row_is_read()
+    ensures { WrittenRowIsRead }
+{}
+
+/// A file has one font: two fonts that stand by their encodings, and have for each encoding the first
+/// glyph that the file has of it, are the same.
+pub fn file_has_one_font()
+    ensures { FileHasOneFont }
+{}
+
+/// A text has ink where the glyph of one of its characters has, the pen having advanced by those
+/// before it, and nowhere else.
+pub fn ink_is_of_a_character()
+    ensures { InkIsOfACharacter }
+{}
