@@ -4,8 +4,8 @@ use Rattle.mapdefs.specs.declared.font.FontFields.{FontFields}
 use Rattle.bdffont.specs.declared.fault.FontFault.{FontFault}
 use Rattle.bdffont.specs.declared.fault.FontKind.{FontKind}
 use Rattle.bdffont.specs.declared.place.State.{State}
-use Rattle.bdffont.specs.declared.says.Stop.{Stop}
-use Rattle.bdffont.specs.declared.says.Stop.TheVariants.{Fault, NoMemory}
+use Rattle.bdffont.specs.declared.step.Stop.{Stop}
+use Rattle.bdffont.specs.declared.step.Stop.TheVariants.{Fault, NoMemory}
 use Rattle.bdffont.specs.Places.{says, IsStop}
 use Rattle.bdffont.specs.File.{reads, after_line, at_end, fault_on, error_on, IsErrorOf}
 

@@ -12,8 +12,8 @@ use Rattle.bdffont.specs.declared.fault.FontKind.TheVariants.{Start, Truncated}
 use Rattle.bdffont.specs.declared.place.Place.{Place}
 use Rattle.bdffont.specs.declared.place.Place.TheVariants.{Before, Ended}
 use Rattle.bdffont.specs.declared.place.State.{State}
-use Rattle.bdffont.specs.declared.says.Stop.{Stop}
-use Rattle.bdffont.specs.declared.says.Stop.TheVariants as stop
+use Rattle.bdffont.specs.declared.step.Stop.{Stop}
+use Rattle.bdffont.specs.declared.step.Stop.TheVariants as stop
 use Rattle.bdffont.specs.Places.{says, start}
 
 -- a fault on a line

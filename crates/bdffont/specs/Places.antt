@@ -15,8 +15,8 @@ use Rattle.bdffont.specs.declared.place.Place.{Place}
 use Rattle.bdffont.specs.declared.place.Place.TheVariants.{Before, InHeader, Between, InGlyph, InRows, Ended}
 use Rattle.bdffont.specs.declared.place.Rows.{Rows}
 use Rattle.bdffont.specs.declared.place.State.{State}
-use Rattle.bdffont.specs.declared.says.Stop.{Stop}
-use Rattle.bdffont.specs.declared.says.Stop.TheVariants.{Fault, NoMemory}
+use Rattle.bdffont.specs.declared.step.Stop.{Stop}
+use Rattle.bdffont.specs.declared.step.Stop.TheVariants.{Fault, NoMemory}
 use Rattle.bdffont.specs.Bits.{is_row, row_pixels}
 use Rattle.bdffont.specs.Fields.{box_at, encoding_at, advance_at, count_at}
 use Rattle.bdffont.specs.Keyword.{keyword_in}

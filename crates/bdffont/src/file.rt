@@ -8,7 +8,7 @@ use crate::fault::{FontError, FontFault, FontKind};
 use crate::glyphs::by_encoding;
 use crate::line::split_line;
 use crate::place::{Place, State};
-use crate::says::Stop;
+use crate::step::Stop;
 use mapdefs::{BitmapBox, Font, FontFields, Glyph, Items};
 use std::alloc::Global;
 
@@ -48,7 +48,7 @@ fn read_lines(alloc: Global, bytes: &[u8]) -> Result<FontFields, FontError>
     let mut rest = bytes;
     let mut line = 1;
     while let Some((text, after)) = split_line(rest) {
-        match state.says(text, alloc) {
+        match state.read_line(text, alloc) {
             Ok(next) => state = next,
             Err(stop) => return Err(error_on(line, stop)),
         }

@@ -1,4 +1,14 @@
-//! Bitmap fonts: a reader of BDF files, the extent of a text, and which pixels it inks.
+//! Bitmap fonts: a reader of BDF files, the extent of a text in a font, and the pixels that it inks.
+//!
+//! Proved: `read` gives the font that a file describes (clause `font`) or its first fault with its
+//! line (`error`), for any bytes. `extent` is the sum of the advances and the height of the font's box
+//! (`width`, `height`), and `ink` says of each pixel whether a text has ink there. Laws state that a
+//! file has one font, that a row which is written out is read as itself, and that ink is that of a
+//! character, the pen having advanced by those before it (`laws`).
+//!
+//! Words: a *place* is where a line stands in the file, as in a header or between two glyphs; the
+//! *state* is the place, and whether properties are skipped there. A *draft* is a font so far as it is
+//! read. The *pen* is where the next glyph is drawn.
 #![tactic(auto)]
 
 mod bits;
@@ -11,7 +21,7 @@ pub mod laws;
 mod line;
 mod number;
 mod place;
-mod says;
+mod step;
 #[cfg(test)]
 mod tests;
 mod text;

@@ -17,7 +17,7 @@ pub enum Stop {
 }
 
 impl From<FontKind> for Stop {
-    ghost use Rattle.bdffont.specs.declared.says.Stop.TheVariants.{Fault};
+    ghost use Rattle.bdffont.specs.declared.step.Stop.TheVariants.{Fault};
 
     ghost from_gives = { λ kind stop. stop ≡ Fault kind };
 
@@ -27,7 +27,7 @@ impl From<FontKind> for Stop {
 }
 
 impl From<AllocError> for Stop {
-    ghost use Rattle.bdffont.specs.declared.says.Stop.TheVariants.{NoMemory};
+    ghost use Rattle.bdffont.specs.declared.step.Stop.TheVariants.{NoMemory};
 
     ghost from_gives = { λ _ stop. stop ≡ NoMemory };
 
@@ -273,8 +273,8 @@ impl State {
         }
     }
 
-    /// What a line makes of the state.
-    pub fn says(self, line: &[u8], alloc: Global) -> Result<State, Stop>
+    /// The state after a line.
+    pub fn read_line(self, line: &[u8], alloc: Global) -> Result<State, Stop>
         ensures state { IfOk result (λ s. says self line.now ≡ Ok s) }
         ensures stop { IfErr result (λ stop. IsStop stop (says self line.now)) }
     {

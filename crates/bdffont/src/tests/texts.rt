@@ -1,0 +1,276 @@
+use super::{TINY, edited, told};
+use crate::{MAX_CHARACTERS, extent, ink, is_short, read};
+use geom::Pixel;
+use mapdefs::Font;
+use std::alloc::{AllocError, Global};
+use std::test::Fail;
+
+// The extent of a short text.
+fn extent_of(font: &Font, text: &str) -> (u32, u32) {
+    if is_short(text) {
+        extent(font, text)
+    } else {
+        (0, 0)
+    }
+}
+
+// Whether a short text has ink in a column and a row.
+fn has_ink(font: &Font, text: &str, at: Pixel, i: i64, j: i64) -> bool {
+    is_short(text) && ink(font, text, at, i, j)
+}
+
+// Draws columns -1 to 5 of rows -1 to 2 of a text at a pixel, the rows parted by `/`.
+fn drawn(alloc: Global, font: &Font, text: &str, at: Pixel) -> Result<String, AllocError> {
+    let mut picture = String::new(alloc);
+    for j in -1..3 {
+        if j > -1 {
+            picture.push('/')?;
+        }
+        for i in -1..6 {
+            let is_inked = has_ink(font, text, at, i, j);
+            picture.push(if is_inked { '#' } else { '.' })?;
+        }
+    }
+    Ok(picture)
+}
+
+// The number of a line and what stands there, a text, the column and the row of its upper left pixel,
+// and columns -1 to 5 of rows -1 to 2.
+const PICTURES: &str = "\
+1|STARTFONT|A|0 0|......./.##..../.#...../.......\n\
+1|STARTFONT|AA|0 0|......./.##.##./.#..#../.......\n\
+1|STARTFONT|B|0 0|......./......./......./.......\n\
+1|STARTFONT|BA|0 0|......./.##..../.#...../.......\n\
+1|STARTFONT|A|-1 -1|##...../#....../......./.......\n\
+1|STARTFONT|A|2 1|......./......./...##../...#...\n\
+1|STARTFONT|A|-3 0|......./......./......./.......\n\
+9|DWIDTH 1 0|AA|0 0|......./.###.../.##..../.......\n\
+9|DWIDTH 0 0|AA|1 0|......./..##.../..#..../.......\n\
+10|BBX 2 2 1 0|A|0 0|......./..##.../..#..../.......\n\
+10|BBX 2 2 -1 0|A|0 0|......./##...../#....../.......\n\
+10|BBX 2 2 0 1|A|0 0|.##..../.#...../......./.......\n\
+10|BBX 2 2 0 -1|A|0 0|......./......./.##..../.#.....\n\
+4|FONTBOUNDINGBOX 2 2 9 1|A|0 0|......./......./.##..../.#.....\n\
+4|FONTBOUNDINGBOX 2 2 9 -1|A|0 0|.##..../.#...../......./.......\n\
+4|FONTBOUNDINGBOX 2 3 0 0|A|0 0|......./......./.##..../.#.....\n\
+12|40|A|0 0|......./..#..../.#...../.......\n\
+12|3F|A|0 0|......./......./.#...../.......\n\
+7|ENCODING 63|AB|0 0|......./.##.##./.#..#../.......\n\
+7|ENCODING -1 65|A|0 0|......./......./......./.......\n\
+7|ENCODING 233|é|0 0|......./.##..../.#...../.......\n\
+7|ENCODING 65;ENCODING 66|A|0 0|......./......./......./.......";
+
+// The pixel of two numbers, the column and the row.
+fn pixel(numbers: &str) -> Pixel {
+    let (i, j) = numbers.split_once(' ').unwrap_or((numbers, ""));
+    let i = i.parse::<i8>().unwrap_or(99);
+    let j = j.parse::<i8>().unwrap_or(99);
+    Pixel::new(i64::from(i), i64::from(j))
+}
+
+#[test]
+fn texts_are_drawn_as_worked(rt: HostRuntime) -> Result<(), Fail> {
+    let alloc = rt.alloc();
+    for row in PICTURES.lines() {
+        let (number, rest) = row.split_once('|').unwrap_or((row, ""));
+        let (line, rest) = rest.split_once('|').unwrap_or((rest, ""));
+        let (text, rest) = rest.split_once('|').unwrap_or((rest, ""));
+        let (at, expected) = rest.split_once('|').unwrap_or((rest, ""));
+        let Ok(font) = read(alloc, &edited(alloc, number, line)?) else {
+            panic!(rt; "{row}");
+        };
+        let picture = drawn(alloc, &font, text, pixel(at))?;
+        assert_eq!(rt; picture.as_str(), expected, "{row}");
+    }
+    Ok(())
+}
+
+// Seven glyphs, not by their encodings, two of them with the encoding 97 and one with a negative one.
+// Rows of 9 and of 16 pixels have four digits, and those of no pixels have none.
+const MIXED: &str = "\
+STARTFONT 2.1\n\
+CHARS 7\n\
+FONTBOUNDINGBOX 16 3 1 -1\n\
+STARTCHAR b\nENCODING 98\nDWIDTH 10 0\nBBX 9 2 0 0\nBITMAP\nAA80\n557F\nENDCHAR\n\
+STARTCHAR a\nBBX 1 1 0 0\nDWIDTH 2 0\nENCODING 97\nBITMAP\n80\nENDCHAR\n\
+STARTCHAR unnamed\nENCODING -1 99\nDWIDTH 3 0\nBBX 1 1 0 0\nBITMAP\n80\nENDCHAR\n\
+STARTCHAR again\nENCODING 97\nDWIDTH 4 0\nBBX 1 1 0 0\nBITMAP\n00\nENDCHAR\n\
+STARTCHAR question\nENCODING 63\nDWIDTH 5 0\nBBX 3 1 0 0\nBITMAP\nA0\nENDCHAR\n\
+STARTCHAR wide\nENCODING 128512\nDWIDTH 17 0\nBBX 16 1 0 0\nBITMAP\n8001\nENDCHAR\n\
+STARTCHAR space\nENCODING 32\nDWIDTH 7 0\nBBX 0 2 0 0\nBITMAP\n\n\nENDCHAR\n\
+ENDFONT\n";
+
+// The ink of a glyph, its rows parted by `/`.
+fn rows_of(alloc: Global, font: &Font, index: usize) -> Result<String, AllocError> {
+    let mut rows = String::new(alloc);
+    if let Some(glyph) = font.get().glyphs.as_slice().get(index) {
+        let width = usize::from(glyph.bounds.width);
+        for (i, is_inked) in glyph.rows.as_slice().iter().enumerate() {
+            if i > 0 && width > 0 && i % width == 0 {
+                rows.push('/')?;
+            }
+            rows.push(if *is_inked { '#' } else { '.' })?;
+        }
+    }
+    Ok(rows)
+}
+
+// The encoding, the advance and the rows of each glyph of that font.
+const MIXED_GLYPHS: &str = "\
+32 7 \n\
+63 5 #.#\n\
+97 2 #\n\
+98 10 #.#.#.#.#/.#.#.#.#.\n\
+128512 17 #..............#\n";
+
+#[test]
+fn glyphs_stand_by_their_encodings(rt: HostRuntime) -> Result<(), Fail> {
+    let alloc = rt.alloc();
+    let Ok(font) = read(alloc, MIXED.as_bytes()) else {
+        panic!(rt; "the font is refused");
+    };
+    let mut printed = String::new(alloc);
+    for (i, glyph) in font.get().glyphs.as_slice().iter().enumerate() {
+        let rows = rows_of(alloc, &font, i)?;
+        let line = format!(in alloc; "{} {} {rows}\n", glyph.encoding, glyph.advance)?;
+        printed.push_str(line.as_str())?;
+    }
+    assert_eq!(rt; printed.as_str(), MIXED_GLYPHS);
+    let bounds = font.get().bounds;
+    assert_eq!(rt;
+        (bounds.width, bounds.height, bounds.xoff, bounds.yoff),
+        (16, 3, 1, -1)
+    );
+    Ok(())
+}
+
+// Texts in that font, with their widths.
+const WIDTHS: &str = "\
+|0\n\
+a|2\n\
+ab|12\n\
+b a|19\n\
+c|5\n\
+\u{1F600}?|22\n\
+\u{e9}|5";
+
+#[test]
+fn extents_are_summed_advances(rt: HostRuntime) -> Result<(), Fail> {
+    let alloc = rt.alloc();
+    let Ok(font) = read(alloc, MIXED.as_bytes()) else {
+        panic!(rt; "the font is refused");
+    };
+    for row in WIDTHS.lines() {
+        let (text, expected) = row.split_once('|').unwrap_or((row, ""));
+        let (width, height) = extent_of(&font, text);
+        let printed = format!(in alloc; "{width}")?;
+        assert_eq!(rt; printed.as_str(), expected, "{row}");
+        assert_eq!(rt; height, 3);
+    }
+    let Ok(tiny) = read(alloc, TINY.as_bytes()) else {
+        panic!(rt; "the tiny font is refused");
+    };
+    assert_eq!(rt; extent_of(&tiny, "AA"), (6, 2));
+    assert_eq!(rt; extent_of(&tiny, "B"), (0, 2));
+    Ok(())
+}
+
+#[test]
+fn texts_have_at_most_256_characters(rt: HostRuntime) -> Result<(), Fail> {
+    assert_eq!(rt; MAX_CHARACTERS, 256);
+    let mut text = String::new(rt.alloc());
+    for _ in 0..256 {
+        text.push('\u{1F600}')?;
+    }
+    assert!(rt; is_short(text.as_str()));
+    let Ok(font) = read(rt.alloc(), MIXED.as_bytes()) else {
+        panic!(rt; "the font is refused");
+    };
+    assert_eq!(rt; extent_of(&font, text.as_str()), (4352, 3));
+    let at = Pixel::new(0, 0);
+    assert!(rt; has_ink(&font, text.as_str(), at, 4350, 1));
+    assert!(rt; !has_ink(&font, text.as_str(), at, 4351, 1));
+    text.push('a')?;
+    assert!(rt; !is_short(text.as_str()));
+    Ok(())
+}
+
+// A font that has to have 65,536 glyphs, and so many of them by falling encodings, the last of which
+// is 1. The rows of each are empty.
+fn falling(alloc: Global, count: u32) -> Result<Vec<u8>, AllocError> {
+    let mut source = Vec::new(alloc);
+    source.extend_from_slice(b"STARTFONT 2.1\nCHARS 65536\nFONTBOUNDINGBOX 1 1 0 0\n")?;
+    for n in 0..count {
+        let encoding = count - n;
+        let glyph = format!(in alloc;
+            "STARTCHAR\nENCODING {encoding}\nDWIDTH 1 0\nBBX 0 0 0 0\nBITMAP\nENDCHAR\n"
+        )?;
+        source.extend_from_slice(glyph.as_bytes())?;
+    }
+    source.extend_from_slice(b"ENDFONT\n")?;
+    Ok(source)
+}
+
+#[test]
+fn fonts_have_at_most_65536_glyphs(rt: HostRuntime) -> Result<(), Fail> {
+    let alloc = rt.alloc();
+    let Ok(font) = read(alloc, &falling(alloc, 65_536)?) else {
+        panic!(rt; "the font is refused");
+    };
+    let glyphs = font.get().glyphs.as_slice();
+    assert_eq!(rt; glyphs.len(), 65_536);
+    assert_eq!(rt; glyphs.first().map(|glyph| glyph.encoding), Some(1));
+    assert_eq!(rt; glyphs.last().map(|glyph| glyph.encoding), Some(65_536));
+    // three lines of the header, and six of each glyph
+    assert_eq!(rt; told(alloc, &falling(alloc, 65_537)?), (5, 393_220));
+    assert_eq!(rt; told(alloc, &falling(alloc, 65_535)?), (4, 393_214));
+    Ok(())
+}
+
+// Three letters of the font 6x13 of X.Org's misc-fixed, which is in the public domain.
+const LETTERS: &str = "\
+STARTFONT 2.1\n\
+FONTBOUNDINGBOX 6 13 0 -2\n\
+STARTPROPERTIES 1\nFONT_DESCENT 2\nENDPROPERTIES\n\
+CHARS 3\n\
+STARTCHAR A\nENCODING 65\nSWIDTH 480 0\nDWIDTH 6 0\nBBX 6 13 0 -2\nBITMAP\n\
+00\n00\n20\n50\n88\n88\n88\nF8\n88\n88\n88\n00\n00\nENDCHAR\n\n\
+STARTCHAR g\nENCODING 103\nSWIDTH 480 0\nDWIDTH 6 0\nBBX 6 13 0 -2\nBITMAP\n\
+00\n00\n00\n00\n00\n70\n88\n88\n88\n78\n08\n88\n70\nENDCHAR\n\n\
+STARTCHAR j\nENCODING 106\nSWIDTH 480 0\nDWIDTH 6 0\nBBX 6 13 0 -2\nBITMAP\n\
+00\n00\n00\n10\n00\n30\n10\n10\n10\n10\n90\n90\n60\nENDCHAR\n\n\
+ENDFONT\n";
+
+// The letters `Agj` at the pixel (0, 0).
+const DRAWN_LETTERS: &str = "\
+..................\n\
+..................\n\
+..#...............\n\
+.#.#...........#..\n\
+#...#.............\n\
+#...#..###....##..\n\
+#...#.#...#....#..\n\
+#####.#...#....#..\n\
+#...#.#...#....#..\n\
+#...#..####....#..\n\
+#...#.....#.#..#..\n\
+......#...#.#..#..\n\
+.......###...##...\n";
+
+#[test]
+fn letters_are_drawn_as_their_rows(rt: HostRuntime) -> Result<(), Fail> {
+    let alloc = rt.alloc();
+    let Ok(font) = read(alloc, LETTERS.as_bytes()) else {
+        panic!(rt; "the font is refused");
+    };
+    let mut picture = String::new(alloc);
+    for j in 0..13 {
+        for i in 0..18 {
+            let is_inked = has_ink(&font, "Agj", Pixel::new(0, 0), i, j);
+            picture.push(if is_inked { '#' } else { '.' })?;
+        }
+        picture.push('\n')?;
+    }
+    assert_eq!(rt; picture.as_str(), DRAWN_LETTERS);
+    Ok(())
+}
