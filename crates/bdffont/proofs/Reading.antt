@@ -3,10 +3,10 @@ use Rattle.std.proofs.Common.{◌≡◌, ℕ, ◌+◌, List, [], ◌∷◌, Resu
 use Rattle.mapdefs.specs.declared.font.FontFields.{FontFields}
 use Rattle.bdffont.specs.declared.fault.FontFault.{FontFault}
 use Rattle.bdffont.specs.declared.fault.FontKind.{FontKind}
-use Rattle.bdffont.specs.declared.place.State.{State}
+use Rattle.bdffont.specs.declared.section.State.{State}
 use Rattle.bdffont.specs.declared.step.Stop.{Stop}
 use Rattle.bdffont.specs.declared.step.Stop.TheVariants.{Fault, NoMemory}
-use Rattle.bdffont.specs.Places.{says, IsStop}
+use Rattle.bdffont.specs.Sections.{says, IsStop}
 use Rattle.bdffont.specs.File.{reads, after_line, at_end, fault_on, error_on, IsErrorOf}
 
 -- what is read of a line and of those after it
@@ -29,6 +29,6 @@ reads-stop s (Fault kind) line text texts lines file r e h = sym r ∙ reads-fau
 reads-stop s NoMemory line text texts lines file r e h = tt
 
 -- no line is left
-pub reads-end : (s : State) (line : ℕ) (lines : List (List ℕ)) → lines ≡ [] → reads s line lines ≡ at_end line s.place
+pub reads-end : (s : State) (line : ℕ) (lines : List (List ℕ)) → lines ≡ [] → reads s line lines ≡ at_end line s.section
 unfolding reads
 reads-end s line lines e = rw e refl

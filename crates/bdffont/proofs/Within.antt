@@ -21,18 +21,18 @@ use Rattle.bdffont.specs.declared.fields.Encoding.TheVariants.{Negative, Charact
 use Rattle.bdffont.specs.declared.keyword.Keyword.{Keyword}
 use Rattle.bdffont.specs.declared.keyword.Keyword.TheVariants as word
 use Rattle.bdffont.specs.declared.number.Number.{Number}
-use Rattle.bdffont.specs.declared.place.Draft.{Draft}
-use Rattle.bdffont.specs.declared.place.FontHeader.{FontHeader}
-use Rattle.bdffont.specs.declared.place.GlyphHeader.{GlyphHeader}
-use Rattle.bdffont.specs.declared.place.Place.{Place}
-use Rattle.bdffont.specs.declared.place.Place.TheVariants.{Before, InHeader, Between, InGlyph, InRows, Ended}
-use Rattle.bdffont.specs.declared.place.Rows.{Rows}
-use Rattle.bdffont.specs.declared.place.State.{State}
+use Rattle.bdffont.specs.declared.section.Draft.{Draft}
+use Rattle.bdffont.specs.declared.section.FontHeader.{FontHeader}
+use Rattle.bdffont.specs.declared.section.GlyphHeader.{GlyphHeader}
+use Rattle.bdffont.specs.declared.section.Section.{Section}
+use Rattle.bdffont.specs.declared.section.Section.TheVariants.{Before, InHeader, Between, InGlyph, InRows, Ended}
+use Rattle.bdffont.specs.declared.section.Rows.{Rows}
+use Rattle.bdffont.specs.declared.section.State.{State}
 use Rattle.bdffont.specs.Bits.{bits, is_row, row_pixels}
 use Rattle.bdffont.specs.Fields.{is_small, box_with, box_at, count_at}
 use Rattle.bdffont.specs.Keyword.{keyword_in}
 use Rattle.bdffont.specs.Number.{number_at}
-use Rattle.bdffont.specs.Places.{and_then, opened, closed, draft_with, draft_of, before, in_header, between, rows_with, rows_of, encoded, advanced, bounded, in_glyph, with_encoded, after_rows, place_after, says}
+use Rattle.bdffont.specs.Sections.{and_then, opened, closed, draft_with, draft_of, before, in_header, between, rows_with, rows_of, encoded, advanced, bounded, in_glyph, with_encoded, after_rows, section_after, says}
 use Rattle.bdffont.specs.File.{after_line, at_end, reads}
 
 -- what is read of a file is within its limits
@@ -53,7 +53,7 @@ record IsGoodRows (r : Rows) : Type 0 where
   bounds : IsBoxWithinLimits r.bounds
   area : length r.pixels + r.left * r.bounds.width ≡ r.bounds.width * r.bounds.height
 
-abbrev IsGood : Place → Type 0
+abbrev IsGood : Section → Type 0
 IsGood Before = Unit {0}
 IsGood (InHeader h) = IfSome h.bounds IsBoxWithinLimits
 IsGood (Between d) = IsGoodDraft d 0
@@ -128,7 +128,7 @@ closed-if d false good = tt
 closed-good : (d : Draft) → IsGoodDraft d 0 → IfOk (closed d) IsGood
 closed-good d good = closed-if d (d.started == d.count) good
 
--- lines by their places
+-- lines by their sections
 before-good : (keyword : Option Keyword) → IfOk (before keyword) IsGood
 before-good (Some word.StartFont) = tt
 before-good _ = tt
@@ -213,27 +213,27 @@ in_rows-if d r line true true s w good rows = (
 in_rows-if d r line true false s w good rows = tt
 in_rows-if d r line false row s w good rows = let none : r.left ≡ 0 = omega (arith, ltb-false _ _ s) in after_rows-good d r (keyword_in line) good rows none
 
-place-good : (p : Place) (line : List ℕ) → IsGood p → IfOk (place_after p line) IsGood
-place-good Before line good = before-good (keyword_in line)
-place-good (InHeader h) line good = in_header-good h (keyword_in line) line good
-place-good (Between d) line good = between-good d (keyword_in line) good
-place-good (InGlyph d g) line good = in_glyph-good d g (keyword_in line) line good.0 good.1
-place-good (InRows d r) line good = in_rows-if d r line (nat_lt 0 r.left) (is_row r.bounds.width line) refl refl good.0 good.1
-place-good (Ended f) line good = good
+section-good : (p : Section) (line : List ℕ) → IsGood p → IfOk (section_after p line) IsGood
+section-good Before line good = before-good (keyword_in line)
+section-good (InHeader h) line good = in_header-good h (keyword_in line) line good
+section-good (Between d) line good = between-good d (keyword_in line) good
+section-good (InGlyph d g) line good = in_glyph-good d g (keyword_in line) line good.0 good.1
+section-good (InRows d r) line good = in_rows-if d r line (nat_lt 0 r.left) (is_row r.bounds.width line) refl refl good.0 good.1
+section-good (Ended f) line good = good
 
 -- states
-says-if : (s : State) (line : List ℕ) (skips opens closes : Bool) → IsGood s.place →
-    IfOk (if skips then Ok (record s { in_properties = closes }) else (if opens then Ok (record s { in_properties = true }) else and_then (place_after s.place line) (λ next. Ok (record { place = next; in_properties = false })))) (λ (t : State). IsGood t.place)
+says-if : (s : State) (line : List ℕ) (skips opens closes : Bool) → IsGood s.section →
+    IfOk (if skips then Ok (record s { in_properties = closes }) else (if opens then Ok (record s { in_properties = true }) else and_then (section_after s.section line) (λ next. Ok (record { section = next; in_properties = false })))) (λ (t : State). IsGood t.section)
 says-if s line true opens closes good = good
 says-if s line false true closes good = good
 says-if s line false false closes good =
-    follows-good IsGood (λ (t : State). IsGood t.place) (place_after s.place line) (λ next. Ok (record { place = next; in_properties = false })) (place-good s.place line good) (λ p h. h)
+    follows-good IsGood (λ (t : State). IsGood t.section) (section_after s.section line) (λ next. Ok (record { section = next; in_properties = false })) (section-good s.section line good) (λ p h. h)
 
-says-good : (s : State) (line : List ℕ) → IsGood s.place → IfOk (says s line) (λ (t : State). IsGood t.place)
+says-good : (s : State) (line : List ℕ) → IsGood s.section → IfOk (says s line) (λ (t : State). IsGood t.section)
 says-good s line good = says-if s line s.in_properties _ _ good
 
 -- files
-end-good : (line : ℕ) (p : Place) → IsGood p → IfOk (at_end line p) IsGoodFile
+end-good : (line : ℕ) (p : Section) → IsGood p → IfOk (at_end line p) IsGoodFile
 end-good line (Ended f) good = good
 end-good line Before good = tt
 end-good line (InHeader h) good = tt
@@ -241,15 +241,15 @@ end-good line (Between d) good = tt
 end-good line (InGlyph d g) good = tt
 end-good line (InRows d r) good = tt
 
-line-good : (line : ℕ) (r : Result State FontKind) (others : State → Result FontFields FontFault) → IfOk r (λ (t : State). IsGood t.place) → ((t : State) → IsGood t.place → IfOk (others t) IsGoodFile) → IfOk (after_line line r others) IsGoodFile
+line-good : (line : ℕ) (r : Result State FontKind) (others : State → Result FontFields FontFault) → IfOk r (λ (t : State). IsGood t.section) → ((t : State) → IsGood t.section → IfOk (others t) IsGoodFile) → IfOk (after_line line r others) IsGoodFile
 line-good line (Ok t) others h g = g t h
 line-good line (Err kind) others h g = tt
 
-reads-good : (lines : List (List ℕ)) (s : State) (line : ℕ) → IsGood s.place → IfOk (reads s line lines) IsGoodFile
+reads-good : (lines : List (List ℕ)) (s : State) (line : ℕ) → IsGood s.section → IfOk (reads s line lines) IsGoodFile
 unfolding reads
-reads-good [] s line good = end-good line s.place good
+reads-good [] s line good = end-good line s.section good
 reads-good (text ∷ texts) s line good = line-good line (says s text) _ (says-good s text good) (λ t g. reads-good texts t (line + 1) g)
 
 -- what is read of a file keeps the limits
-pub file-good : (lines : List (List ℕ)) (s : State) (f : FontFields) → s.place ≡ Before → reads s 1 lines ≡ Ok f → IsGoodFile f
+pub file-good : (lines : List (List ℕ)) (s : State) (f : FontFields) → s.section ≡ Before → reads s 1 lines ≡ Ok f → IsGoodFile f
 file-good lines s f e h = IfOk-at_ok IsGoodFile h (reads-good lines s 1 (rw e tt))

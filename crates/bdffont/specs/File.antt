@@ -9,19 +9,19 @@ use Rattle.bdffont.specs.declared.fault.FontError.TheVariants.{Fault, NoMemory}
 use Rattle.bdffont.specs.declared.fault.FontFault.{FontFault}
 use Rattle.bdffont.specs.declared.fault.FontKind.{FontKind}
 use Rattle.bdffont.specs.declared.fault.FontKind.TheVariants.{Start, Truncated}
-use Rattle.bdffont.specs.declared.place.Place.{Place}
-use Rattle.bdffont.specs.declared.place.Place.TheVariants.{Before, Ended}
-use Rattle.bdffont.specs.declared.place.State.{State}
+use Rattle.bdffont.specs.declared.section.Section.{Section}
+use Rattle.bdffont.specs.declared.section.Section.TheVariants.{Before, Ended}
+use Rattle.bdffont.specs.declared.section.State.{State}
 use Rattle.bdffont.specs.declared.step.Stop.{Stop}
 use Rattle.bdffont.specs.declared.step.Stop.TheVariants as stop
-use Rattle.bdffont.specs.Places.{says, start}
+use Rattle.bdffont.specs.Sections.{says, start}
 
 -- a fault on a line
 abbrev pub fault_on : ℕ → FontKind → FontFault
 fault_on line kind = record { line = line; kind = kind }
 
 -- what is read where no line is left: the font after ENDFONT, else a fault on the line that would come
-abbrev pub at_end : ℕ → Place → Result FontFields FontFault
+abbrev pub at_end : ℕ → Section → Result FontFields FontFault
 at_end line Before = Err (fault_on line Start)
 at_end line (Ended font) = Ok font
 at_end line _ = Err (fault_on line Truncated)
@@ -33,7 +33,7 @@ after_line line (Err kind) others = Err (fault_on line kind)
 
 -- what is read in lines from a state on: the font, with its glyphs in the order of the file, or the first fault
 unfoldable pub reads : State → ℕ → List (List ℕ) → Result FontFields FontFault
-reads s line [] = at_end line s.place
+reads s line [] = at_end line s.section
 reads s line (text ∷ texts) = after_line line (says s text) (λ next. reads next (line + 1) texts)
 
 -- what is read in a file
@@ -68,7 +68,7 @@ abbrev pub error_on : ℕ → Stop → FontError
 error_on line (stop.Fault kind) = Fault (fault_on line kind)
 error_on line stop.NoMemory = NoMemory
 
--- the error of a file: its fault, or want of memory
+-- the error of a file: its fault, or that memory was refused
 abbrev pub IsErrorOf : Result FontFields FontFault → FontError → Type 0
 IsErrorOf file (Fault fault) = file ≡ Err fault
 IsErrorOf file NoMemory = Unit {0}

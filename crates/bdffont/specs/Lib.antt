@@ -5,5 +5,5 @@ pub mod File
 pub mod Ink
 pub mod Keyword
 pub mod Number
-pub mod Places
+pub mod Sections
 pub mod Words

@@ -7,7 +7,7 @@ ghost use Rattle.bdffont.specs.File.{at_end, error_on, file_of, IsFontOf, IsErro
 use crate::fault::{FontError, FontFault, FontKind};
 use crate::glyphs::by_encoding;
 use crate::line::split_line;
-use crate::place::{Place, State};
+use crate::section::{Section, State};
 use crate::step::Stop;
 use mapdefs::{BitmapBox, Font, FontFields, Glyph, Items};
 use std::alloc::Global;
@@ -23,15 +23,15 @@ fn error_on(line: u64, stop: Stop) -> FontError
 }
 
 // The font of a file whose lines are all read, or the fault of its end.
-fn at_end(line: u64, place: Place) -> Result<FontFields, FontFault>
-    ensures { result ≡ at_end line place }
+fn at_end(line: u64, section: Section) -> Result<FontFields, FontFault>
+    ensures { result ≡ at_end line section }
 {
-    match place {
-        Place::Before => Err(FontFault {
+    match section {
+        Section::Before => Err(FontFault {
             line,
             kind: FontKind::Start,
         }),
-        Place::Ended(font) => Ok(font),
+        Section::Ended(font) => Ok(font),
         _ => Err(FontFault {
             line,
             kind: FontKind::Truncated,
@@ -55,7 +55,7 @@ fn read_lines(alloc: Global, bytes: &[u8]) -> Result<FontFields, FontError>
         rest = after;
         line += 1;
     }
-    match at_end(line, state.place) {
+    match at_end(line, state.section) {
         Ok(file) => Ok(file),
         Err(fault) => Err(FontError::Fault(fault)),
     }

@@ -6,8 +6,8 @@
 //! file has one font, that a row which is written out is read as itself, and that ink is that of a
 //! character, the pen having advanced by those before it (`laws`).
 //!
-//! Words: a *place* is where a line stands in the file, as in a header or between two glyphs; the
-//! *state* is the place, and whether properties are skipped there. A *draft* is a font so far as it is
+//! Words: a *section* is the part of a file in which a line stands, as a header or the rows of a glyph; the
+//! *state* is the section, and whether properties are skipped there. A *draft* is a font so far as it is
 //! read. The *pen* is where the next glyph is drawn.
 #![tactic(auto)]
 
@@ -20,7 +20,7 @@ mod keyword;
 pub mod laws;
 mod line;
 mod number;
-mod place;
+mod section;
 mod step;
 #[cfg(test)]
 mod tests;

@@ -1,11 +1,11 @@
 ghost use Rattle.std.specs.Prelude.{◌≡◌, IfOk, IfErr};
-ghost use Rattle.bdffont.specs.Places.{opened, closed, draft_of, before, in_header, between, encoded, advanced, bounded, rows_of, in_glyph, with_glyph, in_rows, place_after, has_properties, opens_properties, closes_properties, says, start, IsStop};
+ghost use Rattle.bdffont.specs.Sections.{opened, closed, draft_of, before, in_header, between, encoded, advanced, bounded, rows_of, in_glyph, with_glyph, in_rows, section_after, has_properties, opens_properties, closes_properties, says, start, IsStop};
 
 use crate::bits::{is_row, push_row};
 use crate::fault::FontKind;
 use crate::fields::{Encoding, advance_at, box_at, count_at, encoding_at};
 use crate::keyword::Keyword;
-use crate::place::{Draft, FontHeader, GlyphHeader, Place, Rows, State};
+use crate::section::{Draft, FontHeader, GlyphHeader, Rows, Section, State};
 use mapdefs::{FontFields, Glyph, Items, MAX_GLYPHS};
 use std::alloc::{AllocError, Global};
 
@@ -36,8 +36,8 @@ impl From<AllocError> for Stop {
     }
 }
 
-// The place after STARTCHAR.
-fn opened(draft: Draft) -> Result<Place, FontKind>
+// The section after STARTCHAR.
+fn opened(draft: Draft) -> Result<Section, FontKind>
     ensures { result ≡ opened draft }
 {
     if draft.started < MAX_GLYPHS {
@@ -50,18 +50,18 @@ fn opened(draft: Draft) -> Result<Place, FontKind>
             started: draft.started + 1,
             ..draft
         };
-        Ok(Place::InGlyph(draft, header))
+        Ok(Section::InGlyph(draft, header))
     } else {
         Err(FontKind::Limit)
     }
 }
 
-// The place after ENDFONT.
-fn closed(draft: Draft) -> Result<Place, FontKind>
+// The section after ENDFONT.
+fn closed(draft: Draft) -> Result<Section, FontKind>
     ensures { result ≡ closed draft }
 {
     if draft.started as u64 == draft.count {
-        Ok(Place::Ended(FontFields {
+        Ok(Section::Ended(FontFields {
             bounds: draft.bounds,
             glyphs: draft.glyphs,
         }))
@@ -85,12 +85,12 @@ fn draft_of(header: FontHeader, alloc: Global) -> Result<Draft, FontKind>
     }
 }
 
-// The place after the first line.
-fn before(keyword: Option<Keyword>) -> Result<Place, FontKind>
+// The section after the first line.
+fn before(keyword: Option<Keyword>) -> Result<Section, FontKind>
     ensures { result ≡ before keyword }
 {
     match keyword {
-        Some(Keyword::StartFont) => Ok(Place::InHeader(FontHeader {
+        Some(Keyword::StartFont) => Ok(Section::InHeader(FontHeader {
             bounds: None,
             count: None,
         })),
@@ -98,24 +98,24 @@ fn before(keyword: Option<Keyword>) -> Result<Place, FontKind>
     }
 }
 
-// The place after a line of the font's header.
+// The section after a line of the font's header.
 fn in_header(
     header: FontHeader,
     keyword: Option<Keyword>,
     line: &[u8],
     alloc: Global,
-) -> Result<Place, FontKind>
+) -> Result<Section, FontKind>
     ensures { result ≡ in_header header keyword line.now }
 {
     match keyword {
-        None => Ok(Place::InHeader(header)),
+        None => Ok(Section::InHeader(header)),
         Some(Keyword::FontBoundingBox) => {
             let bounds = Some(box_at(line)?);
-            Ok(Place::InHeader(FontHeader { bounds, ..header }))
+            Ok(Section::InHeader(FontHeader { bounds, ..header }))
         }
         Some(Keyword::Chars) => {
             let count = Some(count_at(line)?);
-            Ok(Place::InHeader(FontHeader { count, ..header }))
+            Ok(Section::InHeader(FontHeader { count, ..header }))
         }
         Some(Keyword::StartChar) => opened(draft_of(header, alloc)?),
         Some(Keyword::EndFont) => closed(draft_of(header, alloc)?),
@@ -123,12 +123,12 @@ fn in_header(
     }
 }
 
-// The place after a line between two glyphs.
-fn between(draft: Draft, keyword: Option<Keyword>) -> Result<Place, FontKind>
+// The section after a line between two glyphs.
+fn between(draft: Draft, keyword: Option<Keyword>) -> Result<Section, FontKind>
     ensures { result ≡ between draft keyword }
 {
     match keyword {
-        None => Ok(Place::Between(draft)),
+        None => Ok(Section::Between(draft)),
         Some(Keyword::StartChar) => opened(draft),
         Some(Keyword::EndFont) => closed(draft),
         Some(_) => Err(FontKind::Field),
@@ -175,22 +175,22 @@ fn bounded(header: GlyphHeader, line: &[u8]) -> Result<GlyphHeader, FontKind>
     Ok(GlyphHeader { bounds, ..header })
 }
 
-// The place after a line of a glyph's header.
+// The section after a line of a glyph's header.
 fn in_glyph(
     draft: Draft,
     header: GlyphHeader,
     keyword: Option<Keyword>,
     line: &[u8],
     alloc: Global,
-) -> Result<Place, FontKind>
+) -> Result<Section, FontKind>
     ensures { result ≡ in_glyph draft header keyword line.now }
 {
     match keyword {
-        None => Ok(Place::InGlyph(draft, header)),
-        Some(Keyword::Encoding) => Ok(Place::InGlyph(draft, encoded(header, line)?)),
-        Some(Keyword::Dwidth) => Ok(Place::InGlyph(draft, advanced(header, line)?)),
-        Some(Keyword::Bbx) => Ok(Place::InGlyph(draft, bounded(header, line)?)),
-        Some(Keyword::Bitmap) => Ok(Place::InRows(draft, rows_of(header, alloc)?)),
+        None => Ok(Section::InGlyph(draft, header)),
+        Some(Keyword::Encoding) => Ok(Section::InGlyph(draft, encoded(header, line)?)),
+        Some(Keyword::Dwidth) => Ok(Section::InGlyph(draft, advanced(header, line)?)),
+        Some(Keyword::Bbx) => Ok(Section::InGlyph(draft, bounded(header, line)?)),
+        Some(Keyword::Bitmap) => Ok(Section::InRows(draft, rows_of(header, alloc)?)),
         Some(_) => Err(FontKind::Field),
     }
 }
@@ -214,9 +214,9 @@ fn with_glyph(draft: Draft, rows: Rows) -> Result<Draft, AllocError>
     }
 }
 
-// The place after a row, or after the ENDCHAR that follows the last one.
-fn in_rows(draft: Draft, rows: Rows, line: &[u8]) -> Result<Place, Stop>
-    ensures place { IfOk result (λ p. in_rows draft rows line.now ≡ Ok p) }
+// The section after a row, or after the ENDCHAR that follows the last one.
+fn in_rows(draft: Draft, rows: Rows, line: &[u8]) -> Result<Section, Stop>
+    ensures section { IfOk result (λ p. in_rows draft rows line.now ≡ Ok p) }
     ensures stop { IfErr result (λ stop. IsStop stop (in_rows draft rows line.now)) }
 {
     if rows.left > 0 {
@@ -226,39 +226,39 @@ fn in_rows(draft: Draft, rows: Rows, line: &[u8]) -> Result<Place, Stop>
         let mut rows = rows;
         push_row(&mut rows.pixels, line, rows.bounds.width)?;
         rows.left -= 1;
-        Ok(Place::InRows(draft, rows))
+        Ok(Section::InRows(draft, rows))
     } else {
         match Keyword::at(line) {
-            Some(Keyword::EndChar) => Ok(Place::Between(with_glyph(draft, rows)?)),
+            Some(Keyword::EndChar) => Ok(Section::Between(with_glyph(draft, rows)?)),
             _ => Err(Stop::Fault(FontKind::Row)),
         }
     }
 }
 
-// The place after a line that is not one of the properties.
-fn place_after(place: Place, line: &[u8], alloc: Global) -> Result<Place, Stop>
-    ensures place { IfOk result (λ p. place_after place line.now ≡ Ok p) }
-    ensures stop { IfErr result (λ stop. IsStop stop (place_after place line.now)) }
+// The section after a line that is not one of the properties.
+fn section_after(section: Section, line: &[u8], alloc: Global) -> Result<Section, Stop>
+    ensures section { IfOk result (λ p. section_after section line.now ≡ Ok p) }
+    ensures stop { IfErr result (λ stop. IsStop stop (section_after section line.now)) }
 {
-    match place {
-        Place::Before => Ok(before(Keyword::at(line))?),
-        Place::InHeader(header) => Ok(in_header(header, Keyword::at(line), line, alloc)?),
-        Place::Between(draft) => Ok(between(draft, Keyword::at(line))?),
-        Place::InGlyph(draft, header) => {
+    match section {
+        Section::Before => Ok(before(Keyword::at(line))?),
+        Section::InHeader(header) => Ok(in_header(header, Keyword::at(line), line, alloc)?),
+        Section::Between(draft) => Ok(between(draft, Keyword::at(line))?),
+        Section::InGlyph(draft, header) => {
             Ok(in_glyph(draft, header, Keyword::at(line), line, alloc)?)
         }
-        Place::InRows(draft, rows) => in_rows(draft, rows, line),
-        Place::Ended(font) => Ok(Place::Ended(font)),
+        Section::InRows(draft, rows) => in_rows(draft, rows, line),
+        Section::Ended(font) => Ok(Section::Ended(font)),
     }
 }
 
-// Whether properties may stand at the place.
-fn has_properties(place: &Place) -> bool
-    ensures { result ≡ has_properties place.now }
+// Whether properties may stand in the section.
+fn has_properties(section: &Section) -> bool
+    ensures { result ≡ has_properties section.now }
 {
     matches!(
-        place,
-        Place::InHeader(_) | Place::Between(_) | Place::InGlyph(_, _)
+        section,
+        Section::InHeader(_) | Section::Between(_) | Section::InGlyph(_, _)
     )
 }
 
@@ -268,7 +268,7 @@ impl State {
         ensures { result ≡ start }
     {
         State {
-            place: Place::Before,
+            section: Section::Before,
             in_properties: false,
         }
     }
@@ -286,14 +286,14 @@ impl State {
             });
         }
         let opens = matches!(Keyword::at(line), Some(Keyword::StartProperties));
-        if opens && has_properties(&self.place) {
+        if opens && has_properties(&self.section) {
             return Ok(State {
                 in_properties: true,
                 ..self
             });
         }
         Ok(State {
-            place: place_after(self.place, line, alloc)?,
+            section: section_after(self.section, line, alloc)?,
             in_properties: false,
         })
     }

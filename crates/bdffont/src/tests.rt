@@ -36,7 +36,7 @@ fn add_lines(source: &mut Vec<u8>, text: &str) -> Result<(), AllocError> {
     Ok(())
 }
 
-// The tiny font with other lines in the place of one, or none where they are `-`.
+// The tiny font with other lines in the section of one, or none where they are `-`.
 fn edited(alloc: Global, number: &str, text: &str) -> Result<Vec<u8>, AllocError> {
     let number = number.parse::<usize>().unwrap_or(0);
     let mut source = Vec::new(alloc);

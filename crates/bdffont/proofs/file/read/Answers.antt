@@ -2,7 +2,7 @@ use Rattle.std.proofs.Common.{arith, refl, ap, length, subst, sym}
 use Rattle.std.specs.Prelude.{All}
 use Rattle.std.specs.Str.Lines.{lines}
 use Rattle.mapdefs.specs.FontLimits.{IsGlyphWithinLimits}
-use Rattle.bdffont.specs.Places.{start}
+use Rattle.bdffont.specs.Sections.{start}
 use Rattle.bdffont.proofs.Firsts.{firsts-all}
 use Rattle.bdffont.proofs.Within.{file-good}
 use Rattle.bdffont.proofs.file.read.Goals as goal

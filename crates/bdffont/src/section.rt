@@ -43,7 +43,7 @@ pub struct Rows {
 
 /// Where a line stands.
 #[derive(Drop)]
-pub enum Place {
+pub enum Section {
     /// Before STARTFONT.
     Before,
     /// In the font's header, before the first glyph.
@@ -61,6 +61,6 @@ pub enum Place {
 /// Where a line stands, and whether it is one of the properties, which are skipped.
 #[derive(Drop)]
 pub struct State {
-    pub place: Place,
+    pub section: Section,
     pub in_properties: bool,
 }

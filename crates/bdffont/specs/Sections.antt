@@ -8,13 +8,13 @@ use Rattle.bdffont.specs.declared.fields.Encoding.{Encoding}
 use Rattle.bdffont.specs.declared.fields.Encoding.TheVariants.{Negative, Character}
 use Rattle.bdffont.specs.declared.keyword.Keyword.{Keyword}
 use Rattle.bdffont.specs.declared.keyword.Keyword.TheVariants as word
-use Rattle.bdffont.specs.declared.place.Draft.{Draft}
-use Rattle.bdffont.specs.declared.place.FontHeader.{FontHeader}
-use Rattle.bdffont.specs.declared.place.GlyphHeader.{GlyphHeader}
-use Rattle.bdffont.specs.declared.place.Place.{Place}
-use Rattle.bdffont.specs.declared.place.Place.TheVariants.{Before, InHeader, Between, InGlyph, InRows, Ended}
-use Rattle.bdffont.specs.declared.place.Rows.{Rows}
-use Rattle.bdffont.specs.declared.place.State.{State}
+use Rattle.bdffont.specs.declared.section.Draft.{Draft}
+use Rattle.bdffont.specs.declared.section.FontHeader.{FontHeader}
+use Rattle.bdffont.specs.declared.section.GlyphHeader.{GlyphHeader}
+use Rattle.bdffont.specs.declared.section.Section.{Section}
+use Rattle.bdffont.specs.declared.section.Section.TheVariants.{Before, InHeader, Between, InGlyph, InRows, Ended}
+use Rattle.bdffont.specs.declared.section.Rows.{Rows}
+use Rattle.bdffont.specs.declared.section.State.{State}
 use Rattle.bdffont.specs.declared.step.Stop.{Stop}
 use Rattle.bdffont.specs.declared.step.Stop.TheVariants.{Fault, NoMemory}
 use Rattle.bdffont.specs.Bits.{is_row, row_pixels}
@@ -27,14 +27,14 @@ and_then (Ok x) f = f x
 and_then (Err kind) f = Err kind
 
 -- a glyph begins, if there is room for a further one; its header has named no field
-abbrev pub opened : Draft → Result Place FontKind
+abbrev pub opened : Draft → Result Section FontKind
 opened d =
     if nat_lt d.started MAX_GLYPHS
     then Ok (InGlyph (record d { started = d.started + 1 }) (record { encoding = None; advance = None; bounds = None }))
     else Err Limit
 
 -- the font ends, if as many glyphs have begun as there are to be
-abbrev pub closed : Draft → Result Place FontKind
+abbrev pub closed : Draft → Result Section FontKind
 closed d = if d.started == d.count then Ok (Ended (record { bounds = d.bounds; glyphs = d.glyphs })) else Err Count
 
 -- the font of a header that has both its fields
@@ -46,12 +46,12 @@ abbrev pub draft_of : FontHeader → Result Draft FontKind
 draft_of h = draft_with h.bounds h.count
 
 -- the first line
-abbrev pub before : Option Keyword → Result Place FontKind
+abbrev pub before : Option Keyword → Result Section FontKind
 before (Some word.StartFont) = Ok (InHeader (record { bounds = None; count = None }))
 before _ = Err Start
 
 -- a line of the font's header
-abbrev pub in_header : FontHeader → Option Keyword → List ℕ → Result Place FontKind
+abbrev pub in_header : FontHeader → Option Keyword → List ℕ → Result Section FontKind
 in_header h None line = Ok (InHeader h)
 in_header h (Some word.FontBoundingBox) line = and_then (box_at line) (λ b. Ok (InHeader (record h { bounds = Some b })))
 in_header h (Some word.Chars) line = and_then (count_at line) (λ n. Ok (InHeader (record h { count = Some n })))
@@ -60,7 +60,7 @@ in_header h (Some word.EndFont) line = and_then (draft_of h) closed
 in_header h (Some _) line = Err Field
 
 -- a line between two glyphs, or after the last
-abbrev pub between : Draft → Option Keyword → Result Place FontKind
+abbrev pub between : Draft → Option Keyword → Result Section FontKind
 between d None = Ok (Between d)
 between d (Some word.StartChar) = opened d
 between d (Some word.EndFont) = closed d
@@ -85,7 +85,7 @@ abbrev pub rows_of : GlyphHeader → Result Rows FontKind
 rows_of g = rows_with g.encoding g.advance g.bounds
 
 -- a line of a glyph's header
-abbrev pub in_glyph : Draft → GlyphHeader → Option Keyword → List ℕ → Result Place FontKind
+abbrev pub in_glyph : Draft → GlyphHeader → Option Keyword → List ℕ → Result Section FontKind
 in_glyph d g None line = Ok (InGlyph d g)
 in_glyph d g (Some word.Encoding) line = and_then (encoded g line) (λ next. Ok (InGlyph d next))
 in_glyph d g (Some word.Dwidth) line = and_then (advanced g line) (λ next. Ok (InGlyph d next))
@@ -103,12 +103,12 @@ abbrev pub with_glyph : Draft → Rows → Draft
 with_glyph d r = with_encoded d r r.encoding
 
 -- the line after the last row
-abbrev pub after_rows : Draft → Rows → Option Keyword → Result Place FontKind
+abbrev pub after_rows : Draft → Rows → Option Keyword → Result Section FontKind
 after_rows d r (Some word.EndChar) = Ok (Between (with_glyph d r))
 after_rows d r _ = Err Row
 
 -- a row, while rows are to come, and then the line after the last one
-abbrev pub in_rows : Draft → Rows → List ℕ → Result Place FontKind
+abbrev pub in_rows : Draft → Rows → List ℕ → Result Section FontKind
 in_rows d r line =
     if nat_lt 0 r.left
     then (if is_row r.bounds.width line
@@ -116,17 +116,17 @@ in_rows d r line =
     else Err Row)
     else after_rows d r (keyword_in line)
 
--- the place after a line that is none of the properties; after ENDFONT all lines are skipped
-abbrev pub place_after : Place → List ℕ → Result Place FontKind
-place_after Before line = before (keyword_in line)
-place_after (InHeader h) line = in_header h (keyword_in line) line
-place_after (Between d) line = between d (keyword_in line)
-place_after (InGlyph d g) line = in_glyph d g (keyword_in line) line
-place_after (InRows d r) line = in_rows d r line
-place_after (Ended font) line = Ok (Ended font)
+-- the section after a line that is none of the properties; after ENDFONT all lines are skipped
+abbrev pub section_after : Section → List ℕ → Result Section FontKind
+section_after Before line = before (keyword_in line)
+section_after (InHeader h) line = in_header h (keyword_in line) line
+section_after (Between d) line = between d (keyword_in line)
+section_after (InGlyph d g) line = in_glyph d g (keyword_in line) line
+section_after (InRows d r) line = in_rows d r line
+section_after (Ended font) line = Ok (Ended font)
 
 -- properties may stand in a header and between glyphs
-abbrev pub has_properties : Place → Bool
+abbrev pub has_properties : Section → Bool
 has_properties (InHeader h) = true
 has_properties (Between d) = true
 has_properties (InGlyph d g) = true
@@ -143,16 +143,16 @@ closes_properties _ = false
 
 -- the state before the first line
 abbrev pub start : State
-start = record { place = Before; in_properties = false }
+start = record { section = Before; in_properties = false }
 
--- what a line makes of the state: the properties are skipped, and every other line counts by its place
+-- what a line makes of the state: the properties are skipped, and every other line counts by its section
 abbrev pub says : State → List ℕ → Result State FontKind
 says s line =
     if s.in_properties then Ok (record s { in_properties = not (closes_properties (keyword_in line)) })
-    else (if opens_properties (keyword_in line) && has_properties s.place then Ok (record s { in_properties = true })
-    else and_then (place_after s.place line) (λ next. Ok (record { place = next; in_properties = false })))
+    else (if opens_properties (keyword_in line) && has_properties s.section then Ok (record s { in_properties = true })
+    else and_then (section_after s.section line) (λ next. Ok (record { section = next; in_properties = false })))
 
--- why reading stops at a line: at the fault that the line gives, or for want of memory
+-- why reading stops at a line: at the fault of the line, or where memory was refused
 abbrev pub IsStop : {X : Type 0} → Stop → Result X FontKind → Type 0
 IsStop (Fault kind) said = said ≡ Err kind
 IsStop NoMemory said = Unit {0}
