@@ -6,53 +6,31 @@ use crate::picture;
 use geom::{Coordinate, Micro, PictureSide, World, WorldBox};
 use mapdefs::{
     Class, ClassFields, Feature, FeatureFields, Items, Kind, Layer, LayerFields, Map, MapFields,
-    Rgb, Rule, Style, StyleFields, Text,
+    Picture, Rgb, Rule, Style, StyleFields, Text,
 };
 use std::alloc::{AllocError, Global};
+use std::process::Abort;
 use std::test::Fail;
 use viewport::View;
 
-// A vertex in tenths of a degree.
-type Vertex = (i16, i16);
-
-const WHITE: Rgb = Rgb {
-    red: 255,
-    green: 255,
-    blue: 255,
-};
-
-const BROWN: Rgb = Rgb {
-    red: 100,
-    green: 60,
-    blue: 20,
-};
-
-const DARK: Rgb = Rgb {
-    red: 10,
-    green: 20,
-    blue: 30,
-};
-
-// What a layer with one feature and one class of two styles is made of.
-#[derive(Clone, Copy)]
-struct Sketch<'a> {
-    kind: Kind,
-    // at most four, with at most eight vertices each
-    rings: &'a [&'a [Vertex]],
-    colours: [Option<Rgb>; 2],
-    // the bounds on the scale of the class and of the layer
-    max: Option<Micro>,
-    layer_max: Option<Micro>,
+// The colours by their letters: `#` is brown, `o` dark and `.` white. Any other letter is none.
+fn colour_of(letter: u8) -> Option<Rgb> {
+    let (red, green, blue) = match letter {
+        b'#' => (100, 60, 20),
+        b'o' => (10, 20, 30),
+        b'.' => (255, 255, 255),
+        _ => return None,
+    };
+    Some(Rgb { red, green, blue })
 }
 
-// A layer of one polygon in one colour.
-fn filled<'a>(rings: &'a [&'a [Vertex]], colour: Rgb) -> Sketch<'a> {
-    Sketch {
-        kind: Kind::Polygon,
-        rings,
-        colours: [Some(colour), None],
-        max: None,
-        layer_max: None,
+// The letter of a colour, `?` of any other.
+fn letter(colour: Rgb) -> char {
+    match (colour.red, colour.green, colour.blue) {
+        (100, 60, 20) => '#',
+        (10, 20, 30) => 'o',
+        (255, 255, 255) => '.',
+        _ => '?',
     }
 }
 
@@ -68,12 +46,16 @@ fn style(colour: Option<Rgb>) -> Style
     })
 }
 
-fn class(alloc: Global, colours: [Option<Rgb>; 2], max: Option<Micro>) -> Result<Class, AllocError>
+// A class of two styles with the colours of these two letters.
+fn class(alloc: Global, letters: &str, max: Option<Micro>) -> Result<Class, Fail>
     ensures { IfOk result (ClassNamesSymbolsOf 0) }
 {
+    let [first, second] = *letters.as_bytes() else {
+        return Err("not two letters".into());
+    };
     let mut styles = Items::new(alloc);
-    styles.push(style(colours[0]))?;
-    styles.push(style(colours[1]))?;
+    styles.push(style(colour_of(first)))?;
+    styles.push(style(colour_of(second)))?;
     Ok(Class::new(ClassFields {
         rule: Rule::Always,
         min: None,
@@ -84,27 +66,46 @@ fn class(alloc: Global, colours: [Option<Rgb>; 2], max: Option<Micro>) -> Result
 }
 
 // That many tenths of a degree, of at most 1,000 degrees.
-fn tenths(count: i16) -> Coordinate {
+fn tenths(count: &str) -> Result<Coordinate, Fail> {
+    let count: i16 = count.parse()?;
     let limit = 1_000_000_000;
-    Coordinate::new(Micro::new((i64::from(count) * 100_000).clamp(-limit, limit)))
+    Ok(Coordinate::new(Micro::new((i64::from(count) * 100_000).clamp(-limit, limit))))
 }
 
-fn ring(alloc: Global, vertices: &[Vertex]) -> Result<Items<World>, AllocError>
+fn vertex(text: &str) -> Result<World, Fail> {
+    let (x, y) = text.split_once(',').ok_or("a vertex without a comma")?;
+    Ok(World::new(tenths(x)?, tenths(y)?))
+}
+
+// A ring of at most eight vertices.
+fn ring(alloc: Global, text: &str) -> Result<Items<World>, Fail>
     ensures { IfOk result (λ ring. length ring ≤ 8) }
 {
+    let vertices: Vec<&str> = text.split_whitespace().collect(alloc)?;
+    if vertices.len() > 8 {
+        return Err("more than eight vertices".into());
+    }
     let mut ring = Items::new(alloc);
-    for (x, y) in &vertices[..vertices.len().min(8)] {
-        ring.push(World::new(tenths(*x), tenths(*y)))?;
+    for text in vertices.as_slice() {
+        ring.push(vertex(text)?)?;
     }
     Ok(ring)
 }
 
-fn feature(alloc: Global, rings: &[&[Vertex]]) -> Result<Feature, AllocError>
+// A feature of at most four rings, which `/` parts. `-` is none.
+fn feature(alloc: Global, text: &str) -> Result<Feature, Fail>
     ensures { IfOk result (λ feature. feature.values ≡ []) }
 {
+    let mut rings = Vec::new(alloc);
+    if text != "-" {
+        rings = text.split('/').collect(alloc)?;
+    }
+    if rings.len() > 4 {
+        return Err("more than four rings".into());
+    }
     let mut parts = Items::new(alloc);
-    for vertices in &rings[..rings.len().min(4)] {
-        parts.push(ring(alloc, vertices)?)?;
+    for text in rings.as_slice() {
+        parts.push(ring(alloc, text)?)?;
     }
     Ok(Feature::new(FeatureFields {
         parts,
@@ -113,17 +114,38 @@ fn feature(alloc: Global, rings: &[&[Vertex]]) -> Result<Feature, AllocError>
     }))
 }
 
-fn layer(alloc: Global, sketch: Sketch) -> Result<Layer, AllocError>
+fn kind_of(word: &str) -> Result<Kind, Fail> {
+    match word {
+        "polygon" => Ok(Kind::Polygon),
+        "line" => Ok(Kind::Line),
+        "point" => Ok(Kind::Point),
+        _ => Err("no kind".into()),
+    }
+}
+
+// A layer of one feature with one class. Its kind, the letters of the class's colours, and what has a
+// bound on its scale: `class`, `layer` or `none`.
+fn layer(alloc: Global, words: &str, rings: &str) -> Result<Layer, Fail>
     ensures { IfOk result (LayerNamesSymbolsOf 0) }
 {
+    let (kind, words) = words.split_once(' ').ok_or("no colours")?;
+    let (letters, bounded) = words.split_once(' ').ok_or("no bounds")?;
+    let bound = Some(Micro::new(1_000_000));
+    let (max, layer_max) = match bounded {
+        "class" => (bound, None),
+        "layer" => (None, bound),
+        "none" => (None, None),
+        _ => return Err("no bounds".into()),
+    };
+    let kind = kind_of(kind)?;
     let mut classes = Items::new(alloc);
-    classes.push(class(alloc, sketch.colours, sketch.max)?)?;
+    classes.push(class(alloc, letters, max)?)?;
     let mut features = Items::new(alloc);
-    features.push(feature(alloc, sketch.rings)?)?;
+    features.push(feature(alloc, rings)?)?;
     Ok(Layer::new(LayerFields {
         name: Text::from_str(alloc, "")?,
         title: Text::from_str(alloc, "")?,
-        kind: sketch.kind,
+        kind,
         // what is chosen is painted, switched on or not
         on: false,
         classitem: None,
@@ -134,7 +156,7 @@ fn layer(alloc: Global, sketch: Sketch) -> Result<Layer, AllocError>
         queryable: false,
         tolerance: 0,
         min: None,
-        max: sketch.layer_max,
+        max: layer_max,
         classes,
         features,
     }))
@@ -158,29 +180,33 @@ fn map_of(alloc: Global, layers: Items<Layer>) -> Result<Map, AllocError>
     }))
 }
 
-// The map of one layer.
-fn map_of_one(alloc: Global, layer: Layer) -> Result<Map, AllocError>
-    requires { LayerNamesSymbolsOf 0 layer }
-    ensures { IfOk result (λ map. length map.layers ≡ 1) }
+// A map of two layers. The first has these words and rings, the second paints the inner square dark.
+fn map_of_two(alloc: Global, words: &str, rings: &str) -> Result<Map, Fail>
+    ensures { IfOk result (λ map. length map.layers ≡ 2) }
 {
     let mut layers = Items::new(alloc);
-    layers.push(layer)?;
-    map_of(alloc, layers)
+    layers.push(layer(alloc, words, rings)?)?;
+    layers.push(layer(alloc, "polygon o- none", "10,10 30,10 30,30 10,30")?)?;
+    Ok(map_of(alloc, layers)?)
 }
 
-// Those four degrees by four in four pixels by four: the pixel centres are at half degrees.
-fn square() -> View {
-    let low = Micro::new(0);
-    let high = Micro::new(4_000_000);
-    let side = PictureSide::new(4).unwrap();
-    View::new(WorldBox::new(low, low, high, high), side, side)
-}
-
-// The rows of the picture of some layers: `#` is brown, `o` dark, `.` white and `?` any other colour.
-fn draw(alloc: Global, map: &Map, chosen: &[usize], background: Rgb) -> Result<String, AllocError>
-    requires { All (λ index. index < length map.now.layers) chosen.now }
+// The indices of the layers that are chosen.
+fn chosen_of(digits: &str) -> Result<&'static [usize], Fail>
+    ensures { IfOk result (λ chosen. All (λ index. index < 2) chosen.now) }
 {
-    let picture = picture(alloc, map, square(), chosen, background)?;
+    match digits {
+        "none" => Ok(&[]),
+        "0" => Ok(&[0]),
+        "1" => Ok(&[1]),
+        "0 1" => Ok(&[0, 1]),
+        "1 0" => Ok(&[1, 0]),
+        "1 0 1" => Ok(&[1, 0, 1]),
+        _ => Err("no indices".into()),
+    }
+}
+
+// The rows of a picture in letters, with blanks between them.
+fn letters_of(alloc: Global, picture: &Picture) -> Result<String, AllocError> {
     let mut text = String::new(alloc);
     for row in 0..picture.get().height.pixels() {
         if row > 0 {
@@ -193,207 +219,110 @@ fn draw(alloc: Global, map: &Map, chosen: &[usize], background: Rgb) -> Result<S
     Ok(text)
 }
 
-fn letter(colour: Rgb) -> char {
-    match (colour.red, colour.green, colour.blue) {
-        (100, 60, 20) => '#',
-        (10, 20, 30) => 'o',
-        (255, 255, 255) => '.',
-        _ => '?',
-    }
+// The picture of four degrees by four in four pixels by four: the pixel centres are at half degrees.
+fn drawn(alloc: Global, map: &Map, chosen: &[usize], background: &str) -> Result<String, Fail>
+    requires { All (λ index. index < length map.now.layers) chosen.now }
+{
+    let [letter] = *background.as_bytes() else {
+        return Err("not one letter".into());
+    };
+    let background = colour_of(letter).ok_or("no colour")?;
+    let low = Micro::new(0);
+    let high = Micro::new(4_000_000);
+    let side = PictureSide::new(4).unwrap();
+    let view = View::new(WorldBox::new(low, low, high, high), side, side);
+    let picture = picture(alloc, map, view, chosen, background)?;
+    Ok(letters_of(alloc, &picture)?)
 }
 
-// The rings of a polygon, and the pixels that it covers.
-const POLYGONS: [(&[&[Vertex]], &str); 15] = [
-    (
-        &[&[(10, 10), (30, 10), (30, 30), (10, 30)]],
-        ".... .##. .##. ....",
-    ),
-    // edges through the pixel centres of a column: one on the left covers them, one on the right doesn't
-    (
-        &[&[(15, 10), (30, 10), (30, 30), (15, 30)]],
-        ".... .##. .##. ....",
-    ),
-    (
-        &[&[(0, 10), (15, 10), (15, 30), (0, 30)]],
-        ".... #... #... ....",
-    ),
-    // a hole
-    (
-        &[
-            &[(0, 0), (40, 0), (40, 40), (0, 40)],
-            &[(10, 10), (30, 10), (30, 30), (10, 30)],
-        ],
-        "#### #..# #..# ####",
-    ),
-    // a ring that crosses itself
-    (
-        &[&[(10, 10), (30, 30), (30, 10), (10, 30)]],
-        ".... ..#. ..#. ....",
-    ),
-    // far larger than the picture, and left of it
-    (
-        &[&[
-            (-2_000, -2_000),
-            (2_000, -2_000),
-            (2_000, 2_000),
-            (-2_000, 2_000),
-        ]],
-        "#### #### #### ####",
-    ),
-    (
-        &[&[(-30, 10), (-10, 10), (-10, 30), (-30, 30)]],
-        ".... .... .... ....",
-    ),
-    // from pixel centre to pixel centre: the edges at the top and on the left cover, the others don't
-    (
-        &[&[(5, 5), (25, 5), (25, 25), (5, 25)]],
-        ".... ##.. ##.. ....",
-    ),
-    // The left and the right corner are at the height of the second row's pixel centres. The third row
-    // is crossed at 12.8 and 51.2 sixteenths, the last at 25.6 and 38.4, between two pixel centres.
-    (
-        &[&[(0, 25), (20, 0), (40, 25), (20, 40)]],
-        ".##. #### .##. ....",
-    ),
-    // a tip at a pixel centre covers nothing, nor does a base at the height of one
-    (&[&[(15, 25), (5, 5), (25, 5)]], ".... .... .#.. ...."),
-    // a step whose horizontal edge is at the height of the second row's pixel centres
-    (
-        &[&[(0, 40), (20, 40), (20, 25), (40, 25), (40, 0), (0, 0)]],
-        "##.. #### #### ####",
-    ),
-    // two rings that share an edge through the pixel centres of the second column
-    (
-        &[
-            &[(0, 10), (15, 10), (15, 30), (0, 30)],
-            &[(15, 10), (40, 10), (40, 30), (15, 30)],
-        ],
-        ".... #### #### ....",
-    ),
-    // a ring in each corner
-    (
-        &[
-            &[(0, 0), (10, 0), (10, 10), (0, 10)],
-            &[(30, 0), (40, 0), (40, 10), (30, 10)],
-            &[(0, 30), (10, 30), (10, 40), (0, 40)],
-            &[(30, 30), (40, 30), (40, 40), (30, 40)],
-        ],
-        "#..# .... .... #..#",
-    ),
-    // a ring of one vertex, one of two, and one of none
-    (
-        &[&[(15, 15)], &[(0, 0), (40, 40)], &[]],
-        ".... .... .... ....",
-    ),
-    // no ring
-    (&[], ".... .... .... ...."),
-];
+// Asserts of that many rows their pictures. A row is the picture in letters, the letter of the background,
+// the layers that are chosen, and the words and the rings of the first layer, in tenths of a degree. A
+// line that begins with `# ` is a heading.
+fn assert_drawn(rt: &impl Abort, alloc: Global, rows: &str, count: usize) -> Result<(), Fail> {
+    let mut asserted = 0_usize;
+    for row in rows.lines() {
+        if !row.starts_with("# ") {
+            let fields: Vec<&str> = row.split(';').collect(alloc)?;
+            let [expected, background, chosen, words, rings] = fields.as_slice() else {
+                panic!(rt; "a row without five fields: {row}");
+            };
+            let map = map_of_two(alloc, words, rings)?;
+            let drawn = drawn(alloc, &map, chosen_of(chosen)?, background)?;
+            assert_eq!(rt; drawn.as_str(), *expected, "{row}");
+            asserted = asserted.saturating_add(1);
+        }
+    }
+    assert_eq!(rt; asserted, count);
+    Ok(())
+}
+
+// Polygons, and the pixels that they cover.
+const POLYGONS: &str = "\
+.... .##. .##. ....;.;0;polygon #- none;10,10 30,10 30,30 10,30
+# edges through the pixel centres of a column: one on the left covers them, one on the right doesn't
+.... .##. .##. ....;.;0;polygon #- none;15,10 30,10 30,30 15,30
+.... #... #... ....;.;0;polygon #- none;0,10 15,10 15,30 0,30
+# a hole
+#### #..# #..# ####;.;0;polygon #- none;0,0 40,0 40,40 0,40/10,10 30,10 30,30 10,30
+# a ring that crosses itself
+.... ..#. ..#. ....;.;0;polygon #- none;10,10 30,30 30,10 10,30
+# far larger than the picture, and left of it
+#### #### #### ####;.;0;polygon #- none;-2000,-2000 2000,-2000 2000,2000 -2000,2000
+.... .... .... ....;.;0;polygon #- none;-30,10 -10,10 -10,30 -30,30
+# from pixel centre to pixel centre: the edges at the top and on the left cover, the others don't
+.... ##.. ##.. ....;.;0;polygon #- none;5,5 25,5 25,25 5,25
+# The left and the right corner are at the height of the second row's pixel centres. The third row is crossed at 12.8 and 51.2 sixteenths, the last at 25.6 and 38.4, between two pixel centres.
+.##. #### .##. ....;.;0;polygon #- none;0,25 20,0 40,25 20,40
+# a tip at a pixel centre covers nothing, nor does a base at the height of one
+.... .... .#.. ....;.;0;polygon #- none;15,25 5,5 25,5
+# a step whose horizontal edge is at the height of the second row's pixel centres
+##.. #### #### ####;.;0;polygon #- none;0,40 20,40 20,25 40,25 40,0 0,0
+# two rings that share an edge through the pixel centres of the second column
+.... #### #### ....;.;0;polygon #- none;0,10 15,10 15,30 0,30/15,10 40,10 40,30 15,30
+# a ring in each corner
+#..# .... .... #..#;.;0;polygon #- none;0,0 10,0 10,10 0,10/30,0 40,0 40,10 30,10/0,30 10,30 10,40 0,40/30,30 40,30 40,40 30,40
+# a ring of one vertex, one of two, and one of none
+.... .... .... ....;.;0;polygon #- none;15,15/0,0 40,40/
+# no ring
+.... .... .... ....;.;0;polygon #- none;-";
 
 #[test]
 fn polygons_cover_worked_pixels(rt: HostRuntime) -> Result<(), Fail> {
-    let alloc = rt.alloc();
-    for (rings, rows) in POLYGONS {
-        let map = map_of_one(alloc, layer(alloc, filled(rings, BROWN))?)?;
-        let drawn = draw(alloc, &map, &[0], WHITE)?;
-        assert_eq!(rt; drawn.as_str(), rows);
-    }
-    Ok(())
+    assert_drawn(&rt, rt.alloc(), POLYGONS, 15)
 }
 
 // All of the picture, and the square within it.
-const ALL: &[&[Vertex]] = &[&[(0, 0), (40, 0), (40, 40), (0, 40)]];
-
-const INNER: &[&[Vertex]] = &[&[(10, 10), (30, 10), (30, 30), (10, 30)]];
+const LAYERS: &str = "\
+#### #oo# #oo# ####;.;0 1;polygon #- none;0,0 40,0 40,40 0,40
+#### #### #### ####;.;1 0;polygon #- none;0,0 40,0 40,40 0,40
+#### #oo# #oo# ####;.;1 0 1;polygon #- none;0,0 40,0 40,40 0,40";
 
 #[test]
 fn later_layers_lie_over_earlier_ones(rt: HostRuntime) -> Result<(), Fail> {
-    let alloc = rt.alloc();
-    let mut layers = Items::new(alloc);
-    layers.push(layer(alloc, filled(ALL, BROWN))?)?;
-    layers.push(layer(alloc, filled(INNER, DARK))?)?;
-    let map = map_of(alloc, layers)?;
-    let first = draw(alloc, &map, &[0, 1], WHITE)?;
-    assert_eq!(rt; first.as_str(), "#### #oo# #oo# ####");
-    let last = draw(alloc, &map, &[1, 0], WHITE)?;
-    assert_eq!(rt; last.as_str(), "#### #### #### ####");
-    let again = draw(alloc, &map, &[1, 0, 1], WHITE)?;
-    assert_eq!(rt; again.as_str(), "#### #oo# #oo# ####");
-    Ok(())
+    assert_drawn(&rt, rt.alloc(), LAYERS, 3)
 }
 
-// The kind of a layer, the colours of its styles, the bounds on its class and on itself, and the
-// picture of the inner square.
-const STYLES: [(Kind, [Option<Rgb>; 2], [Option<i64>; 2], &str); 7] = [
-    (
-        Kind::Polygon,
-        [Some(BROWN), Some(DARK)],
-        [None, None],
-        ".... .oo. .oo. ....",
-    ),
-    (
-        Kind::Polygon,
-        [None, Some(BROWN)],
-        [None, None],
-        ".... .##. .##. ....",
-    ),
-    (
-        Kind::Polygon,
-        [None, None],
-        [None, None],
-        ".... .... .... ....",
-    ),
-    // not painted yet
-    (
-        Kind::Polygon,
-        [Some(BROWN), None],
-        [Some(1_000_000), None],
-        ".... .... .... ....",
-    ),
-    (
-        Kind::Polygon,
-        [Some(BROWN), None],
-        [None, Some(1_000_000)],
-        ".... .... .... ....",
-    ),
-    (
-        Kind::Line,
-        [Some(BROWN), None],
-        [None, None],
-        ".... .... .... ....",
-    ),
-    (
-        Kind::Point,
-        [Some(BROWN), None],
-        [None, None],
-        ".... .... .... ....",
-    ),
-];
+const BACKGROUNDS: &str = "\
+#### #### #### ####;#;none;polygon #- none;-
+#### #oo# #oo# ####;#;1;polygon #- none;-";
 
 #[test]
 fn background_is_seen_where_nothing_is_painted(rt: HostRuntime) -> Result<(), Fail> {
-    let alloc = rt.alloc();
-    let map = map_of_one(alloc, layer(alloc, filled(INNER, DARK))?)?;
-    let none = draw(alloc, &map, &[], BROWN)?;
-    assert_eq!(rt; none.as_str(), "#### #### #### ####");
-    let one = draw(alloc, &map, &[0], BROWN)?;
-    assert_eq!(rt; one.as_str(), "#### #oo# #oo# ####");
-    Ok(())
+    assert_drawn(&rt, rt.alloc(), BACKGROUNDS, 2)
 }
+
+// The inner square in some styles.
+const STYLES: &str = "\
+.... .oo. .oo. ....;.;0;polygon #o none;10,10 30,10 30,30 10,30
+.... .##. .##. ....;.;0;polygon -# none;10,10 30,10 30,30 10,30
+.... .... .... ....;.;0;polygon -- none;10,10 30,10 30,30 10,30
+# Not painted yet.
+.... .... .... ....;.;0;polygon #- class;10,10 30,10 30,30 10,30
+.... .... .... ....;.;0;polygon #- layer;10,10 30,10 30,30 10,30
+.... .... .... ....;.;0;line #- none;10,10 30,10 30,30 10,30
+.... .... .... ....;.;0;point #- none;10,10 30,10 30,30 10,30";
 
 #[test]
 fn styles_paint_in_order(rt: HostRuntime) -> Result<(), Fail> {
-    let alloc = rt.alloc();
-    for (kind, colours, [max, layer_max], rows) in STYLES {
-        let sketch = Sketch {
-            kind,
-            rings: INNER,
-            colours,
-            max: max.map(Micro::new),
-            layer_max: layer_max.map(Micro::new),
-        };
-        let map = map_of_one(alloc, layer(alloc, sketch)?)?;
-        let drawn = draw(alloc, &map, &[0], WHITE)?;
-        assert_eq!(rt; drawn.as_str(), rows);
-    }
-    Ok(())
+    assert_drawn(&rt, rt.alloc(), STYLES, 7)
 }

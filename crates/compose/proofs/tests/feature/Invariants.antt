@@ -2,5 +2,5 @@ use Rattle.std.proofs.Common.{◌*◌, ◌≤◌, length}
 use Rattle.std.specs.List.{sum_by}
 use Rattle.compose.proofs.tests.feature.Given as goal
 
-abbrev pub invariant-loop-vertices : goal.invariant-loop-vertices
-invariant-loop-vertices l = sum_by length l.parts ≤ 8 * l.vertices-index
+abbrev pub invariant-loop-text : goal.invariant-loop-text
+invariant-loop-text l = sum_by length l.parts ≤ 8 * l.text-index
