@@ -1,238 +1,182 @@
 use crate::Shape::{Text, Word};
-use crate::{LexFault, LexKind, Shape, TOKEN_LIMIT, Tail, Tokens};
+use crate::{LexFault, LexKind, TOKEN_LIMIT, Tail, Tokens};
 use std::alloc::{AllocError, Global};
 use std::fmt::Debug;
 use std::process::Abort;
 use std::test::Fail;
 
-// The source has these tokens and this tail, and after the tail nothing.
-fn assert_lexes(rt: &impl Abort, source: &[u8], tokens: &[(Shape, &str, u64)], tail: Tail) {
+// The first eight tokens of a source, each with its line and its shape, and its tail: `ends` and the last
+// line, or the line that is reached before the fault, the fault's kind and its line.
+fn told(alloc: Global, source: &[u8]) -> Result<String, AllocError> {
+    let mut text = String::new(alloc);
     let mut left = Tokens::new(source);
-    for (shape, text, line) in tokens {
-        assert_eq!(rt; left.line(), *line, "before {text:?}");
+    let mut last = 0;
+    for _ in 0..9 {
+        let reached = left.line();
         match left.next() {
             Some(Ok(token)) => {
-                let is_same = token.shape == *shape && token.text == *text && token.line == *line;
-                assert!(rt; is_same, "{token:?}, not {text:?}");
+                let (line, shape) = (token.line, token.shape);
+                write!(text, "{line} {shape:?} {}, ", token.text)?;
+                if line != reached {
+                    text.push_str("which was not reached, ")?;
+                }
             }
-            other => panic!(rt; "{other:?}, not {text:?}"),
+            Some(Err(LexFault { line, kind })) => {
+                write!(text, "{reached} {kind:?} {line}")?;
+                last = line;
+                break;
+            }
+            None => {
+                write!(text, "ends {reached}")?;
+                last = reached;
+                break;
+            }
         }
     }
-    let (fault, last) = match tail {
-        Tail::Ends(line) => (None, line),
-        Tail::Breaks(fault) => (Some(fault), fault.line),
-    };
-    if fault.is_some() {
-        let told = left.next().and_then(Result::err);
-        assert_eq!(rt; told, fault, "in {source:?}");
-    }
+    // after the tail nothing is left
     for _ in 0..2 {
-        assert!(rt; left.next().is_none(), "after the tail of {source:?}");
-        assert_eq!(rt; left.line(), last, "at the tail of {source:?}");
-    }
-}
-
-fn breaks(line: u64, kind: LexKind) -> Tail {
-    Tail::Breaks(LexFault { line, kind })
-}
-
-// Sources of one line, and their tokens.
-const ON_ONE_LINE: [(&[u8], &[(Shape, &str, u64)]); 12] = [
-    (b"", &[]),
-    (b" \t\r\x0c", &[]),
-    (b"NAME 'a#b' # c", &[(Word, "NAME", 1), (Text, "a#b", 1)]),
-    (
-        b"a\x0cb\tc",
-        &[(Word, "a", 1), (Word, "b", 1), (Word, "c", 1)],
-    ),
-    // quotes and comments end a bare word
-    (
-        b"a'b'c\"d\"e#f",
-        &[
-            (Word, "a", 1),
-            (Text, "b", 1),
-            (Word, "c", 1),
-            (Text, "d", 1),
-            (Word, "e", 1),
-        ],
-    ),
-    // a quote of the other kind, brackets and a backslash are ordinary in a quoted text
-    (
-        b"\"it's\" '\"(){}'",
-        &[(Text, "it's", 1), (Text, "\"(){}", 1)],
-    ),
-    (b"'a\\' \\b", &[(Text, "a\\", 1), (Word, "\\b", 1)]),
-    (b"'' \"\"x", &[(Text, "", 1), (Text, "", 1), (Word, "x", 1)]),
-    (b"'\t \r'", &[(Text, "\t \r", 1)]),
-    (
-        b"-1.5 [a]=/b/ \xc3\xa9",
-        &[(Word, "-1.5", 1), (Word, "[a]=/b/", 1), (Word, "\u{e9}", 1)],
-    ),
-    // a comment may hold a zero byte, bytes that are not UTF-8, and brackets
-    (b"a #\x00\xff(}'", &[(Word, "a", 1)]),
-    (b"#", &[]),
-];
-
-#[test]
-fn words_and_texts_are_cut(rt: HostRuntime) {
-    for (source, tokens) in ON_ONE_LINE {
-        assert_lexes(&rt, source, tokens, Tail::Ends(1));
-    }
-}
-
-// Sources, their tokens, and the line of their end.
-const ON_LINES: [(&[u8], &[(Shape, &str, u64)], u64); 9] = [
-    // a carriage return doesn't end a comment
-    (b"# a\rMAP\nEND", &[(Word, "END", 2)], 2),
-    (b"\n", &[], 2),
-    (
-        b"a\nb\r\nc\r\n",
-        &[(Word, "a", 1), (Word, "b", 2), (Word, "c", 3)],
-        4,
-    ),
-    // a CR and a form feed end no line
-    (
-        b"a\rb\x0cc",
-        &[(Word, "a", 1), (Word, "b", 1), (Word, "c", 1)],
-        1,
-    ),
-    // a quoted text that spans lines has the line on which it begins
-    (b"\n\n'x\ny' z\n", &[(Text, "x\ny", 3), (Word, "z", 4)], 5),
-    (b"'\n\n' 'a'", &[(Text, "\n\n", 1), (Text, "a", 3)], 3),
-    // the line of a comment ends as any other
-    (
-        b"# one\n# two\r\nMAP # three\nEND",
-        &[(Word, "MAP", 3), (Word, "END", 4)],
-        4,
-    ),
-    (b"a #\x00\xff\nb", &[(Word, "a", 1), (Word, "b", 2)], 2),
-    (b"'#'\n#'\n'x'", &[(Text, "#", 1), (Text, "x", 3)], 3),
-];
-
-#[test]
-fn lines_are_counted_by_line_feeds(rt: HostRuntime) {
-    for (source, tokens, last) in ON_LINES {
-        assert_lexes(&rt, source, tokens, Tail::Ends(last));
-    }
-}
-
-// Sources, their tokens, and the line and the kind of their fault.
-const FAULTS: [(&[u8], &[(Shape, &str, u64)], u64, LexKind); 24] = [
-    (b"NAME \"a", &[(Word, "NAME", 1)], 1, LexKind::OpenString),
-    (b"\n 'a\n\n", &[], 2, LexKind::OpenString),
-    (b"\"it's", &[], 1, LexKind::OpenString),
-    (b"'a' '", &[(Text, "a", 1)], 1, LexKind::OpenString),
-    // a bare word ends before a bracket
-    (b"FOO(", &[(Word, "FOO", 1)], 1, LexKind::BadByte),
-    (b"(", &[], 1, LexKind::BadByte),
-    (b"\n)", &[], 2, LexKind::BadByte),
-    (b"\n\n{ a", &[], 3, LexKind::BadByte),
-    (b"'}' }", &[(Text, "}", 1)], 1, LexKind::BadByte),
-    (b"a\nb\x00c", &[(Word, "a", 1)], 2, LexKind::BadByte),
-    (b"a \x7f b", &[(Word, "a", 1)], 1, LexKind::BadByte),
-    // a vertical tab is no separator
-    (b"a \x0b b", &[(Word, "a", 1)], 1, LexKind::BadByte),
-    (b"\x1f", &[], 1, LexKind::BadByte),
-    (b"'\x00'", &[], 1, LexKind::BadByte),
-    // in a quoted text the line is that of the byte
-    (b"'a\n\nb\xffc' d", &[], 3, LexKind::BadByte),
-    (b"\n'a\n\x7f\n'", &[], 3, LexKind::BadByte),
-    // a character that is cut short, one half of a pair of UTF-16, and a form that is too long
-    (b"'a\n\xe2\x82\n'", &[], 2, LexKind::BadByte),
-    (b"\xed\xa0\x80", &[], 1, LexKind::BadByte),
-    (b"a \xc0\xaf", &[(Word, "a", 1)], 1, LexKind::BadByte),
-    // of several bad bytes the first
-    (b"'a\n\x01\n\xff'", &[], 2, LexKind::BadByte),
-    (b"'a\n\xff\n\x01'", &[], 2, LexKind::BadByte),
-    // an open text is told before its bad bytes
-    (b"'a\n\x00", &[], 1, LexKind::OpenString),
-    (b"\n'a\n\xff", &[], 2, LexKind::OpenString),
-    // a fault is told before one further on
-    (b"a\x00b 'c", &[], 1, LexKind::BadByte),
-];
-
-#[test]
-fn faults_have_worked_lines(rt: HostRuntime) {
-    for (source, tokens, line, kind) in FAULTS {
-        assert_lexes(&rt, source, tokens, breaks(line, kind));
-    }
-}
-
-// So many letters between two texts.
-fn letters(
-    alloc: Global,
-    before: &[u8],
-    count: usize,
-    after: &[u8],
-) -> Result<Vec<u8>, AllocError> {
-    let mut source = Vec::new(alloc);
-    source.extend_from_slice(before)?;
-    for _ in 0..count {
-        source.push(b'a')?;
-    }
-    source.extend_from_slice(after)?;
-    Ok(source)
-}
-
-// Sources and the tokens before their fault, the line that is reached then, and the fault's line.
-const REACHED: [(&[u8], usize, u64, u64); 6] = [
-    // a bad byte further down than its token begins
-    (b"\n'a\n\n\x7f'", 0, 2, 4),
-    (b"a #\n\n'b\n\xff'", 1, 3, 4),
-    (b"a\n\n\nb\x00", 1, 4, 4),
-    (b"a b\n)", 2, 2, 2),
-    (b"a\n 'b\n", 1, 2, 2),
-    (b"\n\n\n\n'a\n\n\x1f' \n", 0, 5, 7),
-];
-
-#[test]
-fn a_fault_is_reached_where_its_token_begins(rt: HostRuntime) {
-    for (source, tokens, reached, line) in REACHED {
-        let mut left = Tokens::new(source);
-        for _ in 0..tokens {
-            assert!(rt; matches!(left.next(), Some(Ok(_))), "a token of {source:?}");
+        if left.next().is_some() || left.line() != last {
+            text.push_str(", and more")?;
         }
-        assert_eq!(rt; left.line(), reached, "before the fault of {source:?}");
-        let told = left.next().and_then(Result::err).map(|fault| fault.line);
-        assert_eq!(rt; told, Some(line), "the fault of {source:?}");
-        assert_eq!(rt; left.line(), line, "after the fault of {source:?}");
     }
+    Ok(text)
 }
 
-// Letters between two texts, and the shape of their token or the line and kind of their fault.
-const LONG_TOKENS: [(&[u8], usize, &[u8], Result<Shape, (u64, LexKind)>); 8] = [
-    (b"\n'", 65_536, b"' b", Ok(Text)),
-    (b"\n'", 65_537, b"' b", Err((2, LexKind::TooLong))),
-    (b"\n\"", 65_536, b"\"b", Ok(Text)),
-    (b"\n\n\"", 65_537, b"\"b", Err((3, LexKind::TooLong))),
-    (b"\n", 65_536, b" b", Ok(Word)),
-    (b"\n", 65_537, b" b", Err((2, LexKind::TooLong))),
-    // a bad byte is told before the length, and an open text before both
-    (b"\n'", 65_537, b"\n\x00'", Err((3, LexKind::BadByte))),
-    (b"\n'", 65_537, b"\n\x00", Err((2, LexKind::OpenString))),
-];
+// Asserts of that many rows what is told of their sources. A row is what is told, `~` and the source, each
+// of whose letters is the byte of its number. `|` stands for a line feed. A line that begins with `# ` is a
+// heading.
+fn assert_told(rt: &impl Abort, alloc: Global, rows: &str, count: usize) -> Result<(), Fail> {
+    let mut asserted = 0_usize;
+    for row in rows.lines() {
+        if !row.starts_with("# ") {
+            let row = row.replace(alloc, '|', "\n")?;
+            let (expected, letters) = row.split_once('~').ok_or("a row without a source")?;
+            let mut source = Vec::new(alloc);
+            for letter in letters.chars() {
+                source.push(u8::try_from(u32::from(letter))?)?;
+            }
+            let told = told(alloc, &source)?;
+            assert_eq!(rt; told.as_str(), expected);
+            asserted = asserted.saturating_add(1);
+        }
+    }
+    assert_eq!(rt; asserted, count);
+    Ok(())
+}
+
+// Sources of one line.
+const ON_ONE_LINE: &str = "\
+ends 1~
+ends 1~ \t\r\x0c
+1 Word NAME, 1 Text a#b, ends 1~NAME 'a#b' # c
+1 Word a, 1 Word b, 1 Word c, ends 1~a\x0cb\tc
+# quotes and comments end a bare word
+1 Word a, 1 Text b, 1 Word c, 1 Text d, 1 Word e, ends 1~a'b'c\"d\"e#f
+# a quote of the other kind, brackets and a backslash are ordinary in a quoted text
+1 Text it's, 1 Text \"(){}, ends 1~\"it's\" '\"(){}'
+1 Text a\\, 1 Word \\b, ends 1~'a\\' \\b
+1 Text , 1 Text , 1 Word x, ends 1~'' \"\"x
+1 Text \t \r, ends 1~'\t \r'
+1 Word -1.5, 1 Word [a]=/b/, 1 Word \u{e9}, ends 1~-1.5 [a]=/b/ \u{c3}\u{a9}
+# a comment may hold a zero byte, bytes that are not UTF-8, and brackets
+1 Word a, ends 1~a #\x00\u{ff}(}'
+ends 1~#";
+
+#[test]
+fn words_and_texts_are_cut(rt: HostRuntime) -> Result<(), Fail> {
+    assert_told(&rt, rt.alloc(), ON_ONE_LINE, 12)
+}
+
+const ON_LINES: &str = "\
+# a carriage return doesn't end a comment
+2 Word END, ends 2~# a\rMAP|END
+ends 2~|
+1 Word a, 2 Word b, 3 Word c, ends 4~a|b\r|c\r|
+# a CR and a form feed end no line
+1 Word a, 1 Word b, 1 Word c, ends 1~a\rb\x0cc
+# a quoted text that spans lines has the line on which it begins
+3 Text x|y, 4 Word z, ends 5~||'x|y' z|
+1 Text ||, 3 Text a, ends 3~'||' 'a'
+# the line of a comment ends as any other
+3 Word MAP, 4 Word END, ends 4~# one|# two\r|MAP # three|END
+1 Word a, 2 Word b, ends 2~a #\x00\u{ff}|b
+1 Text #, 3 Text x, ends 3~'#'|#'|'x'";
+
+#[test]
+fn lines_are_counted_by_line_feeds(rt: HostRuntime) -> Result<(), Fail> {
+    assert_told(&rt, rt.alloc(), ON_LINES, 9)
+}
+
+const FAULTS: &str = "\
+1 Word NAME, 1 OpenString 1~NAME \"a
+2 OpenString 2~| 'a||
+1 OpenString 1~\"it's
+1 Text a, 1 OpenString 1~'a' '
+# a bare word ends before a bracket
+1 Word FOO, 1 BadByte 1~FOO(
+1 BadByte 1~(
+2 BadByte 2~|)
+3 BadByte 3~||{ a
+1 Text }, 1 BadByte 1~'}' }
+1 Word a, 2 BadByte 2~a|b\x00c
+1 Word a, 1 BadByte 1~a \x7f b
+# a vertical tab is no separator
+1 Word a, 1 BadByte 1~a \x0b b
+1 BadByte 1~\x1f
+1 BadByte 1~'\x00'
+# in a quoted text the line is that of the byte
+1 BadByte 3~'a||b\u{ff}c' d
+2 BadByte 3~|'a|\x7f|'
+# a character that is cut short, one half of a pair of UTF-16, and a form that is too long
+1 BadByte 2~'a|\u{e2}\u{82}|'
+1 BadByte 1~\u{ed}\u{a0}\u{80}
+1 Word a, 1 BadByte 1~a \u{c0}\u{af}
+# of several bad bytes the first
+1 BadByte 2~'a|\x01|\u{ff}'
+1 BadByte 2~'a|\u{ff}|\x01'
+# an open text is told before its bad bytes
+1 OpenString 1~'a|\x00
+2 OpenString 2~|'a|\u{ff}
+# a fault is told before one further on
+1 BadByte 1~a\x00b 'c";
+
+#[test]
+fn faults_have_worked_lines(rt: HostRuntime) -> Result<(), Fail> {
+    assert_told(&rt, rt.alloc(), FAULTS, 24)
+}
+
+// Bad bytes further down than their token begins, and others.
+const REACHED: &str = "\
+2 BadByte 4~|'a||\x7f'
+1 Word a, 3 BadByte 4~a #||'b|\u{ff}'
+1 Word a, 4 BadByte 4~a|||b\x00
+1 Word a, 1 Word b, 2 BadByte 2~a b|)
+1 Word a, 2 OpenString 2~a| 'b|
+5 BadByte 7~||||'a||\x1f' |";
+
+#[test]
+fn a_fault_is_reached_where_its_token_begins(rt: HostRuntime) -> Result<(), Fail> {
+    assert_told(&rt, rt.alloc(), REACHED, 6)
+}
+
+// `*` stands for 65,535 letters.
+const LONG_TOKENS: &str = "\
+2 Text *a, 2 Word b, ends 2~|'*a' b
+2 TooLong 2~|'*aa' b
+2 Text *a, 2 Word b, ends 2~|\"*a\"b
+3 TooLong 3~||\"*aa\"b
+2 Word *a, 2 Word b, ends 2~|*a b
+2 TooLong 2~|*aa b
+# a bad byte is told before the length, and an open text before both
+2 BadByte 3~|'*aa|\x00'
+2 OpenString 2~|'*aa|\x00";
 
 #[test]
 fn texts_have_at_most_65536_bytes(rt: HostRuntime) -> Result<(), Fail> {
     assert_eq!(rt; TOKEN_LIMIT, 65_536);
-    for (before, count, after, expected) in LONG_TOKENS {
-        let source = letters(rt.alloc(), before, count, after)?;
-        let mut left = Tokens::new(&source);
-        match (left.next(), expected) {
-            (Some(Ok(token)), Ok(shape)) => {
-                assert_eq!(rt; token.text.len(), 65_536);
-                assert_eq!(rt; token.shape, shape);
-                assert_eq!(rt; token.line, 2);
-                assert!(rt; matches!(left.next(), Some(Ok(_))), "the token after it");
-            }
-            (Some(Err(told)), Err((line, kind))) => {
-                assert_eq!(rt; told, LexFault { line, kind }, "at {count} letters");
-                assert!(rt; left.next().is_none(), "after the fault");
-            }
-            (other, _) => panic!(rt; "{other:?} at {count} letters"),
-        }
-    }
-    Ok(())
+    let letters = "a".repeat(rt.alloc(), 65_535)?;
+    let rows = LONG_TOKENS.replace(rt.alloc(), '*', letters.as_str())?;
+    assert_told(&rt, rt.alloc(), rows.as_str(), 8)
 }
 
 #[test]
