@@ -6,7 +6,7 @@ use Rattle.std.proofs.lemmas.Str.{chars-nil}
 use Rattle.geom.specs.Device.{PixelPlace}
 use Rattle.mapdefs.specs.declared.font.FontFields.{FontFields}
 use Rattle.mapdefs.specs.declared.font.Glyph.{Glyph}
-use Rattle.bdffont.specs.Ink.{glyph_of, advance_of, behind, inks, inks_at, covers, character_covers, has_ink_from}
+use Rattle.bdffont.specs.Ink.{glyph_of, advance_of, past, inks, inks_at, covers, character_covers, has_ink_from}
 
 -- an empty text has no characters
 pub no-chars : (bytes : List ℕ) → length bytes ≡ 0 → chars bytes ≡ []
@@ -14,18 +14,18 @@ no-chars [] h = chars-nil
 no-chars (b ∷ bs) h = absurd (omega arith)
 
 -- a glyph whose box is before the pixel, or not
-pub covered : (g : Glyph) (left i top j : ℤ) (column row : ℕ) → behind left i ≡ Some column → behind top j ≡ Some row → inks_at g (behind left i) (behind top j) ≡ inks g column row
+pub covered : (g : Glyph) (left i top j : ℤ) (column row : ℕ) → past left i ≡ Some column → past top j ≡ Some row → inks_at g (past left i) (past top j) ≡ inks g column row
 covered g left i top j column row c r = rw (c, r) refl
 
-pub right-of : (g : Glyph) (left i : ℤ) (row : Option ℕ) → behind left i ≡ None → inks_at g (behind left i) row ≡ false
+pub right-of : (g : Glyph) (left i : ℤ) (row : Option ℕ) → past left i ≡ None → inks_at g (past left i) row ≡ false
 right-of g left i row c = rw c refl
 
-pub below : (g : Glyph) (column : ℕ) (left i top j : ℤ) → behind left i ≡ Some column → behind top j ≡ None → inks_at g (behind left i) (behind top j) ≡ false
+pub below : (g : Glyph) (column : ℕ) (left i top j : ℤ) → past left i ≡ Some column → past top j ≡ None → inks_at g (past left i) (past top j) ≡ false
 below g column left i top j c r = rw (c, r) refl
 
 -- a distance between two numbers, as words hold them
-pub behind-words : (a b from to : ℤ) (r said : Option ℕ) → r ≡ behind a b → r ≡ said → a ≡ from → b ≡ to → behind from to ≡ said
-behind-words a b from to r said e is same_from same_to = rw (← same_from, ← same_to) (sym e ∙ is)
+pub past-words : (a b from to : ℤ) (r said : Option ℕ) → r ≡ past a b → r ≡ said → a ≡ from → b ≡ to → past from to ≡ said
+past-words a b from to r said e is same_from same_to = rw (← same_from, ← same_to) (sym e ∙ is)
 
 module _ (font : FontFields) (at : PixelPlace) (i j : ℤ) (pen : ℕ) (characters : List ℕ) where
   -- without characters there is no ink

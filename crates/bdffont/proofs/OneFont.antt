@@ -38,7 +38,7 @@ same-heads : (x y : Glyph) (xs ys : List Glyph) → IsRising (x ∷ xs) → IsRi
 same-heads x y xs ys rising_x rising_y same = elim (cases_lt x.encoding y.encoding) [
   | inl before ↦ absurd (none-some x (sym (below-none y ys x.encoding rising_y before) ∙ sym (same x.encoding) ∙ found-head x xs))
   | inr after ↦ elim (cases_lt y.encoding x.encoding) [
-    | inl behind ↦ absurd (none-some y (sym (below-none x xs y.encoding rising_x behind) ∙ same y.encoding ∙ found-head y ys))
+    | inl past ↦ absurd (none-some y (sym (below-none x xs y.encoding rising_x past) ∙ same y.encoding ∙ found-head y ys))
     | inr equal ↦ (let is : x.encoding ≡ y.encoding = omega arith in
         same_Some x y (sym (found-head x xs) ∙ same x.encoding ∙ ap (λ e. find (has_encoding e) (y ∷ ys)) is ∙ found-head y ys))
   ]

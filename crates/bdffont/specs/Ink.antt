@@ -40,9 +40,9 @@ first_row last height = last -ℤ (pos height -ℤ pos 1)
 abbrev pub bottom_of : ℤ → BitmapBox → BitmapBox → ℤ
 bottom_of top font bounds = last_row top font.height +ℤ font.yoff -ℤ bounds.yoff
 
--- how far a column or a row is behind another one, if it is not before it
-abbrev pub behind : ℤ → ℤ → Option ℕ
-behind from to = if int_lt to from then None else Some (unsigned_abs (to -ℤ from))
+-- how far a column or a row is past another one, if it is not before it
+abbrev pub past : ℤ → ℤ → Option ℕ
+past from to = if int_lt to from then None else Some (unsigned_abs (to -ℤ from))
 
 -- a glyph has ink in a column and a row of its box
 abbrev pub inks : Glyph → ℕ → ℕ → Bool
@@ -53,10 +53,10 @@ abbrev pub inks_at : Glyph → Option ℕ → Option ℕ → Bool
 inks_at glyph (Some column) (Some row) = inks glyph column row
 inks_at glyph _ _ = false
 
--- a glyph has ink in column i and row j of the picture, in a text at a pixel and behind where the pen has advanced so far
+-- a glyph has ink in column i and row j of the picture, in a text at a pixel, where the pen has advanced so far
 abbrev pub covers : BitmapBox → PixelPlace → ℕ → ℤ → ℤ → Glyph → Bool
 covers font at pen i j glyph =
-    inks_at glyph (behind (left_of at.i pen glyph.bounds) i) (behind (first_row (bottom_of at.j font glyph.bounds) glyph.bounds.height) j)
+    inks_at glyph (past (left_of at.i pen glyph.bounds) i) (past (first_row (bottom_of at.j font glyph.bounds) glyph.bounds.height) j)
 
 -- so has the glyph of a character
 abbrev pub character_covers : FontFields → PixelPlace → ℕ → ℤ → ℤ → ℕ → Bool

@@ -15,7 +15,7 @@ capped n = min n (2 ^ 32)
 abbrev pub size_of : List ℕ → Option ℕ
 size_of digits = if nat_lt 0 (length digits) && list_all is_ascii_digit digits then Some (capped (decimal.number_of digits)) else None
 
--- the digits of a word, behind a minus if it begins with one
+-- the digits of a word, after a minus if it begins with one
 abbrev pub digits_of : List ℕ → List ℕ
 digits_of [] = []
 digits_of (b ∷ bs) = if b == 45 then bs else b ∷ bs
@@ -24,7 +24,7 @@ digits_of (b ∷ bs) = if b == 45 then bs else b ∷ bs
 abbrev pub with_sign : List ℕ → ℕ → Number
 with_sign word size = record { is_negative = decimal.is_negative word && nat_lt 0 size; size = size }
 
--- the number that a word is: digits, behind a minus or not
+-- the number that a word is: digits, after a minus or not
 abbrev pub number_of : List ℕ → Option Number
 number_of word = option_map (with_sign word) (size_of (digits_of word))
 

@@ -4,7 +4,7 @@ ghost use Rattle.bdffont.specs.declared.text.TheConstants.{MAX_CHARACTERS};
 ghost use Rattle.geom.specs.Range.{IsBelow};
 ghost use Rattle.mapdefs.specs.FontLimits.{IsRising};
 ghost use Rattle.bdffont.specs.File.{has_encoding};
-ghost use Rattle.bdffont.specs.Ink.{glyph_of, advance_of, text_width, inks, left_of, last_row, first_row, bottom_of, behind, covers, has_ink};
+ghost use Rattle.bdffont.specs.Ink.{glyph_of, advance_of, text_width, inks, left_of, last_row, first_row, bottom_of, past, covers, has_ink};
 
 use geom::Pixel;
 use mapdefs::{BitmapBox, Font, Glyph};
@@ -130,9 +130,9 @@ fn bottom_of(top: i64, font: BitmapBox, bounds: BitmapBox) -> i64
     last_row(top, font.height) + i64::from(font.yoff) - i64::from(bounds.yoff)
 }
 
-// How far a column or a row is behind another one, if it is not before it.
-fn behind(from: i64, to: i64) -> Option<u64>
-    ensures { result ≡ behind from to }
+// How far a column or a row is past another one, if it is not before it.
+fn past(from: i64, to: i64) -> Option<u64>
+    ensures { result ≡ past from to }
 {
     if to < from {
         None
@@ -153,17 +153,17 @@ fn inks(glyph: &Glyph, column: u64, row: u64) -> bool
     glyph.rows.as_slice().get(index).copied().unwrap_or(false)
 }
 
-// Whether a glyph has ink in column `i` and row `j` of the picture, in a text at a pixel and behind
-// where the pen has advanced so far.
+// Whether a glyph has ink in column `i` and row `j` of the picture, in a text at a pixel, where
+// the pen has advanced so far.
 fn covers(font: BitmapBox, at: Pixel, pen: u32, i: i64, j: i64, glyph: &Glyph) -> bool
     requires { pen ≤ 2 ^ 16 }
     ensures { result ≡ covers font at pen i j glyph.now }
 {
-    let Some(column) = behind(left_of(at.i(), pen, glyph.bounds), i) else {
+    let Some(column) = past(left_of(at.i(), pen, glyph.bounds), i) else {
         return false;
     };
     let bottom = bottom_of(at.j(), font, glyph.bounds);
-    let Some(row) = behind(first_row(bottom, glyph.bounds.height), j) else {
+    let Some(row) = past(first_row(bottom, glyph.bounds.height), j) else {
         return false;
     };
     inks(glyph, column, row)
