@@ -1,7 +1,7 @@
-ghost use Rattle.std.specs.Prelude.{◌≡◌, ◌+◌, ◌*◌, ◌-◌, ◌/◌, ◌<◌, ◌≤◌, ◌++◌, ◌∷◌, List, Bool, true, take, length, IsTrue, OnOk, IfOk};
+ghost use Rattle.std.specs.Prelude.{◌≡◌, ◌+◌, ◌<◌, ◌++◌, ◌∷◌, List, Bool, take, IsTrue, OnOk, IfOk};
 ghost use Rattle.std.specs.List.{list_all};
 ghost use Rattle.std.specs.Char.{is_ascii_hexdigit};
-ghost use Rattle.bdffont.specs.Bits.{hex_value, bits_of, bits, is_row, row_pixels};
+ghost use Rattle.bdffont.specs.Bits.{hex_value, bits_of, is_row, row_pixels};
 
 use mapdefs::Items;
 use std::alloc::AllocError;

@@ -1,7 +1,6 @@
-ghost use Rattle.std.specs.Prelude.{◌≡◌, ◌≤◌, IsTrue, not};
+ghost use Rattle.std.specs.Prelude.{◌≡◌, ◌≤◌};
 ghost use Rattle.geom.specs.Decimal.{signed};
-ghost use Rattle.mapdefs.specs.declared.limits.TheConstants.{MAX_GLYPH_SIDE};
-ghost use Rattle.bdffont.specs.Fields.{is_small, box_of, box_at, encoding_of, encoding_at, advance_at, count_at};
+ghost use Rattle.bdffont.specs.Fields.{is_small, box_of, box_at, encoding_at, advance_at, count_at};
 
 use crate::fault::FontKind;
 use crate::number::{Number, number_at};

@@ -1,5 +1,5 @@
 ghost use Rattle.std.specs.Prelude.{◌≡◌, IfOk, IfErr};
-ghost use Rattle.bdffont.specs.Sections.{opened, closed, draft_of, before, in_header, between, encoded, advanced, bounded, rows_of, in_glyph, with_glyph, in_rows, section_after, has_properties, opens_properties, closes_properties, says, start, IsStop};
+ghost use Rattle.bdffont.specs.Sections.{opened, closed, draft_of, before, in_header, between, encoded, advanced, bounded, rows_of, in_glyph, with_glyph, in_rows, section_after, has_properties, says, start, IsStop};
 
 use crate::bits::{is_row, push_row};
 use crate::fault::FontKind;

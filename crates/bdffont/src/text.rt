@@ -1,4 +1,4 @@
-ghost use Rattle.std.specs.Prelude.{◌≡◌, ◌+◌, ◌*◌, ◌^◌, ◌<◌, ◌≤◌, [], ◌∷◌, length, pos, ◌+ℤ◌, ◌-ℤ◌, find, IfSome, IsTrue, ◌↔◌, MatchOption, None, Some};
+ghost use Rattle.std.specs.Prelude.{◌≡◌, ◌^◌, ◌<◌, ◌≤◌, [], ◌∷◌, length, find, IfSome, IsTrue, ◌↔◌, MatchOption, None, Some};
 ghost use Rattle.std.specs.Str.{chars, IsUtf8};
 ghost use Rattle.bdffont.specs.declared.text.TheConstants.{MAX_CHARACTERS};
 ghost use Rattle.geom.specs.Range.{IsBelow};
