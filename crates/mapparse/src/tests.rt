@@ -2,3 +2,4 @@ mod faults;
 mod limits;
 mod map;
 mod messages;
+mod told;

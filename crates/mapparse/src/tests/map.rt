@@ -1,12 +1,8 @@
-use crate::{ParseFault, ParseKind, parse};
-use geom::{Micro, WorldBox};
-use mapdefs::{Class, Feature, Kind, Layer, Map, Rgb, Rule, Style, StyleFields};
-use maplex::LexKind;
-use std::process::Abort;
+use crate::parse;
+use crate::tests::told::assert_told;
+use mapdefs::{Class, Feature, Layer, Map, Rgb, Style};
+use std::alloc::{AllocError, Global};
 use std::test::Fail;
-
-// A colour's red, green and blue, or none.
-type Colour = Option<(u8, u8, u8)>;
 
 // Two layers, and two of each block in the first, with values that are all different. A colour, a
 // name and a style that are given twice, and a style without a colour after one that has one.
@@ -43,239 +39,231 @@ const WHOLE: &str = "MAP
   end
 END";
 
-// A layer's name, the colours of its classes' styles, and the parts of its features in millionths of
-// a degree.
-#[derive(Clone, Copy)]
-struct LayerRow {
-    name: &'static str,
-    colours: &'static [&'static [Colour]],
-    features: &'static [&'static [&'static [(i64, i64)]]],
+// What the map of WHOLE says, in the form of `write_map`.
+const SAID: &str = "\
+map WMS http://localhost/wms? -180000000 -90000000 180000000 90000000 None 0
+layer Lakes Lakes Polygon true None None 0 x y false 0 None None
+class Always None None None
+style 10 20 30, None 1 1 None
+style none, None 1 1 None
+class Always None None None
+style 11 44 77, None 1 1 None
+style none, None 1 1 None
+style 70 80 90, None 1 1 None
+feature None 0
+part 1000000 2000000, 3000000 4000000, 5000000 6000000,
+part 7000000 8000000, 9500000 -10000000, -11000000 125000,
+feature None 0
+part 13000000 14000000,
+layer lakes lakes Polygon true None None 0 x y false 0 None None
+feature None 0
+part 15000000 16000000, 17000000 18000000,
+";
+
+fn write_style(text: &mut String, style: &Style) -> Result<(), AllocError> {
+    let style = style.get();
+    match style.colour {
+        Some(Rgb { red, green, blue }) => write!(text, "style {red} {green} {blue},")?,
+        None => text.push_str("style none,")?,
+    }
+    let (outline, width, size, symbol) = (style.outline, style.width, style.size, style.symbol);
+    write!(text, " {outline:?} {width} {size} {symbol:?}\n")
 }
 
-// The layers of WHOLE.
-const LAYERS: [LayerRow; 2] = [
-    LayerRow {
-        name: "Lakes",
-        colours: &[
-            &[Some((10, 20, 30)), None],
-            &[Some((11, 44, 77)), None, Some((70, 80, 90))],
-        ],
-        features: &[
-            &[
-                &[
-                    (1_000_000, 2_000_000),
-                    (3_000_000, 4_000_000),
-                    (5_000_000, 6_000_000),
-                ],
-                &[
-                    (7_000_000, 8_000_000),
-                    (9_500_000, -10_000_000),
-                    (-11_000_000, 125_000),
-                ],
-            ],
-            &[&[(13_000_000, 14_000_000)]],
-        ],
-    },
-    LayerRow {
-        name: "lakes",
-        colours: &[],
-        features: &[&[&[(15_000_000, 16_000_000), (17_000_000, 18_000_000)]]],
-    },
-];
-
-fn check_style(rt: &impl Abort, style: &Style, colour: Colour) {
-    let expected = StyleFields {
-        colour: colour.map(|(red, green, blue)| Rgb { red, green, blue }),
-        outline: None,
-        width: 1,
-        size: 1,
-        symbol: None,
-    };
-    assert_eq!(rt; *style.get(), expected);
-}
-
-fn check_class(rt: &impl Abort, class: &Class, colours: &[Colour]) {
+fn write_class(text: &mut String, class: &Class) -> Result<(), AllocError> {
     let class = class.get();
-    assert!(rt; matches!(class.rule, Rule::Always));
-    assert!(rt; class.min.is_none() && class.max.is_none() && class.label.is_none());
-    assert_eq!(rt; class.styles.len(), colours.len());
-    for (style, colour) in class.styles.as_slice().iter().zip(colours) {
-        check_style(rt, style, *colour);
+    let (min, max) = (class.min, class.max);
+    write!(
+        text,
+        "class {:?} {min:?} {max:?} {:?}\n",
+        class.rule, class.label
+    )?;
+    for style in class.styles.as_slice() {
+        write_style(text, style)?;
     }
+    Ok(())
 }
 
-fn check_feature(rt: &impl Abort, feature: &Feature, parts: &[&[(i64, i64)]]) {
+// A part is its vertices in millionths of a degree.
+fn write_feature(text: &mut String, feature: &Feature) -> Result<(), AllocError> {
     let feature = feature.get();
-    assert_eq!(rt; feature.parts.len(), parts.len());
-    for (part, vertices) in feature.parts.as_slice().iter().zip(parts) {
-        assert_eq!(rt; part.len(), vertices.len());
-        for (vertex, (x, y)) in part.as_slice().iter().zip(*vertices) {
-            assert_eq!(rt;
-                (
-                    vertex.x().get().millionths(),
-                    vertex.y().get().millionths(),
-                ),
-                (*x, *y)
-            );
+    write!(
+        text,
+        "feature {:?} {}\n",
+        feature.text,
+        feature.values.len()
+    )?;
+    for part in feature.parts.as_slice() {
+        text.push_str("part")?;
+        for vertex in part.as_slice() {
+            let (x, y) = (vertex.x().get().millionths(), vertex.y().get().millionths());
+            write!(text, " {x} {y},")?;
         }
+        text.push('\n')?;
     }
-    assert!(rt; feature.text.is_none());
-    assert_eq!(rt; feature.values.len(), 0);
+    Ok(())
 }
 
-fn check_layer(rt: &impl Abort, layer: &Layer, row: &LayerRow) {
+fn write_layer(text: &mut String, layer: &Layer) -> Result<(), AllocError> {
     let layer = layer.get();
-    assert_eq!(rt; layer.name.as_str(), row.name);
-    assert_eq!(rt; layer.title.as_str(), row.name);
-    assert_eq!(rt; layer.kind, Kind::Polygon);
-    assert!(rt; layer.on && !layer.queryable);
-    assert!(rt; layer.classitem.is_none() && layer.labelitem.is_none());
-    assert_eq!(rt; layer.items.len(), 0);
-    assert_eq!(rt; layer.csv_x.as_str(), "x");
-    assert_eq!(rt; layer.csv_y.as_str(), "y");
-    assert_eq!(rt; layer.tolerance, 0);
-    assert!(rt; layer.min.is_none() && layer.max.is_none());
-    assert_eq!(rt; layer.classes.len(), row.colours.len());
-    for (class, colours) in layer.classes.as_slice().iter().zip(row.colours) {
-        check_class(rt, class, colours);
+    let (name, title, kind, on) = (
+        layer.name.as_str(),
+        layer.title.as_str(),
+        layer.kind,
+        layer.on,
+    );
+    write!(text, "layer {name} {title} {kind:?} {on}")?;
+    write!(
+        text,
+        " {:?} {:?} {}",
+        layer.classitem,
+        layer.labelitem,
+        layer.items.len()
+    )?;
+    let (x, y, queryable) = (layer.csv_x.as_str(), layer.csv_y.as_str(), layer.queryable);
+    let (tolerance, min, max) = (layer.tolerance, layer.min, layer.max);
+    write!(text, " {x} {y} {queryable} {tolerance} {min:?} {max:?}\n")?;
+    for class in layer.classes.as_slice() {
+        write_class(text, class)?;
     }
-    assert_eq!(rt; layer.features.len(), row.features.len());
-    for (feature, parts) in layer.features.as_slice().iter().zip(row.features) {
-        check_feature(rt, feature, parts);
+    for feature in layer.features.as_slice() {
+        write_feature(text, feature)?;
     }
+    Ok(())
 }
 
-fn check_map(rt: &impl Abort, map: &Map) {
+// Writes all that a map says, a line for the map and for each layer, class, style, feature and part.
+fn write_map(text: &mut String, map: &Map) -> Result<(), AllocError> {
     let map = map.get();
-    assert_eq!(rt; map.title.as_str(), "WMS");
-    assert_eq!(rt; map.url.as_str(), "http://localhost/wms?");
-    let world = WorldBox::new(
-        Micro::new(-180_000_000),
-        Micro::new(-90_000_000),
-        Micro::new(180_000_000),
-        Micro::new(90_000_000),
-    );
-    assert_eq!(rt; map.extent, world);
-    assert!(rt; map.font.is_none());
-    assert_eq!(rt; map.symbols.len(), 0);
-    assert_eq!(rt; map.layers.len(), LAYERS.len());
-    for (layer, row) in map.layers.as_slice().iter().zip(&LAYERS) {
-        check_layer(rt, layer, row);
+    let sides = [
+        map.extent.minx(),
+        map.extent.miny(),
+        map.extent.maxx(),
+        map.extent.maxy(),
+    ];
+    write!(text, "map {} {}", map.title.as_str(), map.url.as_str())?;
+    for side in sides {
+        write!(text, " {}", side.millionths())?;
     }
+    write!(text, " {:?} {}\n", map.font, map.symbols.len())?;
+    for layer in map.layers.as_slice() {
+        write_layer(text, layer)?;
+    }
+    Ok(())
+}
+
+// What the map of a source says.
+fn said(alloc: Global, source: &str) -> Result<String, Fail> {
+    let map = parse(alloc, source.as_bytes())?;
+    let mut text = String::new(alloc);
+    write_map(&mut text, &map)?;
+    Ok(text)
 }
 
 #[test]
 fn a_mapfile_gives_its_map(rt: HostRuntime) -> Result<(), Fail> {
-    let map = parse(rt.alloc(), WHOLE.as_bytes())?;
-    check_map(&rt, &map);
+    let text = said(rt.alloc(), WHOLE)?;
+    assert_eq!(rt; text.as_str(), SAID);
     Ok(())
 }
 
-// What stands in a STYLE, and its colour.
-const COLOURS: [(&str, Colour); 15] = [
-    ("", None),
-    ("COLOR 10 20 30", Some((10, 20, 30))),
-    ("color '10' \"20\" 30", Some((10, 20, 30))),
-    ("COLOR 0 255 254", Some((0, 255, 254))),
-    ("COLOR \"#0b2c4d\"", Some((11, 44, 77))),
-    ("COLOR '#A1f0E9'", Some((161, 240, 233))),
-    // A half goes away from zero.
-    ("COLOR 0.4 1.5 2.6", Some((0, 2, 3))),
-    ("COLOR -0.4 254.6 +7", Some((0, 255, 7))),
-    ("COLOR -1 20 30", None),
-    ("COLOR 10 -1 30", None),
-    ("COLOR 10 20 -1.4", None),
-    // The last one counts.
-    ("COLOR 1 2 3 COLOR 40 50 60", Some((40, 50, 60))),
-    ("COLOR 1 2 3 COLOR '#0B2C4D'", Some((11, 44, 77))),
-    ("COLOR '#010203' COLOR 4 5 -1", None),
-    ("COLOR 4 5 -1 COLOR '#010203'", Some((1, 2, 3))),
-];
+// The colour of a style, a colon and what stands in the STYLE. A line that begins with `# ` is a heading.
+const COLOURS: &str = "\
+none:
+10 20 30:COLOR 10 20 30
+10 20 30:color '10' \"20\" 30
+0 255 254:COLOR 0 255 254
+11 44 77:COLOR \"#0b2c4d\"
+161 240 233:COLOR '#A1f0E9'
+# A half goes away from zero.
+0 2 3:COLOR 0.4 1.5 2.6
+0 255 7:COLOR -0.4 254.6 +7
+none:COLOR -1 20 30
+none:COLOR 10 -1 30
+none:COLOR 10 20 -1.4
+# The last one counts.
+40 50 60:COLOR 1 2 3 COLOR 40 50 60
+11 44 77:COLOR 1 2 3 COLOR '#0B2C4D'
+none:COLOR '#010203' COLOR 4 5 -1
+1 2 3:COLOR 4 5 -1 COLOR '#010203'";
 
 #[test]
 fn styles_have_their_colours(rt: HostRuntime) -> Result<(), Fail> {
     let alloc = rt.alloc();
-    for (style, colour) in COLOURS {
-        let source = format!(in alloc;
-            "MAP LAYER NAME a TYPE POLYGON CLASS STYLE {style} END STYLE END END END END"
-        )?;
-        let map = parse(alloc, source.as_bytes())?;
-        match map.get().layers.as_slice() {
-            [layer] => match layer.get().classes.as_slice() {
-                [class] => check_class(&rt, class, &[colour, None]),
-                classes => assert_eq!(rt; classes.len(), 1, "{style}"),
-            },
-            layers => assert_eq!(rt; layers.len(), 1, "{style}"),
+    let mut asserted = 0_usize;
+    for row in COLOURS.lines() {
+        if !row.starts_with("# ") {
+            let (colour, style) = row.split_once(':').ok_or("a row without a colon")?;
+            let source = format!(in alloc;
+                "MAP LAYER NAME a TYPE POLYGON CLASS STYLE {style} END STYLE END END END END"
+            )?;
+            let expected = format!(in alloc;
+                "map WMS http://localhost/wms? -180000000 -90000000 180000000 90000000 None 0\n\
+                 layer a a Polygon true None None 0 x y false 0 None None\n\
+                 class Always None None None\n\
+                 style {colour}, None 1 1 None\n\
+                 style none, None 1 1 None\n"
+            )?;
+            let text = said(alloc, source.as_str())?;
+            assert_eq!(rt; text.as_str(), expected.as_str(), "{style}");
+            asserted = asserted.saturating_add(1);
         }
     }
+    assert_eq!(rt; asserted, 15);
     Ok(())
 }
 
-// The tokens of a mapfile with what stands before them, their lines, and the fault where the source
-// ends within each.
-const TOKENS: [(&str, &str, u64, ParseKind); 22] = [
-    ("", "MAP", 1, ParseKind::UnknownWord),
-    ("\n  ", "LAYER", 2, ParseKind::UnknownWord),
-    ("\n    ", "NAME", 3, ParseKind::UnknownWord),
-    (" ", "\"a\"", 3, ParseKind::Lex(LexKind::OpenString)),
-    ("\n    ", "TYPE", 4, ParseKind::UnknownWord),
-    (" ", "POLYGON", 4, ParseKind::WrongValue),
-    ("\n    ", "CLASS", 5, ParseKind::UnknownWord),
-    ("\n      ", "STYLE", 6, ParseKind::UnknownWord),
-    ("\n        ", "COLOR", 7, ParseKind::UnknownWord),
-    // A part of a number is a number.
-    (" ", "10", 7, ParseKind::MissingEnd),
-    (" ", "20", 7, ParseKind::MissingEnd),
-    (" ", "30", 7, ParseKind::MissingEnd),
-    ("\n      ", "END", 8, ParseKind::UnknownWord),
-    ("\n    ", "END", 9, ParseKind::UnknownWord),
-    ("\n    ", "FEATURE", 10, ParseKind::UnknownWord),
-    ("\n      ", "POINTS", 11, ParseKind::UnknownWord),
-    (" ", "1", 11, ParseKind::MissingEnd),
-    (" 2 3 4 5 6 7 ", "8", 11, ParseKind::MissingEnd),
-    // Where numbers are read, a part of END is none.
-    (" ", "END", 11, ParseKind::WrongValue),
-    ("\n    ", "END", 12, ParseKind::UnknownWord),
-    ("\n  ", "END", 13, ParseKind::UnknownWord),
-    ("\n", "END", 14, ParseKind::UnknownWord),
-];
+// A mapfile in pieces. A row is what is told where the source ends within a token of the piece, what is told
+// where it ends after a blank or with the piece, and the piece. `|` stands for the end of a line. A line
+// that begins with `# ` is a heading.
+const PIECES: &str = "\
+1 UnknownWord;1 MissingEnd;MAP
+2 UnknownWord;2 MissingEnd;|  LAYER
+3 UnknownWord;3 MissingEnd;|    NAME
+3 Lex(OpenString);3 MissingEnd; \"a\"
+4 UnknownWord;4 MissingEnd;|    TYPE
+4 WrongValue;4 MissingEnd; POLYGON
+5 UnknownWord;5 MissingEnd;|    CLASS
+6 UnknownWord;6 MissingEnd;|      STYLE
+7 UnknownWord;7 MissingEnd;|        COLOR
+# A part of a number is a number.
+7 MissingEnd;7 MissingEnd; 10
+7 MissingEnd;7 MissingEnd; 20
+7 MissingEnd;7 MissingEnd; 30
+8 UnknownWord;8 MissingEnd;|      END
+9 UnknownWord;9 MissingEnd;|    END
+10 UnknownWord;10 MissingEnd;|    FEATURE
+11 UnknownWord;11 MissingEnd;|      POINTS
+11 MissingEnd;11 MissingEnd; 1
+11 MissingEnd;11 MissingEnd; 2 3 4 5 6 7 8
+# Where numbers are read, a part of END is none.
+11 WrongValue;11 MissingEnd; END
+12 UnknownWord;12 MissingEnd;|    END
+13 UnknownWord;13 MissingEnd;|  END
+14 MissingEnd;14 MissingEnd;|
+14 UnknownWord;1 1 1 1 4;END
+1 1 1 1 4;1 1 1 1 4;|";
 
 #[test]
 fn a_cut_mapfile_has_its_fault_where_it_ends(rt: HostRuntime) -> Result<(), Fail> {
     let alloc = rt.alloc();
     let mut source = String::new(alloc);
-    let mut tokens_left = TOKENS.len();
-    for (before, token, line, cut) in TOKENS {
-        tokens_left = tokens_left.saturating_sub(1);
-        for letter in before.chars() {
-            source.push(letter)?;
-            let fault = ParseFault::At {
-                line,
-                kind: ParseKind::MissingEnd,
-            };
-            assert_eq!(rt;
-                parse(alloc, source.as_bytes()).err(),
-                Some(fault),
-                "{source}"
-            );
-        }
-        let mut letters_left = token.len();
-        for letter in token.chars() {
-            source.push(letter)?;
-            letters_left = letters_left.saturating_sub(1);
-            let fault = match (letters_left, tokens_left) {
-                (0, 0) => None,
-                (0, _) => Some(ParseKind::MissingEnd),
-                _ => Some(cut),
-            };
-            assert_eq!(rt;
-                parse(alloc, source.as_bytes()).err(),
-                fault.map(|kind| ParseFault::At { line, kind }),
-                "{source}"
-            );
+    let mut asserted = 0_usize;
+    for row in PIECES.lines() {
+        if !row.starts_with("# ") {
+            let (within, row) = row.split_once(';').ok_or("a row without a fault")?;
+            let (last, piece) = row.split_once(';').ok_or("a row without a piece")?;
+            let mut left = piece.len();
+            for letter in piece.chars() {
+                left = left.saturating_sub(1);
+                let is_cut = left > 0 && letter != ' ' && letter != '|';
+                let expected = if is_cut { within } else { last };
+                source.push(if letter == '|' { '\n' } else { letter })?;
+                assert_told(&rt, alloc, source.as_str(), expected)?;
+            }
+            asserted = asserted.saturating_add(1);
         }
     }
-    source.push('\n')?;
-    assert_eq!(rt; parse(alloc, source.as_bytes()).err(), None);
+    assert_eq!(rt; asserted, 24);
     Ok(())
 }
