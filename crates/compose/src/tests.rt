@@ -143,16 +143,16 @@ fn layer(alloc: Global, words: &str, rings: &str) -> Result<Layer, Fail>
     let mut features = Items::new(alloc);
     features.push(feature(alloc, rings)?)?;
     Ok(Layer::new(LayerFields {
-        name: Text::from_str(alloc, "")?,
-        title: Text::from_str(alloc, "")?,
+        name: Text::of(String::new(alloc)),
+        title: Text::of(String::new(alloc)),
         kind,
         // what is chosen is painted, switched on or not
         on: false,
         classitem: None,
         labelitem: None,
         items: Items::new(alloc),
-        csv_x: Text::from_str(alloc, "")?,
-        csv_y: Text::from_str(alloc, "")?,
+        csv_x: Text::of(String::new(alloc)),
+        csv_y: Text::of(String::new(alloc)),
         queryable: false,
         tolerance: 0,
         min: None,
@@ -163,21 +163,21 @@ fn layer(alloc: Global, words: &str, rings: &str) -> Result<Layer, Fail>
 }
 
 // A map of four degrees by four, with these layers.
-fn map_of(alloc: Global, layers: Items<Layer>) -> Result<Map, AllocError>
+fn map_of(alloc: Global, layers: Items<Layer>) -> Map
     requires count { length layers ≤ MAX_LAYERS }
     requires symbols { All (LayerNamesSymbolsOf 0) layers }
-    ensures { IfOk result (λ map. map.layers ≡ layers) }
+    ensures { result.layers ≡ layers }
 {
     let low = Micro::new(0);
     let high = Micro::new(4_000_000);
-    Ok(Map::new(MapFields {
-        title: Text::from_str(alloc, "")?,
-        url: Text::from_str(alloc, "")?,
+    Map::new(MapFields {
+        title: Text::of(String::new(alloc)),
+        url: Text::of(String::new(alloc)),
         extent: WorldBox::new(low, low, high, high),
         font: None,
         symbols: Items::new(alloc),
         layers,
-    }))
+    })
 }
 
 // A map of two layers. The first has these words and rings, the second paints the inner square dark.
@@ -187,7 +187,7 @@ fn map_of_two(alloc: Global, words: &str, rings: &str) -> Result<Map, Fail>
     let mut layers = Items::new(alloc);
     layers.push(layer(alloc, words, rings)?)?;
     layers.push(layer(alloc, "polygon o- none", "10,10 30,10 30,30 10,30")?)?;
-    Ok(map_of(alloc, layers)?)
+    Ok(map_of(alloc, layers))
 }
 
 // The indices of the layers that are chosen.
@@ -235,6 +235,19 @@ fn drawn(alloc: Global, map: &Map, chosen: &[usize], background: &str) -> Result
     Ok(letters_of(alloc, &picture)?)
 }
 
+// The picture of a row: its fields but for the picture.
+fn drawn_row(
+    alloc: Global,
+    background: &str,
+    chosen: &str,
+    words: &str,
+    rings: &str,
+) -> Result<String, Fail> {
+    let chosen = chosen_of(chosen)?;
+    let map = map_of_two(alloc, words, rings)?;
+    drawn(alloc, &map, chosen, background)
+}
+
 // Asserts of that many rows their pictures. A row is the picture in letters, the letter of the background,
 // the layers that are chosen, and the words and the rings of the first layer, in tenths of a degree. A
 // line that begins with `# ` is a heading.
@@ -246,8 +259,7 @@ fn assert_drawn(rt: &impl Abort, alloc: Global, rows: &str, count: usize) -> Res
             let [expected, background, chosen, words, rings] = fields.as_slice() else {
                 panic!(rt; "a row without five fields: {row}");
             };
-            let map = map_of_two(alloc, words, rings)?;
-            let drawn = drawn(alloc, &map, chosen_of(chosen)?, background)?;
+            let drawn = drawn_row(alloc, background, chosen, words, rings)?;
             assert_eq!(rt; drawn.as_str(), *expected, "{row}");
             asserted = asserted.saturating_add(1);
         }
