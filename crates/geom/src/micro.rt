@@ -98,103 +98,120 @@ impl Micro {
 #[cfg(test)]
 mod tests {
     use super::*;
+    use std::alloc::Global;
+    use std::process::Abort;
     use std::test::Fail;
 
-    // Texts, and what they mean in millionths.
-    const NUMBERS: [(&str, Result<i64, NumberFault>); 46] = [
-        (".5", Ok(500_000)),
-        ("-.000001", Ok(-1)),
-        ("+12.345678", Ok(12_345_678)),
-        ("7.", Ok(7_000_000)),
-        ("-0", Ok(0)),
-        ("0.0000000000000000", Ok(0)),
-        ("0000000000000000000000000000000000008", Ok(8_000_000)),
-        // The digit after the millionths decides alone, and a half goes away from zero.
-        ("-0.0000005", Ok(-1)),
-        ("0.0000004999999999999999999999", Ok(0)),
-        ("3.14159265358979323846", Ok(3_141_593)),
-        ("-2.7182845904523536", Ok(-2_718_285)),
-        ("9.9999995", Ok(10_000_000)),
-        // An exponent moves the point up or down.
-        ("12.5E1", Ok(125_000_000)),
-        ("+3.25e+2", Ok(325_000_000)),
-        ("-.00000125e5", Ok(-125_000)),
-        ("4e-6", Ok(4)),
-        ("1e-7", Ok(0)),
-        ("5e-7", Ok(1)),
-        ("-5e-7", Ok(-1)),
-        ("123456789e-9", Ok(123_457)),
-        ("0.0000000000000000000006e23", Ok(60_000_000)),
-        ("15e-00000000000000000000000001", Ok(1_500_000)),
-        ("0e99999999999", Ok(0)),
-        ("-0.00E99999999999999999999999", Ok(0)),
-        ("1e-99999999999999999999999", Ok(0)),
-        // The limit is 1,000, for what is left after the number is rounded.
-        ("1000.0000004", Ok(1_000_000_000)),
-        ("-1000.0000004999", Ok(-1_000_000_000)),
-        ("1000.0000005", Err(NumberFault::TooLarge)),
-        ("-1000.000001", Err(NumberFault::TooLarge)),
-        ("1.0000005e3", Err(NumberFault::TooLarge)),
-        ("18446744073709551616", Err(NumberFault::TooLarge)),
-        ("1844674407370955.1616e4", Err(NumberFault::TooLarge)),
-        ("2e99999999999999999999999", Err(NumberFault::TooLarge)),
-        // No numbers.
-        ("", Err(NumberFault::NotANumber)),
-        (".", Err(NumberFault::NotANumber)),
-        ("+.", Err(NumberFault::NotANumber)),
-        ("--1", Err(NumberFault::NotANumber)),
-        (" 1", Err(NumberFault::NotANumber)),
-        ("1 ", Err(NumberFault::NotANumber)),
-        ("1.2.3", Err(NumberFault::NotANumber)),
-        ("1e", Err(NumberFault::NotANumber)),
-        ("e5", Err(NumberFault::NotANumber)),
-        (".e1", Err(NumberFault::NotANumber)),
-        ("1e+", Err(NumberFault::NotANumber)),
-        ("1e5.0", Err(NumberFault::NotANumber)),
-        ("1e5E5", Err(NumberFault::NotANumber)),
-    ];
+    // Asserts of that many rows that the text means the number. A row is the number in millionths, or the
+    // fault, `=` and the text. A line that begins with `# ` is a heading.
+    fn assert_read(
+        rt: &impl Abort,
+        alloc: Global,
+        rows: &str,
+        limit: u64,
+        count: usize,
+    ) -> Result<(), Fail>
+        requires { limit < 2 ^ 63 }
+    {
+        let mut asserted = 0_usize;
+        for row in rows.lines() {
+            if !row.starts_with("# ") {
+                let (expected, text) = row.split_once('=').ok_or("a row without a text")?;
+                let told = match Micro::read(text.as_bytes(), limit) {
+                    Ok(number) => format!(in alloc; "{}", number.millionths())?,
+                    Err(fault) => format!(in alloc; "{fault:?}")?,
+                };
+                assert_eq!(rt; told.as_str(), expected, "{row}");
+                asserted = asserted.saturating_add(1);
+            }
+        }
+        assert_eq!(rt; asserted, count);
+        Ok(())
+    }
+
+    const NUMBERS: &str = "\
+500000=.5
+-1=-.000001
+12345678=+12.345678
+7000000=7.
+0=-0
+0=0.0000000000000000
+8000000=0000000000000000000000000000000000008
+# The digit after the millionths decides alone, and a half goes away from zero.
+-1=-0.0000005
+0=0.0000004999999999999999999999
+3141593=3.14159265358979323846
+-2718285=-2.7182845904523536
+10000000=9.9999995
+# An exponent moves the point up or down.
+125000000=12.5E1
+325000000=+3.25e+2
+-125000=-.00000125e5
+4=4e-6
+0=1e-7
+1=5e-7
+-1=-5e-7
+123457=123456789e-9
+60000000=0.0000000000000000000006e23
+1500000=15e-00000000000000000000000001
+0=0e99999999999
+0=-0.00E99999999999999999999999
+0=1e-99999999999999999999999
+# The limit is 1,000, for what is left after the number is rounded.
+1000000000=1000.0000004
+-1000000000=-1000.0000004999
+TooLarge=1000.0000005
+TooLarge=-1000.000001
+TooLarge=1.0000005e3
+TooLarge=18446744073709551616
+TooLarge=1844674407370955.1616e4
+TooLarge=2e99999999999999999999999
+# No numbers.
+NotANumber=
+NotANumber=.
+NotANumber=+.
+NotANumber=--1
+NotANumber= 1
+NotANumber=1\x20
+NotANumber=1.2.3
+NotANumber=1e
+NotANumber=e5
+NotANumber=.e1
+NotANumber=1e+
+NotANumber=1e5.0
+NotANumber=1e5E5";
 
     #[test]
     fn texts_mean_their_numbers(rt: HostRuntime) -> Result<(), Fail> {
-        for (text, expected) in NUMBERS {
-            let number = Micro::read(text.as_bytes(), COORDINATE_LIMIT).map(Micro::millionths);
-            assert_eq!(rt; number, expected, "{text:?}");
-        }
-        Ok(())
+        assert_read(&rt, rt.alloc(), NUMBERS, COORDINATE_LIMIT, 46)
     }
 
-    // A number among many zeros: what stands before them, how many they are, what stands after
-    // them, and what it means.
-    const LONG: [(&str, usize, &str, Result<i64, NumberFault>); 6] = [
-        ("-", 1_000_000, "6", Ok(-6_000_000)),
-        ("0.", 1_000_000, "9", Ok(0)),
-        ("0.", 1_000_000, "91e1000002", Ok(91_000_000)),
-        ("73", 1_000_000, "e-1000001", Ok(7_300_000)),
-        ("1", 1_000_000, "e-999999", Ok(10_000_000)),
-        ("1", 1_000_000, ".", Err(NumberFault::TooLarge)),
-    ];
+    // Numbers among many zeros: `*` stands for a million of them.
+    const LONG: &str = "\
+-6000000=-*6
+0=0.*9
+91000000=0.*91e1000002
+7300000=73*e-1000001
+10000000=1*e-999999
+TooLarge=1*.";
 
     #[test]
     fn long_texts_mean_their_numbers(rt: HostRuntime) -> Result<(), Fail> {
-        for (before, zeros, after, expected) in LONG {
-            let mut text = String::from_str(rt.alloc(), before)?;
-            for _ in 0..zeros {
-                text.push('0')?;
-            }
-            text.push_str(after)?;
-            let number = Micro::read(text.as_bytes(), COORDINATE_LIMIT).map(Micro::millionths);
-            assert_eq!(rt; number, expected, "{before:?}, {zeros} zeros, {after:?}");
-        }
-        Ok(())
+        let alloc = rt.alloc();
+        let zeros = "0".repeat(alloc, 1_000_000)?;
+        let rows = LONG.replace(alloc, '*', zeros.as_str())?;
+        assert_read(&rt, alloc, rows.as_str(), COORDINATE_LIMIT, 6)
     }
 
     // At the limit of other numbers, and one millionth above it.
+    const LARGE: &str = "\
+-1000000000000000000=-1e12
+TooLarge=1000000000000.000001
+999999999999999999=999999999999.9999994";
+
     #[test]
-    fn numbers_are_read_up_to_their_limit(rt: HostRuntime) {
-        let read = |text: &str| Micro::read(text.as_bytes(), NUMBER_LIMIT).map(Micro::millionths);
-        assert_eq!(rt; read("-1e12"), Ok(-1_000_000_000_000_000_000));
-        assert_eq!(rt; read("1000000000000.000001"), Err(NumberFault::TooLarge));
-        assert_eq!(rt; read("999999999999.9999994"), Ok(999_999_999_999_999_999));
+    fn numbers_are_read_up_to_their_limit(rt: HostRuntime) -> Result<(), Fail> {
+        assert_read(&rt, rt.alloc(), LARGE, NUMBER_LIMIT, 3)
     }
 
     // Millionths, and the nearest whole number.

@@ -131,7 +131,8 @@ mod tests {
     // Places and boxes that differ in one coordinate are two.
     #[test]
     fn values_differ_where_one_coordinate_does(rt: HostRuntime) {
-        let [a, b, c, d, e] = [-4, 3, 5, 7, 9].map(Micro::new);
+        let (a, b, c) = (Micro::new(-4), Micro::new(3), Micro::new(5));
+        let (d, e) = (Micro::new(7), Micro::new(9));
         let place = World::new(Coordinate::new(b), Coordinate::new(c));
         assert_eq!(rt; (place.x().get(), place.y().get()), (b, c));
         assert_ne!(rt; place, World::new(Coordinate::new(a), Coordinate::new(c)));
