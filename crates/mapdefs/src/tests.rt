@@ -17,14 +17,14 @@ fn layer(alloc: Global, name: &str) -> Result<Layer, AllocError>
 {
     Ok(Layer::new(LayerFields {
         name: Text::from_str(alloc, name)?,
-        title: Text::from_str(alloc, name)?,
+        title: Text::of(String::new(alloc)),
         kind: Kind::Polygon,
         on: true,
         classitem: None,
         labelitem: None,
         items: Items::new(alloc),
-        csv_x: Text::from_str(alloc, "x")?,
-        csv_y: Text::from_str(alloc, "y")?,
+        csv_x: Text::of(String::new(alloc)),
+        csv_y: Text::of(String::new(alloc)),
         queryable: false,
         tolerance: 0,
         min: None,
@@ -34,39 +34,46 @@ fn layer(alloc: Global, name: &str) -> Result<Layer, AllocError>
     }))
 }
 
-fn map_of(alloc: Global, layers: Vec<Layer>) -> Result<Map, AllocError>
+fn map_of(alloc: Global, layers: Vec<Layer>) -> Map
     requires count { length layers.items ≤ MAX_LAYERS }
     requires symbols { All (LayerNamesSymbolsOf 0) layers.items }
 {
-    Ok(Map::new(MapFields {
-        title: Text::from_str(alloc, "test")?,
-        url: Text::from_str(alloc, "http://localhost/wms?")?,
+    Map::new(MapFields {
+        title: Text::of(String::new(alloc)),
+        url: Text::of(String::new(alloc)),
         extent: WorldBox::new(Micro::new(0), Micro::new(0), Micro::new(1), Micro::new(1)),
         font: None,
         symbols: Items::new(alloc),
         layers: Items::of(layers),
-    }))
+    })
 }
 
-#[test]
-fn layers_are_found_by_the_first_of_their_names(rt: HostRuntime) -> Result<(), Fail> {
-    let alloc = rt.alloc();
+// A map of the layers `rivers`, `roads`, `rivers` again, and one without a name.
+fn test_map(alloc: Global) -> Result<Map, AllocError> {
     let mut layers = Vec::new(alloc);
     layers.push(layer(alloc, "rivers")?)?;
     layers.push(layer(alloc, "roads")?)?;
     layers.push(layer(alloc, "rivers")?)?;
     layers.push(layer(alloc, "")?)?;
-    let map = map_of(alloc, layers)?;
-    let names = [
-        ("rivers", Some(0)),
-        ("roads", Some(1)),
-        ("", Some(3)),
-        ("Rivers", None),
-        ("rivers ", None),
-        ("river", None),
-    ];
-    for (name, index) in names {
-        assert_eq!(rt; map.find(name), index, "{name:?}");
+    Ok(map_of(alloc, layers))
+}
+
+// Names, and the indices at which they are found.
+const NAMES: &str = "\
+rivers=Some(0)
+roads=Some(1)
+=Some(3)
+Rivers=None
+rivers =None
+river=None";
+
+#[test]
+fn layers_are_found_by_the_first_of_their_names(rt: HostRuntime) -> Result<(), Fail> {
+    let map = test_map(rt.alloc())?;
+    for row in NAMES.lines() {
+        let (name, index) = row.split_once('=').ok_or("a row without an index")?;
+        let told = format!(in rt.alloc(); "{:?}", map.find(name))?;
+        assert_eq!(rt; told.as_str(), index, "{name}");
     }
     Ok(())
 }
@@ -83,8 +90,10 @@ fn colour_of(column: u8, row: u8) -> Rgb {
 #[test]
 fn pictures_are_read_by_column_and_row(rt: HostRuntime) -> Result<(), Fail> {
     let mut pixels = Items::new(rt.alloc());
-    for (column, row) in [(0, 0), (1, 0), (2, 0), (0, 1), (1, 1), (2, 1)] {
-        pixels.push(colour_of(column, row))?;
+    for row in 0..2 {
+        for column in 0..3 {
+            pixels.push(colour_of(column, row))?;
+        }
     }
     assert_eq!(rt; pixels.len(), 6);
     let picture = Picture::new(PictureFields {
@@ -92,10 +101,12 @@ fn pictures_are_read_by_column_and_row(rt: HostRuntime) -> Result<(), Fail> {
         height: PictureSide::new(2).unwrap(),
         pixels,
     });
-    assert_eq!(rt; picture.at(0, 0), colour_of(0, 0));
-    assert_eq!(rt; picture.at(2, 0), colour_of(2, 0));
-    assert_eq!(rt; picture.at(0, 1), colour_of(0, 1));
-    assert_eq!(rt; picture.at(1, 1), colour_of(1, 1));
+    for row in 0..2_u8 {
+        for column in 0..3_u8 {
+            let colour = picture.at(u16::from(column), u16::from(row));
+            assert_eq!(rt; colour, colour_of(column, row), "{column} {row}");
+        }
+    }
     Ok(())
 }
 
