@@ -1,0 +1,88 @@
+-- Fields that are texts, and texts without the spaces at their ends.
+use Rattle.std.proofs.Common.{◌≡◌, ◌<◌, ◌≤◌, ◌+◌, ◌-◌, ℕ, zero, suc, Bool, true, false, List, [], ◌∷◌, ◌++◌, length, take, drop, get_or, None, Some, refl, ap, sym, arith, rules, ◌∙◌}
+use Rattle.std.specs.Prelude.{◌==◌, reverse, Ok, Err, IsUtf8}
+use Rattle.std.specs.List.{list_all}
+use Rattle.std.specs.Str.{is_utf8}
+use Rattle.std.proofs.lemmas.List.{append-nil, append_assoc, reverse-append, reverse-reverse, take_more}
+use Rattle.std.proofs.lemmas.Grind.{reverse_onto}
+use Rattle.std.proofs.lemmas.Str.{is_utf8-from_IsUtf8, IsUtf8-from_is_utf8}
+use Rattle.csv.specs.Records.{field_at}
+use Rattle.csvpoints.proofs.Records.{one-more}
+use Rattle.csvpoints.specs.declared.fault.CsvKind.TheVariants.{NotText}
+use Rattle.csvpoints.specs.Row.{after_spaces, before_spaces, texts_of}
+
+-- two numbers that differ
+not-equal : (a b : ℕ) → ¬ (a ≡ b) → (a == b) ≡ false
+not-equal a b h = search rules
+
+-- a space at the end
+pub space-at_end : (text : List ℕ) (n : ℕ) → n < length text → get_or text n 0 ≡ 32 → before_spaces (take (n + 1) text) ≡ before_spaces (take n text)
+unfolding before_spaces after_spaces
+space-at_end text n h e = rw (take_more text n 0 h, reverse-append (take n text) (get_or text n 0 ∷ []), e) refl
+
+-- another byte at the end
+pub other-at_end : (text : List ℕ) (n : ℕ) → n < length text → (get_or text n 0 == 32) ≡ false → before_spaces (take (n + 1) text) ≡ take (n + 1) text
+unfolding before_spaces after_spaces
+other-at_end text n h e = rw (take_more text n 0 h, reverse-append (take n text) (get_or text n 0 ∷ []), e) (reverse_onto (reverse (take n text)) (get_or text n 0) [] ∙ ap (λ (t : List ℕ). t ++ get_or text n 0 ∷ []) (reverse-reverse (take n text)))
+
+-- a step from the end towards the front
+pub back-step : (text : List ℕ) (k : ℕ) → k < length text → get_or text (length text - k - 1) 0 ≡ 32 →
+    before_spaces (take (length text - k) text) ≡ before_spaces text → before_spaces (take (length text - (k + 1)) text) ≡ before_spaces text
+back-step text k h e so_far =
+    let n = length text - k - 1 in
+    let before : length text - (k + 1) ≡ n = omega arith in
+    let now : length text - k ≡ n + 1 = omega arith in
+    rw before (sym (space-at_end text n (omega arith) e) ∙ (rw now at so_far))
+
+pub back-end : (text : List ℕ) (k : ℕ) → k < length text → ¬ (get_or text (length text - k - 1) 0 ≡ 32) →
+    before_spaces (take (length text - k) text) ≡ before_spaces text → take (length text - k) text ≡ before_spaces text
+back-end text k h e so_far =
+    let n = length text - k - 1 in
+    let now : length text - k ≡ n + 1 = omega arith in
+    rw now (sym (other-at_end text n (omega arith) (not-equal (get_or text n 0) 32 e)) ∙ (rw now at so_far))
+
+pub back-all : (text : List ℕ) (k : ℕ) → length text ≤ k → before_spaces (take (length text - k) text) ≡ before_spaces text → [] ≡ before_spaces text
+unfolding before_spaces after_spaces
+back-all text k h so_far = let n : length text - k ≡ 0 = omega arith in rw n at so_far
+
+-- a field that is there is the first of those from its index on
+pub field-some : (xs : List (List ℕ)) (i : ℕ) (f : List ℕ) → field_at xs i ≡ Some f → drop i xs ≡ f ∷ drop (suc i) xs
+unfolding field_at
+field-some [] i f h = absurd (cc h)
+field-some (x ∷ xs) zero f h = cc h
+field-some (x ∷ xs) (suc i) f h = field-some xs i f h
+
+pub field-none : (xs : List (List ℕ)) (i : ℕ) → field_at xs i ≡ None → drop i xs ≡ []
+unfolding field_at
+field-none [] zero h = refl
+field-none [] (suc i) h = refl
+field-none (x ∷ xs) zero h = absurd (cc h)
+field-none (x ∷ xs) (suc i) h = field-none xs i h
+
+-- the texts so far, with the fields that are left, are all fields, and all are UTF-8 if the latter are
+abbrev pub AreSoFar : List (List ℕ) → List (List ℕ) → List (List ℕ) → Type 0
+AreSoFar fields texts rest = (texts ++ rest ≡ fields) × (list_all is_utf8 rest ≡ list_all is_utf8 fields)
+
+pub one-text : (fields texts : List (List ℕ)) (i : ℕ) (f : List ℕ) → field_at fields i ≡ Some f → IsUtf8 f →
+    AreSoFar fields texts (drop i fields) → AreSoFar fields (texts ++ f ∷ []) (drop (i + 1) fields)
+one-text fields texts i f at text h =
+    let (all, utf8) = rw (field-some fields i f at) at h in
+    rw (one-more i) (append_assoc texts (f ∷ []) (drop (suc i) fields) ∙ all, rw (is_utf8-from_IsUtf8 f text) at utf8)
+
+pub all-texts : (fields texts : List (List ℕ)) (i : ℕ) → field_at fields i ≡ None → AreSoFar fields texts (drop i fields) → texts_of fields ≡ Ok texts
+all-texts fields texts i at h =
+    let (all, utf8) = rw (field-none fields i at) at h in
+    rw (← utf8) (ap Ok (sym (rw (append-nil texts) at all)))
+
+not-text : (f : List ℕ) → ¬ (IsUtf8 f) → is_utf8 f ≡ false
+not-text f h = by (is_utf8 f) refl
+  where
+    by : (b : Bool) → is_utf8 f ≡ b → b ≡ false
+    by true e = absurd (h (IsUtf8-from_is_utf8 f e))
+    by false e = refl
+
+pub other-bytes : (fields texts : List (List ℕ)) (i : ℕ) (f : List ℕ) → field_at fields i ≡ Some f → ¬ (IsUtf8 f) →
+    AreSoFar fields texts (drop i fields) → texts_of fields ≡ Err NotText
+other-bytes fields texts i f at bytes h =
+    let (all, utf8) = rw (field-some fields i f at, not-text f bytes) at h in
+    rw (← utf8) refl

@@ -1,0 +1,4 @@
+pub mod Fault
+pub mod Row
+pub mod Source
+pub mod Table

@@ -1,0 +1,18 @@
+//! Tables of points: from the bytes of a CSV file to features.
+//!
+//! Proved: `read` gives the table of a text or its first fault, by its clauses `table` and `fault`, which
+//! cite `table_of`. What the records of a text are is said by the crate `csv`. A table keeps that each of
+//! its features has one point, and one value for each column (`IsTable`).
+//!
+//! Words: a *record* is what the crate `csv` reads as one, with its *fields*. The first is the *header*,
+//! which names the *columns*; the others are *rows*. Records are numbered from 1.
+#![tactic(auto)]
+
+mod fault;
+mod header;
+mod row;
+mod source;
+mod table;
+
+pub use fault::{CsvError, CsvFault, CsvKind};
+pub use table::{Table, TableFields, read};
