@@ -13,6 +13,8 @@ mod header;
 mod row;
 mod source;
 mod table;
+#[cfg(test)]
+mod tests;
 
 pub use fault::{CsvError, CsvFault, CsvKind};
 pub use table::{Table, TableFields, read};
