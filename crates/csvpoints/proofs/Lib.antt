@@ -1,3 +1,4 @@
+pub mod EachRow
 pub mod Fields
 pub mod Records
 pub mod Rows

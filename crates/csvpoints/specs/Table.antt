@@ -42,3 +42,8 @@ IsPointWith count f = ((p : Place) × (f.parts ≡ (p ∷ []) ∷ [])) × (lengt
 pub record IsTable (t : TableFields) : Type 0 where
   pub names : length t.columns ≤ MAX_ITEMS
   pub points : All (IsPointWith (length t.columns)) t.features
+
+-- the law that a table has the names of its header, and a feature for each row
+abbrev pub HasEachRow : Type 0
+HasEachRow = (x y : List ℕ) (header : List (List ℕ)) (limit : ℕ) (rows : List (List (List ℕ))) (t : TableFields) →
+    table_of x y limit (header ∷ rows) ≡ Ok t → (t.columns ≡ header) × (length t.features ≡ length rows)

@@ -7,8 +7,11 @@ use mapdefs::{MAX_ITEMS, Text};
 /// The columns of a header: how many there are, and the indices of those of the coordinates.
 #[derive(Clone, Copy)]
 pub struct Columns {
+    /// How many columns there are.
     pub count: usize,
+    /// The index of the column of the longitudes.
     pub x: usize,
+    /// The index of the column of the latitudes.
     pub y: usize,
 }
 

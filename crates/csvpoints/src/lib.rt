@@ -2,7 +2,8 @@
 //!
 //! Proved: `read` gives the table of a text or its first fault, by its clauses `table` and `fault`, which
 //! cite `table_of`. What the records of a text are is said by the crate `csv`. A table keeps that each of
-//! its features has one point, and one value for each column (`IsTable`).
+//! its features has one point, and one value for each column (`IsTable`); it has the names of its header,
+//! and a feature for each row (`laws`).
 //!
 //! Words: a *record* is what the crate `csv` reads as one, with its *fields*. The first is the *header*,
 //! which names the *columns*; the others are *rows*. Records are numbered from 1.
@@ -10,6 +11,7 @@
 
 mod fault;
 mod header;
+pub mod laws;
 mod row;
 mod source;
 mod table;

@@ -72,10 +72,8 @@ pub fn texts_of(alloc: Global, row: &ByteRecord, number: u64) -> Result<Items<Te
 fn point_at(alloc: Global, values: Items<Text>, place: World) -> Result<Feature, AllocError>
     ensures { IfOk result (λ f. f ≡ record { parts = (place ∷ []) ∷ []; text = None; values = values }) }
 {
-    let mut part = Items::new(alloc);
-    part.push(place)?;
-    let mut parts = Items::new(alloc);
-    parts.push(part)?;
+    let part = Items::of(vec![in alloc; place]?);
+    let parts = Items::of(vec![in alloc; part]?);
     Ok(Feature::new(FeatureFields {
         parts,
         text: None,

@@ -5,7 +5,7 @@ ghost use Rattle.csvpoints.specs.Source.{records_of, left, IsReading, Found};
 use csv::{ByteRecord, Reader, ReaderBuilder};
 use std::alloc::{AllocError, Global};
 
-// A reader of the records of a text, with no header row of its own and records of any length.
+/// A reader of the records of a text, with no header row of its own and records of any length.
 pub fn reader_of(alloc: Global, text: &[u8]) -> Reader<&[u8]>
     ensures records { left result ≡ records_of text.now }
     ensures reading { IsReading result }
@@ -16,9 +16,9 @@ pub fn reader_of(alloc: Global, text: &[u8]) -> Reader<&[u8]>
         .from_reader(alloc, text)
 }
 
-// Whether there is a next record, which then is in `row`.
-//
-// Bytes can always be read, and records of any length pass: an error is that memory was refused.
+/// Whether there is a next record, which then is in `row`.
+///
+/// Bytes can always be read, and records of any length pass: an error is that memory was refused.
 pub fn read_record(reader: &mut Reader<&[u8]>, row: &mut ByteRecord) -> Result<bool, AllocError>
     requires { IsReading reader.old }
     ensures { IfOk result (λ found. Found found (fields_of row.new) reader.old reader.new) }

@@ -90,7 +90,11 @@ fn read_rows(
 /// Reads a table of points in one pass: the table that a text of CSV is, or its first fault with the
 /// number of its record.
 ///
-/// `x` and `y` name the columns of the coordinates, and `limit` is the most rows after the header.
+/// `x` and `y` name the columns of the longitudes and of the latitudes, in degrees, and `limit` is the
+/// most rows after the header. Of several faults in one record the first of these is told: `NoHeader`,
+/// where there is no record; `Limit`, for the row after the last that is allowed; `Uneven`; `NotText`;
+/// `Limit`, for a header of more than `MAX_ITEMS` columns; `NoColumn`; `BadNumber`.
+///
 /// `table_of` is either a table or a fault, so the two clauses say when each comes: unless memory is
 /// refused, which is `NoMemory`, the call gives the table or the fault that it is. The memory that it
 /// takes is in proportion to the table, and a text that is refused leaves none behind.
