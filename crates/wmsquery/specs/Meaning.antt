@@ -51,6 +51,12 @@ IsMeaningErrorOf map pairs NoMemory = Unit {0}
 abbrev pub IsMeaningError : MapFields → List ℕ → QueryError → Type 0
 IsMeaningError map query e = IsMeaningErrorOf map (pairs_of query) e
 
+-- the law of the first fault: where a query means a fault, all checks before its check pass and that one fails by it;
+-- where it means a request, all checks pass
+pub record FirstFaultIsMeant : Type 0 where
+  pub fault : (map : MapFields) (query : List ℕ) (f : WmsFault) → IsMeaning map query (Err f) → IsFirstFault (checks map (pairs_of query)) f
+  pub request : (map : MapFields) (query : List ℕ) (r : MapRequest) → IsMeaning map query (Ok r) → All Passes (checks map (pairs_of query))
+
 -- the law that a query has one meaning: a request or a fault, never both, and never two of either
 abbrev pub MeaningIsOne : Type 0
 MeaningIsOne = (map : MapFields) (query : List ℕ) (a b : Result MapRequest WmsFault) → IsMeaning map query a → IsMeaning map query b → a ≡ b
