@@ -1,15 +1,20 @@
 -- Numbers that are written out are read again.
-use Rattle.std.proofs.Common.{◌≡◌, ℕ, suc, pos, negsuc, ◌+◌, ◌*◌, ◌/◌, ◌%◌, ◌^◌, ◌<◌, ◌≤◌, ◌++◌, ◌==◌, ◌||◌, Bool, true, false, Some, Ok, nat_le, nat_lt, List, [], ◌∷◌, length, take, drop, take_all, length-append, refl, ◌∙◌, ap, arith}
+use Rattle.std.proofs.Common.{◌≡◌, ℕ, suc, ℤ, pos, negsuc, unsigned_abs, ◌+◌, ◌*◌, ◌/◌, ◌%◌, ◌^◌, ◌<◌, ◌≤◌, ◌++◌, ◌==◌, ◌||◌, Bool, true, false, Some, Ok, nat_le, nat_lt, List, [], ◌∷◌, length, take, drop, take_all, length-append, refl, ◌∙◌, ap, arith}
 use Rattle.std.proofs.lemmas.Bool.{and_from}
 use Rattle.std.proofs.lemmas.Bool.Decides.{nat_tests}
 use Rattle.std.proofs.lemmas.Fmt.{decimal_by_steps}
+use Rattle.std.proofs.lemmas.Int.{ints}
 use Rattle.std.proofs.lemmas.List.Folds.{list_all-append, list_any-append}
 use Rattle.std.proofs.Math.Seq.{take-append_seam, drop-append-add}
 use Rattle.std.specs.Char.{is_ascii_digit}
 use Rattle.std.specs.Fmt.{decimal}
 use Rattle.std.specs.List.{list_all, list_any, position_or_len, before_first, after_first}
+use Rattle.std.specs.Result.{result_ok}
 use Rattle.geom.specs.Decimal.{number_of, is_negative, unsigned, is_point, is_exponent_letter, are_digits, exponent_of, decimal_with, decimal_from, decimal_of, millionths_of, signed, limited, found, reading}
-use Rattle.geom.specs.Written.{six_digits, written_size, WrittenIsRead}
+use Rattle.geom.specs.Number.{coordinate_of}
+use Rattle.geom.specs.World.{IsCoordinate}
+use Rattle.geom.specs.Written.{six_digits, written, written_size, WrittenIsRead}
+use Rattle.geom.specs.declared.micro.TheConstants.{COORDINATE_LIMIT}
 use Rattle.geom.proofs.Digits.{number_of-append, digit-range, digits-cons}
 use Rattle.geom.proofs.Rounding.{nearest-is}
 
@@ -140,3 +145,12 @@ plain-read n limit within small =
 pub written-law : WrittenIsRead
 written-law (pos n) limit h small = plain-read n limit h small
 written-law (negsuc n) limit h small = size-read true (suc n) limit h small
+
+-- a coordinate's size is within the limit
+pub coordinate-size : (z : ℤ) → IsCoordinate z → unsigned_abs z ≤ COORDINATE_LIMIT
+coordinate-size (pos n) is = omega (arith, ints, is.least, is.most)
+coordinate-size (negsuc n) is = omega (arith, ints, is.least, is.most)
+
+-- a coordinate that is written out is that coordinate
+pub coordinate-written : (z : ℤ) → IsCoordinate z → coordinate_of (written z) ≡ Some z
+coordinate-written z is = ap result_ok (written-law z COORDINATE_LIMIT (coordinate-size z is) (omega arith))

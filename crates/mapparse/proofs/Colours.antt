@@ -1,6 +1,6 @@
 -- What is written as a colour is read as this colour.
 use Rattle.std.proofs.Common.{◌≡◌, ℕ, zero, suc, ◌<◌, ◌==◌, Bool, true, false, ◌&&◌, inl, inr, [], ◌∷◌, refl, arith, Option, Some, None}
-use Rattle.std.specs.Prelude.{not, is_none, Ok}
+use Rattle.std.specs.Prelude.{not, is_none}
 use Rattle.std.specs.Fmt.{decimal, digits}
 use Rattle.std.proofs.lemmas.Bool.{and_parts, cases_lt, eqb-true}
 use Rattle.hex.specs.Hex.{IsBytes}
@@ -11,20 +11,11 @@ use Rattle.maplex.specs.declared.token.Shape.TheVariants.{Word, Text}
 use Rattle.mapparse.specs.declared.colour.Component.{Component}
 use Rattle.mapparse.specs.declared.colour.Component.TheVariants.{Level, Absent}
 use Rattle.maplex.specs.Token.{TokenValue}
-use Rattle.mapparse.specs.declared.context.ColourKeyword.{ColourKeyword}
-use Rattle.mapparse.specs.declared.context.ColourKeyword.TheVariants.{StyleColour}
-use Rattle.mapparse.specs.declared.context.Context.TheVariants.{Values}
-use Rattle.mapparse.specs.declared.context.Expected.TheVariants as expected
-use Rattle.mapparse.specs.declared.context.Move.TheVariants.{GoesOn, Leaves}
-use Rattle.mapparse.specs.declared.draft.Drafts.{Drafts}
-use Rattle.mapparse.specs.declared.value.Value.TheVariants as value
 use Rattle.mapparse.specs.declared.keyword.Keyword.TheVariants.{End}
-use Rattle.mapparse.specs.Colour.{component_of, hex_colour, rgb_of, HexDigitsAreColour}
+use Rattle.mapparse.specs.Colour.{component_of, hex_colour, HexDigitsAreColour}
 use Rattle.mapparse.specs.Keyword.{spelling, is_spelt, is_in}
 use Rattle.mapparse.specs.Value.{hex_in}
-use Rattle.mapparse.specs.Draft.{with_value}
-use Rattle.mapparse.specs.Step.{read_token}
-use Rattle.mapparse.specs.Meaning.{reads, CountsAreColour}
+use Rattle.mapparse.specs.Meaning.{value_in, CountsAreColour}
 
 are_bytes : (r g b : ℕ) → r < 256 → g < 256 → b < 256 → IsBytes (r ∷ g ∷ b ∷ [])
 are_bytes r g b p q s zero = p
@@ -101,17 +92,15 @@ module _ (t : TokenValue) (k : ℕ) (below : k < 256) (written : t.text ≡ deci
       let rest = (and_parts (level_or_none (component_of (decimal k)) == k) _ passes).1 in
       rw written (none-from (hex_colour (decimal k)) (and_parts (not (is_spelt (decimal k) End)) _ rest).1)
 
-  -- it is read as red, as green and as blue
-  red-read : (d : Drafts) (w : ColourKeyword) → read_token (Values (expected.Colour w)) d t ≡ Ok (GoesOn (Values (expected.Green w (Level k))), d)
-  red-read d w = rw (not_end-in t.shape, no_hex-in t.shape, level-at) refl
-
-  green-read : (d : Drafts) (w : ColourKeyword) (red : Component) → read_token (Values (expected.Green w red)) d t ≡ Ok (GoesOn (Values (expected.Blue w red (Level k))), d)
-  green-read d w red = rw (not_end-in t.shape, level-at) refl
-
-  blue-read : (d : Drafts) (w : ColourKeyword) (red green : Component) → read_token (Values (expected.Blue w red green)) d t ≡ Ok (Leaves, with_value (value.Colour w (rgb_of red green (Level k))) t.line d)
-  blue-read d w red green = rw (not_end-in t.shape, level-at) refl
-
 pub counts : CountsAreColour
-unfolding reads
-counts red green blue p q s tail d r g b ts er eg eb =
-    rw (red-read r red p er d StyleColour, green-read g green q eg d StyleColour (Level red), blue-read b blue s eb d StyleColour (Level red) (Level green)) refl
+unfolding value_in
+counts red green blue p q s tail r g b ts er eg eb =
+    rw (
+      not_end-in r red p er r.shape,
+      no_hex-in r red p er r.shape,
+      level-at r red p er,
+      not_end-in g green q eg g.shape,
+      level-at g green q eg,
+      not_end-in b blue s eb b.shape,
+      level-at b blue s eb,
+    ) refl

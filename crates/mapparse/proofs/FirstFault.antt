@@ -1,5 +1,5 @@
 -- A fault in the front of a mapfile is its fault, whatever stands after it.
-use Rattle.std.proofs.Common.{◌≡◌, ◌≢◌, ℕ, zero, suc, ◌≤◌, Bool, true, false, List, [], ◌∷◌, ◌++◌, length, refl, sym, ◌∙◌, arith, length-append}
+use Rattle.std.proofs.Common.{◌≡◌, ◌≢◌, ℕ, zero, suc, ◌≤◌, Bool, true, false, List, [], ◌∷◌, ◌++◌, length, refl, sym, ap, ◌∙◌, arith, length-append}
 use Rattle.std.specs.Prelude.{Result, Ok, Err, if◌then◌else◌}
 use Rattle.maplex.specs.declared.fault.LexFault.{LexFault}
 use Rattle.maplex.specs.declared.fault.Tail.{Tail}
@@ -18,7 +18,11 @@ use Rattle.mapparse.specs.Fault.{and_then, lexical, refused}
 use Rattle.mapparse.specs.Keyword.{is_at}
 use Rattle.mapparse.specs.Draft.{fresh}
 use Rattle.mapparse.specs.Step.{read_token}
-use Rattle.mapparse.specs.Meaning.{reads, alone, map_body, FirstFaultIsTold}
+use Rattle.mapparse.specs.Meaning as meaning
+use Rattle.mapparse.specs.Meaning.{FirstFaultIsTold}
+use Rattle.mapparse.specs.Pass.{reads, alone, map_body, passed}
+use Rattle.mapparse.specs.Entries.{Entries}
+use Rattle.mapparse.proofs.OnePass.{to_tree, same-meaning}
 use Rattle.mapparse.proofs.Reading.{Ended, LeavesAtMost, read_after, reads-at_most}
 
 module _ (f : LexFault) (tail : Tail) (rest : List TokenValue) where
@@ -66,6 +70,16 @@ module _ (f : LexFault) (tail : Tail) (rest : List TokenValue) where
       body-carries g _ _ (carries (length ts) (length (ts ++ rest)) (Keywords block.Map) fresh ts (omega arith)) q differs
   opened-carries g t ts false q differs = q
 
+passed-carries : (front rest : List TokenValue) (f : LexFault) (g : Fault) (tail : Tail) → passed front (Breaks f) ≡ Err g → g ≢ lexical f → passed (front ++ rest) tail ≡ Err g
+passed-carries [] rest f g tail p differs = let same : g ≡ lexical f = cc in absurd (differs same)
+passed-carries (t ∷ ts) rest f g tail p differs = opened-carries f tail rest g t ts (is_at keyword.Map t) p differs
+
+err-from : (g : Fault) (r : Result Entries Fault) → and_then r to_tree ≡ Err g → r ≡ Err g
+err-from g (Ok own) p = let no : ⊥ = cc in absurd no
+err-from g (Err h) p = let same : h ≡ g = cc in ap (λ x. Err x) same
+
 pub first_fault : FirstFaultIsTold
-first_fault [] rest f g tail p differs = let same : g ≡ lexical f = cc in absurd (differs same)
-first_fault (t ∷ ts) rest f g tail p differs = opened-carries f tail rest g t ts (is_at keyword.Map t) p differs
+first_fault front rest f g tail p differs =
+    err-from g (meaning.meaning (front ++ rest) tail)
+    (sym (same-meaning (front ++ rest) tail)
+    ∙ passed-carries front rest f g tail (same-meaning front (Breaks f) ∙ ap (λ r. and_then r to_tree) p) differs)

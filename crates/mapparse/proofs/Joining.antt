@@ -15,7 +15,7 @@ use Rattle.mapparse.specs.declared.fault.ParseFault.TheVariants.{At, NoMemory}
 use Rattle.mapparse.specs.Fault.{IsFaultOf, IsErrorOf, missing, lexical}
 use Rattle.mapparse.specs.declared.reader.Reader.{Reader}
 use Rattle.mapparse.specs.Step.{read_token}
-use Rattle.mapparse.specs.Meaning.{reads}
+use Rattle.mapparse.specs.Pass.{reads}
 use Rattle.mapparse.specs.Answer.{moved, goes_on, answer, IsStepErrorOf}
 use Rattle.mapparse.proofs.Reading.{same-after, reads-at_most, reads-enough}
 

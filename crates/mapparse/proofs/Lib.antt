@@ -1,5 +1,9 @@
+mod Blocks
 mod Colours
 mod FirstFault
 mod Joining
+mod OnePass
+mod OpenBlocks
 mod Reading
 mod Within
+mod Written

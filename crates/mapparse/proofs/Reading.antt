@@ -10,7 +10,7 @@ use Rattle.mapparse.specs.declared.draft.Drafts.{Drafts}
 use Rattle.mapparse.specs.declared.fault.Fault.{Fault}
 use Rattle.mapparse.specs.Fault.{and_then}
 use Rattle.mapparse.specs.Step.{read_token}
-use Rattle.mapparse.specs.Meaning.{reads}
+use Rattle.mapparse.specs.Pass.{reads}
 
 -- what is read in a context
 abbrev pub Ended : Type 0

@@ -14,7 +14,7 @@ use Rattle.mapparse.specs.declared.tree.MapTree.{MapTree}
 use Rattle.mapparse.specs.declared.draft.Drafts.{Drafts}
 use Rattle.mapparse.specs.declared.reader.Reader.{Reader}
 use Rattle.mapparse.specs.Fault.{and_then, lexical}
-use Rattle.mapparse.specs.Meaning.{reads, alone}
+use Rattle.mapparse.specs.Pass.{reads, alone}
 
 -- the contexts that are open after a token of a context inside others, the innermost first
 abbrev pub moved : Move → Context → List Context → List Context

@@ -1,9 +1,8 @@
 -- What an END does, and what is checked at it (docs/MAPFILE.md, "Blocks and words").
-use Rattle.std.specs.Prelude.{ℕ, Bool, ◌==◌, if◌then◌else◌, List, [], ◌∷◌, ◌++◌, length, Option, Some, Result, Ok, Err}
-use Rattle.std.specs.List.{list_any}
+use Rattle.std.specs.Prelude.{◌==◌, if◌then◌else◌, List, [], ◌∷◌, ◌++◌, length, Option, Some, Result, Ok, Err}
 use Rattle.maplex.specs.Token.{TokenValue}
 use Rattle.mapdefs.specs.declared.layer.Kind.{Kind}
-use Rattle.mapdefs.specs.Name.{is_same_name}
+use Rattle.mapparse.specs.Name.{is_taken}
 use Rattle.mapparse.specs.declared.context.Block.{Block}
 use Rattle.mapparse.specs.declared.context.Block.TheVariants as block
 use Rattle.mapparse.specs.declared.fault.Fault.{Fault}
@@ -15,10 +14,6 @@ use Rattle.mapparse.specs.declared.draft.Drafts.{Drafts}
 use Rattle.mapparse.specs.Fault.{refused, and_then}
 use Rattle.mapparse.specs.Parts.{with_part}
 use Rattle.mapparse.specs.Draft.{new_layer, new_class, new_style, new_feature}
-
--- one of the layers has this name
-abbrev pub is_taken : List ℕ → List LayerTree → Bool
-is_taken name layers = list_any (λ (layer : LayerTree). is_same_name layer.name name) layers
 
 -- a layer with its name and its kind, unless an earlier layer has the name
 abbrev pub named_layer : Named → Kind → LayerDraft → List LayerTree → Result LayerTree Fault

@@ -1,72 +1,93 @@
 -- What the tokens of a mapfile mean (docs/MAPFILE.md, "Blocks and words").
-use Rattle.std.specs.Prelude.{◌≡◌, ◌≢◌, ℕ, zero, suc, ◌<◌, ◌≤◌, if◌then◌else◌, List, [], ◌∷◌, ◌++◌, length, Some, Result, Ok, Err}
+use Rattle.std.specs.Prelude.{◌≡◌, ◌≢◌, ℕ, ℤ, zero, suc, ◌<◌, ◌≤◌, if◌then◌else◌, List, [], ◌∷◌, ◌++◌, length, None, Some, Result, Ok, Err}
 use Rattle.std.specs.Fmt.{decimal}
+use Rattle.std.specs.Option.{ok_or}
 use Rattle.maplex.specs.declared.fault.LexFault.{LexFault}
 use Rattle.maplex.specs.declared.fault.Tail.{Tail}
-use Rattle.maplex.specs.declared.fault.Tail.TheVariants.{Ends, Breaks}
+use Rattle.maplex.specs.declared.fault.Tail.TheVariants as tails
 use Rattle.maplex.specs.Token.{TokenValue}
-use Rattle.mapdefs.specs.declared.colour.Rgb.{Rgb}
+use Rattle.geom.specs.Number.{coordinate_of}
+use Rattle.mapparse.specs.declared.context.Block.{Block}
 use Rattle.mapparse.specs.declared.context.Block.TheVariants as block
 use Rattle.mapparse.specs.declared.context.ColourKeyword.TheVariants.{StyleColour}
-use Rattle.mapparse.specs.declared.context.Context.{Context}
-use Rattle.mapparse.specs.declared.context.Context.TheVariants.{Keywords, Values}
+use Rattle.mapparse.specs.declared.context.Expected.{Expected}
 use Rattle.mapparse.specs.declared.context.Expected.TheVariants as expected
-use Rattle.mapparse.specs.declared.context.Move.TheVariants.{GoesOn, Enters, Leaves}
 use Rattle.mapparse.specs.declared.keyword.Keyword.TheVariants as keyword
+use Rattle.mapparse.specs.declared.value.Value.{Value}
+use Rattle.mapparse.specs.declared.value.Value.TheVariants as value
+use Rattle.mapparse.specs.declared.value.ValueStep.TheVariants.{More, Whole}
 use Rattle.mapparse.specs.declared.fault.Fault.{Fault}
-use Rattle.mapparse.specs.declared.fault.ParseKind.TheVariants.{UnknownWord}
-use Rattle.mapparse.specs.declared.tree.MapTree.{MapTree}
-use Rattle.mapparse.specs.declared.draft.Drafts.{Drafts}
-use Rattle.mapparse.specs.Fault.{refused, lexical, missing, and_then}
-use Rattle.mapparse.specs.Keyword.{is_at}
-use Rattle.mapparse.specs.Draft.{fresh}
-use Rattle.mapparse.specs.Step.{read_token}
+use Rattle.mapparse.specs.declared.fault.ParseKind.TheVariants.{UnknownWord, WrongValue, MissingValue}
+use Rattle.mapparse.specs.Entries.{Entries, Nothing, Said, Vertex, Inside}
+use Rattle.mapparse.specs.Fault.{fault_of, refused, lexical, missing, and_then}
+use Rattle.mapparse.specs.Keyword.{is_at, is_end}
+use Rattle.mapparse.specs.Says.{says, Ends, Opens, Takes, Longitude}
+use Rattle.mapparse.specs.Value.{value_step}
 
--- What is read in a context up to its end, within so many tokens: what was read of the open blocks, and the tokens that
--- are left. A context that is entered is read first, and then this one goes on.
-unfoldable pub reads : Tail → ℕ → Context → Drafts → List TokenValue → Result (Drafts × List TokenValue) Fault
-reads tail n context d [] = Err (missing tail)
-reads tail zero context d (t ∷ ts) = Err (missing tail)
-reads tail (suc n) context d (t ∷ ts) = and_then (read_token context d t) (λ step. elim step.0 [
-  | GoesOn next ↦ reads tail n next step.1 ts
-  | Enters inner ↦ and_then (reads tail n inner step.1 ts) (λ ended. reads tail n context ended.0 ended.1)
-  | Leaves ↦ Ok (step.1, ts)
+-- a value that was given, the line of its last token, and the tokens after it
+pub record Given : Type 0 where
+  pub value : Value
+  pub line : ℕ
+  pub rest : List TokenValue
+
+-- the value that a keyword takes of the tokens after it
+unfoldable pub value_in : Tail → Expected → List TokenValue → Result Given Fault
+value_in tail expected [] = Err (missing tail)
+value_in tail expected (t ∷ ts) = if is_end t then refused MissingValue t else elim (value_step expected t) [
+  | None ↦ refused WrongValue t
+  | Some (More next) ↦ value_in tail next ts
+  | Some (Whole value) ↦ Ok (record { value = value; line = t.line; rest = ts })
+]
+
+-- the latitude of a vertex, and the tokens after it
+abbrev pub latitude_in : Tail → List TokenValue → Result (ℤ × List TokenValue) Fault
+latitude_in tail [] = Err (missing tail)
+latitude_in tail (t ∷ ts) =
+    if is_end t then refused MissingValue t
+    else and_then (ok_or (coordinate_of t.text) (fault_of WrongValue t)) (λ y. Ok (y, ts))
+
+-- The entries of a block up to its END, within so many tokens, and the tokens after it: `above` is what its parent says
+-- before it, and `own` what it says itself so far. No other block counts.
+unfoldable pub block_in : Tail → ℕ → Block → Entries → Entries → List TokenValue → Result (Entries × List TokenValue) Fault
+block_in tail n b above own [] = Err (missing tail)
+block_in tail zero b above own (t ∷ ts) = Err (missing tail)
+block_in tail (suc n) b above own (t ∷ ts) = and_then (says b above own t) (λ saying. elim saying [
+  | Ends ↦ Ok (own, ts)
+  | Opens c ↦ and_then (block_in tail n c own Nothing ts) (λ inner. block_in tail n b above (Inside c inner.0 own) inner.1)
+  | Takes expected ↦ and_then (value_in tail expected ts) (λ v. block_in tail n b above (Said v.value v.line own) v.rest)
+  | Longitude x ↦ and_then (latitude_in tail ts) (λ y. block_in tail n b above (Vertex (record { x = x; y = y.0 }) own) y.1)
 ])
 
 -- after the END of MAP stands nothing
-abbrev pub alone : Tail → Drafts → List TokenValue → Result MapTree Fault
-alone (Ends line) d [] = Ok d.map
-alone (Breaks f) d [] = Err (lexical f)
-alone tail d (t ∷ ts) = refused UnknownWord t
+abbrev pub alone : Tail → Entries → List TokenValue → Result Entries Fault
+alone (tails.Ends line) own [] = Ok own
+alone (tails.Breaks f) own [] = Err (lexical f)
+alone tail own (t ∷ ts) = refused UnknownWord t
 
--- the keywords of MAP up to its END, and nothing more
-abbrev pub map_body : Tail → List TokenValue → Result MapTree Fault
-map_body tail ts = and_then (reads tail (length ts) (Keywords block.Map) fresh ts) (λ ended. alone tail ended.0 ended.1)
+-- the entries of MAP up to its END, and nothing more
+abbrev pub map_in : Tail → List TokenValue → Result Entries Fault
+map_in tail ts = and_then (block_in tail (length ts) block.Map Nothing Nothing ts) (λ own. alone tail own.0 own.1)
 
--- what a list of tokens means, with what stands after them: one tree, or the first fault in their order
-abbrev pub meaning : List TokenValue → Tail → Result MapTree Fault
+-- what a list of tokens means, with what stands after them: the entries of one MAP, or the first fault in their order
+abbrev pub meaning : List TokenValue → Tail → Result Entries Fault
 meaning [] tail = Err (missing tail)
-meaning (t ∷ ts) tail = if is_at keyword.Map t then map_body tail ts else refused UnknownWord t
+meaning (t ∷ ts) tail = if is_at keyword.Map t then map_in tail ts else refused UnknownWord t
 
 -- the law that more tokens than there are change nothing
 abbrev pub CountIsEnough : Type 0
-CountIsEnough = (tail : Tail) (n m : ℕ) (context : Context) (d : Drafts) (ts : List TokenValue) →
-    length ts ≤ n → length ts ≤ m → reads tail n context d ts ≡ reads tail m context d ts
+CountIsEnough = (tail : Tail) (n m : ℕ) (b : Block) (above own : Entries) (ts : List TokenValue) →
+    length ts ≤ n → length ts ≤ m → block_in tail n b above own ts ≡ block_in tail m b above own ts
 
 -- the law that the first fault is told: where some tokens with a lexical fault after them have another fault, this is
 -- the fault of every mapfile that begins with them
 abbrev pub FirstFaultIsTold : Type 0
 FirstFaultIsTold = (front rest : List TokenValue) (f : LexFault) (g : Fault) (tail : Tail) →
-    meaning front (Breaks f) ≡ Err g → g ≢ lexical f → meaning (front ++ rest) tail ≡ Err g
-
--- the style's colour is this one
-abbrev pub with_colour : Rgb → Drafts → Drafts
-with_colour colour d = record d { style = record d.style { colour = Some colour } }
+    meaning front (tails.Breaks f) ≡ Err g → g ≢ lexical f → meaning (front ++ rest) tail ≡ Err g
 
 -- the law that three counts after COLOR, in decimals, are the red, the green and the blue of the style's colour
 abbrev pub CountsAreColour : Type 0
 CountsAreColour = (red green blue : ℕ) → red < 256 → green < 256 → blue < 256 →
-    (tail : Tail) (d : Drafts) (r g b : TokenValue) (ts : List TokenValue) →
+    (tail : Tail) (r g b : TokenValue) (ts : List TokenValue) →
     r.text ≡ decimal red → g.text ≡ decimal green → b.text ≡ decimal blue →
-    reads tail (length (r ∷ g ∷ b ∷ ts)) (Values (expected.Colour StyleColour)) d (r ∷ g ∷ b ∷ ts)
-    ≡ Ok (with_colour (record { red = red; green = green; blue = blue }) d, ts)
+    value_in tail (expected.Colour StyleColour) (r ∷ g ∷ b ∷ ts)
+    ≡ Ok (record { value = value.Colour StyleColour (Some (record { red = red; green = green; blue = blue })); line = b.line; rest = ts })

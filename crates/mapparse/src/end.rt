@@ -1,8 +1,9 @@
 ghost use Rattle.std.specs.Prelude.{◌≡◌, ◌<◌, false, length, Ok, OnOk, MatchResult};
 ghost use Rattle.mapdefs.specs.declared.limits.TheConstants.{MAX_LAYERS, MAX_CLASSES, MAX_STYLES, MAX_FEATURES};
 ghost use Rattle.mapparse.specs.Draft.{is_full};
-ghost use Rattle.mapparse.specs.End.{is_taken, finished_layer, layer_end, class_end, style_end, feature_end, points_end, ends};
+ghost use Rattle.mapparse.specs.End.{finished_layer, layer_end, class_end, style_end, feature_end, points_end, ends};
 ghost use Rattle.mapparse.specs.Fault.{IsErrorOf};
+ghost use Rattle.mapparse.specs.Name.{is_taken};
 
 use crate::context::Block;
 use crate::draft::{Drafts, FeatureDraft, LayerDraft};

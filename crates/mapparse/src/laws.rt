@@ -3,6 +3,13 @@
 
 ghost use Rattle.mapparse.specs.Colour.{HexDigitsAreColour};
 ghost use Rattle.mapparse.specs.Meaning.{CountIsEnough, FirstFaultIsTold, CountsAreColour};
+ghost use Rattle.mapparse.specs.Written.{WrittenIsRead};
+
+/// A mapfile that is written out from what it says is read as that: no word is lost, none is taken for
+/// another one, and none goes to another block.
+pub fn written_mapfile_is_read()
+    ensures { WrittenIsRead }
+{}
 
 /// The definition of reading has a bound on the tokens that it reads. Beyond the tokens that there are,
 /// a larger bound changes nothing.

@@ -1,12 +1,15 @@
 //! Reads mapfiles: from the bytes of a source to the map that it describes, or to its first fault.
 //!
 //! Proved: `parse` gives the map or the fault that the definition `parsed` has for the source, by its
-//! clauses `map` and `fault`. `parsed` is short: the tokens of the source are read once, each in its
-//! context, by the tables of the language, and the tree that was read becomes a map.
-//! `ParseKind::number` is the number of the kind in its table. Four laws say more of the definitions:
-//! that what stands after a fault plays no part in it (`laws::first_fault_is_told`), that the number by
-//! which the definition of reading ends plays none (`laws::count_is_enough`), and that a colour is read
-//! as it is written (`laws::hex_digits_are_colour`, `laws::counts_are_colour`).
+//! clauses `map` and `fault`. `parsed` is what the blocks of the source say: a block is the list of its
+//! entries, and what a token says depends on the entries of its own block and of the parent alone.
+//! `ParseKind::number` is the number of the kind in its table. Five laws say more of the definitions:
+//! that a mapfile which is written out from what it says is read as that
+//! (`laws::written_mapfile_is_read`), that what stands after a fault plays no part in it
+//! (`laws::first_fault_is_told`), that the number by which the definition of reading ends plays none
+//! (`laws::count_is_enough`), and that a colour is read as it is written (`laws::hex_digits_are_colour`,
+//! `laws::counts_are_colour`). The reader goes over the tokens once, with a draft for each kind of
+//! block; that this gives what the blocks say is a theorem (`proofs/OnePass`).
 //!
 //! Out of memory: where reading a token allocates, out of memory is the error of a token without a
 //! fault only. What takes no memory fails with a `Fault` alone.

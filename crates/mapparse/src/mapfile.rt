@@ -1,8 +1,8 @@
 ghost use Rattle.std.specs.Prelude.{◌≡◌, Ok, Err, IfOk, IfErr, MatchResult};
 ghost use Rattle.maplex.specs.Lexed.{lexed, stopped, with_token};
 ghost use Rattle.mapparse.specs.Fault.{IsFaultOf};
-ghost use Rattle.mapparse.specs.Meaning.{map_body};
 ghost use Rattle.mapparse.specs.Parsed.{tree_of, parsed};
+ghost use Rattle.mapparse.specs.Pass.{map_body, pass_of};
 
 use crate::fault::{Fault, ParseFault, ParseKind, fault_of, missing};
 use crate::keyword::Keyword;
@@ -29,8 +29,8 @@ fn next<'a>(tokens: &mut Tokens<'a>) -> Result<Token<'a>, Tail>
 // Reads the keyword MAP.
 fn begin(tokens: &mut Tokens) -> Result<(), Fault>
     ensures { MatchResult result
-        (λ _. tree_of tokens.old ≡ map_body tokens.new.tail tokens.new.tokens)
-        (λ fault. tree_of tokens.old ≡ Err fault) }
+        (λ _. pass_of tokens.old ≡ map_body tokens.new.tail tokens.new.tokens)
+        (λ fault. pass_of tokens.old ≡ Err fault) }
 {
     match next(tokens) {
         Ok(token) if Keyword::Map.is_at(&token) => Ok(()),
@@ -39,11 +39,11 @@ fn begin(tokens: &mut Tokens) -> Result<(), Fault>
     }
 }
 
-// Reads the tokens of the source.
-fn read(source: &[u8], alloc: Global) -> Result<MapTree, ParseFault>
+// Reads the tokens of the source in one pass.
+fn pass(source: &[u8], alloc: Global) -> Result<MapTree, ParseFault>
     ensures { MatchResult result
-        (λ tree. tree_of (lexed source.now) ≡ Ok tree)
-        (IsFaultOf (tree_of (lexed source.now))) }
+        (λ tree. pass_of (lexed source.now) ≡ Ok tree)
+        (IsFaultOf (pass_of (lexed source.now))) }
 {
     let mut tokens = Tokens::new(source);
     begin(&mut tokens)?;
@@ -54,6 +54,15 @@ fn read(source: &[u8], alloc: Global) -> Result<MapTree, ParseFault>
             Err(tail) => return Ok(reader.finish(tail)?),
         }
     }
+}
+
+// Reads what the tokens of the source mean.
+fn read(source: &[u8], alloc: Global) -> Result<MapTree, ParseFault>
+    ensures { MatchResult result
+        (λ tree. tree_of (lexed source.now) ≡ Ok tree)
+        (IsFaultOf (tree_of (lexed source.now))) }
+{
+    pass(source, alloc)
 }
 
 /// Reads a mapfile in one pass: the map that it describes, or its first fault with its line.

@@ -1,7 +1,7 @@
 ghost use Rattle.std.specs.Prelude.{◌≡◌, List, [], ◌∷◌, IfOk, OnOk, IfErr};
 ghost use Rattle.maplex.specs.Token.{TokenValue};
 ghost use Rattle.maplex.specs.declared.fault.Tail.{Tail};
-ghost use Rattle.mapparse.specs.Meaning.{map_body};
+ghost use Rattle.mapparse.specs.Pass.{map_body};
 
 use crate::context::{Block, Context};
 use crate::contexts::Contexts;

@@ -14,7 +14,7 @@ use Rattle.geom.specs.Number.{coordinate_of}
 use Rattle.geom.specs.World.{Area, IsCoordinate, IsExtent}
 use Rattle.geom.specs.Written.{written, written_size, six_digits}
 use Rattle.geom.specs.declared.micro.TheConstants.{COORDINATE_LIMIT}
-use Rattle.geom.proofs.Written.{numeral, six-are, written-law}
+use Rattle.geom.proofs.Written.{numeral, six-are, coordinate-size, coordinate-written}
 use Rattle.geom.proofs.Digits.{digit-range, digits-cons}
 use Rattle.crsaxes.specs.Axes.{parts, box_of, box_of_parts, box_in, with_area}
 use Rattle.crsaxes.specs.declared.crs.Crs.{Crs}
@@ -39,15 +39,6 @@ colour-written colour is =
     let decoded : decode_sized (encode_lower bytes) 3 ≡ Ok bytes =
     decode_sized-twice (encode_lower bytes) 3 (length-encode_with _ bytes) ∙ decode_of-encode_lower bytes (three-bytes colour is) in
     ap (λ d. or_refused code.InvalidParameterValue (option_and_then rgb_of_bytes (result_ok d))) decoded
-
--- a coordinate's size is within the limit
-coordinate-size : (z : ℤ) → IsCoordinate z → unsigned_abs z ≤ COORDINATE_LIMIT
-coordinate-size (pos n) is = omega (arith, ints, is.least, is.most)
-coordinate-size (negsuc n) is = omega (arith, ints, is.least, is.most)
-
--- a coordinate that is written out is that coordinate
-coordinate-written : (z : ℤ) → IsCoordinate z → coordinate_of (written z) ≡ Some z
-coordinate-written z is = ap result_ok (written-law z COORDINATE_LIMIT (coordinate-size z is) (omega arith))
 
 -- a byte of a number: ASCII, and no comma
 pub record IsNumberByte (b : ℕ) : Type 0 where

@@ -1,9 +1,10 @@
-use Rattle.std.proofs.lemmas.Result.{err_from_is_err_and}
-use Rattle.mapparse.proofs.Joining.{step-fault}
+use Rattle.std.proofs.Common.{◌≡◌, Ok, MatchResult, subst}
+use Rattle.maplex.specs.Lexed.{lexed}
+use Rattle.mapparse.specs.Fault.{IsFaultOf}
+use Rattle.mapparse.proofs.OnePass.{same-meaning}
 use Rattle.mapparse.proofs.mapfile.read.Goals as goal
 
-pub returns-in_err-take-in-Ok : goal.returns-in_err-take-in-Ok
-returns-in_err-take-in-Ok c =
-    let p = err_from_is_err_and c.from_residual-in_err-take-in-Ok.result c.from_residual-in_err-take-in-Ok.ensures.1 in
-    rw (p.1, p.2, ← c.loop-token.invariant, c.in-Ok.ensures)
-    (step-fault c.loop-token.reader c.in-Ok.token c.next.new.tokens.tokens c.next.new.tokens.tail _ c.in_err-take-in-Ok.ensures.err)
+pub returns : goal.returns
+returns c =
+    let source = lexed c.args.source.now in
+    subst (λ r. MatchResult c.pass.result (λ tree. r ≡ Ok tree) (IsFaultOf r)) (same-meaning source.tokens source.tail) c.pass.ensures

@@ -1,0 +1,346 @@
+-- One pass over tokens gives what they mean.
+use Rattle.std.proofs.Common.{◌≡◌, ℕ, zero, suc, ◌≤◌, Bool, true, false, List, [], ◌∷◌, length, refl, sym, ap, subst, ◌∙◌, arith}
+use Rattle.std.specs.Prelude.{ℤ, if◌then◌else◌, nat_le, Option, None, Some, Result, Ok, Err, IfOk}
+use Rattle.std.specs.Option.{ok_or}
+use Rattle.maplex.specs.declared.fault.Tail.{Tail}
+use Rattle.maplex.specs.declared.fault.Tail.TheVariants as tails
+use Rattle.maplex.specs.Token.{TokenValue}
+use Rattle.geom.specs.Number.{coordinate_of}
+use Rattle.mapdefs.specs.declared.limits.TheConstants.{MAX_VERTICES}
+use Rattle.mapdefs.specs.declared.colour.Rgb.{Rgb}
+use Rattle.mapdefs.specs.declared.layer.Kind.{Kind}
+use Rattle.mapparse.specs.declared.colour.Component.{Component}
+use Rattle.mapparse.specs.declared.context.Block.{Block}
+use Rattle.mapparse.specs.declared.context.Block.TheVariants as block
+use Rattle.mapparse.specs.declared.context.TextKeyword.TheVariants.{LayerName}
+use Rattle.mapparse.specs.declared.context.ColourKeyword.TheVariants.{StyleColour}
+use Rattle.mapparse.specs.declared.context.Context.TheVariants.{Keywords, Values, Latitude}
+use Rattle.mapparse.specs.declared.context.Expected.{Expected}
+use Rattle.mapparse.specs.declared.context.Expected.TheVariants as expected
+use Rattle.mapparse.specs.declared.context.Move.TheVariants.{GoesOn, Enters, Leaves}
+use Rattle.mapparse.specs.declared.context.Role.{Role}
+use Rattle.mapparse.specs.declared.context.Role.TheVariants as role
+use Rattle.mapparse.specs.declared.draft.Drafts.{Drafts}
+use Rattle.mapparse.specs.declared.fault.Fault.{Fault}
+use Rattle.mapparse.specs.declared.fault.ParseKind.TheVariants.{UnknownWord, WrongValue, MissingValue, Limit}
+use Rattle.mapparse.specs.declared.keyword.Keyword.TheVariants as keyword
+use Rattle.mapparse.specs.declared.tree.MapTree.{MapTree}
+use Rattle.mapparse.specs.declared.value.Value.{Value}
+use Rattle.mapparse.specs.declared.value.Value.TheVariants as value
+use Rattle.mapparse.specs.declared.value.ValueStep.{ValueStep}
+use Rattle.mapparse.specs.declared.value.ValueStep.TheVariants.{More, Whole}
+use Rattle.mapparse.specs.Colour.{component_of, rgb_of}
+use Rattle.mapparse.specs.Draft.{with_value}
+use Rattle.mapparse.specs.Draft as draft
+use Rattle.mapparse.specs.End.{ends}
+use Rattle.mapparse.specs.Entries.{Entries, Nothing, Said, Vertex, Inside, vertex_count}
+use Rattle.mapparse.specs.Fault.{fault_of, refused, and_then}
+use Rattle.mapparse.specs.Keyword.{keyword_at, is_at, is_end}
+use Rattle.mapparse.specs.Meaning as meaning
+use Rattle.mapparse.specs.Meaning.{Given, value_in, latitude_in, block_in, map_in}
+use Rattle.mapparse.specs.Pass as pass
+use Rattle.mapparse.specs.Pass.{reads, passed}
+use Rattle.mapparse.specs.Says.{Saying, Ends, Opens, Takes, Longitude, closing_fault, ends_unless, is_full, role_says, says, vertex_says}
+use Rattle.mapparse.specs.Step.{read_end, read_role, note_step, coordinate_at, read_token}
+use Rattle.mapparse.specs.Tree.{map_tree}
+use Rattle.mapparse.specs.Value.{value_step, hex_at, kind_of, colour_step}
+use Rattle.std.specs.Option.{option_map}
+use Rattle.mapparse.proofs.OpenBlocks.{OpenBlocks, drafts_of, in_block, above, after_end, Nests, home_of, Fits, fits-option, same-room, unless_fault, same-end}
+use Rattle.mapparse.proofs.Reading.{Ended, LeavesAtMost, read_after, reads-at_most, reads-enough}
+
+-- what is read of a block
+abbrev pub BlockRead : Type 0
+BlockRead = Result (Entries × List TokenValue) Fault
+
+-- a value is noted in the drafts as the block with it says
+abbrev IsNotedIn : Block → Value → Type 0
+IsNotedIn b v = (line : ℕ) (own : Entries) (o : OpenBlocks) → with_value v line (drafts_of (in_block b own o)) ≡ drafts_of (in_block b (Said v line own) o)
+
+-- a step in the value of a keyword stays with the block of the keyword
+abbrev StaysIn : Block → Option ValueStep → Type 0
+StaysIn b None = Unit {0}
+StaysIn b (Some (More next)) = home_of next ≡ b
+StaysIn b (Some (Whole v)) = IsNotedIn b v
+
+kind-stays : (kind : Option Kind) → StaysIn block.Layer (option_map (λ k. Whole (value.Kind k)) kind)
+kind-stays None = tt
+kind-stays (Some k) = λ line own o. refl
+
+first-stays : (colour : Option Rgb) (red : Option Component) → StaysIn block.Style (colour_step StyleColour colour red)
+first-stays (Some colour) red = λ line own o. refl
+first-stays None None = tt
+first-stays None (Some red) = refl
+
+green-stays : (red : Component) (green : Option Component) → StaysIn block.Style (option_map (λ g. More (expected.Blue StyleColour red g)) green)
+green-stays red None = tt
+green-stays red (Some green) = refl
+
+blue-stays : (red green : Component) (blue : Option Component) → StaysIn block.Style (option_map (λ b. Whole (value.Colour StyleColour (rgb_of red green b))) blue)
+blue-stays red green None = tt
+blue-stays red green (Some blue) = λ line own o. refl
+
+step-stays : (e : Expected) (t : TokenValue) → StaysIn (home_of e) (value_step e t)
+step-stays (expected.Text LayerName) t = λ line own o. refl
+step-stays expected.Kind t = kind-stays (kind_of t.text)
+step-stays (expected.Colour StyleColour) t = first-stays (hex_at t) (component_of t.text)
+step-stays (expected.Green StyleColour r) t = green-stays r (component_of t.text)
+step-stays (expected.Blue StyleColour r g) t = blue-stays r g (component_of t.text)
+
+-- the rest of a value's tokens, by its next step
+abbrev value_after : Tail → TokenValue → List TokenValue → Option ValueStep → Result Given Fault
+value_after tail t ts step = elim step [
+  | None ↦ refused WrongValue t
+  | Some (More next) ↦ value_in tail next ts
+  | Some (Whole value) ↦ Ok (record { value = value; line = t.line; rest = ts })
+]
+
+-- what a value comes to: the block notes it, and at most so many tokens are left
+record IsGivenIn (b : Block) (k : ℕ) (v : Given) : Type 0 where
+  noted : IsNotedIn b v.value
+  left : length v.rest ≤ k
+
+module _ (tail : Tail) (t : TokenValue) (ts : List TokenValue) (k : ℕ) (below : (e : Expected) → IfOk (value_in tail e ts) (IsGivenIn (home_of e) k)) (p : length ts ≤ k) where
+  given-step : (b : Block) (last : Bool) (step : Option ValueStep) → StaysIn b step → IfOk (if last then refused MissingValue t else value_after tail t ts step) (IsGivenIn b k)
+  given-step b true step s = tt
+  given-step b false None s = tt
+  given-step b false (Some (More next)) s = subst (λ c. IfOk (value_in tail next ts) (IsGivenIn c k)) s (below next)
+  given-step b false (Some (Whole v)) s = record { noted = s; left = p }
+
+value-given : (tail : Tail) (k : ℕ) (e : Expected) (ts : List TokenValue) → length ts ≤ k → IfOk (value_in tail e ts) (IsGivenIn (home_of e) k)
+unfolding value_in
+value-given tail k e [] p = tt
+value-given tail k e (t ∷ ts) p =
+    given-step tail t ts k (λ next. value-given tail k next ts (omega arith)) (omega arith) (home_of e) (is_end t) (value_step e t) (step-stays e t)
+
+pub value-left : (tail : Tail) (e : Expected) (ts : List TokenValue) → IfOk (value_in tail e ts) (λ v. length v.rest ≤ length ts)
+value-left tail e ts = left (value_in tail e ts) (value-given tail (length ts) e ts (omega arith))
+  where
+    left : (r : Result Given Fault) → IfOk r (IsGivenIn (home_of e) (length ts)) → IfOk r (λ v. length v.rest ≤ length ts)
+    left (Ok v) given = given.left
+    left (Err f) given = tt
+
+-- the drafts and the tokens after a value
+abbrev noted : Drafts → Given → Drafts × List TokenValue
+noted d v = (with_value v.value v.line d, v.rest)
+
+module _ (tail : Tail) (n : ℕ) (below : (e : Expected) (d : Drafts) (ts : List TokenValue) → length ts ≤ n → reads tail n (Values e) d ts ≡ and_then (value_in tail e ts) (λ v. Ok (noted d v))) where
+  value-step : (e : Expected) (d : Drafts) (t : TokenValue) (ts : List TokenValue) (last : Bool) (step : Option ValueStep) → length ts ≤ n →
+      and_then (if last then refused MissingValue t else note_step step d t) (read_after tail n (Values e) ts)
+      ≡ and_then (if last then refused MissingValue t else value_after tail t ts step) (λ v. Ok (noted d v))
+  value-step e d t ts true step p = refl
+  value-step e d t ts false None p = refl
+  value-step e d t ts false (Some (More next)) p = below next d ts p
+  value-step e d t ts false (Some (Whole v)) p = refl
+
+-- a value is read in drafts as it is given
+reads-value : (tail : Tail) (n : ℕ) (e : Expected) (d : Drafts) (ts : List TokenValue) → length ts ≤ n → reads tail n (Values e) d ts ≡ and_then (value_in tail e ts) (λ v. Ok (noted d v))
+unfolding reads value_in
+reads-value tail zero e d [] p = refl
+reads-value tail (suc n) e d [] p = refl
+reads-value tail zero e d (t ∷ ts) p = absurd (omega arith)
+reads-value tail (suc n) e d (t ∷ ts) p =
+    value-step tail n (λ next c us. reads-value tail n next c us) e d t ts (is_end t) (value_step e t) (omega arith)
+
+same-next : {X Y : Type 0} (r : Result X Fault) (f g : X → Result Y Fault) → ((x : X) → f x ≡ g x) → and_then r f ≡ and_then r g
+same-next (Ok x) f g p = p x
+same-next (Err e) f g p = refl
+
+same-all : {X : Type 0} (r : Result X Fault) → r ≡ and_then r (λ x. Ok x)
+same-all (Ok x) = refl
+same-all (Err f) = refl
+
+-- two readings go on alike after what both gave
+same-then : {X Y Z : Type 0} (r : Result X Fault) (s : Result Y Fault) (state : X → Y) (next : Y → Result Z Fault) (other : X → Result (Entries × List TokenValue) Fault) (finish : Entries × List TokenValue → Result Z Fault) →
+    s ≡ and_then r (λ x. Ok (state x)) → ((x : X) → r ≡ Ok x → next (state x) ≡ and_then (other x) finish) → and_then s next ≡ and_then (and_then r other) finish
+same-then (Ok x) s state next other finish p q = rw p (q x refl)
+same-then (Err f) s state next other finish p q = rw p refl
+
+-- after the END of a block, in drafts
+abbrev closed : Block → OpenBlocks → Entries × List TokenValue → Ended
+closed b o e = Ok (drafts_of (after_end b e.0 o), e.1)
+
+-- what a block says after one token
+abbrev pub block_after : Tail → ℕ → Block → Entries → Entries → List TokenValue → Saying → BlockRead
+block_after tail n b above own ts saying = elim saying [
+  | Ends ↦ Ok (own, ts)
+  | Opens c ↦ and_then (block_in tail n c own Nothing ts) (λ inner. block_in tail n b above (Inside c inner.0 own) inner.1)
+  | Takes expected ↦ and_then (value_in tail expected ts) (λ v. block_in tail n b above (Said v.value v.line own) v.rest)
+  | Longitude x ↦ and_then (latitude_in tail ts) (λ y. block_in tail n b above (Vertex (record { x = x; y = y.0 }) own) y.1)
+]
+
+-- the END of a block, for which there was room
+end-step : (tail : Tail) (n : ℕ) (b : Block) (own : Entries) (o : OpenBlocks) (t : TokenValue) (ts : List TokenValue) (full : Bool) (fault : Option Fault) (ended : Result Drafts Fault) → full ≡ false → ended ≡ unless_fault fault (drafts_of (after_end b own o)) →
+    and_then (if full then refused Limit t else and_then ended (λ e. Ok (Leaves, e))) (read_after tail n (Keywords b) ts)
+    ≡ and_then (and_then (ends_unless fault) (block_after tail n b (above b o) own ts)) (closed b o)
+end-step tail n b own o t ts full None ended p q = rw (p, q) refl
+end-step tail n b own o t ts full (Some f) ended p q = rw (p, q) refl
+
+-- a latitude, and the tokens after it
+abbrev latitude_before : List TokenValue → ℤ → Result (ℤ × List TokenValue) Fault
+latitude_before ts y = Ok (y, ts)
+
+-- the latitude of a vertex for which there is room
+module _ (tail : Tail) (x : ℤ) (own : Entries) (o : OpenBlocks) (free : nat_le MAX_VERTICES (vertex_count o.feature own) ≡ false) where
+  -- the drafts with a further vertex
+  abbrev with_latitude : ℤ → Drafts
+  with_latitude y = drafts_of (in_block block.Points (Vertex (record { x = x; y = y }) own) o)
+
+  latitude-at : (n : ℕ) (t : TokenValue) (ts : List TokenValue) (last full : Bool) (y : Option ℤ) → full ≡ false →
+      and_then (if last then refused MissingValue t else and_then (if full then refused Limit t else ok_or y (fault_of WrongValue t)) (λ c. Ok (GoesOn (Keywords block.Points), with_latitude c))) (read_after tail n (Latitude x) ts)
+      ≡ and_then (if last then refused MissingValue t else and_then (ok_or y (fault_of WrongValue t)) (latitude_before ts)) (λ c. reads tail n (Keywords block.Points) (with_latitude c.0) c.1)
+  latitude-at n t ts true full y p = refl
+  latitude-at n t ts false full None p = rw p refl
+  latitude-at n t ts false full (Some y) p = rw p refl
+
+  -- with one token less in the bound
+  fewer : (n : ℕ) (t : TokenValue) (ts : List TokenValue) → length ts ≤ n → (last : Bool) (y : Option ℤ) →
+      and_then (if last then refused MissingValue t else and_then (ok_or y (fault_of WrongValue t)) (latitude_before ts)) (λ c. reads tail n (Keywords block.Points) (with_latitude c.0) c.1)
+      ≡ and_then (if last then refused MissingValue t else and_then (ok_or y (fault_of WrongValue t)) (latitude_before ts)) (λ c. reads tail (suc n) (Keywords block.Points) (with_latitude c.0) c.1)
+  fewer n t ts p true y = refl
+  fewer n t ts p false None = refl
+  fewer n t ts p false (Some y) = reads-enough tail n (suc n) (Keywords block.Points) (with_latitude y) ts p (omega arith)
+
+  latitude-step : (n : ℕ) (ts : List TokenValue) → length ts ≤ n →
+      reads tail n (Latitude x) (drafts_of (in_block block.Points own o)) ts ≡ and_then (latitude_in tail ts) (λ y. reads tail n (Keywords block.Points) (with_latitude y.0) y.1)
+  unfolding reads
+  latitude-step zero [] p = refl
+  latitude-step (suc n) [] p = refl
+  latitude-step zero (t ∷ ts) p = absurd (omega arith)
+  latitude-step (suc n) (t ∷ ts) p =
+      latitude-at n t ts (is_end t) (nat_le MAX_VERTICES (vertex_count o.feature own)) (coordinate_of t.text) free
+      ∙ fewer n t ts (omega arith) (is_end t) (coordinate_of t.text)
+
+pub latitude-left : (tail : Tail) (ts : List TokenValue) → IfOk (latitude_in tail ts) (λ y. length y.1 ≤ length ts)
+latitude-left tail [] = tt
+latitude-left tail (t ∷ ts) = left (is_end t) (coordinate_of t.text)
+  where
+    left : (last : Bool) (y : Option ℤ) → IfOk (if last then refused MissingValue t else and_then (ok_or y (fault_of WrongValue t)) (latitude_before ts)) (λ y. length y.1 ≤ length (t ∷ ts))
+    left true y = tt
+    left false None = tt
+    left false (Some y) = omega arith
+
+module _ (tail : Tail) (n : ℕ) (below : (b : Block) (own : Entries) (o : OpenBlocks) (ts : List TokenValue) → length ts ≤ n → is_full b (above b o) ≡ false → reads tail n (Keywords b) (drafts_of (in_block b own o)) ts ≡ and_then (block_in tail n b (above b o) own ts) (closed b o)) where
+  module _ (b : Block) (own : Entries) (o : OpenBlocks) (t : TokenValue) (ts : List TokenValue) (room : is_full b (above b o) ≡ false) (p : length ts ≤ n) where
+    ends-here : and_then (read_end b (drafts_of (in_block b own o)) t) (read_after tail n (Keywords b) ts)
+        ≡ and_then (and_then (ends_unless (closing_fault b (above b o) own t)) (block_after tail n b (above b o) own ts)) (closed b o)
+    ends-here = end-step tail n b own o t ts (draft.is_full b (drafts_of (in_block b own o))) (closing_fault b (above b o) own t) (ends b (drafts_of (in_block b own o)) t) (same-room b own o ∙ room) (same-end b own o t)
+
+    -- an inner block is read, and then this one goes on
+    module _ (c : Block) (inside : Nests c b) where
+      inner-read : is_full c own ≡ false → reads tail n (Keywords c) (drafts_of (in_block b own o)) ts ≡ and_then (block_in tail n c own Nothing ts) (λ inner. Ok (drafts_of (in_block b (Inside c inner.0 own) o), inner.1))
+      inner-read free =
+          let at : reads tail n (Keywords c) (drafts_of (in_block c Nothing (in_block b own o))) ts ≡ and_then (block_in tail n c (above c (in_block b own o)) Nothing ts) (closed c (in_block b own o)) = below c Nothing (in_block b own o) ts p (ap (is_full c) (inside.parent own o) ∙ free) in
+          ap (λ v. reads tail n (Keywords c) (drafts_of v) ts) (sym (inside.opened own o))
+          ∙ at
+          ∙ ap (λ v. and_then (block_in tail n c v Nothing ts) (closed c (in_block b own o))) (inside.parent own o)
+          ∙ same-next (block_in tail n c own Nothing ts) _ _ (λ inner. ap (λ v. Ok (drafts_of v, inner.1)) (inside.ended inner.0 own o))
+
+      room-inside : draft.is_full c (drafts_of (in_block b own o)) ≡ is_full c own
+      room-inside =
+          ap (λ v. draft.is_full c (drafts_of v)) (sym (inside.opened own o))
+          ∙ same-room c Nothing (in_block b own o)
+          ∙ ap (is_full c) (inside.parent own o)
+
+      opens-here : (full : Bool) → full ≡ is_full c own →
+          and_then (if full then refused Limit t else Ok (Enters (Keywords c), drafts_of (in_block b own o))) (read_after tail n (Keywords b) ts)
+          ≡ and_then (and_then (if full then refused Limit t else Ok (Opens c)) (block_after tail n b (above b o) own ts)) (closed b o)
+      opens-here true q = refl
+      opens-here false q =
+          same-then (block_in tail n c own Nothing ts) (reads tail n (Keywords c) (drafts_of (in_block b own o)) ts) (λ inner. (drafts_of (in_block b (Inside c inner.0 own) o), inner.1)) (λ e. reads tail n (Keywords b) e.0 e.1) (λ inner. block_in tail n b (above b o) (Inside c inner.0 own) inner.1) (closed b o)
+          (inner-read (sym q))
+          (λ inner is. below b (Inside c inner.0 own) o inner.1 (left-over inner is) room)
+        where
+          left-over : (inner : Entries × List TokenValue) → block_in tail n c own Nothing ts ≡ Ok inner → length inner.1 ≤ n
+          left-over inner is =
+              let l : LeavesAtMost (length ts) (reads tail n (Keywords c) (drafts_of (in_block b own o)) ts) = reads-at_most tail n (Keywords c) (drafts_of (in_block b own o)) ts in
+              let e : reads tail n (Keywords c) (drafts_of (in_block b own o)) ts ≡ Ok (drafts_of (in_block b (Inside c inner.0 own) o), inner.1) = inner-read (sym q) ∙ ap (λ r. and_then r (λ x. Ok (drafts_of (in_block b (Inside c x.0 own) o), x.1))) is in
+              let k : length inner.1 ≤ length ts = subst (LeavesAtMost (length ts)) e l in
+              omega arith
+
+    -- a value is read, and the block notes it
+    takes-here : (e : Expected) → home_of e ≡ b →
+        and_then (reads tail n (Values e) (drafts_of (in_block b own o)) ts) (λ r. reads tail n (Keywords b) r.0 r.1)
+        ≡ and_then (and_then (value_in tail e ts) (λ v. block_in tail n b (above b o) (Said v.value v.line own) v.rest)) (closed b o)
+    takes-here e home =
+        same-then (value_in tail e ts) (reads tail n (Values e) (drafts_of (in_block b own o)) ts) (noted (drafts_of (in_block b own o))) (λ r. reads tail n (Keywords b) r.0 r.1) (λ v. block_in tail n b (above b o) (Said v.value v.line own) v.rest) (closed b o)
+        (reads-value tail n e (drafts_of (in_block b own o)) ts p)
+        (λ v is.
+        let given : IsGivenIn b (length ts) v = subst (λ r. IfOk r (IsGivenIn b (length ts))) is (subst (λ c. IfOk (value_in tail e ts) (IsGivenIn c (length ts))) home (value-given tail (length ts) e ts (omega arith))) in
+        ap (λ d. reads tail n (Keywords b) d v.rest) (given.noted v.line own o)
+        ∙ below b (Said v.value v.line own) o v.rest (let k : length v.rest ≤ length ts = given.left in omega arith) room)
+
+    role-here : (r : Option Role) → Fits b r →
+        and_then (read_role b r (drafts_of (in_block b own o)) t) (read_after tail n (Keywords b) ts)
+        ≡ and_then (and_then (role_says b r (above b o) own t) (block_after tail n b (above b o) own ts)) (closed b o)
+    role-here None f = refl
+    role-here (Some role.Closes) f = ends-here
+    role-here (Some (role.Opens c)) f =
+        ap (λ full. and_then (if full then refused Limit t else Ok (Enters (Keywords c), drafts_of (in_block b own o))) (read_after tail n (Keywords b) ts)) (room-inside c f)
+        ∙ opens-here c f (is_full c own) refl
+    role-here (Some (role.Takes e)) f = takes-here e f
+
+  -- a token in POINTS
+  module _ (own : Entries) (o : OpenBlocks) (t : TokenValue) (ts : List TokenValue) (p : length ts ≤ n) where
+    vertex-here : (full : Bool) (x : Option ℤ) → nat_le MAX_VERTICES (vertex_count o.feature own) ≡ full →
+        and_then (and_then (if full then refused Limit t else ok_or x (fault_of WrongValue t)) (λ c. Ok (GoesOn (Latitude c), drafts_of (in_block block.Points own o)))) (read_after tail n (Keywords block.Points) ts)
+        ≡ and_then (and_then (if full then refused Limit t else and_then (ok_or x (fault_of WrongValue t)) (λ c. Ok (Longitude c))) (block_after tail n block.Points o.feature own ts)) (closed block.Points o)
+    vertex-here true x q = refl
+    vertex-here false None q = refl
+    vertex-here false (Some x) q =
+        latitude-step tail x own o q n ts p
+        ∙ same-then (latitude_in tail ts) (latitude_in tail ts) (λ y. y) (λ y. reads tail n (Keywords block.Points) (with_latitude tail x own o q y.0) y.1) (λ y. block_in tail n block.Points o.feature (Vertex (record { x = x; y = y.0 }) own) y.1) (closed block.Points o)
+        (same-all (latitude_in tail ts))
+        (λ y is. below block.Points (Vertex (record { x = x; y = y.0 }) own) o y.1 (let l : length y.1 ≤ length ts = subst (λ r. IfOk r (λ v. length v.1 ≤ length ts)) is (latitude-left tail ts) in omega arith) refl)
+
+    points-here : (last : Bool) →
+        and_then (if last then read_end block.Points (drafts_of (in_block block.Points own o)) t else and_then (coordinate_at (drafts_of (in_block block.Points own o)) t) (λ c. Ok (GoesOn (Latitude c), drafts_of (in_block block.Points own o)))) (read_after tail n (Keywords block.Points) ts)
+        ≡ and_then (and_then (if last then ends_unless (closing_fault block.Points o.feature own t) else vertex_says o.feature own t) (block_after tail n block.Points o.feature own ts)) (closed block.Points o)
+    points-here true = ends-here block.Points own o t ts refl p
+    points-here false = vertex-here (nat_le MAX_VERTICES (vertex_count o.feature own)) (coordinate_of t.text) refl
+
+  token-here : (b : Block) (own : Entries) (o : OpenBlocks) (t : TokenValue) (ts : List TokenValue) → length ts ≤ n → is_full b (above b o) ≡ false →
+      and_then (read_token (Keywords b) (drafts_of (in_block b own o)) t) (read_after tail n (Keywords b) ts)
+      ≡ and_then (and_then (says b (above b o) own t) (block_after tail n b (above b o) own ts)) (closed b o)
+  token-here block.Points own o t ts p q = points-here own o t ts p (is_end t)
+  token-here block.Map own o t ts p q = role-here block.Map own o t ts q p _ (fits-option block.Map (keyword_at t))
+  token-here block.Layer own o t ts p q = role-here block.Layer own o t ts q p _ (fits-option block.Layer (keyword_at t))
+  token-here block.Class own o t ts p q = role-here block.Class own o t ts q p _ (fits-option block.Class (keyword_at t))
+  token-here block.Style own o t ts p q = role-here block.Style own o t ts q p _ (fits-option block.Style (keyword_at t))
+  token-here block.Feature own o t ts p q = role-here block.Feature own o t ts q p _ (fits-option block.Feature (keyword_at t))
+
+-- a block is read in drafts as it is read by what it says
+joined : (tail : Tail) (n : ℕ) (b : Block) (own : Entries) (o : OpenBlocks) (ts : List TokenValue) → length ts ≤ n → is_full b (above b o) ≡ false → reads tail n (Keywords b) (drafts_of (in_block b own o)) ts ≡ and_then (block_in tail n b (above b o) own ts) (closed b o)
+unfolding reads block_in
+joined tail zero b own o [] p q = refl
+joined tail (suc n) b own o [] p q = refl
+joined tail zero b own o (t ∷ ts) p q = absurd (omega arith)
+joined tail (suc n) b own o (t ∷ ts) p q = token-here tail n (λ c inner v us. joined tail n c inner v us) b own o t ts (omega arith) q
+
+-- nothing is open
+abbrev none_open : OpenBlocks
+none_open = record { map = Nothing; layer = Nothing; class = Nothing; style = Nothing; feature = Nothing; points = Nothing }
+
+-- what the entries of a map come to
+abbrev pub to_tree : Entries → Result MapTree Fault
+to_tree own = Ok (map_tree own)
+
+alone-same : (tail : Tail) (own : Entries) (ts : List TokenValue) → pass.alone tail (drafts_of (in_block block.Map own none_open)) ts ≡ and_then (meaning.alone tail own ts) to_tree
+alone-same (tails.Ends line) own [] = refl
+alone-same (tails.Breaks f) own [] = refl
+alone-same (tails.Ends line) own (t ∷ ts) = refl
+alone-same (tails.Breaks f) own (t ∷ ts) = refl
+
+map-same : (tail : Tail) (r : BlockRead) → and_then (and_then r (closed block.Map none_open)) (λ e. pass.alone tail e.0 e.1) ≡ and_then (and_then r (λ own. meaning.alone tail own.0 own.1)) to_tree
+map-same tail (Ok e) = alone-same tail e.0 e.1
+map-same tail (Err f) = refl
+
+begun-same : (tail : Tail) (t : TokenValue) (ts : List TokenValue) (begins : Bool) → (if begins then pass.map_body tail ts else refused UnknownWord t) ≡ and_then (if begins then map_in tail ts else refused UnknownWord t) to_tree
+begun-same tail t ts true =
+    ap (λ r. and_then r (λ e. pass.alone tail e.0 e.1)) (joined tail (length ts) block.Map Nothing none_open ts (omega arith) refl)
+    ∙ map-same tail (block_in tail (length ts) block.Map Nothing Nothing ts)
+begun-same tail t ts false = refl
+
+-- a pass over the tokens gives what they mean
+pub same-meaning : (ts : List TokenValue) (tail : Tail) → passed ts tail ≡ and_then (meaning.meaning ts tail) to_tree
+same-meaning [] tail = refl
+same-meaning (t ∷ ts) tail = begun-same tail t ts (is_at keyword.Map t)

@@ -1,0 +1,50 @@
+-- What a block says (docs/MAPFILE.md, "Blocks and words").
+use Rattle.std.specs.Prelude.{ℕ, ◌+◌, ◌==◌, if◌then◌else◌, List, [], ◌∷◌, ◌++◌, length, map, sum_by, Option, None}
+use Rattle.std.specs.Option.{option_or}
+use Rattle.geom.specs.World.{Place}
+use Rattle.mapparse.specs.declared.context.Block.{Block}
+use Rattle.mapparse.specs.declared.context.Block.TheVariants as block
+use Rattle.mapparse.specs.declared.value.Value.{Value}
+
+-- the entries of a block, the last one first: a keyword with its value and the line of the value's last token, a vertex,
+-- or an inner block with its own entries
+pub data Entries : Type 0 where
+  Nothing : Entries
+  Said : Value → ℕ → Entries → Entries
+  Vertex : Place → Entries → Entries
+  Inside : Block → Entries → Entries → Entries
+
+-- the last of the values that are wanted
+abbrev pub last : {A : Type 0} → (Value → ℕ → Option A) → Entries → Option A
+last wanted Nothing = None
+last wanted (Said value line before) = option_or (wanted value line) (last wanted before)
+last wanted (Vertex vertex before) = last wanted before
+last wanted (Inside b inner before) = last wanted before
+
+-- a number for each kind of block
+abbrev pub block_number : Block → ℕ
+block_number block.Map = 0
+block_number block.Layer = 1
+block_number block.Class = 2
+block_number block.Style = 3
+block_number block.Feature = 4
+block_number block.Points = 5
+
+-- the inner blocks of a kind, in their order
+abbrev pub blocks : Block → Entries → List Entries
+blocks b Nothing = []
+blocks b (Said value line before) = blocks b before
+blocks b (Vertex vertex before) = blocks b before
+blocks b (Inside c inner before) =
+    if block_number b == block_number c then blocks b before ++ inner ∷ [] else blocks b before
+
+-- the vertices, in their order
+abbrev pub vertices : Entries → List Place
+vertices Nothing = []
+vertices (Said value line before) = vertices before
+vertices (Vertex vertex before) = vertices before ++ vertex ∷ []
+vertices (Inside b inner before) = vertices before
+
+-- how many vertices a FEATURE has with those of its open POINTS
+abbrev pub vertex_count : Entries → Entries → ℕ
+vertex_count feature points = sum_by length (map vertices (blocks block.Points feature)) + length (vertices points)

@@ -1,0 +1,76 @@
+-- What one token says in a block (docs/MAPFILE.md, "Blocks and words").
+use Rattle.std.specs.Prelude.{ℤ, Bool, false, if◌then◌else◌, nat_le, List, ◌==◌, length, Option, None, Some, option_and_then, Result, Ok, Err}
+use Rattle.std.specs.Option.{ok_or}
+use Rattle.maplex.specs.Token.{TokenValue}
+use Rattle.geom.specs.Number.{coordinate_of}
+use Rattle.mapdefs.specs.declared.limits.TheConstants.{MAX_LAYERS, MAX_CLASSES, MAX_STYLES, MAX_FEATURES, MAX_VERTICES}
+use Rattle.mapdefs.specs.declared.layer.Kind.{Kind}
+use Rattle.mapparse.specs.declared.context.Block.{Block}
+use Rattle.mapparse.specs.declared.context.Block.TheVariants as block
+use Rattle.mapparse.specs.declared.context.Expected.{Expected}
+use Rattle.mapparse.specs.declared.context.Role.{Role}
+use Rattle.mapparse.specs.declared.context.Role.TheVariants as role
+use Rattle.mapparse.specs.declared.draft.Named.{Named}
+use Rattle.mapparse.specs.declared.fault.Fault.{Fault}
+use Rattle.mapparse.specs.declared.fault.ParseKind.TheVariants.{UnknownWord, WrongValue, MissingValue, Limit, DuplicateName}
+use Rattle.mapparse.specs.declared.tree.LayerTree.{LayerTree}
+use Rattle.mapparse.specs.Entries.{Entries, last, blocks, vertices, vertex_count}
+use Rattle.mapparse.specs.Fault.{fault_of, refused, and_then}
+use Rattle.mapparse.specs.Name.{is_taken}
+use Rattle.mapparse.specs.Keyword.{keyword_at, is_end}
+use Rattle.mapparse.specs.Table.{role_of}
+use Rattle.mapparse.specs.Tree.{layer_name, layer_kind, map_tree}
+
+-- what a token says: the block ends, an inner block opens, a keyword takes values, or a vertex has this longitude
+pub data Saying : Type 0 where
+  Ends : Saying
+  Opens : Block → Saying
+  Takes : Expected → Saying
+  Longitude : ℤ → Saying
+
+-- the END of a LAYER asks for a NAME, which none of the earlier layers has, and a TYPE
+abbrev pub layer_fault : Option Named → Option Kind → List LayerTree → TokenValue → Option Fault
+layer_fault (Some name) (Some kind) earlier t =
+    if is_taken name.text earlier then Some (record { line = name.line; kind = DuplicateName }) else None
+layer_fault _ _ earlier t = Some (fault_of MissingValue t)
+
+-- what is wrong at the END of a block, by what its parent says before it and what it says itself
+abbrev pub closing_fault : Block → Entries → Entries → TokenValue → Option Fault
+closing_fault block.Layer above own t = layer_fault (last layer_name own) (last layer_kind own) (map_tree above).layers t
+closing_fault block.Feature above own t = if length (blocks block.Points own) == 0 then Some (fault_of MissingValue t) else None
+closing_fault block.Points above own t = if length (vertices own) == 0 then Some (fault_of MissingValue t) else None
+closing_fault _ above own t = None
+
+-- the END of a block ends it where nothing is wrong
+abbrev pub ends_unless : Option Fault → Result Saying Fault
+ends_unless None = Ok Ends
+ends_unless (Some f) = Err f
+
+-- the block has as many inner blocks of this kind as a map may have
+abbrev pub is_full : Block → Entries → Bool
+is_full block.Layer own = nat_le MAX_LAYERS (length (blocks block.Layer own))
+is_full block.Class own = nat_le MAX_CLASSES (length (blocks block.Class own))
+is_full block.Style own = nat_le MAX_STYLES (length (blocks block.Style own))
+is_full block.Feature own = nat_le MAX_FEATURES (length (blocks block.Feature own))
+is_full _ own = false
+
+-- a keyword does what the table says of it in this block
+abbrev pub role_says : Block → Option Role → Entries → Entries → TokenValue → Result Saying Fault
+role_says b None above own t = refused UnknownWord t
+role_says b (Some role.Closes) above own t = ends_unless (closing_fault b above own t)
+role_says b (Some (role.Opens inner)) above own t = if is_full inner own then refused Limit t else Ok (Opens inner)
+role_says b (Some (role.Takes expected)) above own t = Ok (Takes expected)
+
+-- in POINTS stands their END, or the longitude of a vertex, for which the feature has room
+abbrev pub vertex_says : Entries → Entries → TokenValue → Result Saying Fault
+vertex_says above own t =
+    if nat_le MAX_VERTICES (vertex_count above own) then refused Limit t
+    else and_then (ok_or (coordinate_of t.text) (fault_of WrongValue t)) (λ x. Ok (Longitude x))
+
+abbrev pub points_say : Entries → Entries → TokenValue → Result Saying Fault
+points_say above own t = if is_end t then ends_unless (closing_fault block.Points above own t) else vertex_says above own t
+
+-- what a token says in a block, of which the parent says this before it, and the block this so far
+abbrev pub says : Block → Entries → Entries → TokenValue → Result Saying Fault
+says block.Points above own t = points_say above own t
+says b above own t = role_says b (option_and_then (role_of b) (keyword_at t)) above own t
