@@ -1,6 +1,6 @@
 -- What is lexed of a source accounts for each of its bytes, by the grammar.
 use Rattle.std.proofs.Common.{◌≡◌, ◌≢◌, ℕ, zero, suc, ◌+◌, ◌<◌, ◌≤◌, Bool, true, false, not, cond, ◌||◌, ◌==◌, List, [], ◌∷◌, ◌++◌, length, take, drop, None, Some, Result, Ok, Err, All, refl, sym, ◌∙◌, ap, subst, arith, add-zero}
-use Rattle.std.specs.Prelude.{IsFalse, nat_lt, position, if◌then◌else◌}
+use Rattle.std.specs.Prelude.{IsFalse, nat_lt, if◌then◌else◌}
 use Rattle.std.specs.List.{position_or_len}
 use Rattle.std.specs.Str.{IsUtf8, is_utf8}
 use Rattle.std.specs.Str.Lossy.{valid_len_up_to, utf8_valid_len}
@@ -15,12 +15,15 @@ use Rattle.maplex.specs.declared.extent.Extent.{Extent}
 use Rattle.maplex.specs.declared.fault.LexKind.{LexKind}
 use Rattle.maplex.specs.declared.fault.LexKind.TheVariants.{BadByte, TooLong}
 use Rattle.maplex.specs.declared.fault.Tail.TheVariants.{Ends, Breaks}
+use Rattle.maplex.specs.declared.token.Shape.TheVariants as shape
 use Rattle.maplex.specs.declared.token.TheConstants.{TOKEN_LIMIT}
-use Rattle.maplex.specs.Token.{Step, Stops, Reads, step, step_of, checked_at, unless, token_at, extent_of, text_extent, word_extent, token_len, text_of, bad_at, fault}
-use Rattle.maplex.specs.Byte.{is_separator, is_quote, is_bracket, ends_word, is_control}
+use Rattle.maplex.specs.Token.{Step, Stops, Reads, step, step_of, checked_at, unless, token_at, extent_of, extent_by, closed_extent, word_extent, token_len, text_of, bad_at, fault}
+use Rattle.maplex.specs.Byte.{is_separator, is_quote, is_bracket, is_closing, ends_word, is_control}
+use Rattle.maplex.specs.Logic.{opened, inner_len}
 use Rattle.maplex.specs.Position.{Position, start, line_ends, blank_len, after_blanks}
-use Rattle.maplex.specs.Grammar.{AreBlanks, nothing, separator, comment, last_comment, IsPlain, IsOver, IsWritten, IsGoodText, BeginsWith, IsFault, open_text, bracket, bad_byte, too_long, line_after, IsReading, ends, breaks, reads, LexedFollowsGrammar}
+use Rattle.maplex.specs.Grammar.{AreBlanks, nothing, separator, comment, last_comment, IsPlain, IsOver, IsWritten, IsGoodText, BeginsWith, IsFault, open_text, open_logic, open_list, bracket, bad_byte, too_long, line_after, IsReading, ends, breaks, reads, LexedFollowsGrammar}
 use Rattle.maplex.specs.Lexed.{Lexed, ended, lexed, lexed_within, EndIsOnLastLine}
+use Rattle.maplex.proofs.Balanced.{balanced-before, closing-after, never-closed_from}
 use Rattle.maplex.proofs.Lexing.{FitsPosition, step-fits, after_step, lexed_within-suc, lexed_within-empty, blank_len-after_blanks, nothing-left}
 
 -- a byte more of a comment
@@ -110,21 +113,47 @@ abbrev ExtentFits : List ℕ → Result Extent LexKind → Type 0
 ExtentFits bytes (Ok e) = IsWritten e.shape (text_of e bytes) (take (token_len e) bytes) (drop (token_len e) bytes)
 ExtentFits bytes (Err kind) = (line : ℕ) → IsFault line bytes (fault line kind)
 
+-- a token that goes from a byte to the next closing one
+between : (b closing : ℕ) (bs : List ℕ) → position_or_len (λ c. c == closing) bs < length bs →
+    take (position_or_len (λ c. c == closing) bs + 2) (b ∷ bs) ≡ b ∷ (take (position_or_len (λ c. c == closing) bs) bs ++ (closing ∷ []))
+between b closing bs lt =
+    let size = position_or_len (λ c. c == closing) bs in
+    let both : size + 2 ≡ suc (suc size) = omega arith in
+    ap (λ n. take n (b ∷ bs)) both ∙ ap (λ cs. b ∷ cs) (found closing bs lt)
+
 no_quote : (b : ℕ) (bs : List ℕ) → All (λ c. IsFalse (c == b)) bs → All (λ c. c ≢ b) bs
 no_quote b bs h = All-weaker (λ c. IsFalse (c == b)) (λ c. c ≢ b) (λ c e. eqb-false c b e) bs h
 
 quoted-fits : (b : ℕ) (bs : List ℕ) (comes : Bool) → is_quote b ≡ true → nat_lt (position_or_len (λ c. c == b) bs) (length bs) ≡ comes →
-    ExtentFits (b ∷ bs) (text_extent (cond comes (Some (position_or_len (λ c. c == b) bs)) None))
+    ExtentFits (b ∷ bs) (closed_extent shape.Text (cond comes (Some (position_or_len (λ c. c == b) bs)) None))
 quoted-fits b bs true q e = record {
   quote = b;
   opens = q;
-  between =
-      let size = position_or_len (λ c. c == b) bs in
-      let both : size + 2 ≡ suc (suc size) = omega arith in
-      ap (λ n. take n (b ∷ bs)) both ∙ ap (λ cs. b ∷ cs) (found b bs (ltb-true _ _ e));
+  between = between b b bs (ltb-true _ _ e);
   goes_on = no_quote b _ (fails-before (λ c. c == b) bs);
 }
 quoted-fits b bs false q e = λ line. open_text b bs q (no_quote b bs (not-found (λ c. c == b) bs (ltb-false _ _ e)))
+
+list-fits : (bs : List ℕ) (comes : Bool) → nat_lt (position_or_len (λ c. c == 125) bs) (length bs) ≡ comes →
+    ExtentFits (123 ∷ bs) (closed_extent shape.List (cond comes (Some (position_or_len (λ c. c == 125) bs)) None))
+list-fits bs true e = record {
+  between = between 123 125 bs (ltb-true _ _ e);
+  goes_on = no_quote 125 _ (fails-before (λ c. c == 125) bs);
+}
+list-fits bs false e = λ line. open_list bs (no_quote 125 bs (not-found (λ c. c == 125) bs (ltb-false _ _ e)))
+
+logic-fits : (bs : List ℕ) (closes : Bool) → nat_lt (inner_len (opened 0 None) bs) (length bs) ≡ closes →
+    ExtentFits (40 ∷ bs) (closed_extent shape.Logic (if closes then Some (2 + inner_len (opened 0 None) bs) else None))
+logic-fits bs true e =
+    let at = inner_len (opened 0 None) bs in
+    let both : 2 + at ≡ suc (suc at) = omega arith in
+    record {
+      same = ap (λ n. take n (40 ∷ bs)) (add-zero (2 + at));
+      inner = take at bs;
+      balanced = balanced-before bs (ltb-true _ _ e);
+      between = ap (λ n. take n (40 ∷ bs)) both ∙ ap (λ cs. 40 ∷ cs) (closing-after bs (ltb-true _ _ e));
+    }
+logic-fits bs false e = λ line. open_logic bs (never-closed_from bs (ltb-false _ _ e))
 
 word-fits : (b : ℕ) (bs : List ℕ) → ends_word b ≡ false → ExtentFits (b ∷ bs) (Ok (word_extent bs))
 word-fits b bs goes_on = record {
@@ -143,11 +172,26 @@ record BeginsToken (b : ℕ) : Type 0 where
   pub separates : is_separator b ≡ false
   pub comments : (b == 35) ≡ false
 
-extent-fits : (b : ℕ) (bs : List ℕ) (quote bracket' : Bool) → is_quote b ≡ quote → is_bracket b ≡ bracket' → BeginsToken b →
-    ExtentFits (b ∷ bs) (if quote then text_extent (position (λ c. c == b) bs) else (if bracket' then Err BadByte else Ok (word_extent bs)))
-extent-fits b bs true bracket' q k begins = quoted-fits b bs (nat_lt (position_or_len (λ c. c == b) bs) (length bs)) q refl
-extent-fits b bs false true q k begins = λ line. bracket b bs k
-extent-fits b bs false false q k begins = word-fits b bs (or_from _ _ (or_from _ _ (or_from _ _ begins.separates q) begins.comments) k)
+-- the byte of a bare word is none that opens or closes
+word-goes_on : (b : ℕ) → BeginsToken b → is_quote b ≡ false → (b == 40) ≡ false → (b == 123) ≡ false → is_closing b ≡ false → ends_word b ≡ false
+word-goes_on b begins q round curly closing =
+    let closes = or_parts (b == 41) (b == 125) closing in
+    let brackets : is_bracket b ≡ false = or_from _ _ (or_from _ _ (or_from _ _ round closes.0) curly) closes.1 in
+    or_from _ _ (or_from _ _ (or_from _ _ begins.separates q) begins.comments) brackets
+
+extent-fits : (b : ℕ) (bs : List ℕ) (quote round curly closing : Bool) → is_quote b ≡ quote → (b == 40) ≡ round → (b == 123) ≡ curly → is_closing b ≡ closing →
+    BeginsToken b → ExtentFits (b ∷ bs) (extent_by
+    (if quote then Some shape.Text
+    else (if round then Some shape.Logic
+    else (if curly then Some shape.List
+    else (if closing then None else Some shape.Word)))) b bs)
+extent-fits b bs true round curly closing q r k c begins = quoted-fits b bs (nat_lt (position_or_len (λ c. c == b) bs) (length bs)) q refl
+extent-fits b bs false true curly closing q r k c begins =
+    let fits = logic-fits bs (nat_lt (inner_len (opened 0 None) bs) (length bs)) refl in rw (eqb-true b 40 r) fits
+extent-fits b bs false false true closing q r k c begins =
+    let fits = list-fits bs (nat_lt (position_or_len (λ c. c == 125) bs) (length bs)) refl in rw (eqb-true b 123 k) fits
+extent-fits b bs false false false true q r k c begins = λ line. bracket b bs c
+extent-fits b bs false false false false q r k c begins = word-fits b bs (word-goes_on b begins q r k c)
 
 -- a position with no blank before its bytes
 begins-token : (b : ℕ) (bs : List ℕ) (is_comment is_blank : Bool) → (b == 35) ≡ is_comment → is_separator b ≡ is_blank → blanks_at is_comment is_blank bs ≡ 0 → BeginsToken b
@@ -210,7 +254,7 @@ step_of-fits : (p : Position) (bytes : List ℕ) → p.rest ≡ bytes → blank_
 step_of-fits p [] same no_blank = (refl, same)
 step_of-fits p (b ∷ bs) same no_blank =
     let begins = begins-token b bs (b == 35) (is_separator b) refl refl no_blank in
-    checked_at-fits p (extent_of b bs) (subst (λ bytes. ExtentFits bytes (extent_of b bs)) (sym same) (extent-fits b bs (is_quote b) (is_bracket b) refl refl begins))
+    checked_at-fits p (extent_of b bs) (subst (λ bytes. ExtentFits bytes (extent_of b bs)) (sym same) (extent-fits b bs (is_quote b) (b == 40) (b == 123) (is_closing b) refl refl refl refl begins))
 
 -- the line after more bytes
 pub line_after-append : (before more : List ℕ) → line_after before + line_ends more ≡ line_after (before ++ more)

@@ -1,13 +1,17 @@
 -- What is lexed from a position on.
-use Rattle.std.proofs.Common.{◌≡◌, ℕ, zero, suc, ◌<◌, ◌≤◌, Bool, true, false, not, ◌==◌, List, [], ◌∷◌, length, drop, Option, None, Some, Result, Ok, Err, IfOk, IfSome, refl, sym, ◌∙◌, ap, arith, length-drop, add-zero}
+use Rattle.std.proofs.Common.{◌≡◌, ℕ, zero, suc, ◌+◌, ◌<◌, ◌≤◌, Bool, true, false, not, ◌==◌, List, [], ◌∷◌, length, drop, Option, None, Some, Result, Ok, Err, IfOk, IfSome, refl, sym, ◌∙◌, ap, arith, length-drop, add-zero}
+use Rattle.std.specs.Prelude.{nat_lt, position, if◌then◌else◌}
 use Rattle.std.proofs.Math.Numerals.{one-add}
 use Rattle.maplex.specs.declared.extent.Extent.{Extent}
 use Rattle.maplex.specs.declared.fault.LexKind.{LexKind}
 use Rattle.maplex.specs.declared.fault.LexFault.{LexFault}
 use Rattle.maplex.specs.declared.fault.Tail.{Tail}
 use Rattle.maplex.specs.declared.fault.Tail.TheVariants.{Ends, Breaks}
+use Rattle.maplex.specs.declared.token.Shape.{Shape}
+use Rattle.maplex.specs.declared.token.Shape.TheVariants as shape
+use Rattle.maplex.specs.Logic.{opened, inner_len}
 use Rattle.maplex.specs.Position.{Position, start, further, blank_len, after_blanks}
-use Rattle.maplex.specs.Token.{TokenValue, Step, Stops, Reads, step, step_of, checked_at, unless, token_at, extent_of, text_extent, token_len, text_fault, text_of}
+use Rattle.maplex.specs.Token.{TokenValue, Step, Stops, Reads, step, step_of, checked_at, unless, token_at, shape_of, extent_of, extent_by, closed_extent, border_len, token_len, text_fault, text_of}
 use Rattle.maplex.specs.Lexed.{Lexed, stopped, ended, with_token, lexed_within, lexed_from, HasEnded, BytesAreEnough}
 
 -- after blanks there is none
@@ -52,12 +56,24 @@ fits-checked_at p (Ok e) some takes =
     fits-unless p (text_fault p.line (text_of e p.rest)) (token_at p e) (text_fault-line p.line (text_of e p.rest))
     (refl, omega (arith, length-drop (token_len e) p.rest))
 
-text_extent-takes : (o : Option ℕ) → IfOk (text_extent o) (λ e. 0 < token_len e)
-text_extent-takes None = tt
-text_extent-takes (Some n) = omega arith
+-- a token takes a byte at least: a bare word its first, others those that open and close it
+bordered-takes : (s : Shape) (o : Option ℕ) → border_len s ≡ 1 → IfOk (closed_extent s o) (λ e. 0 < token_len e)
+bordered-takes s None one = tt
+bordered-takes s (Some n) one = rw one (omega arith)
+
+logic-takes : (n : ℕ) (closes : Bool) → IfOk (closed_extent shape.Logic (if closes then Some (2 + n) else None)) (λ e. 0 < token_len e)
+logic-takes n true = omega arith
+logic-takes n false = tt
+
+extent_by-takes : (o : Option Shape) (b : ℕ) (bs : List ℕ) → IfOk (extent_by o b bs) (λ e. 0 < token_len e)
+extent_by-takes None b bs = tt
+extent_by-takes (Some shape.Word) b bs = omega arith
+extent_by-takes (Some shape.Text) b bs = bordered-takes shape.Text (position (λ c. c == b) bs) refl
+extent_by-takes (Some shape.Logic) b bs = logic-takes (inner_len (opened 0 None) bs) (nat_lt (inner_len (opened 0 None) bs) (length bs))
+extent_by-takes (Some shape.List) b bs = bordered-takes shape.List (position (λ c. c == 125) bs) refl
 
 extent_of-takes : (b : ℕ) (bs : List ℕ) → IfOk (extent_of b bs) (λ e. 0 < token_len e)
-extent_of-takes b bs = grind (arith, text_extent-takes)
+extent_of-takes b bs = extent_by-takes (shape_of b) b bs
 
 step_of-fits : (p : Position) (bytes : List ℕ) → p.rest ≡ bytes → FitsPosition p (step_of p bytes)
 step_of-fits p [] h = (refl, h)

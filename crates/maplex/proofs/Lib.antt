@@ -1,3 +1,4 @@
+pub mod Balanced
 pub mod Grammar
 pub mod Lexing
 pub mod OneReading

@@ -1,8 +1,8 @@
 -- The grammar reads a source in one way, which is what is lexed of it.
 use Rattle.std.proofs.Common.{◌≡◌, ◌≢◌, ℕ, ◌+◌, ◌≤◌, Bool, true, false, ◌==◌, List, [], ◌∷◌, ◌++◌, length, take, drop, None, Some, Ok, All, refl, sym, ◌∙◌, ap, arith, add-zero}
-use Rattle.std.specs.Prelude.{IsFalse, nat_lt}
+use Rattle.std.specs.Prelude.{IsFalse, nat_lt, ◌||◌, position}
 use Rattle.std.specs.List.{position_or_len}
-use Rattle.std.proofs.lemmas.Bool.{false≢true, lt-ltb, le-ltb, ne_eqb, eq-eqb, true_from_ne_false}
+use Rattle.std.proofs.lemmas.Bool.{false≢true, lt-ltb, le-ltb, ne_eqb, eq-eqb, or_parts, or_from, true_from_ne_false}
 use Rattle.std.proofs.lemmas.List.{append-nil, append_assoc, length-append}
 use Rattle.std.proofs.lemmas.List.Elements.{All-head, All-tail, All-weaker}
 use Rattle.std.proofs.lemmas.Bool.Decides.{nat_tests}
@@ -12,14 +12,16 @@ use Rattle.maplex.specs.declared.extent.Extent.{Extent}
 use Rattle.maplex.specs.declared.fault.LexFault.{LexFault}
 use Rattle.maplex.specs.declared.fault.Tail.TheVariants.{Breaks}
 use Rattle.maplex.specs.declared.token.Shape.{Shape}
-use Rattle.maplex.specs.declared.token.Shape.TheVariants.{Word, Text}
+use Rattle.maplex.specs.declared.token.Shape.TheVariants as shape
 use Rattle.maplex.specs.declared.token.TheConstants.{TOKEN_LIMIT}
-use Rattle.maplex.specs.Byte.{is_separator, is_quote, is_bracket, ends_word, is_control}
+use Rattle.maplex.specs.Byte.{is_separator, is_quote, is_closing, ends_word, is_control}
+use Rattle.maplex.specs.Logic.{opened, inner_len}
 use Rattle.maplex.specs.Position.{Position, further, line_ends, blank_len}
-use Rattle.maplex.specs.Token.{Stops, Reads, step, step_of, checked_at, unless, extent_of, token_len, text_fault, text_of, bad_at}
+use Rattle.maplex.specs.Token.{Stops, Reads, step, step_of, checked_at, unless, shape_of, extent_of, token_len, text_fault, text_of, bad_at}
 use Rattle.maplex.specs.Lexed.{Lexed, with_token, lexed, lexed_from}
-use Rattle.maplex.specs.Grammar.{AreBlanks, nothing, separator, comment, last_comment, IsPlain, IsOver, IsBareWord, IsQuotedText, IsWritten, IsGoodText, BeginsWith, IsFault, open_text, bracket, bad_byte, too_long, line_after, IsReading, ends, breaks, reads, GrammarHasOneReading}
+use Rattle.maplex.specs.Grammar.{AreBlanks, nothing, separator, comment, last_comment, IsPlain, IsOver, IsBareWord, IsQuotedText, IsLogicText, IsListText, IsWritten, IsGoodText, BeginsWith, IsFault, open_text, open_logic, open_list, bracket, bad_byte, too_long, line_after, IsReading, ends, breaks, reads, GrammarHasOneReading}
 use Rattle.maplex.proofs.Lexing.{lexed_from-after_blanks, lexed_from-empty, lexed_from-stops, lexed_from-token}
+use Rattle.maplex.proofs.Balanced.{inner_len-closed, never-closed_to}
 use Rattle.maplex.proofs.Grammar.{line_after-append, plain-from, plain-to}
 
 -- how many bytes of blanks are counted, by what the first byte is
@@ -79,11 +81,31 @@ first-no_blank b bs first = rw (first.comments, first.separates) refl
 quote-first : (b : ℕ) → is_quote b ≡ true → IsFirst b
 quote-first b q = record { separates = grind (arith, nat_tests); comments = grind (arith, nat_tests) }
 
-bracket-first : (b : ℕ) → is_bracket b ≡ true → IsFirst b
-bracket-first b k = record { separates = grind (arith, nat_tests); comments = grind (arith, nat_tests) }
+round-first : IsFirst 40
+round-first = record { separates = refl; comments = refl }
 
-bracket-no_quote : (b : ℕ) → is_bracket b ≡ true → is_quote b ≡ false
-bracket-no_quote b k = grind (arith, nat_tests)
+curly-first : IsFirst 123
+curly-first = record { separates = refl; comments = refl }
+
+closing-first : (b : ℕ) → is_closing b ≡ true → IsFirst b
+closing-first b k = record { separates = grind (arith, nat_tests); comments = grind (arith, nat_tests) }
+
+-- a bracket that closes begins no token
+closing-shape : (b : ℕ) → is_closing b ≡ true → shape_of b ≡ None
+closing-shape b k =
+    let quote : is_quote b ≡ false = grind (arith, nat_tests) in
+    let round : (b == 40) ≡ false = grind (arith, nat_tests) in
+    let curly : (b == 123) ≡ false = grind (arith, nat_tests) in
+    rw (quote, round, curly, k) refl
+
+-- a byte of a bare word begins one
+plain-shape : (b : ℕ) → IsPlain b → shape_of b ≡ Some shape.Word
+plain-shape b plain =
+    let last = or_parts (b == 40 || b == 41 || b == 123) (b == 125) plain.bracket in
+    let curly = or_parts (b == 40 || b == 41) (b == 123) last.0 in
+    let round = or_parts (b == 40) (b == 41) curly.0 in
+    let closing : is_closing b ≡ false = or_from _ _ round.1 last.1 in
+    rw (plain.quote, round.0, curly.1, closing) refl
 
 -- how the first step cuts a token that is written before other bytes
 record IsCut (shape : Shape) (text written after : List ℕ) : Type 0 where
@@ -95,7 +117,7 @@ record IsCut (shape : Shape) (text written after : List ℕ) : Type 0 where
   text_is : text_of (record { shape = shape; size = length text }) (written ++ after) ≡ text
   len : token_len (record { shape = shape; size = length text }) ≡ length written
 
-cut-word : (text written after : List ℕ) → IsBareWord text written after → IsCut Word text written after
+cut-word : (text written after : List ℕ) → IsBareWord text written after → IsCut shape.Word text written after
 cut-word [] written after word = absurd (omega (arith, word.some))
 cut-word (b ∷ text) written after word =
     let plain = All-head IsPlain b text word.goes_on in
@@ -107,32 +129,76 @@ cut-word (b ∷ text) written after word =
       others = text ++ after;
       whole = ap (λ w. w ++ after) word.same;
       is_first = record { separates = plain.separator; comments = ne_eqb b 35 plain.comment };
-      extent = rw (plain.quote, plain.bracket) (ap (λ n. Ok (record { shape = Word; size = n })) size);
+      extent = rw (plain-shape b plain) (ap (λ n. Ok (record { shape = shape.Word; size = n })) size);
       text_is = ap (λ w. take (length (b ∷ text)) (w ++ after)) word.same ∙ take-append_seam (b ∷ text) after;
       len = omega (arith, ap length word.same);
     }
 
-cut-text : (text written after : List ℕ) → IsQuotedText text written → IsCut Text text written after
+-- the closing byte after a text without it
+closes-index : (closes : ℕ) (text after : List ℕ) → All (λ b. b ≢ closes) text →
+    position (λ c. c == closes) ((text ++ (closes ∷ [])) ++ after) ≡ Some (length text)
+closes-index closes text after goes_on =
+    let others = (text ++ (closes ∷ [])) ++ after in
+    let apart : others ≡ text ++ (closes ∷ after) = append_assoc text (closes ∷ []) after in
+    let index : position_or_len (λ c. c == closes) others ≡ length text =
+    ap (position_or_len (λ c. c == closes)) apart ∙ position_or_len-before (λ c. c == closes) text (closes ∷ after) (not-the-quote closes text goes_on) ∙ rw (eq-eqb closes closes refl) (add-zero (length text)) in
+    let within : nat_lt (length text) (length others) ≡ true = lt-ltb _ _ (omega (arith, ap length apart, length-append text (closes ∷ after))) in
+    rw (index, within) refl
+
+between-text : (opens closes : ℕ) (text written after : List ℕ) → written ≡ opens ∷ (text ++ (closes ∷ [])) → take (length text) (drop 1 (written ++ after)) ≡ text
+between-text opens closes text written after between =
+    ap (λ w. take (length text) (drop 1 (w ++ after))) between ∙ ap (take (length text)) (append_assoc text (closes ∷ []) after) ∙ take-append_seam text (closes ∷ after)
+
+between-len : (opens closes : ℕ) (text written : List ℕ) → written ≡ opens ∷ (text ++ (closes ∷ [])) → length text + 2 ≡ length written
+between-len opens closes text written between = omega (arith, ap length between, length-append text (closes ∷ []))
+
+cut-text : (text written after : List ℕ) → IsQuotedText text written → IsCut shape.Text text written after
 cut-text text written after quoted =
     let q = quoted.quote in
-    let others = (text ++ (q ∷ [])) ++ after in
-    let apart : others ≡ text ++ (q ∷ after) = append_assoc text (q ∷ []) after in
-    let index : position_or_len (λ c. c == q) others ≡ length text =
-    ap (position_or_len (λ c. c == q)) apart ∙ position_or_len-before (λ c. c == q) text (q ∷ after) (not-the-quote q text quoted.goes_on) ∙ rw (eq-eqb q q refl) (add-zero (length text)) in
-    let within : nat_lt (length text) (length others) ≡ true = lt-ltb _ _ (omega (arith, ap length apart, length-append text (q ∷ after))) in
     record {
       first = q;
-      others = others;
+      others = (text ++ (q ∷ [])) ++ after;
       whole = ap (λ w. w ++ after) quoted.between;
       is_first = quote-first q quoted.opens;
-      extent = rw (quoted.opens, index, within) refl;
-      text_is = ap (λ w. take (length text) (drop 1 (w ++ after))) quoted.between ∙ ap (take (length text)) apart ∙ take-append_seam text (q ∷ after);
-      len = omega (arith, ap length quoted.between, length-append text (q ∷ []));
+      extent = rw (quoted.opens, closes-index q text after quoted.goes_on) refl;
+      text_is = between-text q q text written after quoted.between;
+      len = between-len q q text written quoted.between;
     }
 
-cut : (shape : Shape) (text written after : List ℕ) → IsWritten shape text written after → IsCut shape text written after
-cut Word text written after is_written = cut-word text written after is_written
-cut Text text written after is_written = cut-text text written after is_written
+cut-list : (text written after : List ℕ) → IsListText text written → IsCut shape.List text written after
+cut-list text written after list = record {
+  first = 123;
+  others = (text ++ (125 ∷ [])) ++ after;
+  whole = ap (λ w. w ++ after) list.between;
+  is_first = curly-first;
+  extent = rw (closes-index 125 text after list.goes_on) refl;
+  text_is = between-text 123 125 text written after list.between;
+  len = between-len 123 125 text written list.between;
+}
+
+cut-logic : (text written after : List ℕ) → IsLogicText text written → IsCut shape.Logic text written after
+cut-logic text written after logic =
+    let inner = logic.inner in
+    let others = (inner ++ (41 ∷ [])) ++ after in
+    let apart : others ≡ inner ++ (41 ∷ after) = append_assoc inner (41 ∷ []) after in
+    let at : inner_len (opened 0 None) others ≡ length inner = ap (inner_len (opened 0 None)) apart ∙ inner_len-closed inner after logic.balanced in
+    let within : nat_lt (length inner) (length others) ≡ true = lt-ltb _ _ (omega (arith, ap length apart, length-append inner (41 ∷ after))) in
+    let size : 2 + length inner ≡ length text = omega (arith, ap length logic.between, length-append inner (41 ∷ [])) in
+    record {
+      first = 40;
+      others = others;
+      whole = ap (λ w. w ++ after) (logic.same ∙ logic.between);
+      is_first = round-first;
+      extent = rw (at, within) (ap (λ n. Ok (record { shape = shape.Logic; size = n })) size);
+      text_is = ap (λ w. take (length text) (w ++ after)) logic.same ∙ take-append_seam text after;
+      len = omega (arith, ap length logic.same);
+    }
+
+cut : (s : Shape) (text written after : List ℕ) → IsWritten s text written after → IsCut s text written after
+cut shape.Word text written after is_written = cut-word text written after is_written
+cut shape.Text text written after is_written = cut-text text written after is_written
+cut shape.Logic text written after is_written = cut-logic text written after is_written
+cut shape.List text written after is_written = cut-list text written after is_written
 
 -- the step over such a token, unless its text has a fault
 step-cut : (shape : Shape) (text written after : List ℕ) (line : ℕ) → IsCut shape text written after →
@@ -177,7 +243,12 @@ stops-at line bytes f (open_text quote bs q goes_on) =
     let none : nat_lt (position_or_len (λ c. c == quote) bs) (length bs) ≡ false =
     le-ltb _ _ (omega (arith, position_or_len-none (λ c. c == quote) bs (not-the-quote quote bs goes_on))) in
     record { no_blank = first-no_blank quote bs (quote-first quote q); stops = rw (q, none) refl }
-stops-at line bytes f (bracket b bs k) = record { no_blank = first-no_blank b bs (bracket-first b k); stops = rw (bracket-no_quote b k, k) refl }
+stops-at line bytes f (open_logic bs never) = record { no_blank = first-no_blank 40 bs round-first; stops = rw (never-closed_to bs never) refl }
+stops-at line bytes f (open_list bs goes_on) =
+    let none : nat_lt (position_or_len (λ c. c == 125) bs) (length bs) ≡ false =
+    le-ltb _ _ (omega (arith, position_or_len-none (λ c. c == 125) bs (not-the-quote 125 bs goes_on))) in
+    record { no_blank = first-no_blank 123 bs curly-first; stops = rw none refl }
+stops-at line bytes f (bracket b bs k) = record { no_blank = first-no_blank b bs (closing-first b k); stops = rw (closing-shape b k) refl }
 stops-at line bytes f (bad_byte bytes' shape text begins bad) = faulty-cut line bytes shape text f begins (rw (lt-ltb (bad_at text) (length text) bad) refl)
 stops-at line bytes f (too_long bytes' shape text begins good long) =
     faulty-cut line bytes shape text f begins (rw (le-ltb (bad_at text) (length text) (omega arith), lt-ltb TOKEN_LIMIT (length text) long) refl)

@@ -13,6 +13,10 @@ is_quote b = b == 34 || b == 39
 abbrev pub is_bracket : ℕ → Bool
 is_bracket b = b == 40 || b == 41 || b == 123 || b == 125
 
+-- a bracket that closes: `)` or `}`
+abbrev pub is_closing : ℕ → Bool
+is_closing b = b == 41 || b == 125
+
 -- a byte before which a bare word ends: a separator, a quote, `#` or a bracket
 abbrev pub ends_word : ℕ → Bool
 ends_word b = is_separator b || is_quote b || b == 35 || is_bracket b

@@ -5,9 +5,9 @@ use Rattle.maplex.specs.declared.fault.LexFault.{LexFault}
 use Rattle.maplex.specs.declared.fault.LexKind.TheVariants.{OpenString, BadByte, TooLong}
 use Rattle.maplex.specs.declared.fault.Tail.TheVariants.{Breaks}
 use Rattle.maplex.specs.declared.token.Shape.{Shape}
-use Rattle.maplex.specs.declared.token.Shape.TheVariants.{Word, Text}
+use Rattle.maplex.specs.declared.token.Shape.TheVariants as shape
 use Rattle.maplex.specs.declared.token.TheConstants.{TOKEN_LIMIT}
-use Rattle.maplex.specs.Byte.{is_separator, is_quote, is_bracket, is_control}
+use Rattle.maplex.specs.Byte.{is_separator, is_quote, is_bracket, is_closing, is_control}
 use Rattle.maplex.specs.Position.{line_ends}
 use Rattle.maplex.specs.Token.{TokenValue, bad_at, fault}
 use Rattle.maplex.specs.Lexed.{Lexed, stopped, ended, with_token, lexed}
@@ -46,10 +46,36 @@ pub record IsQuotedText (text written : List ℕ) : Type 0 where
   pub between : written ≡ quote ∷ (text ++ (quote ∷ []))
   pub goes_on : All (λ b. b ≢ quote) text
 
+-- bytes whose brackets match: none; a byte that is no quote and no round bracket, before others; a quoted part before
+-- others; balanced bytes between brackets, before others
+pub data AreBalanced : List ℕ → Type 0 where
+  no_byte : AreBalanced []
+  byte : (b : ℕ) (bs : List ℕ) → IsFalse (is_quote b) → b ≢ 40 → b ≢ 41 → AreBalanced bs → AreBalanced (b ∷ bs)
+  quoted : (quote : ℕ) (part bs : List ℕ) → IsTrue (is_quote quote) → All (λ b. b ≢ quote) part → AreBalanced bs → AreBalanced (quote ∷ (part ++ (quote ∷ bs)))
+  bracketed : (part bs : List ℕ) → AreBalanced part → AreBalanced bs → AreBalanced (40 ∷ (part ++ (41 ∷ bs)))
+
+-- a logical expression is written as its text, which is balanced bytes between round brackets
+pub record IsLogicText (text written : List ℕ) : Type 0 where
+  pub same : written ≡ text
+  pub inner : List ℕ
+  pub balanced : AreBalanced inner
+  pub between : text ≡ 40 ∷ (inner ++ (41 ∷ []))
+
+-- a list is written as its text, without a `}`, between curly brackets
+pub record IsListText (text written : List ℕ) : Type 0 where
+  pub between : written ≡ 123 ∷ (text ++ (125 ∷ []))
+  pub goes_on : All (λ b. b ≢ 125) text
+
 -- how a token of a shape, with a text, is written before other bytes
 abbrev pub IsWritten : Shape → List ℕ → List ℕ → List ℕ → Type 0
-IsWritten Word text written after = IsBareWord text written after
-IsWritten Text text written after = IsQuotedText text written
+IsWritten shape.Word text written after = IsBareWord text written after
+IsWritten shape.Text text written after = IsQuotedText text written
+IsWritten shape.Logic text written after = IsLogicText text written
+IsWritten shape.List text written after = IsListText text written
+
+-- a `(` before some bytes is never closed: nowhere do balanced bytes and a `)` stand at their front
+abbrev pub IsNeverClosed : List ℕ → Type 0
+IsNeverClosed bs = (inner after : List ℕ) → AreBalanced inner → bs ≢ inner ++ (41 ∷ after)
 
 -- a text that a token may have
 pub record IsGoodText (text : List ℕ) : Type 0 where
@@ -65,10 +91,13 @@ pub record BeginsWith (bytes : List ℕ) (shape : Shape) (text : List ℕ) : Typ
   pub is_written : IsWritten shape text written after
 
 -- the fault of some bytes, on the line on which they begin unless it is a bad byte of a text: a quote that doesn't come
--- again, a bracket, a text with a bad byte, or a text that is good but too long
+-- again, a `(` that is never closed, a `{` without a `}`, a bracket that closes nothing, a text with a bad byte, or a text
+-- that is good but too long
 pub data IsFault (line : ℕ) : List ℕ → LexFault → Type 0 where
   open_text : (quote : ℕ) (bs : List ℕ) → IsTrue (is_quote quote) → All (λ b. b ≢ quote) bs → IsFault line (quote ∷ bs) (fault line OpenString)
-  bracket : (b : ℕ) (bs : List ℕ) → IsTrue (is_bracket b) → IsFault line (b ∷ bs) (fault line BadByte)
+  open_logic : (bs : List ℕ) → IsNeverClosed bs → IsFault line (40 ∷ bs) (fault line OpenString)
+  open_list : (bs : List ℕ) → All (λ b. b ≢ 125) bs → IsFault line (123 ∷ bs) (fault line OpenString)
+  bracket : (b : ℕ) (bs : List ℕ) → IsTrue (is_closing b) → IsFault line (b ∷ bs) (fault line BadByte)
   bad_byte : (bytes : List ℕ) (shape : Shape) (text : List ℕ) → BeginsWith bytes shape text → bad_at text < length text →
       IsFault line bytes (fault (line + line_ends (take (bad_at text) text)) BadByte)
   too_long : (bytes : List ℕ) (shape : Shape) (text : List ℕ) → BeginsWith bytes shape text → bad_at text ≡ length text → TOKEN_LIMIT < length text →

@@ -9,9 +9,10 @@ use Rattle.maplex.specs.declared.fault.LexKind.TheVariants.{OpenString, BadByte,
 use Rattle.maplex.specs.declared.fault.Tail.{Tail}
 use Rattle.maplex.specs.declared.fault.Tail.TheVariants.{Ends, Breaks}
 use Rattle.maplex.specs.declared.token.Shape.{Shape}
-use Rattle.maplex.specs.declared.token.Shape.TheVariants.{Word, Text}
+use Rattle.maplex.specs.declared.token.Shape.TheVariants as shape
 use Rattle.maplex.specs.declared.token.TheConstants.{TOKEN_LIMIT}
-use Rattle.maplex.specs.Byte.{is_quote, is_bracket, ends_word, is_control}
+use Rattle.maplex.specs.Byte.{is_quote, is_closing, ends_word, is_control}
+use Rattle.maplex.specs.Logic.{logic_size}
 use Rattle.maplex.specs.Position.{Position, line_ends, further}
 
 -- a token: its shape, the bytes of its text, and the line on which it begins
@@ -20,33 +21,50 @@ pub record TokenValue : Type 0 where
   pub text : List ℕ
   pub line : ℕ
 
--- how many bytes a token has on each side of its text: a quoted text has a quote
-abbrev pub quote_len : Shape → ℕ
-quote_len Word = 0
-quote_len Text = 1
+-- how many bytes a token has on each side of its text: a quoted text has a quote, a list a bracket
+abbrev pub border_len : Shape → ℕ
+border_len shape.Word = 0
+border_len shape.Text = 1
+border_len shape.Logic = 0
+border_len shape.List = 1
 
 -- how many bytes a token takes; its extent is its shape, and the size of its text
 abbrev pub token_len : Extent → ℕ
-token_len e = e.size + 2 * quote_len e.shape
+token_len e = e.size + 2 * border_len e.shape
 
 -- the text of a token that begins some bytes
 abbrev pub text_of : Extent → List ℕ → List ℕ
-text_of e bytes = take e.size (drop (quote_len e.shape) bytes)
+text_of e bytes = take e.size (drop (border_len e.shape) bytes)
 
 -- a bare word has its first byte, and goes on up to one that ends it
 abbrev pub word_extent : List ℕ → Extent
-word_extent bs = record { shape = Word; size = 1 + position_or_len ends_word bs }
+word_extent bs = record { shape = shape.Word; size = 1 + position_or_len ends_word bs }
 
--- a quoted text goes on up to where its quote comes again; where it never does, the source ends inside it
-abbrev pub text_extent : Option ℕ → Result Extent LexKind
-text_extent None = Err OpenString
-text_extent (Some size) = Ok (record { shape = Text; size = size })
+-- another token goes on up to the byte that closes it, after a text of this size; where none does, the source ends inside it
+abbrev pub closed_extent : Shape → Option ℕ → Result Extent LexKind
+closed_extent s None = Err OpenString
+closed_extent s (Some size) = Ok (record { shape = s; size = size })
 
--- the extent of the token that begins with a byte before others; a bracket begins no token
+-- the shape of the token that begins with a byte; none begins with a bracket that closes
+abbrev pub shape_of : ℕ → Option Shape
+shape_of b =
+    if is_quote b then Some shape.Text
+    else (if b == 40 then Some shape.Logic
+    else (if b == 123 then Some shape.List
+    else (if is_closing b then None else Some shape.Word)))
+
+-- the extent of a token by its shape, its first byte and those after it: a quoted text is closed by its quote, a logical
+-- expression by the bracket that matches, a list by the next `}`
+abbrev pub extent_by : Option Shape → ℕ → List ℕ → Result Extent LexKind
+extent_by None b bs = Err BadByte
+extent_by (Some shape.Word) b bs = Ok (word_extent bs)
+extent_by (Some shape.Text) b bs = closed_extent shape.Text (position (λ c. c == b) bs)
+extent_by (Some shape.Logic) b bs = closed_extent shape.Logic (logic_size bs)
+extent_by (Some shape.List) b bs = closed_extent shape.List (position (λ c. c == 125) bs)
+
+-- the extent of the token that begins with a byte before others
 abbrev pub extent_of : ℕ → List ℕ → Result Extent LexKind
-extent_of b bs =
-    if is_quote b then text_extent (position (λ c. c == b) bs)
-    else (if is_bracket b then Err BadByte else Ok (word_extent bs))
+extent_of b bs = extent_by (shape_of b) b bs
 
 -- the index of the first bad byte of a text, a control byte or one that isn't UTF-8; else the text's length
 abbrev pub bad_at : List ℕ → ℕ

@@ -1,5 +1,5 @@
 ghost use Rattle.std.specs.Prelude.{◌≡◌};
-ghost use Rattle.maplex.specs.Byte.{is_separator, is_quote, is_bracket, ends_word, is_control};
+ghost use Rattle.maplex.specs.Byte.{is_separator, is_quote, is_bracket, is_closing, ends_word, is_control};
 
 /// Whether the byte separates tokens.
 pub fn is_separator(byte: u8) -> bool
@@ -20,6 +20,13 @@ pub fn is_bracket(byte: u8) -> bool
     ensures { result ≡ is_bracket byte }
 {
     matches!(byte, b'(' | b')' | b'{' | b'}')
+}
+
+/// Whether the byte is a bracket that closes.
+pub fn is_closing(byte: u8) -> bool
+    ensures { result ≡ is_closing byte }
+{
+    byte == b')' || byte == b'}'
 }
 
 /// Whether a bare word ends before the byte.

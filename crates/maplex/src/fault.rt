@@ -3,15 +3,16 @@ use thiserror::Error;
 /// Why a source has no further token.
 #[derive(Clone, Copy, Debug, PartialEq, Eq, Error)]
 pub enum LexKind {
-    /// The source ends inside a quoted text. The line is that on which the text begins.
-    #[error("the quoted text that begins here has no closing quote")]
+    /// The source ends inside a quoted text, a logical expression or a list. The line is that on which
+    /// it begins.
+    #[error("the quoted text, expression or list that begins here is not closed")]
     OpenString,
-    /// A bracket outside of quotes, or in a token a control byte or a byte that is not UTF-8. The
-    /// line is that of the byte.
-    #[error("a bracket outside of quotes, a control character, or a byte that is not UTF-8")]
+    /// A bracket that closes where none is open, or in a token a control byte or a byte that is not
+    /// UTF-8. The line is that of the byte.
+    #[error("a bracket that closes nothing, a control character, or a byte that is not UTF-8")]
     BadByte,
     /// A token whose text has more than `TOKEN_LIMIT` bytes. The line is that on which it begins.
-    #[error("the word or quoted text that begins here is longer than 65,536 bytes")]
+    #[error("the token that begins here is longer than 65,536 bytes")]
     TooLong,
 }
 

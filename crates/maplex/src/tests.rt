@@ -1,4 +1,4 @@
-use crate::Shape::{Text, Word};
+use crate::Shape::{List, Logic, Text, Word};
 use crate::{LexFault, LexKind, TOKEN_LIMIT, Tail, Tokens};
 use std::alloc::{AllocError, Global};
 use std::fmt::Debug;
@@ -112,12 +112,10 @@ const FAULTS: &str = "\
 2 OpenString 2~| 'a||
 1 OpenString 1~\"it's
 1 Text a, 1 OpenString 1~'a' '
-# a bare word ends before a bracket
-1 Word FOO, 1 BadByte 1~FOO(
-1 BadByte 1~(
+# a bracket that closes nothing
 2 BadByte 2~|)
-3 BadByte 3~||{ a
 1 Text }, 1 BadByte 1~'}' }
+1 Word a, 1 BadByte 1~a) b
 1 Word a, 2 BadByte 2~a|b\x00c
 1 Word a, 1 BadByte 1~a \x7f b
 # a vertical tab is no separator
@@ -142,7 +140,67 @@ const FAULTS: &str = "\
 
 #[test]
 fn faults_have_worked_lines(rt: HostRuntime) -> Result<(), Fail> {
-    assert_told(&rt, rt.alloc(), FAULTS, 24)
+    assert_told(&rt, rt.alloc(), FAULTS, 22)
+}
+
+// Logical expressions and lists. A letter before or after a bracket is a bare word.
+const BRACKETS: &str = "\
+1 Logic (a), 1 Word b, ends 1~(a) b
+1 Logic (), 1 List , ends 1~(){}
+1 Word a, 1 Logic (b), 1 Word c, 1 List d, 1 Word e, ends 1~a(b)c{d}e
+1 Text a, 1 Logic (b), 1 Text c, ends 1~'a'(b)\"c\"
+# an expression goes on up to the bracket that matches; its text has both
+1 Logic (a(b)(c(d))), 1 Word e, ends 1~(a(b)(c(d)))e
+1 Logic ((())), 1 Logic (()), ends 1~((()))(())
+# brackets in quoted parts don't count, nor does the other quote
+1 Logic (')' = \"(\"), 1 Word x, ends 1~(')' = \"(\") x
+1 Logic (\"it's)\" '\")'), ends 1~(\"it's)\" '\")')
+# square brackets hide nothing: neither a bracket nor a quote
+1 Logic ([a), 1 Word ], ends 1~([a)]
+1 Logic ([a\"]\"), 1 Word ], ends 1~([a\"]\")]
+1 Logic ([a\"]\" = 'b'), 1 Word c, ends 1~([a\"]\" = 'b') c
+# curly brackets, `#` and a backslash are ordinary in an expression
+1 Logic (a # {\\), 1 Word b, ends 1~(a # {\\) b
+# a list goes on up to the next bracket that closes one; nothing hides it
+1 List a,b, ends 1~{a,b}
+1 List a{b, 1 Word c, ends 1~{a{b} c
+1 List  ('# , 1 Word c, ends 1~{ ('# }c
+# the line is that of the opening bracket, and tokens after it are on theirs
+2 Logic (a|b), 3 Word c, ends 4~|(a|b) c|
+1 List |a|, 3 Word b, ends 3~{|a|} b
+1 Logic ('|'), 2 List |, 3 Text x, ends 3~('|') {|} 'x'";
+
+#[test]
+fn expressions_and_lists_are_cut(rt: HostRuntime) -> Result<(), Fail> {
+    assert_told(&rt, rt.alloc(), BRACKETS, 18)
+}
+
+const BRACKET_FAULTS: &str = "\
+1 Logic (a), 1 BadByte 1~(a))
+1 List a, 1 BadByte 1~{a}}
+1 Logic ({), 1 BadByte 1~({)})
+# the source ends inside an expression or a list, or inside a quoted part
+1 Word FOO, 1 OpenString 1~FOO(
+3 OpenString 3~||{ a
+2 OpenString 2~|((a)|b
+1 Word a, 2 OpenString 2~a|{b|
+1 OpenString 1~(a|'))
+1 OpenString 1~([a\"] = 'b')
+# a quote in a list is ordinary, and the next one opens a text
+1 List \", 1 OpenString 1~{\"}\"}
+# the line of a bad byte is its own; of several the first is told
+1 BadByte 2~(a|\x00)
+1 BadByte 2~{|\u{ff}} b
+1 Word a, 2 BadByte 4~a|(b||'\x7f')
+1 BadByte 2~(|\u{ff}|\x01)
+1 BadByte 3~{||\x01|\u{ff}}
+# an open expression or list is told before its bad bytes
+1 OpenString 1~(a|\x00
+2 OpenString 2~|{a|\u{ff}";
+
+#[test]
+fn expressions_and_lists_have_faults(rt: HostRuntime) -> Result<(), Fail> {
+    assert_told(&rt, rt.alloc(), BRACKET_FAULTS, 17)
 }
 
 // Bad bytes further down than their token begins, and others.
@@ -159,24 +217,48 @@ fn a_fault_is_reached_where_its_token_begins(rt: HostRuntime) -> Result<(), Fail
     assert_told(&rt, rt.alloc(), REACHED, 6)
 }
 
-// `*` stands for 65,535 letters.
+// `*` stands for 65,534 letters.
 const LONG_TOKENS: &str = "\
-2 Text *a, 2 Word b, ends 2~|'*a' b
-2 TooLong 2~|'*aa' b
-2 Text *a, 2 Word b, ends 2~|\"*a\"b
-3 TooLong 3~||\"*aa\"b
-2 Word *a, 2 Word b, ends 2~|*a b
-2 TooLong 2~|*aa b
-# a bad byte is told before the length, and an open text before both
-2 BadByte 3~|'*aa|\x00'
-2 OpenString 2~|'*aa|\x00";
+2 Text *aa, 2 Word b, ends 2~|'*aa' b
+2 TooLong 2~|'*aaa' b
+2 Text *aa, 2 Word b, ends 2~|\"*aa\"b
+3 TooLong 3~||\"*aaa\"b
+2 Word *aa, 2 Word b, ends 2~|*aa b
+2 TooLong 2~|*aaa b
+# the text of an expression has its brackets, that of a list hasn't
+2 Logic (*), 2 Word b, ends 2~|(*)b
+2 TooLong 2~|(*a)b
+2 List *aa, 2 Word b, ends 2~|{*aa}b
+2 TooLong 2~|{*aaa}b
+# a bad byte is told before the length, and an open token before both
+2 BadByte 3~|'*aaa|\x00'
+2 BadByte 3~|(*aaa|\x00)
+2 BadByte 3~|{*aaa|\x00}
+2 OpenString 2~|'*aaa|\x00
+2 OpenString 2~|(*aaa|\x00
+2 OpenString 2~|{*aaa|\x00";
 
 #[test]
 fn texts_have_at_most_65536_bytes(rt: HostRuntime) -> Result<(), Fail> {
     assert_eq!(rt; TOKEN_LIMIT, 65_536);
-    let letters = "a".repeat(rt.alloc(), 65_535)?;
+    let letters = "a".repeat(rt.alloc(), 65_534)?;
     let rows = LONG_TOKENS.replace(rt.alloc(), '*', letters.as_str())?;
-    assert_told(&rt, rt.alloc(), rows.as_str(), 8)
+    assert_told(&rt, rt.alloc(), rows.as_str(), 16)
+}
+
+// `<` stands for 500,000 opening brackets, `>` for as many that close.
+const DEEP: &str = "\
+1 OpenString 1~<<
+1 OpenString 1~(<>
+1 TooLong 1~<>";
+
+#[test]
+fn brackets_may_be_deep(rt: HostRuntime) -> Result<(), Fail> {
+    let opening = "(".repeat(rt.alloc(), 500_000)?;
+    let closing = ")".repeat(rt.alloc(), 500_000)?;
+    let rows = DEEP.replace(rt.alloc(), '<', opening.as_str())?;
+    let rows = rows.replace(rt.alloc(), '>', closing.as_str())?;
+    assert_told(&rt, rt.alloc(), rows.as_str(), 3)
 }
 
 #[test]
@@ -184,15 +266,15 @@ fn faults_are_printed(rt: HostRuntime) -> Result<(), Fail> {
     let rows = [
         (
             LexKind::OpenString,
-            "the quoted text that begins here has no closing quote",
+            "the quoted text, expression or list that begins here is not closed",
         ),
         (
             LexKind::BadByte,
-            "a bracket outside of quotes, a control character, or a byte that is not UTF-8",
+            "a bracket that closes nothing, a control character, or a byte that is not UTF-8",
         ),
         (
             LexKind::TooLong,
-            "the word or quoted text that begins here is longer than 65,536 bytes",
+            "the token that begins here is longer than 65,536 bytes",
         ),
     ];
     for (kind, message) in rows {
@@ -204,7 +286,7 @@ fn faults_are_printed(rt: HostRuntime) -> Result<(), Fail> {
         kind: LexKind::OpenString,
     };
     let printed = format!(in rt.alloc(); "{fault}")?;
-    let message = "line 7: the quoted text that begins here has no closing quote";
+    let message = "line 7: the quoted text, expression or list that begins here is not closed";
     assert_eq!(rt; printed.as_str(), message);
     Ok(())
 }
@@ -221,7 +303,7 @@ fn assert_apart<T: PartialEq + Debug>(rt: &impl Abort, values: &[T]) {
 #[test]
 fn values_that_differ_in_one_field_are_unequal(rt: HostRuntime) {
     let on = |line, kind| LexFault { line, kind };
-    assert_apart(&rt, &[Word, Text]);
+    assert_apart(&rt, &[Word, Text, Logic, List]);
     assert_apart(
         &rt,
         &[LexKind::OpenString, LexKind::BadByte, LexKind::TooLong],

@@ -10,6 +10,11 @@ pub enum Shape {
     Word,
     /// A quoted text: bytes between two quotes of one kind. A backslash is an ordinary byte.
     Text,
+    /// A logical expression: bytes from `(` to the `)` that matches it. Brackets in quoted parts don't
+    /// count.
+    Logic,
+    /// A list: bytes from `{` to the next `}`.
+    List,
 }
 
 /// A token. Contracts see the bytes of its text.
@@ -17,7 +22,8 @@ pub enum Shape {
 pub struct Token<'a> {
     /// How it is written.
     pub shape: Shape,
-    /// Its text, a slice of the source. That of a quoted text has no quotes.
+    /// Its text, a slice of the source. That of a quoted text has no quotes and that of a list no
+    /// brackets; that of a logical expression has its outer brackets.
     pub text: &'a str,
     /// The line on which it begins, counted from 1.
     pub line: u64,

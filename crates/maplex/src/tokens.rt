@@ -28,15 +28,15 @@ fn step<'a>(at: &Cursor<'a>) -> Option<Result<(Token<'a>, usize), LexFault>>
         Ok(extent) => extent,
         Err(kind) => return Some(Err(LexFault { line, kind })),
     };
-    let quote_len = extent.quote_len();
-    match checked_text(&rest[quote_len..quote_len + extent.size], line) {
+    let border_len = extent.border_len();
+    match checked_text(&rest[border_len..border_len + extent.size], line) {
         Ok(text) => Some(Ok((
             Token {
                 shape: extent.shape,
                 text,
                 line,
             },
-            extent.size + 2 * quote_len,
+            extent.size + 2 * border_len,
         ))),
         Err(fault) => Some(Err(fault)),
     }

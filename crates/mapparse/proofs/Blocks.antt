@@ -5,10 +5,10 @@ use Rattle.maplex.specs.declared.fault.Tail.{Tail}
 use Rattle.maplex.specs.Token.{TokenValue}
 use Rattle.mapparse.specs.declared.context.Block.{Block}
 use Rattle.mapparse.specs.declared.fault.Fault.{Fault}
-use Rattle.mapparse.specs.Entries.{Entries, Nothing, Inside}
+use Rattle.mapparse.specs.Entries.{Entries, Nothing, Inside, with_block}
 use Rattle.mapparse.specs.Fault.{and_then}
 use Rattle.mapparse.specs.Meaning.{value_in, latitude_in, block_in, CountIsEnough}
-use Rattle.mapparse.specs.Says.{Saying, Ends, Opens, Takes, Longitude, says}
+use Rattle.mapparse.specs.Says.{Saying, Ends, Opens, Takes, Longitude, Passes, says}
 use Rattle.mapparse.proofs.OnePass.{BlockRead, block_after, value-left, latitude-left}
 
 -- at most so many tokens are left
@@ -34,6 +34,7 @@ module _ (tail : Tail) (n : ℕ) (below : (b : Block) (above own : Entries) (ts 
       leaves-and_then (block_in tail n c own Nothing ts) (λ e. length e.1 ≤ length ts) (length ts) _ (below c own Nothing ts) (λ e l. leaves_more (length e.1) (length ts) _ l (below b above _ e.1))
   leaves-saying (Takes e) b above own ts =
       leaves-and_then (value_in tail e ts) (λ v. length v.rest ≤ length ts) (length ts) _ (value-left tail e ts) (λ v l. leaves_more (length v.rest) (length ts) _ l (below b above _ v.rest))
+  leaves-saying Passes b above own ts = below b above own ts
   leaves-saying (Longitude x) b above own ts =
       leaves-and_then (latitude_in tail ts) (λ y. length y.1 ≤ length ts) (length ts) _ (latitude-left tail ts) (λ y l. leaves_more (length y.1) (length ts) _ l (below b above _ y.1))
 
@@ -54,10 +55,11 @@ module _ (tail : Tail) (n m : ℕ) (below : (b : Block) (above own : Entries) (t
   same-saying : (saying : Saying) (b : Block) (above own : Entries) (ts : List TokenValue) → length ts ≤ n → length ts ≤ m → block_after tail n b above own ts saying ≡ block_after tail m b above own ts saying
   same-saying Ends b above own ts p q = refl
   same-saying (Opens c) b above own ts p q =
-      ap (λ r. and_then r (λ inner. block_in tail n b above (Inside c inner.0 own) inner.1)) (below c own Nothing ts p q)
+      ap (λ r. and_then r (λ inner. block_in tail n b above (with_block c inner.0 own) inner.1)) (below c own Nothing ts p q)
       ∙ same-while (block_in tail m c own Nothing ts) (λ e. length e.1 ≤ length ts) _ _ (block-at_most tail m c own Nothing ts) (λ e l. below b above _ e.1 (omega arith) (omega arith))
   same-saying (Takes e) b above own ts p q =
       same-while (value_in tail e ts) (λ v. length v.rest ≤ length ts) _ _ (value-left tail e ts) (λ v l. below b above _ v.rest (omega arith) (omega arith))
+  same-saying Passes b above own ts p q = below b above own ts p q
   same-saying (Longitude x) b above own ts p q =
       same-while (latitude_in tail ts) (λ y. length y.1 ≤ length ts) _ _ (latitude-left tail ts) (λ y l. below b above _ y.1 (omega arith) (omega arith))
 

@@ -1,6 +1,6 @@
 -- What is written as a colour is read as this colour.
 use Rattle.std.proofs.Common.{◌≡◌, ℕ, zero, suc, ◌<◌, ◌==◌, Bool, true, false, ◌&&◌, inl, inr, [], ◌∷◌, refl, arith, Option, Some, None}
-use Rattle.std.specs.Prelude.{not, is_none}
+use Rattle.std.specs.Prelude.{not, is_none, IsTrue}
 use Rattle.std.specs.Fmt.{decimal, digits}
 use Rattle.std.proofs.lemmas.Bool.{and_parts, cases_lt, eqb-true}
 use Rattle.hex.specs.Hex.{IsBytes}
@@ -12,9 +12,14 @@ use Rattle.mapparse.specs.declared.colour.Component.{Component}
 use Rattle.mapparse.specs.declared.colour.Component.TheVariants.{Level, Absent}
 use Rattle.maplex.specs.Token.{TokenValue}
 use Rattle.mapparse.specs.declared.keyword.Keyword.TheVariants.{End}
-use Rattle.mapparse.specs.Colour.{component_of, hex_colour, HexDigitsAreColour}
+use Rattle.mapparse.specs.declared.context.ColourKeyword.{ColourKeyword}
+use Rattle.mapparse.specs.declared.context.ColourKeyword.TheVariants.{StyleColour}
+use Rattle.mapparse.specs.declared.context.Expected.TheVariants as expected
+use Rattle.mapparse.specs.declared.value.Value.TheVariants as value
+use Rattle.mapparse.specs.declared.value.ValueStep.TheVariants.{More, Whole}
+use Rattle.mapparse.specs.Colour.{rgb_of, component_of, hex_colour, HexDigitsAreColour}
 use Rattle.mapparse.specs.Keyword.{spelling, is_spelt, is_in}
-use Rattle.mapparse.specs.Value.{hex_in}
+use Rattle.mapparse.specs.Value.{is_value, hex_in, value_step}
 use Rattle.mapparse.specs.Meaning.{value_in, CountsAreColour}
 
 are_bytes : (r g b : ℕ) → r < 256 → g < 256 → b < 256 → IsBytes (r ∷ g ∷ b ∷ [])
@@ -84,23 +89,33 @@ module _ (t : TokenValue) (k : ℕ) (below : k < 256) (written : t.text ≡ deci
   not_end-in Word =
       let rest = (and_parts (level_or_none (component_of (decimal k)) == k) _ passes).1 in
       rw written (false-from_not (is_spelt (decimal k) End) (and_parts (not (is_spelt (decimal k) End)) _ rest).0)
-  not_end-in Text = refl
+  not_end-in _ = refl
 
   no_hex-in : (shape : Shape) → hex_in shape t.text ≡ None
-  no_hex-in Word = refl
   no_hex-in Text =
       let rest = (and_parts (level_or_none (component_of (decimal k)) == k) _ passes).1 in
       rw written (none-from (hex_colour (decimal k)) (and_parts (not (is_spelt (decimal k) End)) _ rest).1)
+  no_hex-in _ = refl
+
+  -- it is read as red, as green and as blue
+  module _ (is : IsTrue (is_value t.shape)) where
+    red-read : (w : ColourKeyword) → value_step (expected.Colour w) t ≡ Some (More (expected.Green w (Level k)))
+    red-read w = rw (is, no_hex-in t.shape, level-at) refl
+
+    green-read : (w : ColourKeyword) (red : Component) → value_step (expected.Green w red) t ≡ Some (More (expected.Blue w red (Level k)))
+    green-read w red = rw (is, level-at) refl
+
+    blue-read : (w : ColourKeyword) (red green : Component) → value_step (expected.Blue w red green) t ≡ Some (Whole (value.Colour w (rgb_of red green (Level k))))
+    blue-read w red green = rw (is, level-at) refl
 
 pub counts : CountsAreColour
 unfolding value_in
-counts red green blue p q s tail r g b ts er eg eb =
+counts red green blue p q s tail r g b ts vr vg vb er eg eb =
     rw (
       not_end-in r red p er r.shape,
-      no_hex-in r red p er r.shape,
-      level-at r red p er,
+      red-read r red p er vr StyleColour,
       not_end-in g green q eg g.shape,
-      level-at g green q eg,
+      green-read g green q eg vg StyleColour (Level red),
       not_end-in b blue s eb b.shape,
-      level-at b blue s eb,
+      blue-read b blue s eb vb StyleColour (Level red) (Level green),
     ) refl

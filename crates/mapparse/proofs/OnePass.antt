@@ -1,11 +1,11 @@
 -- One pass over tokens gives what they mean.
 use Rattle.std.proofs.Common.{◌≡◌, ℕ, zero, suc, ◌≤◌, Bool, true, false, List, [], ◌∷◌, length, refl, sym, ap, subst, ◌∙◌, arith}
 use Rattle.std.specs.Prelude.{ℤ, if◌then◌else◌, nat_le, Option, None, Some, Result, Ok, Err, IfOk}
-use Rattle.std.specs.Option.{ok_or}
+use Rattle.std.specs.Option.{ok_or, option_map}
+use Rattle.std.specs.Str.{str_eq_ignore_ascii_case}
 use Rattle.maplex.specs.declared.fault.Tail.{Tail}
 use Rattle.maplex.specs.declared.fault.Tail.TheVariants as tails
 use Rattle.maplex.specs.Token.{TokenValue}
-use Rattle.geom.specs.Number.{coordinate_of}
 use Rattle.mapdefs.specs.declared.limits.TheConstants.{MAX_VERTICES}
 use Rattle.mapdefs.specs.declared.colour.Rgb.{Rgb}
 use Rattle.mapdefs.specs.declared.layer.Kind.{Kind}
@@ -13,7 +13,8 @@ use Rattle.mapparse.specs.declared.colour.Component.{Component}
 use Rattle.mapparse.specs.declared.context.Block.{Block}
 use Rattle.mapparse.specs.declared.context.Block.TheVariants as block
 use Rattle.mapparse.specs.declared.context.TextKeyword.TheVariants.{LayerName}
-use Rattle.mapparse.specs.declared.context.ColourKeyword.TheVariants.{StyleColour}
+use Rattle.mapparse.specs.declared.context.ColourKeyword.{ColourKeyword}
+use Rattle.mapparse.specs.declared.context.ColourKeyword.TheVariants.{StyleColour, ImageColour}
 use Rattle.mapparse.specs.declared.context.Context.TheVariants.{Keywords, Values, Latitude}
 use Rattle.mapparse.specs.declared.context.Expected.{Expected}
 use Rattle.mapparse.specs.declared.context.Expected.TheVariants as expected
@@ -33,19 +34,18 @@ use Rattle.mapparse.specs.Colour.{component_of, rgb_of}
 use Rattle.mapparse.specs.Draft.{with_value}
 use Rattle.mapparse.specs.Draft as draft
 use Rattle.mapparse.specs.End.{ends}
-use Rattle.mapparse.specs.Entries.{Entries, Nothing, Said, Vertex, Inside, vertex_count}
+use Rattle.mapparse.specs.Entries.{Entries, Nothing, Vertex, with_said, with_block, vertex_count}
 use Rattle.mapparse.specs.Fault.{fault_of, refused, and_then}
 use Rattle.mapparse.specs.Keyword.{keyword_at, is_at, is_end}
 use Rattle.mapparse.specs.Meaning as meaning
 use Rattle.mapparse.specs.Meaning.{Given, value_in, latitude_in, block_in, map_in}
 use Rattle.mapparse.specs.Pass as pass
 use Rattle.mapparse.specs.Pass.{reads, passed}
-use Rattle.mapparse.specs.Says.{Saying, Ends, Opens, Takes, Longitude, closing_fault, ends_unless, is_full, role_says, says, vertex_says}
-use Rattle.mapparse.specs.Step.{read_end, read_role, note_step, coordinate_at, read_token}
+use Rattle.mapparse.specs.Says.{Saying, Ends, Opens, Takes, Longitude, Passes, closing_fault, ends_unless, is_full, role_says, says, vertex_says, passed_says}
+use Rattle.mapparse.specs.Step.{read_end, read_role, note_step, coordinate_at, pass_over, read_token}
 use Rattle.mapparse.specs.Tree.{map_tree}
-use Rattle.mapparse.specs.Value.{value_step, hex_at, kind_of, colour_step}
-use Rattle.std.specs.Option.{option_map}
-use Rattle.mapparse.proofs.OpenBlocks.{OpenBlocks, drafts_of, in_block, above, after_end, Nests, home_of, Fits, fits-option, same-room, unless_fault, same-end}
+use Rattle.mapparse.specs.Value.{is_value, value_step, step_in, hex_at, kind_of, colour_step, only_text, unused_step, coordinate_in}
+use Rattle.mapparse.proofs.OpenBlocks.{OpenBlocks, drafts_of, in_block, above, after_end, Nests, Suits, Fits, fits-option, Frees, projection-frees, passed-frees, label-frees, same-room, unless_fault, same-end}
 use Rattle.mapparse.proofs.Reading.{Ended, LeavesAtMost, read_after, reads-at_most, reads-enough}
 
 -- what is read of a block
@@ -54,37 +54,66 @@ BlockRead = Result (Entries × List TokenValue) Fault
 
 -- a value is noted in the drafts as the block with it says
 abbrev IsNotedIn : Block → Value → Type 0
-IsNotedIn b v = (line : ℕ) (own : Entries) (o : OpenBlocks) → with_value v line (drafts_of (in_block b own o)) ≡ drafts_of (in_block b (Said v line own) o)
+IsNotedIn b v = (line : ℕ) (own : Entries) (o : OpenBlocks) → with_value v line (drafts_of (in_block b own o)) ≡ drafts_of (in_block b (with_said v line own) o)
 
 -- a step in the value of a keyword stays with the block of the keyword
 abbrev StaysIn : Block → Option ValueStep → Type 0
 StaysIn b None = Unit {0}
-StaysIn b (Some (More next)) = home_of next ≡ b
+StaysIn b (Some (More next)) = Suits next b
 StaysIn b (Some (Whole v)) = IsNotedIn b v
+
+-- nothing is noted of a value without effect
+unused-noted : (b : Block) → IsNotedIn b value.Nothing
+unused-noted b = λ line own o. refl
+
+image-noted : (b : Block) (colour : Option Rgb) → IsNotedIn b (value.Colour ImageColour colour)
+image-noted b colour = λ line own o. refl
 
 kind-stays : (kind : Option Kind) → StaysIn block.Layer (option_map (λ k. Whole (value.Kind k)) kind)
 kind-stays None = tt
 kind-stays (Some k) = λ line own o. refl
 
-first-stays : (colour : Option Rgb) (red : Option Component) → StaysIn block.Style (colour_step StyleColour colour red)
-first-stays (Some colour) red = λ line own o. refl
-first-stays None None = tt
-first-stays None (Some red) = refl
+first-stays : (w : ColourKeyword) (b : Block) → Suits (expected.Colour w) b → (colour : Option Rgb) (red : Option Component) → StaysIn b (colour_step w colour red)
+first-stays StyleColour b p (Some colour) red = rw p (λ line own o. refl)
+first-stays StyleColour b p None None = tt
+first-stays StyleColour b p None (Some red) = p
+first-stays ImageColour b p (Some colour) red = image-noted b (Some colour)
+first-stays ImageColour b p None None = tt
+first-stays ImageColour b p None (Some red) = tt
 
-green-stays : (red : Component) (green : Option Component) → StaysIn block.Style (option_map (λ g. More (expected.Blue StyleColour red g)) green)
-green-stays red None = tt
-green-stays red (Some green) = refl
+green-stays : (w : ColourKeyword) (b : Block) (red : Component) → Suits (expected.Green w red) b → (green : Option Component) → StaysIn b (option_map (λ g. More (expected.Blue w red g)) green)
+green-stays w b red p None = tt
+green-stays StyleColour b red p (Some green) = p
+green-stays ImageColour b red p (Some green) = tt
 
-blue-stays : (red green : Component) (blue : Option Component) → StaysIn block.Style (option_map (λ b. Whole (value.Colour StyleColour (rgb_of red green b))) blue)
-blue-stays red green None = tt
-blue-stays red green (Some blue) = λ line own o. refl
+blue-stays : (w : ColourKeyword) (b : Block) (red green : Component) → Suits (expected.Blue w red green) b → (blue : Option Component) → StaysIn b (option_map (λ c. Whole (value.Colour w (rgb_of red green c))) blue)
+blue-stays w b red green p None = tt
+blue-stays StyleColour b red green p (Some blue) = rw p (λ line own o. refl)
+blue-stays ImageColour b red green p (Some blue) = image-noted b (rgb_of red green blue)
 
-step-stays : (e : Expected) (t : TokenValue) → StaysIn (home_of e) (value_step e t)
-step-stays (expected.Text LayerName) t = λ line own o. refl
-step-stays expected.Kind t = kind-stays (kind_of t.text)
-step-stays (expected.Colour StyleColour) t = first-stays (hex_at t) (component_of t.text)
-step-stays (expected.Green StyleColour r) t = green-stays r (component_of t.text)
-step-stays (expected.Blue StyleColour r g) t = blue-stays r g (component_of t.text)
+only-stays : (b : Block) (same : Bool) → StaysIn b (if same then Some (Whole value.Nothing) else None)
+only-stays b true = unused-noted b
+only-stays b false = tt
+
+unused-stays : (b : Block) (more : ℕ) → StaysIn b (Some (unused_step more))
+unused-stays b zero = unused-noted b
+unused-stays b (suc fewer) = tt
+
+shaped-stays : (e : Expected) (b : Block) (t : TokenValue) → Suits e b → StaysIn b (step_in e t)
+shaped-stays (expected.Text LayerName) b t p = rw p (λ line own o. refl)
+shaped-stays expected.Kind b t p = rw p (kind-stays (kind_of t.text))
+shaped-stays (expected.Colour w) b t p = first-stays w b p (hex_at t) (component_of t.text)
+shaped-stays (expected.Green w r) b t p = green-stays w b r p (component_of t.text)
+shaped-stays (expected.Blue w r g) b t p = blue-stays w b r g p (component_of t.text)
+shaped-stays (expected.Only word) b t p = only-stays b (str_eq_ignore_ascii_case t.text (only_text word))
+shaped-stays (expected.Unused more) b t p = unused-stays b more
+
+tested-stays : (b : Block) (is : Bool) (step : Option ValueStep) → StaysIn b step → StaysIn b (if is then step else None)
+tested-stays b true step p = p
+tested-stays b false step p = tt
+
+step-stays : (e : Expected) (b : Block) (t : TokenValue) → Suits e b → StaysIn b (value_step e t)
+step-stays e b t p = tested-stays b (is_value t.shape) (step_in e t) (shaped-stays e b t p)
 
 -- the rest of a value's tokens, by its next step
 abbrev value_after : Tail → TokenValue → List TokenValue → Option ValueStep → Result Given Fault
@@ -99,23 +128,32 @@ record IsGivenIn (b : Block) (k : ℕ) (v : Given) : Type 0 where
   noted : IsNotedIn b v.value
   left : length v.rest ≤ k
 
-module _ (tail : Tail) (t : TokenValue) (ts : List TokenValue) (k : ℕ) (below : (e : Expected) → IfOk (value_in tail e ts) (IsGivenIn (home_of e) k)) (p : length ts ≤ k) where
-  given-step : (b : Block) (last : Bool) (step : Option ValueStep) → StaysIn b step → IfOk (if last then refused MissingValue t else value_after tail t ts step) (IsGivenIn b k)
-  given-step b true step s = tt
-  given-step b false None s = tt
-  given-step b false (Some (More next)) s = subst (λ c. IfOk (value_in tail next ts) (IsGivenIn c k)) s (below next)
-  given-step b false (Some (Whole v)) s = record { noted = s; left = p }
+module _ (tail : Tail) (b : Block) (t : TokenValue) (ts : List TokenValue) (k : ℕ) (below : (e : Expected) → Suits e b → IfOk (value_in tail e ts) (IsGivenIn b k)) (p : length ts ≤ k) where
+  given-step : (last : Bool) (step : Option ValueStep) → StaysIn b step → IfOk (if last then refused MissingValue t else value_after tail t ts step) (IsGivenIn b k)
+  given-step true step s = tt
+  given-step false None s = tt
+  given-step false (Some (More next)) s = below next s
+  given-step false (Some (Whole v)) s = record { noted = s; left = p }
 
-value-given : (tail : Tail) (k : ℕ) (e : Expected) (ts : List TokenValue) → length ts ≤ k → IfOk (value_in tail e ts) (IsGivenIn (home_of e) k)
+value-given : (tail : Tail) (k : ℕ) (e : Expected) (b : Block) (ts : List TokenValue) → Suits e b → length ts ≤ k → IfOk (value_in tail e ts) (IsGivenIn b k)
 unfolding value_in
-value-given tail k e [] p = tt
-value-given tail k e (t ∷ ts) p =
-    given-step tail t ts k (λ next. value-given tail k next ts (omega arith)) (omega arith) (home_of e) (is_end t) (value_step e t) (step-stays e t)
+value-given tail k e b [] s p = tt
+value-given tail k e b (t ∷ ts) s p =
+    given-step tail b t ts k (λ next q. value-given tail k next b ts q (omega arith)) (omega arith) (is_end t) (value_step e t) (step-stays e b t s)
+
+-- a block of the keyword of a value
+suited : (e : Expected) → (b : Block) × Suits e b
+suited (expected.Text LayerName) = (block.Layer, refl)
+suited expected.Kind = (block.Layer, refl)
+suited (expected.Colour StyleColour) = (block.Style, refl)
+suited (expected.Green StyleColour r) = (block.Style, refl)
+suited (expected.Blue StyleColour r g) = (block.Style, refl)
+suited _ = (block.Map, tt)
 
 pub value-left : (tail : Tail) (e : Expected) (ts : List TokenValue) → IfOk (value_in tail e ts) (λ v. length v.rest ≤ length ts)
-value-left tail e ts = left (value_in tail e ts) (value-given tail (length ts) e ts (omega arith))
+value-left tail e ts = left (value_in tail e ts) (value-given tail (length ts) e (suited e).0 ts (suited e).1 (omega arith))
   where
-    left : (r : Result Given Fault) → IfOk r (IsGivenIn (home_of e) (length ts)) → IfOk r (λ v. length v.rest ≤ length ts)
+    left : (r : Result Given Fault) → IfOk r (IsGivenIn (suited e).0 (length ts)) → IfOk r (λ v. length v.rest ≤ length ts)
     left (Ok v) given = given.left
     left (Err f) given = tt
 
@@ -163,17 +201,18 @@ closed b o e = Ok (drafts_of (after_end b e.0 o), e.1)
 abbrev pub block_after : Tail → ℕ → Block → Entries → Entries → List TokenValue → Saying → BlockRead
 block_after tail n b above own ts saying = elim saying [
   | Ends ↦ Ok (own, ts)
-  | Opens c ↦ and_then (block_in tail n c own Nothing ts) (λ inner. block_in tail n b above (Inside c inner.0 own) inner.1)
-  | Takes expected ↦ and_then (value_in tail expected ts) (λ v. block_in tail n b above (Said v.value v.line own) v.rest)
+  | Opens c ↦ and_then (block_in tail n c own Nothing ts) (λ inner. block_in tail n b above (with_block c inner.0 own) inner.1)
+  | Takes expected ↦ and_then (value_in tail expected ts) (λ v. block_in tail n b above (with_said v.value v.line own) v.rest)
   | Longitude x ↦ and_then (latitude_in tail ts) (λ y. block_in tail n b above (Vertex (record { x = x; y = y.0 }) own) y.1)
+  | Passes ↦ block_in tail n b above own ts
 ]
 
 -- the END of a block, for which there was room
-end-step : (tail : Tail) (n : ℕ) (b : Block) (own : Entries) (o : OpenBlocks) (t : TokenValue) (ts : List TokenValue) (full : Bool) (fault : Option Fault) (ended : Result Drafts Fault) → full ≡ false → ended ≡ unless_fault fault (drafts_of (after_end b own o)) →
+end-step : (tail : Tail) (n : ℕ) (b : Block) (up own : Entries) (o : OpenBlocks) (t : TokenValue) (ts : List TokenValue) (full : Bool) (fault : Option Fault) (ended : Result Drafts Fault) → full ≡ false → ended ≡ unless_fault fault (drafts_of (after_end b own o)) →
     and_then (if full then refused Limit t else and_then ended (λ e. Ok (Leaves, e))) (read_after tail n (Keywords b) ts)
-    ≡ and_then (and_then (ends_unless fault) (block_after tail n b (above b o) own ts)) (closed b o)
-end-step tail n b own o t ts full None ended p q = rw (p, q) refl
-end-step tail n b own o t ts full (Some f) ended p q = rw (p, q) refl
+    ≡ and_then (and_then (ends_unless fault) (block_after tail n b (above b up o) own ts)) (closed b o)
+end-step tail n b up own o t ts full None ended p q = rw (p, q) refl
+end-step tail n b up own o t ts full (Some f) ended p q = rw (p, q) refl
 
 -- a latitude, and the tokens after it
 abbrev latitude_before : List TokenValue → ℤ → Result (ℤ × List TokenValue) Fault
@@ -207,29 +246,29 @@ module _ (tail : Tail) (x : ℤ) (own : Entries) (o : OpenBlocks) (free : nat_le
   latitude-step (suc n) [] p = refl
   latitude-step zero (t ∷ ts) p = absurd (omega arith)
   latitude-step (suc n) (t ∷ ts) p =
-      latitude-at n t ts (is_end t) (nat_le MAX_VERTICES (vertex_count o.feature own)) (coordinate_of t.text) free
-      ∙ fewer n t ts (omega arith) (is_end t) (coordinate_of t.text)
+      latitude-at n t ts (is_end t) (nat_le MAX_VERTICES (vertex_count o.feature own)) (coordinate_in t) free
+      ∙ fewer n t ts (omega arith) (is_end t) (coordinate_in t)
 
 pub latitude-left : (tail : Tail) (ts : List TokenValue) → IfOk (latitude_in tail ts) (λ y. length y.1 ≤ length ts)
 latitude-left tail [] = tt
-latitude-left tail (t ∷ ts) = left (is_end t) (coordinate_of t.text)
+latitude-left tail (t ∷ ts) = left (is_end t) (coordinate_in t)
   where
     left : (last : Bool) (y : Option ℤ) → IfOk (if last then refused MissingValue t else and_then (ok_or y (fault_of WrongValue t)) (latitude_before ts)) (λ y. length y.1 ≤ length (t ∷ ts))
     left true y = tt
     left false None = tt
     left false (Some y) = omega arith
 
-module _ (tail : Tail) (n : ℕ) (below : (b : Block) (own : Entries) (o : OpenBlocks) (ts : List TokenValue) → length ts ≤ n → is_full b (above b o) ≡ false → reads tail n (Keywords b) (drafts_of (in_block b own o)) ts ≡ and_then (block_in tail n b (above b o) own ts) (closed b o)) where
-  module _ (b : Block) (own : Entries) (o : OpenBlocks) (t : TokenValue) (ts : List TokenValue) (room : is_full b (above b o) ≡ false) (p : length ts ≤ n) where
+module _ (tail : Tail) (n : ℕ) (below : (b : Block) (up own : Entries) (o : OpenBlocks) (ts : List TokenValue) → length ts ≤ n → is_full b (above b up o) ≡ false → reads tail n (Keywords b) (drafts_of (in_block b own o)) ts ≡ and_then (block_in tail n b (above b up o) own ts) (closed b o)) where
+  module _ (b : Block) (up own : Entries) (o : OpenBlocks) (t : TokenValue) (ts : List TokenValue) (room : is_full b (above b up o) ≡ false) (p : length ts ≤ n) where
     ends-here : and_then (read_end b (drafts_of (in_block b own o)) t) (read_after tail n (Keywords b) ts)
-        ≡ and_then (and_then (ends_unless (closing_fault b (above b o) own t)) (block_after tail n b (above b o) own ts)) (closed b o)
-    ends-here = end-step tail n b own o t ts (draft.is_full b (drafts_of (in_block b own o))) (closing_fault b (above b o) own t) (ends b (drafts_of (in_block b own o)) t) (same-room b own o ∙ room) (same-end b own o t)
+        ≡ and_then (and_then (ends_unless (closing_fault b (above b up o) own t)) (block_after tail n b (above b up o) own ts)) (closed b o)
+    ends-here = end-step tail n b up own o t ts (draft.is_full b (drafts_of (in_block b own o))) (closing_fault b (above b up o) own t) (ends b (drafts_of (in_block b own o)) t) (same-room b up own o ∙ room) (same-end b up own o t)
 
     -- an inner block is read, and then this one goes on
     module _ (c : Block) (inside : Nests c b) where
-      inner-read : is_full c own ≡ false → reads tail n (Keywords c) (drafts_of (in_block b own o)) ts ≡ and_then (block_in tail n c own Nothing ts) (λ inner. Ok (drafts_of (in_block b (Inside c inner.0 own) o), inner.1))
+      inner-read : is_full c own ≡ false → reads tail n (Keywords c) (drafts_of (in_block b own o)) ts ≡ and_then (block_in tail n c own Nothing ts) (λ inner. Ok (drafts_of (in_block b (with_block c inner.0 own) o), inner.1))
       inner-read free =
-          let at : reads tail n (Keywords c) (drafts_of (in_block c Nothing (in_block b own o))) ts ≡ and_then (block_in tail n c (above c (in_block b own o)) Nothing ts) (closed c (in_block b own o)) = below c Nothing (in_block b own o) ts p (ap (is_full c) (inside.parent own o) ∙ free) in
+          let at : reads tail n (Keywords c) (drafts_of (in_block c Nothing (in_block b own o))) ts ≡ and_then (block_in tail n c (above c own (in_block b own o)) Nothing ts) (closed c (in_block b own o)) = below c own Nothing (in_block b own o) ts p (ap (is_full c) (inside.parent own o) ∙ free) in
           ap (λ v. reads tail n (Keywords c) (drafts_of v) ts) (sym (inside.opened own o))
           ∙ at
           ∙ ap (λ v. and_then (block_in tail n c v Nothing ts) (closed c (in_block b own o))) (inside.parent own o)
@@ -238,40 +277,46 @@ module _ (tail : Tail) (n : ℕ) (below : (b : Block) (own : Entries) (o : OpenB
       room-inside : draft.is_full c (drafts_of (in_block b own o)) ≡ is_full c own
       room-inside =
           ap (λ v. draft.is_full c (drafts_of v)) (sym (inside.opened own o))
-          ∙ same-room c Nothing (in_block b own o)
+          ∙ same-room c own Nothing (in_block b own o)
           ∙ ap (is_full c) (inside.parent own o)
 
-      opens-here : (full : Bool) → full ≡ is_full c own →
-          and_then (if full then refused Limit t else Ok (Enters (Keywords c), drafts_of (in_block b own o))) (read_after tail n (Keywords b) ts)
-          ≡ and_then (and_then (if full then refused Limit t else Ok (Opens c)) (block_after tail n b (above b o) own ts)) (closed b o)
-      opens-here true q = refl
-      opens-here false q =
-          same-then (block_in tail n c own Nothing ts) (reads tail n (Keywords c) (drafts_of (in_block b own o)) ts) (λ inner. (drafts_of (in_block b (Inside c inner.0 own) o), inner.1)) (λ e. reads tail n (Keywords b) e.0 e.1) (λ inner. block_in tail n b (above b o) (Inside c inner.0 own) inner.1) (closed b o)
-          (inner-read (sym q))
-          (λ inner is. below b (Inside c inner.0 own) o inner.1 (left-over inner is) room)
+      -- where there is room
+      opens-freely : is_full c own ≡ false →
+          and_then (reads tail n (Keywords c) (drafts_of (in_block b own o)) ts) (λ e. reads tail n (Keywords b) e.0 e.1)
+          ≡ and_then (and_then (block_in tail n c own Nothing ts) (λ inner. block_in tail n b (above b up o) (with_block c inner.0 own) inner.1)) (closed b o)
+      opens-freely free =
+          same-then (block_in tail n c own Nothing ts) (reads tail n (Keywords c) (drafts_of (in_block b own o)) ts) (λ inner. (drafts_of (in_block b (with_block c inner.0 own) o), inner.1)) (λ e. reads tail n (Keywords b) e.0 e.1) (λ inner. block_in tail n b (above b up o) (with_block c inner.0 own) inner.1) (closed b o)
+          (inner-read free)
+          (λ inner is. below b up (with_block c inner.0 own) o inner.1 (left-over inner is) room)
         where
           left-over : (inner : Entries × List TokenValue) → block_in tail n c own Nothing ts ≡ Ok inner → length inner.1 ≤ n
           left-over inner is =
               let l : LeavesAtMost (length ts) (reads tail n (Keywords c) (drafts_of (in_block b own o)) ts) = reads-at_most tail n (Keywords c) (drafts_of (in_block b own o)) ts in
-              let e : reads tail n (Keywords c) (drafts_of (in_block b own o)) ts ≡ Ok (drafts_of (in_block b (Inside c inner.0 own) o), inner.1) = inner-read (sym q) ∙ ap (λ r. and_then r (λ x. Ok (drafts_of (in_block b (Inside c x.0 own) o), x.1))) is in
+              let e : reads tail n (Keywords c) (drafts_of (in_block b own o)) ts ≡ Ok (drafts_of (in_block b (with_block c inner.0 own) o), inner.1) = inner-read free ∙ ap (λ r. and_then r (λ x. Ok (drafts_of (in_block b (with_block c x.0 own) o), x.1))) is in
               let k : length inner.1 ≤ length ts = subst (LeavesAtMost (length ts)) e l in
               omega arith
 
+      opens-here : (full : Bool) → full ≡ is_full c own →
+          and_then (if full then refused Limit t else Ok (Enters (Keywords c), drafts_of (in_block b own o))) (read_after tail n (Keywords b) ts)
+          ≡ and_then (and_then (if full then refused Limit t else Ok (Opens c)) (block_after tail n b (above b up o) own ts)) (closed b o)
+      opens-here true q = refl
+      opens-here false q = opens-freely (sym q)
+
     -- a value is read, and the block notes it
-    takes-here : (e : Expected) → home_of e ≡ b →
+    takes-here : (e : Expected) → Suits e b →
         and_then (reads tail n (Values e) (drafts_of (in_block b own o)) ts) (λ r. reads tail n (Keywords b) r.0 r.1)
-        ≡ and_then (and_then (value_in tail e ts) (λ v. block_in tail n b (above b o) (Said v.value v.line own) v.rest)) (closed b o)
-    takes-here e home =
-        same-then (value_in tail e ts) (reads tail n (Values e) (drafts_of (in_block b own o)) ts) (noted (drafts_of (in_block b own o))) (λ r. reads tail n (Keywords b) r.0 r.1) (λ v. block_in tail n b (above b o) (Said v.value v.line own) v.rest) (closed b o)
+        ≡ and_then (and_then (value_in tail e ts) (λ v. block_in tail n b (above b up o) (with_said v.value v.line own) v.rest)) (closed b o)
+    takes-here e suits =
+        same-then (value_in tail e ts) (reads tail n (Values e) (drafts_of (in_block b own o)) ts) (noted (drafts_of (in_block b own o))) (λ r. reads tail n (Keywords b) r.0 r.1) (λ v. block_in tail n b (above b up o) (with_said v.value v.line own) v.rest) (closed b o)
         (reads-value tail n e (drafts_of (in_block b own o)) ts p)
         (λ v is.
-        let given : IsGivenIn b (length ts) v = subst (λ r. IfOk r (IsGivenIn b (length ts))) is (subst (λ c. IfOk (value_in tail e ts) (IsGivenIn c (length ts))) home (value-given tail (length ts) e ts (omega arith))) in
+        let given : IsGivenIn b (length ts) v = subst (λ r. IfOk r (IsGivenIn b (length ts))) is (value-given tail (length ts) e b ts suits (omega arith)) in
         ap (λ d. reads tail n (Keywords b) d v.rest) (given.noted v.line own o)
-        ∙ below b (Said v.value v.line own) o v.rest (let k : length v.rest ≤ length ts = given.left in omega arith) room)
+        ∙ below b up (with_said v.value v.line own) o v.rest (let k : length v.rest ≤ length ts = given.left in omega arith) room)
 
     role-here : (r : Option Role) → Fits b r →
         and_then (read_role b r (drafts_of (in_block b own o)) t) (read_after tail n (Keywords b) ts)
-        ≡ and_then (and_then (role_says b r (above b o) own t) (block_after tail n b (above b o) own ts)) (closed b o)
+        ≡ and_then (and_then (role_says b r (above b up o) own t) (block_after tail n b (above b up o) own ts)) (closed b o)
     role-here None f = refl
     role-here (Some role.Closes) f = ends-here
     role-here (Some (role.Opens c)) f =
@@ -280,7 +325,7 @@ module _ (tail : Tail) (n : ℕ) (below : (b : Block) (own : Entries) (o : OpenB
     role-here (Some (role.Takes e)) f = takes-here e f
 
   -- a token in POINTS
-  module _ (own : Entries) (o : OpenBlocks) (t : TokenValue) (ts : List TokenValue) (p : length ts ≤ n) where
+  module _ (up own : Entries) (o : OpenBlocks) (t : TokenValue) (ts : List TokenValue) (p : length ts ≤ n) where
     vertex-here : (full : Bool) (x : Option ℤ) → nat_le MAX_VERTICES (vertex_count o.feature own) ≡ full →
         and_then (and_then (if full then refused Limit t else ok_or x (fault_of WrongValue t)) (λ c. Ok (GoesOn (Latitude c), drafts_of (in_block block.Points own o)))) (read_after tail n (Keywords block.Points) ts)
         ≡ and_then (and_then (if full then refused Limit t else and_then (ok_or x (fault_of WrongValue t)) (λ c. Ok (Longitude c))) (block_after tail n block.Points o.feature own ts)) (closed block.Points o)
@@ -290,31 +335,53 @@ module _ (tail : Tail) (n : ℕ) (below : (b : Block) (own : Entries) (o : OpenB
         latitude-step tail x own o q n ts p
         ∙ same-then (latitude_in tail ts) (latitude_in tail ts) (λ y. y) (λ y. reads tail n (Keywords block.Points) (with_latitude tail x own o q y.0) y.1) (λ y. block_in tail n block.Points o.feature (Vertex (record { x = x; y = y.0 }) own) y.1) (closed block.Points o)
         (same-all (latitude_in tail ts))
-        (λ y is. below block.Points (Vertex (record { x = x; y = y.0 }) own) o y.1 (let l : length y.1 ≤ length ts = subst (λ r. IfOk r (λ v. length v.1 ≤ length ts)) is (latitude-left tail ts) in omega arith) refl)
+        (λ y is. below block.Points up (Vertex (record { x = x; y = y.0 }) own) o y.1 (let l : length y.1 ≤ length ts = subst (λ r. IfOk r (λ v. length v.1 ≤ length ts)) is (latitude-left tail ts) in omega arith) refl)
 
     points-here : (last : Bool) →
         and_then (if last then read_end block.Points (drafts_of (in_block block.Points own o)) t else and_then (coordinate_at (drafts_of (in_block block.Points own o)) t) (λ c. Ok (GoesOn (Latitude c), drafts_of (in_block block.Points own o)))) (read_after tail n (Keywords block.Points) ts)
         ≡ and_then (and_then (if last then ends_unless (closing_fault block.Points o.feature own t) else vertex_says o.feature own t) (block_after tail n block.Points o.feature own ts)) (closed block.Points o)
-    points-here true = ends-here block.Points own o t ts refl p
-    points-here false = vertex-here (nat_le MAX_VERTICES (vertex_count o.feature own)) (coordinate_of t.text) refl
+    points-here true = ends-here block.Points up own o t ts refl p
+    points-here false = vertex-here (nat_le MAX_VERTICES (vertex_count o.feature own)) (coordinate_in t) refl
 
-  token-here : (b : Block) (own : Entries) (o : OpenBlocks) (t : TokenValue) (ts : List TokenValue) → length ts ≤ n → is_full b (above b o) ≡ false →
+  -- a token in a block that is read over, of which nothing is kept
+  module _ (b : Block) (up own : Entries) (o : OpenBlocks) (t : TokenValue) (ts : List TokenValue) (room : is_full b (above b up o) ≡ false) (p : length ts ≤ n) (left : after_end b own o ≡ in_block b own o) where
+    passed-here : (r : Option Role) → Fits b r → Frees r →
+        and_then (pass_over b r (drafts_of (in_block b own o))) (read_after tail n (Keywords b) ts)
+        ≡ and_then (and_then (passed_says r) (block_after tail n b (above b up o) own ts)) (closed b o)
+    passed-here None f g = below b up own o ts p room
+    passed-here (Some role.Closes) f g = ap (λ v. Ok (drafts_of v, ts)) (sym left)
+    passed-here (Some (role.Opens c)) f g = opens-freely b up own o t ts room p c f (g own)
+    passed-here (Some (role.Takes e)) f g = below b up own o ts p room
+
+  -- a token in VALIDATION
+  pair-here : (up own : Entries) (o : OpenBlocks) (t : TokenValue) (ts : List TokenValue) → length ts ≤ n → (last value : Bool) →
+      and_then (if last then Ok (Leaves, drafts_of o) else (if value then Ok (Enters (Values (expected.Unused 0)), drafts_of o) else refused WrongValue t)) (read_after tail n (Keywords block.Validation) ts)
+      ≡ and_then (and_then (if last then Ok Ends else (if value then Ok (Takes (expected.Unused 0)) else refused WrongValue t)) (block_after tail n block.Validation up own ts)) (closed block.Validation o)
+  pair-here up own o t ts p true value = refl
+  pair-here up own o t ts p false false = refl
+  pair-here up own o t ts p false true = takes-here block.Validation up own o t ts refl p (expected.Unused 0) tt
+
+  token-here : (b : Block) (up own : Entries) (o : OpenBlocks) (t : TokenValue) (ts : List TokenValue) → length ts ≤ n → is_full b (above b up o) ≡ false →
       and_then (read_token (Keywords b) (drafts_of (in_block b own o)) t) (read_after tail n (Keywords b) ts)
-      ≡ and_then (and_then (says b (above b o) own t) (block_after tail n b (above b o) own ts)) (closed b o)
-  token-here block.Points own o t ts p q = points-here own o t ts p (is_end t)
-  token-here block.Map own o t ts p q = role-here block.Map own o t ts q p _ (fits-option block.Map (keyword_at t))
-  token-here block.Layer own o t ts p q = role-here block.Layer own o t ts q p _ (fits-option block.Layer (keyword_at t))
-  token-here block.Class own o t ts p q = role-here block.Class own o t ts q p _ (fits-option block.Class (keyword_at t))
-  token-here block.Style own o t ts p q = role-here block.Style own o t ts q p _ (fits-option block.Style (keyword_at t))
-  token-here block.Feature own o t ts p q = role-here block.Feature own o t ts q p _ (fits-option block.Feature (keyword_at t))
+      ≡ and_then (and_then (says b (above b up o) own t) (block_after tail n b (above b up o) own ts)) (closed b o)
+  token-here block.Points up own o t ts p q = points-here up own o t ts p (is_end t)
+  token-here block.Validation up own o t ts p q = pair-here up own o t ts p (is_end t) (is_value t.shape)
+  token-here block.Projection up own o t ts p q = passed-here block.Projection up own o t ts q p refl _ (fits-option block.Projection (keyword_at t)) (projection-frees (keyword_at t))
+  token-here block.Passed up own o t ts p q = passed-here block.Passed up own o t ts q p refl _ (fits-option block.Passed (keyword_at t)) (passed-frees (keyword_at t))
+  token-here block.PassedLabel up own o t ts p q = passed-here block.PassedLabel up own o t ts q p refl _ (fits-option block.PassedLabel (keyword_at t)) (label-frees (keyword_at t))
+  token-here block.Map up own o t ts p q = role-here block.Map up own o t ts q p _ (fits-option block.Map (keyword_at t))
+  token-here block.Layer up own o t ts p q = role-here block.Layer up own o t ts q p _ (fits-option block.Layer (keyword_at t))
+  token-here block.Class up own o t ts p q = role-here block.Class up own o t ts q p _ (fits-option block.Class (keyword_at t))
+  token-here block.Style up own o t ts p q = role-here block.Style up own o t ts q p _ (fits-option block.Style (keyword_at t))
+  token-here block.Feature up own o t ts p q = role-here block.Feature up own o t ts q p _ (fits-option block.Feature (keyword_at t))
 
 -- a block is read in drafts as it is read by what it says
-joined : (tail : Tail) (n : ℕ) (b : Block) (own : Entries) (o : OpenBlocks) (ts : List TokenValue) → length ts ≤ n → is_full b (above b o) ≡ false → reads tail n (Keywords b) (drafts_of (in_block b own o)) ts ≡ and_then (block_in tail n b (above b o) own ts) (closed b o)
+joined : (tail : Tail) (n : ℕ) (b : Block) (up own : Entries) (o : OpenBlocks) (ts : List TokenValue) → length ts ≤ n → is_full b (above b up o) ≡ false → reads tail n (Keywords b) (drafts_of (in_block b own o)) ts ≡ and_then (block_in tail n b (above b up o) own ts) (closed b o)
 unfolding reads block_in
-joined tail zero b own o [] p q = refl
-joined tail (suc n) b own o [] p q = refl
-joined tail zero b own o (t ∷ ts) p q = absurd (omega arith)
-joined tail (suc n) b own o (t ∷ ts) p q = token-here tail n (λ c inner v us. joined tail n c inner v us) b own o t ts (omega arith) q
+joined tail zero b up own o [] p q = refl
+joined tail (suc n) b up own o [] p q = refl
+joined tail zero b up own o (t ∷ ts) p q = absurd (omega arith)
+joined tail (suc n) b up own o (t ∷ ts) p q = token-here tail n (λ c over inner v us. joined tail n c over inner v us) b up own o t ts (omega arith) q
 
 -- nothing is open
 abbrev none_open : OpenBlocks
@@ -336,7 +403,7 @@ map-same tail (Err f) = refl
 
 begun-same : (tail : Tail) (t : TokenValue) (ts : List TokenValue) (begins : Bool) → (if begins then pass.map_body tail ts else refused UnknownWord t) ≡ and_then (if begins then map_in tail ts else refused UnknownWord t) to_tree
 begun-same tail t ts true =
-    ap (λ r. and_then r (λ e. pass.alone tail e.0 e.1)) (joined tail (length ts) block.Map Nothing none_open ts (omega arith) refl)
+    ap (λ r. and_then r (λ e. pass.alone tail e.0 e.1)) (joined tail (length ts) block.Map Nothing Nothing none_open ts (omega arith) refl)
     ∙ map-same tail (block_in tail (length ts) block.Map Nothing Nothing ts)
 begun-same tail t ts false = refl
 

@@ -26,11 +26,11 @@ use Rattle.mapparse.specs.declared.tree.FeatureTree.{FeatureTree}
 use Rattle.mapparse.specs.declared.tree.LayerTree.{LayerTree}
 use Rattle.mapparse.specs.Draft as draft
 use Rattle.mapparse.specs.End.{finished_layer, ends}
-use Rattle.mapparse.specs.Entries.{Entries, Nothing, Inside, last, blocks, vertices}
+use Rattle.mapparse.specs.Entries.{Entries, Nothing, Inside, with_block, last, blocks, vertices}
 use Rattle.mapparse.specs.Fault.{and_then}
 use Rattle.mapparse.specs.Name.{is_taken}
 use Rattle.mapparse.specs.Says.{layer_fault, closing_fault, is_full}
-use Rattle.mapparse.specs.Table.{role_of}
+use Rattle.mapparse.specs.Table.{map_role, layer_role, class_role, style_role, feature_role, passed_role, passed_label_role, end_role, role_of}
 use Rattle.mapparse.specs.Tree.{style_tree, class_tree, feature_tree, layer_name, layer_kind, layer_tree, map_tree}
 
 -- what the open blocks say so far; a block that isn't open says nothing
@@ -65,15 +65,17 @@ in_block block.Class own o = record { map = o.map; layer = o.layer; class = own;
 in_block block.Style own o = record { map = o.map; layer = o.layer; class = o.class; style = own; feature = Nothing; points = Nothing }
 in_block block.Feature own o = record { map = o.map; layer = o.layer; class = Nothing; style = Nothing; feature = own; points = Nothing }
 in_block block.Points own o = record { map = o.map; layer = o.layer; class = Nothing; style = Nothing; feature = o.feature; points = own }
+in_block _ own o = o
 
--- what the parent of a block says
-abbrev pub above : Block → OpenBlocks → Entries
-above block.Map o = Nothing
-above block.Layer o = o.map
-above block.Class o = o.layer
-above block.Style o = o.class
-above block.Feature o = o.layer
-above block.Points o = o.feature
+-- what the parent of a block says; of a block that isn't kept it is `up`
+abbrev pub above : Block → Entries → OpenBlocks → Entries
+above block.Map up o = Nothing
+above block.Layer up o = o.map
+above block.Class up o = o.layer
+above block.Style up o = o.class
+above block.Feature up o = o.layer
+above block.Points up o = o.feature
+above _ up o = up
 
 -- after the END of a block its parent has it
 abbrev pub after_end : Block → Entries → OpenBlocks → OpenBlocks
@@ -83,55 +85,139 @@ after_end block.Class own o = in_block block.Layer (Inside block.Class own o.lay
 after_end block.Style own o = in_block block.Class (Inside block.Style own o.class) o
 after_end block.Feature own o = in_block block.Layer (Inside block.Feature own o.layer) o
 after_end block.Points own o = in_block block.Feature (Inside block.Points own o.feature) o
+after_end _ own o = o
 
 -- a block that opens in another is inside of it, and says nothing yet
 pub record Nests (c b : Block) : Type 0 where
   pub opened : (own : Entries) (o : OpenBlocks) → in_block c Nothing (in_block b own o) ≡ in_block b own o
-  pub parent : (own : Entries) (o : OpenBlocks) → above c (in_block b own o) ≡ own
-  pub ended : (inner own : Entries) (o : OpenBlocks) → after_end c inner (in_block b own o) ≡ in_block b (Inside c inner own) o
+  pub parent : (own : Entries) (o : OpenBlocks) → above c own (in_block b own o) ≡ own
+  pub ended : (inner own : Entries) (o : OpenBlocks) → after_end c inner (in_block b own o) ≡ in_block b (with_block c inner own) o
 
--- the block whose keyword takes a value
-abbrev pub home_of : Expected → Block
-home_of (expected.Text LayerName) = block.Layer
-home_of expected.Kind = block.Layer
-home_of (expected.Colour StyleColour) = block.Style
-home_of (expected.Green StyleColour r) = block.Style
-home_of (expected.Blue StyleColour r g) = block.Style
+-- the keyword of a value is one of the block; a value without effect may stand in each
+abbrev pub Suits : Expected → Block → Type 0
+Suits (expected.Text LayerName) b = b ≡ block.Layer
+Suits expected.Kind b = b ≡ block.Layer
+Suits (expected.Colour StyleColour) b = b ≡ block.Style
+Suits (expected.Green StyleColour r) b = b ≡ block.Style
+Suits (expected.Blue StyleColour r g) b = b ≡ block.Style
+Suits _ b = Unit {0}
 
 -- a keyword of a block opens a block inside of it, or takes a value of it
 abbrev pub Fits : Block → Option Role → Type 0
 Fits b None = Unit {0}
 Fits b (Some role.Closes) = Unit {0}
 Fits b (Some (role.Opens c)) = Nests c b
-Fits b (Some (role.Takes e)) = home_of e ≡ b
+Fits b (Some (role.Takes e)) = Suits e b
 
-nests : {c b : Block} → ((own : Entries) (o : OpenBlocks) → in_block c Nothing (in_block b own o) ≡ in_block b own o) → ((own : Entries) (o : OpenBlocks) → above c (in_block b own o) ≡ own) → ((inner own : Entries) (o : OpenBlocks) → after_end c inner (in_block b own o) ≡ in_block b (Inside c inner own) o) → Nests c b
+nests : {c b : Block} → ((own : Entries) (o : OpenBlocks) → in_block c Nothing (in_block b own o) ≡ in_block b own o) → ((own : Entries) (o : OpenBlocks) → above c own (in_block b own o) ≡ own) → ((inner own : Entries) (o : OpenBlocks) → after_end c inner (in_block b own o) ≡ in_block b (with_block c inner own) o) → Nests c b
 nests p q r = record { opened = p; parent = q; ended = r }
 
+fits-map : (k : Keyword) → Fits block.Map (map_role k)
+fits-map keyword.Layer = nests (λ own o. refl) (λ own o. refl) (λ inner own o. refl)
+fits-map keyword.Legend = nests (λ own o. refl) (λ own o. refl) (λ inner own o. refl)
+fits-map keyword.OutputFormat = nests (λ own o. refl) (λ own o. refl) (λ inner own o. refl)
+fits-map keyword.QueryMap = nests (λ own o. refl) (λ own o. refl) (λ inner own o. refl)
+fits-map keyword.Reference = nests (λ own o. refl) (λ own o. refl) (λ inner own o. refl)
+fits-map keyword.ScaleBar = nests (λ own o. refl) (λ own o. refl) (λ inner own o. refl)
+fits-map keyword.Projection = nests (λ own o. refl) (λ own o. refl) (λ inner own o. refl)
+fits-map _ = tt
+
+fits-layer : (k : Keyword) → Fits block.Layer (layer_role k)
+fits-layer keyword.Name = refl
+fits-layer keyword.Kind = refl
+fits-layer keyword.Class = nests (λ own o. refl) (λ own o. refl) (λ inner own o. refl)
+fits-layer keyword.Feature = nests (λ own o. refl) (λ own o. refl) (λ inner own o. refl)
+fits-layer keyword.Projection = nests (λ own o. refl) (λ own o. refl) (λ inner own o. refl)
+fits-layer keyword.Validation = nests (λ own o. refl) (λ own o. refl) (λ inner own o. refl)
+fits-layer _ = tt
+
+fits-class : (k : Keyword) → Fits block.Class (class_role k)
+fits-class keyword.Style = nests (λ own o. refl) (λ own o. refl) (λ inner own o. refl)
+fits-class _ = tt
+
+fits-style : (k : Keyword) → Fits block.Style (style_role k)
+fits-style keyword.Color = refl
+fits-style _ = tt
+
+fits-feature : (k : Keyword) → Fits block.Feature (feature_role k)
+fits-feature keyword.Points = nests (λ own o. refl) (λ own o. refl) (λ inner own o. refl)
+fits-feature _ = tt
+
+fits-passed : (k : Keyword) → Fits block.Passed (passed_role k)
+fits-passed keyword.Label = nests (λ own o. refl) (λ own o. refl) (λ inner own o. refl)
+fits-passed keyword.Metadata = nests (λ own o. refl) (λ own o. refl) (λ inner own o. refl)
+fits-passed keyword.Validation = nests (λ own o. refl) (λ own o. refl) (λ inner own o. refl)
+fits-passed _ = tt
+
+fits-passed_label : (k : Keyword) → Fits block.PassedLabel (passed_label_role k)
+fits-passed_label keyword.Label = nests (λ own o. refl) (λ own o. refl) (λ inner own o. refl)
+fits-passed_label keyword.Metadata = nests (λ own o. refl) (λ own o. refl) (λ inner own o. refl)
+fits-passed_label keyword.Validation = nests (λ own o. refl) (λ own o. refl) (λ inner own o. refl)
+fits-passed_label keyword.Style = nests (λ own o. refl) (λ own o. refl) (λ inner own o. refl)
+fits-passed_label _ = tt
+
+fits-end : (b : Block) (k : Keyword) → Fits b (end_role k)
+fits-end b keyword.End = tt
+fits-end b _ = tt
+
 fits : (b : Block) (k : Keyword) → Fits b (role_of b k)
-fits block.Map keyword.Layer = nests (λ own o. refl) (λ own o. refl) (λ inner own o. refl)
-fits block.Layer keyword.Name = refl
-fits block.Layer keyword.Kind = refl
-fits block.Layer keyword.Class = nests (λ own o. refl) (λ own o. refl) (λ inner own o. refl)
-fits block.Layer keyword.Feature = nests (λ own o. refl) (λ own o. refl) (λ inner own o. refl)
-fits block.Class keyword.Style = nests (λ own o. refl) (λ own o. refl) (λ inner own o. refl)
-fits block.Style keyword.Color = refl
-fits block.Feature keyword.Points = nests (λ own o. refl) (λ own o. refl) (λ inner own o. refl)
-fits block.Points keyword.End = tt
-fits _ _ = tt
+fits block.Map k = fits-map k
+fits block.Layer k = fits-layer k
+fits block.Class k = fits-class k
+fits block.Style k = fits-style k
+fits block.Feature k = fits-feature k
+fits block.Passed k = fits-passed k
+fits block.PassedLabel k = fits-passed_label k
+fits block.Points k = fits-end block.Points k
+fits block.Validation k = fits-end block.Validation k
+fits block.Projection k = fits-end block.Projection k
 
 pub fits-option : (b : Block) (k : Option Keyword) → Fits b (option_and_then (role_of b) k)
 fits-option b None = tt
 fits-option b (Some k) = fits b k
 
+-- a block that may open inside one that is read over has no limit
+abbrev pub Frees : Option Role → Type 0
+Frees (Some (role.Opens c)) = (own : Entries) → is_full c own ≡ false
+Frees _ = Unit {0}
+
+frees-passed : (k : Keyword) → Frees (passed_role k)
+frees-passed keyword.Label = λ own. refl
+frees-passed keyword.Metadata = λ own. refl
+frees-passed keyword.Validation = λ own. refl
+frees-passed _ = tt
+
+frees-passed_label : (k : Keyword) → Frees (passed_label_role k)
+frees-passed_label keyword.Label = λ own. refl
+frees-passed_label keyword.Metadata = λ own. refl
+frees-passed_label keyword.Validation = λ own. refl
+frees-passed_label keyword.Style = λ own. refl
+frees-passed_label _ = tt
+
+frees-end : (k : Keyword) → Frees (end_role k)
+frees-end keyword.End = tt
+frees-end _ = tt
+
+-- in each of these blocks
+pub projection-frees : (k : Option Keyword) → Frees (option_and_then end_role k)
+projection-frees None = tt
+projection-frees (Some k) = frees-end k
+
+pub passed-frees : (k : Option Keyword) → Frees (option_and_then passed_role k)
+passed-frees None = tt
+passed-frees (Some k) = frees-passed k
+
+pub label-frees : (k : Option Keyword) → Frees (option_and_then passed_label_role k)
+label-frees None = tt
+label-frees (Some k) = frees-passed_label k
+
 -- there is as much room for a further block as its parent says
-pub same-room : (b : Block) (own : Entries) (o : OpenBlocks) → draft.is_full b (drafts_of (in_block b own o)) ≡ is_full b (above b o)
-same-room block.Map own o = refl
-same-room block.Layer own o = ap (nat_le MAX_LAYERS) (length-map (blocks block.Layer o.map) layer_tree)
-same-room block.Class own o = ap (nat_le MAX_CLASSES) (length-map (blocks block.Class o.layer) class_tree)
-same-room block.Style own o = ap (nat_le MAX_STYLES) (length-map (blocks block.Style o.class) style_tree)
-same-room block.Feature own o = ap (nat_le MAX_FEATURES) (length-map (blocks block.Feature o.layer) feature_tree)
-same-room block.Points own o = refl
+pub same-room : (b : Block) (up own : Entries) (o : OpenBlocks) → draft.is_full b (drafts_of (in_block b own o)) ≡ is_full b (above b up o)
+same-room block.Layer up own o = ap (nat_le MAX_LAYERS) (length-map (blocks block.Layer o.map) layer_tree)
+same-room block.Class up own o = ap (nat_le MAX_CLASSES) (length-map (blocks block.Class o.layer) class_tree)
+same-room block.Style up own o = ap (nat_le MAX_STYLES) (length-map (blocks block.Style o.class) style_tree)
+same-room block.Feature up own o = ap (nat_le MAX_FEATURES) (length-map (blocks block.Feature o.layer) feature_tree)
+same-room _ up own o = refl
 
 -- what is given where nothing is wrong
 abbrev pub unless_fault : {A : Type 0} → Option Fault → A → Result A Fault
@@ -163,19 +249,19 @@ given-unless true f a b p = refl
 given-unless false f a b p = ap (λ x. Ok x) p
 
 -- the END of a block, in drafts and by what it says
-pub same-end : (b : Block) (own : Entries) (o : OpenBlocks) (t : TokenValue) → ends b (drafts_of (in_block b own o)) t ≡ unless_fault (closing_fault b (above b o) own t) (drafts_of (after_end b own o))
-same-end block.Map own o t = refl
-same-end block.Layer own o t =
+pub same-end : (b : Block) (up own : Entries) (o : OpenBlocks) (t : TokenValue) → ends b (drafts_of (in_block b own o)) t ≡ unless_fault (closing_fault b (above b up o) own t) (drafts_of (after_end b own o))
+same-end block.Layer up own o t =
     layer-ends (map_tree o.map).layers t (map class_tree (blocks block.Class own)) (map feature_tree (blocks block.Feature own))
     (λ layer. record (drafts_of (in_block block.Map o.map o)) { map = record { layers = (map_tree o.map).layers ++ layer ∷ [] } })
     (last layer_name own) (last layer_kind own)
     ∙ ap (λ (layers : List LayerTree). unless_fault (closing_fault block.Layer o.map own t) (record (drafts_of (in_block block.Map o.map o)) { map = record { layers = layers } }))
     (sym (map-append layer_tree (blocks block.Layer o.map) (own ∷ [])))
-same-end block.Class own o t = rw (map-append class_tree (blocks block.Class o.layer) (own ∷ [])) refl
-same-end block.Style own o t = rw (map-append style_tree (blocks block.Style o.class) (own ∷ [])) refl
-same-end block.Feature own o t =
+same-end block.Class up own o t = rw (map-append class_tree (blocks block.Class o.layer) (own ∷ [])) refl
+same-end block.Style up own o t = rw (map-append style_tree (blocks block.Style o.class) (own ∷ [])) refl
+same-end block.Feature up own o t =
     rw (map-append feature_tree (blocks block.Feature o.layer) (own ∷ []), length-map (blocks block.Points own) vertices)
     (given-unless (length (blocks block.Points own) == 0) _ _ _ refl)
-same-end block.Points own o t =
+same-end block.Points up own o t =
     rw (map-append vertices (blocks block.Points o.feature) (own ∷ []))
     (given-unless (length (vertices own) == 0) _ _ _ refl)
+same-end _ up own o t = refl

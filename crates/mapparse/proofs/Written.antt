@@ -64,7 +64,7 @@ module _ (tail : Tail) (k : ℕ) where
   value-read b above before v line rest layer_kind p = on b above (Said v line before) rest (omega arith)
   value-read b above before v line rest no_colour p = on b above (Said v line before) rest (omega arith)
   value-read b above before v line rest (style_colour colour is) p =
-      rw (counts colour.red colour.green colour.blue is.red is.green is.blue tail (bare line (decimal colour.red)) (bare line (decimal colour.green)) (bare line (decimal colour.blue)) rest refl refl refl)
+      rw (counts colour.red colour.green colour.blue is.red is.green is.blue tail (bare line (decimal colour.red)) (bare line (decimal colour.green)) (bare line (decimal colour.blue)) rest refl refl refl refl refl refl)
       (on b above (Said v line before) rest (omega arith))
 
   -- a vertex is read in POINTS
@@ -94,6 +94,10 @@ module _ (tail : Tail) (k : ℕ) where
   block-ends block.Class before inner rest fine = refl
   block-ends block.Style before inner rest fine = refl
   block-ends block.Feature before inner rest fine = rw (fine (bare 1 (codes "END"))) refl
+  block-ends block.Validation before inner rest fine = refl
+  block-ends block.Projection before inner rest fine = refl
+  block-ends block.Passed before inner rest fine = refl
+  block-ends block.PassedLabel before inner rest fine = refl
   block-ends block.Points before inner rest fine = rw (fine (bare 1 (codes "END"))) refl
 
 -- a value in its block

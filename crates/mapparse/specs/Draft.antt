@@ -4,7 +4,7 @@ use Rattle.mapdefs.specs.declared.limits.TheConstants.{MAX_LAYERS, MAX_CLASSES, 
 use Rattle.mapparse.specs.declared.context.Block.{Block}
 use Rattle.mapparse.specs.declared.context.Block.TheVariants as block
 use Rattle.mapparse.specs.declared.context.TextKeyword.TheVariants.{LayerName}
-use Rattle.mapparse.specs.declared.context.ColourKeyword.TheVariants.{StyleColour}
+use Rattle.mapparse.specs.declared.context.ColourKeyword.TheVariants.{StyleColour, ImageColour}
 use Rattle.mapparse.specs.declared.value.Value.{Value}
 use Rattle.mapparse.specs.declared.value.Value.TheVariants as value
 use Rattle.mapparse.specs.declared.tree.ClassTree.{ClassTree}
@@ -46,13 +46,13 @@ with_value (value.Text LayerName text) line d =
     record d { layer = record d.layer { name = Some (record { text = text; line = line }) } }
 with_value (value.Kind kind) line d = record d { layer = record d.layer { kind = Some kind } }
 with_value (value.Colour StyleColour colour) line d = record d { style = record d.style { colour = colour } }
+with_value (value.Colour ImageColour colour) line d = d
+with_value value.Nothing line d = d
 
--- a further block of this kind is one more than a map may have; a mapfile has one MAP, and POINTS are limited by their
--- vertices
+-- a further block of this kind is one more than a map may have; the others have no limit of their own
 abbrev pub is_full : Block → Drafts → Bool
-is_full block.Map d = false
 is_full block.Layer d = nat_le MAX_LAYERS (length d.map.layers)
 is_full block.Class d = nat_le MAX_CLASSES (length d.layer.classes)
 is_full block.Style d = nat_le MAX_STYLES (length d.class.styles)
 is_full block.Feature d = nat_le MAX_FEATURES (length d.layer.features)
-is_full block.Points d = false
+is_full _ d = false

@@ -56,9 +56,9 @@ points_end d t =
 
 -- what the END of a block does: the parent has the block, and the next one of the kind begins anew
 abbrev pub ends : Block → Drafts → TokenValue → Result Drafts Fault
-ends block.Map d t = Ok d
 ends block.Layer d t = layer_end d t
 ends block.Class d t = Ok (class_end d)
 ends block.Style d t = Ok (style_end d)
 ends block.Feature d t = feature_end d t
 ends block.Points d t = points_end d t
+ends _ d t = Ok d

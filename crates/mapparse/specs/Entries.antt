@@ -4,7 +4,9 @@ use Rattle.std.specs.Option.{option_or}
 use Rattle.geom.specs.World.{Place}
 use Rattle.mapparse.specs.declared.context.Block.{Block}
 use Rattle.mapparse.specs.declared.context.Block.TheVariants as block
+use Rattle.mapparse.specs.declared.context.ColourKeyword.TheVariants.{ImageColour}
 use Rattle.mapparse.specs.declared.value.Value.{Value}
+use Rattle.mapparse.specs.declared.value.Value.TheVariants as value
 
 -- the entries of a block, the last one first: a keyword with its value and the line of the value's last token, a vertex,
 -- or an inner block with its own entries
@@ -13,6 +15,20 @@ pub data Entries : Type 0 where
   Said : Value → ℕ → Entries → Entries
   Vertex : Place → Entries → Entries
   Inside : Block → Entries → Entries → Entries
+
+-- a value that was given; one without effect makes no entry
+abbrev pub with_said : Value → ℕ → Entries → Entries
+with_said (value.Colour ImageColour colour) line own = own
+with_said value.Nothing line own = own
+with_said given line own = Said given line own
+
+-- an inner block that was read; one without effect makes no entry
+abbrev pub with_block : Block → Entries → Entries → Entries
+with_block block.Validation inner own = own
+with_block block.Projection inner own = own
+with_block block.Passed inner own = own
+with_block block.PassedLabel inner own = own
+with_block b inner own = Inside b inner own
 
 -- the last of the values that are wanted
 abbrev pub last : {A : Type 0} → (Value → ℕ → Option A) → Entries → Option A
@@ -29,6 +45,10 @@ block_number block.Class = 2
 block_number block.Style = 3
 block_number block.Feature = 4
 block_number block.Points = 5
+block_number block.Validation = 6
+block_number block.Projection = 7
+block_number block.Passed = 8
+block_number block.PassedLabel = 9
 
 -- the inner blocks of a kind, in their order
 abbrev pub blocks : Block → Entries → List Entries

@@ -2,10 +2,10 @@
 use Rattle.std.specs.Prelude.{ℕ, Bool, false, List, [], ◌∷◌, Option, None, codes, find}
 use Rattle.std.specs.Str.{str_eq_ignore_ascii_case}
 use Rattle.maplex.specs.declared.token.Shape.{Shape}
-use Rattle.maplex.specs.declared.token.Shape.TheVariants.{Word, Text}
+use Rattle.maplex.specs.declared.token.Shape.TheVariants.{Word}
 use Rattle.maplex.specs.Token.{TokenValue}
 use Rattle.mapparse.specs.declared.keyword.Keyword.{Keyword}
-use Rattle.mapparse.specs.declared.keyword.Keyword.TheVariants.{Map, Layer, Name, Kind, Class, Style, Color, Feature, Points, End}
+use Rattle.mapparse.specs.declared.keyword.Keyword.TheVariants.{Map, Layer, Name, Kind, Class, Style, Color, Feature, Points, Angle, Antialias, Debug, Dump, Extent, FontSet, Footer, Group, Header, ImageColor, ImageType, Label, LabelCache, LabelMaxScaleDenom, LabelMinScaleDenom, Legend, MaxSize, MaxWidth, Metadata, MinSize, MinWidth, OutputFormat, Projection, QueryMap, Reference, Resolution, ScaleBar, ShapePath, Size, Status, Template, Title, ToleranceUnits, Units, Validation, End}
 
 -- how a keyword is written
 unfoldable pub spelling : Keyword → List ℕ
@@ -18,11 +18,51 @@ spelling Style = codes "STYLE"
 spelling Color = codes "COLOR"
 spelling Feature = codes "FEATURE"
 spelling Points = codes "POINTS"
+spelling Angle = codes "ANGLE"
+spelling Antialias = codes "ANTIALIAS"
+spelling Debug = codes "DEBUG"
+spelling Dump = codes "DUMP"
+spelling Extent = codes "EXTENT"
+spelling FontSet = codes "FONTSET"
+spelling Footer = codes "FOOTER"
+spelling Group = codes "GROUP"
+spelling Header = codes "HEADER"
+spelling ImageColor = codes "IMAGECOLOR"
+spelling ImageType = codes "IMAGETYPE"
+spelling Label = codes "LABEL"
+spelling LabelCache = codes "LABELCACHE"
+spelling LabelMaxScaleDenom = codes "LABELMAXSCALEDENOM"
+spelling LabelMinScaleDenom = codes "LABELMINSCALEDENOM"
+spelling Legend = codes "LEGEND"
+spelling MaxSize = codes "MAXSIZE"
+spelling MaxWidth = codes "MAXWIDTH"
+spelling Metadata = codes "METADATA"
+spelling MinSize = codes "MINSIZE"
+spelling MinWidth = codes "MINWIDTH"
+spelling OutputFormat = codes "OUTPUTFORMAT"
+spelling Projection = codes "PROJECTION"
+spelling QueryMap = codes "QUERYMAP"
+spelling Reference = codes "REFERENCE"
+spelling Resolution = codes "RESOLUTION"
+spelling ScaleBar = codes "SCALEBAR"
+spelling ShapePath = codes "SHAPEPATH"
+spelling Size = codes "SIZE"
+spelling Status = codes "STATUS"
+spelling Template = codes "TEMPLATE"
+spelling Title = codes "TITLE"
+spelling ToleranceUnits = codes "TOLERANCEUNITS"
+spelling Units = codes "UNITS"
+spelling Validation = codes "VALIDATION"
 spelling End = codes "END"
 
 -- all keywords
 abbrev pub keywords : List Keyword
-keywords = Map ∷ Layer ∷ Name ∷ Kind ∷ Class ∷ Style ∷ Color ∷ Feature ∷ Points ∷ End ∷ []
+keywords =
+    Map ∷ Layer ∷ Name ∷ Kind ∷ Class ∷ Style ∷ Color ∷ Feature ∷ Points ∷ Angle ∷ Antialias ∷ Debug ∷ Dump ∷ Extent
+    ∷ FontSet ∷ Footer ∷ Group ∷ Header ∷ ImageColor ∷ ImageType ∷ Label ∷ LabelCache ∷ LabelMaxScaleDenom ∷
+    LabelMinScaleDenom ∷ Legend ∷ MaxSize ∷ MaxWidth ∷ Metadata ∷ MinSize ∷ MinWidth ∷ OutputFormat ∷ Projection ∷
+    QueryMap ∷ Reference ∷ Resolution ∷ ScaleBar ∷ ShapePath ∷ Size ∷ Status ∷ Template ∷ Title ∷ ToleranceUnits ∷
+    Units ∷ Validation ∷ End ∷ []
 
 -- a text is a keyword, in letters of either case
 abbrev pub is_spelt : List ℕ → Keyword → Bool
@@ -35,7 +75,7 @@ keyword_of text = find (is_spelt text) keywords
 -- only a bare word is a keyword
 abbrev pub keyword_in : Shape → List ℕ → Option Keyword
 keyword_in Word text = keyword_of text
-keyword_in Text text = None
+keyword_in _ text = None
 
 -- the keyword that a token is
 abbrev pub keyword_at : TokenValue → Option Keyword
@@ -44,7 +84,7 @@ keyword_at t = keyword_in t.shape t.text
 -- only a bare word is this keyword
 abbrev pub is_in : Keyword → Shape → List ℕ → Bool
 is_in keyword Word text = is_spelt text keyword
-is_in keyword Text text = false
+is_in keyword _ text = false
 
 -- the token is this keyword
 abbrev pub is_at : Keyword → TokenValue → Bool

@@ -1,12 +1,11 @@
 -- What the tokens of a mapfile mean (docs/MAPFILE.md, "Blocks and words").
-use Rattle.std.specs.Prelude.{◌≡◌, ◌≢◌, ℕ, ℤ, zero, suc, ◌<◌, ◌≤◌, if◌then◌else◌, List, [], ◌∷◌, ◌++◌, length, None, Some, Result, Ok, Err}
+use Rattle.std.specs.Prelude.{◌≡◌, ◌≢◌, ℕ, ℤ, zero, suc, ◌<◌, ◌≤◌, if◌then◌else◌, List, [], ◌∷◌, ◌++◌, length, IsTrue, None, Some, Result, Ok, Err}
 use Rattle.std.specs.Fmt.{decimal}
 use Rattle.std.specs.Option.{ok_or}
 use Rattle.maplex.specs.declared.fault.LexFault.{LexFault}
 use Rattle.maplex.specs.declared.fault.Tail.{Tail}
 use Rattle.maplex.specs.declared.fault.Tail.TheVariants as tails
 use Rattle.maplex.specs.Token.{TokenValue}
-use Rattle.geom.specs.Number.{coordinate_of}
 use Rattle.mapparse.specs.declared.context.Block.{Block}
 use Rattle.mapparse.specs.declared.context.Block.TheVariants as block
 use Rattle.mapparse.specs.declared.context.ColourKeyword.TheVariants.{StyleColour}
@@ -18,11 +17,11 @@ use Rattle.mapparse.specs.declared.value.Value.TheVariants as value
 use Rattle.mapparse.specs.declared.value.ValueStep.TheVariants.{More, Whole}
 use Rattle.mapparse.specs.declared.fault.Fault.{Fault}
 use Rattle.mapparse.specs.declared.fault.ParseKind.TheVariants.{UnknownWord, WrongValue, MissingValue}
-use Rattle.mapparse.specs.Entries.{Entries, Nothing, Said, Vertex, Inside}
+use Rattle.mapparse.specs.Entries.{Entries, Nothing, Vertex, with_said, with_block}
 use Rattle.mapparse.specs.Fault.{fault_of, refused, lexical, missing, and_then}
 use Rattle.mapparse.specs.Keyword.{is_at, is_end}
-use Rattle.mapparse.specs.Says.{says, Ends, Opens, Takes, Longitude}
-use Rattle.mapparse.specs.Value.{value_step}
+use Rattle.mapparse.specs.Says.{says, Ends, Opens, Takes, Longitude, Passes}
+use Rattle.mapparse.specs.Value.{is_value, value_step, coordinate_in}
 
 -- a value that was given, the line of its last token, and the tokens after it
 pub record Given : Type 0 where
@@ -44,7 +43,7 @@ abbrev pub latitude_in : Tail → List TokenValue → Result (ℤ × List TokenV
 latitude_in tail [] = Err (missing tail)
 latitude_in tail (t ∷ ts) =
     if is_end t then refused MissingValue t
-    else and_then (ok_or (coordinate_of t.text) (fault_of WrongValue t)) (λ y. Ok (y, ts))
+    else and_then (ok_or (coordinate_in t) (fault_of WrongValue t)) (λ y. Ok (y, ts))
 
 -- The entries of a block up to its END, within so many tokens, and the tokens after it: `above` is what its parent says
 -- before it, and `own` what it says itself so far. No other block counts.
@@ -53,9 +52,10 @@ block_in tail n b above own [] = Err (missing tail)
 block_in tail zero b above own (t ∷ ts) = Err (missing tail)
 block_in tail (suc n) b above own (t ∷ ts) = and_then (says b above own t) (λ saying. elim saying [
   | Ends ↦ Ok (own, ts)
-  | Opens c ↦ and_then (block_in tail n c own Nothing ts) (λ inner. block_in tail n b above (Inside c inner.0 own) inner.1)
-  | Takes expected ↦ and_then (value_in tail expected ts) (λ v. block_in tail n b above (Said v.value v.line own) v.rest)
+  | Opens c ↦ and_then (block_in tail n c own Nothing ts) (λ inner. block_in tail n b above (with_block c inner.0 own) inner.1)
+  | Takes expected ↦ and_then (value_in tail expected ts) (λ v. block_in tail n b above (with_said v.value v.line own) v.rest)
   | Longitude x ↦ and_then (latitude_in tail ts) (λ y. block_in tail n b above (Vertex (record { x = x; y = y.0 }) own) y.1)
+  | Passes ↦ block_in tail n b above own ts
 ])
 
 -- after the END of MAP stands nothing
@@ -84,10 +84,11 @@ abbrev pub FirstFaultIsTold : Type 0
 FirstFaultIsTold = (front rest : List TokenValue) (f : LexFault) (g : Fault) (tail : Tail) →
     meaning front (tails.Breaks f) ≡ Err g → g ≢ lexical f → meaning (front ++ rest) tail ≡ Err g
 
--- the law that three counts after COLOR, in decimals, are the red, the green and the blue of the style's colour
+-- the law that three counts after COLOR, bare or quoted and in decimals, are the red, the green and the blue of the style's colour
 abbrev pub CountsAreColour : Type 0
 CountsAreColour = (red green blue : ℕ) → red < 256 → green < 256 → blue < 256 →
     (tail : Tail) (r g b : TokenValue) (ts : List TokenValue) →
+    IsTrue (is_value r.shape) → IsTrue (is_value g.shape) → IsTrue (is_value b.shape) →
     r.text ≡ decimal red → g.text ≡ decimal green → b.text ≡ decimal blue →
     value_in tail (expected.Colour StyleColour) (r ∷ g ∷ b ∷ ts)
     ≡ Ok (record { value = value.Colour StyleColour (Some (record { red = red; green = green; blue = blue })); line = b.line; rest = ts })

@@ -2,12 +2,12 @@
 use Rattle.std.specs.Prelude.{ℤ, Bool, false, if◌then◌else◌, nat_le, List, ◌==◌, length, Option, None, Some, option_and_then, Result, Ok, Err}
 use Rattle.std.specs.Option.{ok_or}
 use Rattle.maplex.specs.Token.{TokenValue}
-use Rattle.geom.specs.Number.{coordinate_of}
 use Rattle.mapdefs.specs.declared.limits.TheConstants.{MAX_LAYERS, MAX_CLASSES, MAX_STYLES, MAX_FEATURES, MAX_VERTICES}
 use Rattle.mapdefs.specs.declared.layer.Kind.{Kind}
 use Rattle.mapparse.specs.declared.context.Block.{Block}
 use Rattle.mapparse.specs.declared.context.Block.TheVariants as block
 use Rattle.mapparse.specs.declared.context.Expected.{Expected}
+use Rattle.mapparse.specs.declared.context.Expected.TheVariants as expected
 use Rattle.mapparse.specs.declared.context.Role.{Role}
 use Rattle.mapparse.specs.declared.context.Role.TheVariants as role
 use Rattle.mapparse.specs.declared.draft.Named.{Named}
@@ -19,14 +19,16 @@ use Rattle.mapparse.specs.Fault.{fault_of, refused, and_then}
 use Rattle.mapparse.specs.Name.{is_taken}
 use Rattle.mapparse.specs.Keyword.{keyword_at, is_end}
 use Rattle.mapparse.specs.Table.{role_of}
+use Rattle.mapparse.specs.Value.{is_value, coordinate_in}
 use Rattle.mapparse.specs.Tree.{layer_name, layer_kind, map_tree}
 
--- what a token says: the block ends, an inner block opens, a keyword takes values, or a vertex has this longitude
+-- what a token says: the block ends, an inner block opens, a keyword takes values, a vertex has this longitude, or nothing
 pub data Saying : Type 0 where
   Ends : Saying
   Opens : Block → Saying
   Takes : Expected → Saying
   Longitude : ℤ → Saying
+  Passes : Saying
 
 -- the END of a LAYER asks for a NAME, which none of the earlier layers has, and a TYPE
 abbrev pub layer_fault : Option Named → Option Kind → List LayerTree → TokenValue → Option Fault
@@ -65,12 +67,30 @@ role_says b (Some (role.Takes expected)) above own t = Ok (Takes expected)
 abbrev pub vertex_says : Entries → Entries → TokenValue → Result Saying Fault
 vertex_says above own t =
     if nat_le MAX_VERTICES (vertex_count above own) then refused Limit t
-    else and_then (ok_or (coordinate_of t.text) (fault_of WrongValue t)) (λ x. Ok (Longitude x))
+    else and_then (ok_or (coordinate_in t) (fault_of WrongValue t)) (λ x. Ok (Longitude x))
 
 abbrev pub points_say : Entries → Entries → TokenValue → Result Saying Fault
 points_say above own t = if is_end t then ends_unless (closing_fault block.Points above own t) else vertex_says above own t
 
+-- in VALIDATION stands its END, or the first value of a pair, of which a second one follows
+abbrev pub pair_says : TokenValue → Result Saying Fault
+pair_says t = if is_end t then Ok Ends else (if is_value t.shape then Ok (Takes (expected.Unused 0)) else refused WrongValue t)
+
+-- in a block that is read over a token says nothing, unless it ends the block or opens another one
+abbrev pub passed_says : Option Role → Result Saying Fault
+passed_says (Some role.Closes) = Ok Ends
+passed_says (Some (role.Opens inner)) = Ok (Opens inner)
+passed_says _ = Ok Passes
+
+-- what a token does in a block, if it is a keyword of the block
+abbrev pub role_at : Block → TokenValue → Option Role
+role_at b t = option_and_then (role_of b) (keyword_at t)
+
 -- what a token says in a block, of which the parent says this before it, and the block this so far
 abbrev pub says : Block → Entries → Entries → TokenValue → Result Saying Fault
 says block.Points above own t = points_say above own t
-says b above own t = role_says b (option_and_then (role_of b) (keyword_at t)) above own t
+says block.Validation above own t = pair_says t
+says block.Projection above own t = passed_says (role_at block.Projection t)
+says block.Passed above own t = passed_says (role_at block.Passed t)
+says block.PassedLabel above own t = passed_says (role_at block.PassedLabel t)
+says b above own t = role_says b (role_at b t) above own t

@@ -6,6 +6,7 @@ use Rattle.mapdefs.specs.declared.limits.TheConstants.{MAX_VERTICES}
 use Rattle.mapparse.specs.declared.context.Block.{Block}
 use Rattle.mapparse.specs.declared.context.Block.TheVariants as block
 use Rattle.mapparse.specs.declared.context.Expected.{Expected}
+use Rattle.mapparse.specs.declared.context.Expected.TheVariants as expected
 use Rattle.mapparse.specs.declared.context.Role.{Role}
 use Rattle.mapparse.specs.declared.context.Role.TheVariants.{Closes, Opens, Takes}
 use Rattle.mapparse.specs.declared.context.Context.{Context}
@@ -19,9 +20,8 @@ use Rattle.mapparse.specs.declared.fault.Fault.{Fault}
 use Rattle.mapparse.specs.declared.fault.ParseKind.TheVariants.{UnknownWord, WrongValue, MissingValue, Limit}
 use Rattle.mapparse.specs.Fault.{fault_of, refused, and_then}
 use Rattle.mapparse.specs.Keyword.{keyword_at, is_end}
-use Rattle.geom.specs.Number.{coordinate_of}
 use Rattle.mapparse.specs.Table.{role_of}
-use Rattle.mapparse.specs.Value.{value_step}
+use Rattle.mapparse.specs.Value.{is_value, value_step, coordinate_in}
 use Rattle.mapparse.specs.Parts.{vertex_count, with_vertex}
 use Rattle.mapparse.specs.Draft.{with_value, is_full}
 use Rattle.mapparse.specs.End.{ends}
@@ -55,7 +55,7 @@ read_value expected d t = if is_end t then refused MissingValue t else note_step
 abbrev pub coordinate_at : Drafts → TokenValue → Result ℤ Fault
 coordinate_at d t =
     if nat_le MAX_VERTICES (vertex_count d.feature.parts) then refused Limit t
-    else ok_or (coordinate_of t.text) (fault_of WrongValue t)
+    else ok_or (coordinate_in t) (fault_of WrongValue t)
 
 -- a token is read in POINTS: their END, or the longitude of a vertex
 abbrev pub read_longitude : Drafts → TokenValue → Result (Move × Drafts) Fault
@@ -73,9 +73,25 @@ read_latitude x d t =
     if is_end t then refused MissingValue t
     else and_then (coordinate_at d t) (λ y. Ok (GoesOn (Keywords block.Points), adds_vertex x y d))
 
+-- a token is read over, unless it ends the block or opens another one
+abbrev pub pass_over : Block → Option Role → Drafts → Result (Move × Drafts) Fault
+pass_over b (Some Closes) d = Ok (Leaves, d)
+pass_over b (Some (Opens inner)) d = Ok (Enters (Keywords inner), d)
+pass_over b _ d = Ok (GoesOn (Keywords b), d)
+
+-- a token is read in VALIDATION: its END, or the first value of a pair
+abbrev pub read_pair : Drafts → TokenValue → Result (Move × Drafts) Fault
+read_pair d t =
+    if is_end t then Ok (Leaves, d)
+    else (if is_value t.shape then Ok (Enters (Values (expected.Unused 0)), d) else refused WrongValue t)
+
 -- a token is read in its context: how reading goes on, and what was read of the open blocks
 abbrev pub read_token : Context → Drafts → TokenValue → Result (Move × Drafts) Fault
 read_token (Keywords block.Points) d t = read_longitude d t
+read_token (Keywords block.Validation) d t = read_pair d t
+read_token (Keywords block.Projection) d t = pass_over block.Projection (option_and_then (role_of block.Projection) (keyword_at t)) d
+read_token (Keywords block.Passed) d t = pass_over block.Passed (option_and_then (role_of block.Passed) (keyword_at t)) d
+read_token (Keywords block.PassedLabel) d t = pass_over block.PassedLabel (option_and_then (role_of block.PassedLabel) (keyword_at t)) d
 read_token (Keywords b) d t = read_keyword b d t
 read_token (Values expected) d t = read_value expected d t
 read_token (Latitude x) d t = read_latitude x d t

@@ -3,22 +3,117 @@ use Rattle.std.specs.Prelude.{Option, None, Some}
 use Rattle.mapparse.specs.declared.context.Block.{Block}
 use Rattle.mapparse.specs.declared.context.Block.TheVariants as block
 use Rattle.mapparse.specs.declared.context.TextKeyword.TheVariants.{LayerName}
-use Rattle.mapparse.specs.declared.context.ColourKeyword.TheVariants.{StyleColour}
+use Rattle.mapparse.specs.declared.context.ColourKeyword.TheVariants.{StyleColour, ImageColour}
+use Rattle.mapparse.specs.declared.context.OnlyWord.TheVariants.{Pixels, On}
 use Rattle.mapparse.specs.declared.context.Expected.TheVariants as expected
 use Rattle.mapparse.specs.declared.context.Role.{Role}
 use Rattle.mapparse.specs.declared.context.Role.TheVariants.{Closes, Opens, Takes}
 use Rattle.mapparse.specs.declared.keyword.Keyword.{Keyword}
 use Rattle.mapparse.specs.declared.keyword.Keyword.TheVariants as keyword
 
+-- the keywords of MAP
+abbrev pub map_role : Keyword → Option Role
+map_role keyword.Layer = Some (Opens block.Layer)
+map_role keyword.Angle = Some (Takes (expected.Unused 0))
+map_role keyword.Debug = Some (Takes (expected.Unused 0))
+map_role keyword.FontSet = Some (Takes (expected.Unused 0))
+map_role keyword.ImageType = Some (Takes (expected.Unused 0))
+map_role keyword.MaxSize = Some (Takes (expected.Unused 0))
+map_role keyword.Resolution = Some (Takes (expected.Unused 0))
+map_role keyword.ShapePath = Some (Takes (expected.Unused 0))
+map_role keyword.Status = Some (Takes (expected.Unused 0))
+map_role keyword.Units = Some (Takes (expected.Unused 0))
+map_role keyword.Size = Some (Takes (expected.Unused 1))
+map_role keyword.ImageColor = Some (Takes (expected.Colour ImageColour))
+map_role keyword.Legend = Some (Opens block.Passed)
+map_role keyword.OutputFormat = Some (Opens block.Passed)
+map_role keyword.QueryMap = Some (Opens block.Passed)
+map_role keyword.Reference = Some (Opens block.Passed)
+map_role keyword.ScaleBar = Some (Opens block.Passed)
+map_role keyword.Projection = Some (Opens block.Projection)
+map_role keyword.End = Some Closes
+map_role _ = None
+
+-- the keywords of LAYER
+abbrev pub layer_role : Keyword → Option Role
+layer_role keyword.Name = Some (Takes (expected.Text LayerName))
+layer_role keyword.Kind = Some (Takes expected.Kind)
+layer_role keyword.Class = Some (Opens block.Class)
+layer_role keyword.Feature = Some (Opens block.Feature)
+layer_role keyword.Debug = Some (Takes (expected.Unused 0))
+layer_role keyword.Dump = Some (Takes (expected.Unused 0))
+layer_role keyword.Footer = Some (Takes (expected.Unused 0))
+layer_role keyword.Group = Some (Takes (expected.Unused 0))
+layer_role keyword.Header = Some (Takes (expected.Unused 0))
+layer_role keyword.LabelMaxScaleDenom = Some (Takes (expected.Unused 0))
+layer_role keyword.LabelMinScaleDenom = Some (Takes (expected.Unused 0))
+layer_role keyword.Status = Some (Takes (expected.Unused 0))
+layer_role keyword.Units = Some (Takes (expected.Unused 0))
+layer_role keyword.Extent = Some (Takes (expected.Unused 3))
+layer_role keyword.LabelCache = Some (Takes (expected.Only On))
+layer_role keyword.ToleranceUnits = Some (Takes (expected.Only Pixels))
+layer_role keyword.Projection = Some (Opens block.Projection)
+layer_role keyword.Validation = Some (Opens block.Validation)
+layer_role keyword.End = Some Closes
+layer_role _ = None
+
+-- the keywords of CLASS
+abbrev pub class_role : Keyword → Option Role
+class_role keyword.Style = Some (Opens block.Style)
+class_role keyword.Group = Some (Takes (expected.Unused 0))
+class_role keyword.Name = Some (Takes (expected.Unused 0))
+class_role keyword.Status = Some (Takes (expected.Unused 0))
+class_role keyword.Template = Some (Takes (expected.Unused 0))
+class_role keyword.Title = Some (Takes (expected.Unused 0))
+class_role keyword.End = Some Closes
+class_role _ = None
+
+-- the keywords of STYLE
+abbrev pub style_role : Keyword → Option Role
+style_role keyword.Color = Some (Takes (expected.Colour StyleColour))
+style_role keyword.Antialias = Some (Takes (expected.Unused 0))
+style_role keyword.MaxSize = Some (Takes (expected.Unused 0))
+style_role keyword.MaxWidth = Some (Takes (expected.Unused 0))
+style_role keyword.MinSize = Some (Takes (expected.Unused 0))
+style_role keyword.MinWidth = Some (Takes (expected.Unused 0))
+style_role keyword.End = Some Closes
+style_role _ = None
+
+-- the keywords of FEATURE
+abbrev pub feature_role : Keyword → Option Role
+feature_role keyword.Points = Some (Opens block.Points)
+feature_role keyword.End = Some Closes
+feature_role _ = None
+
+-- what opens blocks inside a block that is read over
+abbrev pub passed_role : Keyword → Option Role
+passed_role keyword.Label = Some (Opens block.PassedLabel)
+passed_role keyword.Metadata = Some (Opens block.Passed)
+passed_role keyword.Validation = Some (Opens block.Projection)
+passed_role keyword.End = Some Closes
+passed_role _ = None
+
+-- what opens blocks inside a LABEL that is read over
+abbrev pub passed_label_role : Keyword → Option Role
+passed_label_role keyword.Label = Some (Opens block.PassedLabel)
+passed_label_role keyword.Metadata = Some (Opens block.Passed)
+passed_label_role keyword.Validation = Some (Opens block.Projection)
+passed_label_role keyword.Style = Some (Opens block.Passed)
+passed_label_role keyword.End = Some Closes
+passed_label_role _ = None
+
+-- what closes a block without keywords
+abbrev pub end_role : Keyword → Option Role
+end_role keyword.End = Some Closes
+end_role _ = None
+
 -- what a keyword does in a block, if it is a keyword of the block
 abbrev pub role_of : Block → Keyword → Option Role
-role_of block.Map keyword.Layer = Some (Opens block.Layer)
-role_of block.Layer keyword.Name = Some (Takes (expected.Text LayerName))
-role_of block.Layer keyword.Kind = Some (Takes expected.Kind)
-role_of block.Layer keyword.Class = Some (Opens block.Class)
-role_of block.Layer keyword.Feature = Some (Opens block.Feature)
-role_of block.Class keyword.Style = Some (Opens block.Style)
-role_of block.Style keyword.Color = Some (Takes (expected.Colour StyleColour))
-role_of block.Feature keyword.Points = Some (Opens block.Points)
-role_of _ keyword.End = Some Closes
-role_of _ _ = None
+role_of block.Map k = map_role k
+role_of block.Layer k = layer_role k
+role_of block.Class k = class_role k
+role_of block.Style k = style_role k
+role_of block.Feature k = feature_role k
+role_of block.Passed k = passed_role k
+role_of block.PassedLabel k = passed_label_role k
+role_of _ k = end_role k

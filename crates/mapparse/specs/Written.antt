@@ -12,7 +12,7 @@ use Rattle.maplex.specs.Token.{TokenValue}
 use Rattle.mapparse.specs.declared.context.Block.{Block}
 use Rattle.mapparse.specs.declared.context.Block.TheVariants as block
 use Rattle.mapparse.specs.declared.context.TextKeyword.TheVariants.{LayerName}
-use Rattle.mapparse.specs.declared.context.ColourKeyword.TheVariants.{StyleColour}
+use Rattle.mapparse.specs.declared.context.ColourKeyword.TheVariants.{StyleColour, ImageColour}
 use Rattle.mapparse.specs.declared.value.Value.{Value}
 use Rattle.mapparse.specs.declared.value.Value.TheVariants as value
 use Rattle.mapparse.specs.Entries.{Entries, Nothing, Said, Vertex, Inside, vertex_count}
@@ -37,6 +37,8 @@ written_value (value.Text LayerName text) line = bare line (codes "NAME") ∷ qu
 written_value (value.Kind Polygon) line = bare line (codes "TYPE") ∷ bare line (codes "POLYGON") ∷ []
 written_value (value.Kind Point) line = bare line (codes "TYPE") ∷ bare line (codes "POINT") ∷ []
 written_value (value.Kind Line) line = bare line (codes "TYPE") ∷ bare line (codes "LINE") ∷ []
+written_value value.Nothing line = []
+written_value (value.Colour ImageColour colour) line = bare line (codes "IMAGECOLOR") ∷ map (bare line) (colour_texts colour)
 written_value (value.Colour StyleColour colour) line = bare line (codes "COLOR") ∷ map (bare line) (colour_texts colour)
 
 -- how the keyword of a block is written
@@ -47,6 +49,10 @@ block_text block.Class = codes "CLASS"
 block_text block.Style = codes "STYLE"
 block_text block.Feature = codes "FEATURE"
 block_text block.Points = codes "POINTS"
+block_text block.Validation = codes "VALIDATION"
+block_text block.Projection = codes "PROJECTION"
+block_text block.Passed = codes "LEGEND"
+block_text block.PassedLabel = codes "LABEL"
 
 -- what a block says, written out from its first entry to its last: a keyword and its value on the line of the value, a
 -- vertex as two numbers, and an inner block between its keyword and END; what has no line of its own stands on line 1

@@ -10,6 +10,14 @@ pub enum Block {
     Style,
     Feature,
     Points,
+    /// Pairs of values that have no effect.
+    Validation,
+    /// It is read over up to the next bare word END.
+    Projection,
+    /// It is read over. LABEL, METADATA and VALIDATION open blocks inside it, which are read over too.
+    Passed,
+    /// A LABEL inside a block that is read over. STYLE opens a block inside it too.
+    PassedLabel,
 }
 
 /// The keywords that take a text.
@@ -22,6 +30,15 @@ pub enum TextKeyword {
 #[derive(Clone, Copy)]
 pub enum ColourKeyword {
     StyleColour,
+    /// A MAP's IMAGECOLOR, which has no effect.
+    ImageColour,
+}
+
+/// The words that are the only value of a keyword.
+#[derive(Clone, Copy)]
+pub enum OnlyWord {
+    Pixels,
+    On,
 }
 
 /// What a keyword still expects, with the values that were read for it.
@@ -37,6 +54,10 @@ pub enum Expected {
     Green(ColourKeyword, Component),
     /// The count of blue, after those of red and green.
     Blue(ColourKeyword, Component, Component),
+    /// This word alone, which has no effect.
+    Only(OnlyWord),
+    /// A value that has no effect, and after it this many more.
+    Unused(u8),
 }
 
 /// What a keyword does in its block.

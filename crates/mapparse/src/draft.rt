@@ -119,6 +119,7 @@ impl Drafts {
             }
             Value::Kind(kind) => self.layer.kind = Some(kind),
             Value::Colour(ColourKeyword::StyleColour, colour) => self.style.colour = colour,
+            Value::Colour(ColourKeyword::ImageColour, _) | Value::Nothing => {}
         }
     }
 
@@ -127,12 +128,17 @@ impl Drafts {
         ensures { result ≡ is_full block self.now }
     {
         match block {
-            // A mapfile has one MAP, and POINTS are limited by their vertices.
-            Block::Map | Block::Points => false,
             Block::Layer => self.map.layers.is_full(),
             Block::Class => self.layer.classes.is_full(),
             Block::Style => self.class.styles.is_full(),
             Block::Feature => self.layer.features.is_full(),
+            // A mapfile has one MAP, POINTS are limited by their vertices, and the others are not kept.
+            Block::Map
+            | Block::Points
+            | Block::Validation
+            | Block::Projection
+            | Block::Passed
+            | Block::PassedLabel => false,
         }
     }
 }

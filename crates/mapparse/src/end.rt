@@ -121,12 +121,14 @@ pub fn close(
         (IsErrorOf (ends block drafts.old end.now)) }
 {
     match block {
-        Block::Map => {}
         Block::Layer => end_layer(drafts, end, alloc)?,
         Block::Class => end_class(drafts, alloc)?,
         Block::Style => end_style(drafts)?,
         Block::Feature => end_feature(drafts, end, alloc)?,
         Block::Points => end_points(drafts, end, alloc)?,
+        // There is nothing to check, and nothing to keep.
+        Block::Map | Block::Validation | Block::Projection | Block::Passed | Block::PassedLabel =>
+            {}
     }
     Ok(())
 }

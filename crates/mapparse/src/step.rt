@@ -1,8 +1,11 @@
-ghost use Rattle.std.specs.Prelude.{◌≡◌, ◌<◌, Ok, OnOk, MatchResult};
+ghost use Rattle.std.specs.Prelude.{◌≡◌, ◌<◌, Ok, Err, OnOk, MatchResult, option_and_then};
 ghost use Rattle.mapdefs.specs.declared.limits.TheConstants.{MAX_VERTICES};
 ghost use Rattle.mapparse.specs.Fault.{IsErrorOf};
+ghost use Rattle.mapparse.specs.declared.draft.Drafts.{Drafts as DraftsValue};
+ghost use Rattle.mapparse.specs.Keyword.{keyword_at};
 ghost use Rattle.mapparse.specs.Parts.{vertex_count};
-ghost use Rattle.mapparse.specs.Step.{read_end, read_keyword, read_value, coordinate_at, read_longitude, read_latitude, read_token};
+ghost use Rattle.mapparse.specs.Table.{role_of};
+ghost use Rattle.mapparse.specs.Step.{read_end, read_keyword, read_value, coordinate_at, read_longitude, read_latitude, pass_over, read_pair, read_token};
 
 use crate::context::{Block, Context, Expected, Move, Role};
 use crate::draft::Drafts;
@@ -10,7 +13,7 @@ use crate::end::close;
 use crate::fault::{Fault, ParseFault, ParseKind, fault_of};
 use crate::keyword::{Keyword, is_end};
 use crate::table::role_of;
-use crate::value::{ValueStep, value_step};
+use crate::value::{ValueStep, coordinate_in, is_value, value_step};
 use geom::{Coordinate, World};
 use maplex::Token;
 use std::alloc::Global;
@@ -91,7 +94,7 @@ fn coordinate_at(drafts: &Drafts, token: &Token) -> Result<Coordinate, Fault>
     if drafts.feature.parts.is_full() {
         return Err(fault_of(ParseKind::Limit, token));
     }
-    match Coordinate::read(token.text) {
+    match coordinate_in(token) {
         Some(number) => Ok(number),
         None => Err(fault_of(ParseKind::WrongValue, token)),
     }
@@ -129,6 +132,36 @@ fn read_latitude(
     Ok(Move::GoesOn(Context::Keywords(Block::Points)))
 }
 
+// Reads over a token, unless it ends the block or opens another one.
+fn pass_over(block: Block, token: &Token) -> Move
+    ensures { (d : DraftsValue) → pass_over block (option_and_then (role_of block) (keyword_at token.now)) d ≡ Ok (result, d) }
+{
+    let role = match Keyword::at(token) {
+        Some(keyword) => role_of(block, keyword),
+        None => None,
+    };
+    match role {
+        Some(Role::Closes) => Move::Leaves,
+        Some(Role::Opens(inner)) => Move::Enters(Context::Keywords(inner)),
+        Some(Role::Takes(_)) | None => Move::GoesOn(Context::Keywords(block)),
+    }
+}
+
+// Reads the END of VALIDATION, or the first value of a pair.
+fn read_pair(token: &Token) -> Result<Move, Fault>
+    ensures { (d : DraftsValue) → MatchResult result
+        (λ next. read_pair d token.now ≡ Ok (next, d))
+        (λ fault. read_pair d token.now ≡ Err fault) }
+{
+    if is_end(token) {
+        return Ok(Move::Leaves);
+    }
+    if !is_value(token) {
+        return Err(fault_of(ParseKind::WrongValue, token));
+    }
+    Ok(Move::Enters(Context::Values(Expected::Unused(0))))
+}
+
 /// Reads a token in its context, and notes what was read. The result is how reading goes on.
 pub fn read_token(
     context: &Context,
@@ -143,7 +176,11 @@ pub fn read_token(
     match *context {
         Context::Keywords(block) => match block {
             Block::Points => read_longitude(drafts, token, alloc),
-            _ => read_keyword(block, drafts, token, alloc),
+            Block::Validation => Ok(read_pair(token)?),
+            Block::Projection | Block::Passed | Block::PassedLabel => Ok(pass_over(block, token)),
+            Block::Map | Block::Layer | Block::Class | Block::Style | Block::Feature => {
+                read_keyword(block, drafts, token, alloc)
+            }
         },
         Context::Values(expected) => read_value(expected, drafts, token, alloc),
         Context::Latitude(longitude) => read_latitude(longitude, drafts, token),

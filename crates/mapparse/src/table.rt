@@ -1,25 +1,153 @@
 ghost use Rattle.std.specs.Prelude.{◌≡◌};
-ghost use Rattle.mapparse.specs.Table.{role_of};
+ghost use Rattle.mapparse.specs.Table.{map_role, layer_role, class_role, style_role, feature_role, passed_role, passed_label_role, end_role, role_of};
 
-use crate::context::{Block, ColourKeyword, Expected, Role, TextKeyword};
+use crate::context::{Block, ColourKeyword, Expected, OnlyWord, Role, TextKeyword};
 use crate::keyword::Keyword;
+
+// The keywords of MAP.
+fn map_role(keyword: Keyword) -> Option<Role>
+    ensures { result ≡ map_role keyword }
+{
+    match keyword {
+        Keyword::Layer => Some(Role::Opens(Block::Layer)),
+        Keyword::Angle
+        | Keyword::Debug
+        | Keyword::FontSet
+        | Keyword::ImageType
+        | Keyword::MaxSize
+        | Keyword::Resolution
+        | Keyword::ShapePath
+        | Keyword::Status
+        | Keyword::Units => Some(Role::Takes(Expected::Unused(0))),
+        Keyword::Size => Some(Role::Takes(Expected::Unused(1))),
+        Keyword::ImageColor => Some(Role::Takes(Expected::Colour(ColourKeyword::ImageColour))),
+        Keyword::Legend
+        | Keyword::OutputFormat
+        | Keyword::QueryMap
+        | Keyword::Reference
+        | Keyword::ScaleBar => Some(Role::Opens(Block::Passed)),
+        Keyword::Projection => Some(Role::Opens(Block::Projection)),
+        Keyword::End => Some(Role::Closes),
+        _ => None,
+    }
+}
+
+// The keywords of LAYER.
+fn layer_role(keyword: Keyword) -> Option<Role>
+    ensures { result ≡ layer_role keyword }
+{
+    match keyword {
+        Keyword::Name => Some(Role::Takes(Expected::Text(TextKeyword::LayerName))),
+        Keyword::Kind => Some(Role::Takes(Expected::Kind)),
+        Keyword::Class => Some(Role::Opens(Block::Class)),
+        Keyword::Feature => Some(Role::Opens(Block::Feature)),
+        Keyword::Debug
+        | Keyword::Dump
+        | Keyword::Footer
+        | Keyword::Group
+        | Keyword::Header
+        | Keyword::LabelMaxScaleDenom
+        | Keyword::LabelMinScaleDenom
+        | Keyword::Status
+        | Keyword::Units => Some(Role::Takes(Expected::Unused(0))),
+        Keyword::Extent => Some(Role::Takes(Expected::Unused(3))),
+        Keyword::LabelCache => Some(Role::Takes(Expected::Only(OnlyWord::On))),
+        Keyword::ToleranceUnits => Some(Role::Takes(Expected::Only(OnlyWord::Pixels))),
+        Keyword::Projection => Some(Role::Opens(Block::Projection)),
+        Keyword::Validation => Some(Role::Opens(Block::Validation)),
+        Keyword::End => Some(Role::Closes),
+        _ => None,
+    }
+}
+
+// The keywords of CLASS.
+fn class_role(keyword: Keyword) -> Option<Role>
+    ensures { result ≡ class_role keyword }
+{
+    match keyword {
+        Keyword::Style => Some(Role::Opens(Block::Style)),
+        Keyword::Group | Keyword::Name | Keyword::Status | Keyword::Template | Keyword::Title =>
+            Some(Role::Takes(Expected::Unused(0))),
+        Keyword::End => Some(Role::Closes),
+        _ => None,
+    }
+}
+
+// The keywords of STYLE.
+fn style_role(keyword: Keyword) -> Option<Role>
+    ensures { result ≡ style_role keyword }
+{
+    match keyword {
+        Keyword::Color => Some(Role::Takes(Expected::Colour(ColourKeyword::StyleColour))),
+        Keyword::Antialias
+        | Keyword::MaxSize
+        | Keyword::MaxWidth
+        | Keyword::MinSize
+        | Keyword::MinWidth => Some(Role::Takes(Expected::Unused(0))),
+        Keyword::End => Some(Role::Closes),
+        _ => None,
+    }
+}
+
+// The keywords of FEATURE.
+fn feature_role(keyword: Keyword) -> Option<Role>
+    ensures { result ≡ feature_role keyword }
+{
+    match keyword {
+        Keyword::Points => Some(Role::Opens(Block::Points)),
+        Keyword::End => Some(Role::Closes),
+        _ => None,
+    }
+}
+
+// What opens blocks inside a block that is read over.
+fn passed_role(keyword: Keyword) -> Option<Role>
+    ensures { result ≡ passed_role keyword }
+{
+    match keyword {
+        Keyword::Label => Some(Role::Opens(Block::PassedLabel)),
+        Keyword::Metadata => Some(Role::Opens(Block::Passed)),
+        Keyword::Validation => Some(Role::Opens(Block::Projection)),
+        Keyword::End => Some(Role::Closes),
+        _ => None,
+    }
+}
+
+// What opens blocks inside a LABEL that is read over.
+fn passed_label_role(keyword: Keyword) -> Option<Role>
+    ensures { result ≡ passed_label_role keyword }
+{
+    match keyword {
+        Keyword::Label => Some(Role::Opens(Block::PassedLabel)),
+        Keyword::Metadata | Keyword::Style => Some(Role::Opens(Block::Passed)),
+        Keyword::Validation => Some(Role::Opens(Block::Projection)),
+        Keyword::End => Some(Role::Closes),
+        _ => None,
+    }
+}
+
+// What closes a block without keywords.
+fn end_role(keyword: Keyword) -> Option<Role>
+    ensures { result ≡ end_role keyword }
+{
+    match keyword {
+        Keyword::End => Some(Role::Closes),
+        _ => None,
+    }
+}
 
 /// What a keyword does in a block, if it is a keyword of the block.
 pub fn role_of(block: Block, keyword: Keyword) -> Option<Role>
     ensures { result ≡ role_of block keyword }
 {
-    match (block, keyword) {
-        (Block::Map, Keyword::Layer) => Some(Role::Opens(Block::Layer)),
-        (Block::Layer, Keyword::Name) => Some(Role::Takes(Expected::Text(TextKeyword::LayerName))),
-        (Block::Layer, Keyword::Kind) => Some(Role::Takes(Expected::Kind)),
-        (Block::Layer, Keyword::Class) => Some(Role::Opens(Block::Class)),
-        (Block::Layer, Keyword::Feature) => Some(Role::Opens(Block::Feature)),
-        (Block::Class, Keyword::Style) => Some(Role::Opens(Block::Style)),
-        (Block::Style, Keyword::Color) => {
-            Some(Role::Takes(Expected::Colour(ColourKeyword::StyleColour)))
-        }
-        (Block::Feature, Keyword::Points) => Some(Role::Opens(Block::Points)),
-        (_, Keyword::End) => Some(Role::Closes),
-        _ => None,
+    match block {
+        Block::Map => map_role(keyword),
+        Block::Layer => layer_role(keyword),
+        Block::Class => class_role(keyword),
+        Block::Style => style_role(keyword),
+        Block::Feature => feature_role(keyword),
+        Block::Passed => passed_role(keyword),
+        Block::PassedLabel => passed_label_role(keyword),
+        Block::Points | Block::Validation | Block::Projection => end_role(keyword),
     }
 }

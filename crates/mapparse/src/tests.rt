@@ -3,3 +3,4 @@ mod limits;
 mod map;
 mod messages;
 mod told;
+mod unused;

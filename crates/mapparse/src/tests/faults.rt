@@ -1,4 +1,4 @@
-use crate::tests::told::assert_rows;
+use crate::tests::told::{assert_rows, assert_told};
 use std::test::Fail;
 
 // Sources with a fault, in the form of `assert_rows`.
@@ -9,7 +9,8 @@ const FAULTS: &str = "\
 1 UnknownWord:LAYER END
 2 UnknownWord:|\"MAP\" END
 # Lexical faults, on their own lines. A fault that stands before one is the first.
-1 Lex(BadByte):(
+1 Lex(BadByte):)
+1 Lex(OpenString):(
 3 Lex(OpenString):MAP|LAYER|NAME \"a|END|END|
 4 Lex(BadByte):MAP|LAYER|NAME \"a|b\x01\"|END|END
 2 UnknownWord:MAP|FOO|(
@@ -25,6 +26,11 @@ const FAULTS: &str = "\
 5 UnknownWord:MAP|LAYER|NAME 'a||' NAME 'b' 'c'|END
 2 UnknownWord:MAP LAYER CLASS|COLOR 0 0 0
 2 UnknownWord:MAP LAYER FEATURE|STYLE
+# Logical expressions are no keywords and no values.
+1 UnknownWord:(MAP) END
+2 UnknownWord:MAP LAYER|(END) END
+2 UnknownWord:MAP END|()
+2 WrongValue:MAP LAYER NAME|(a) TYPE POLYGON END END
 # A token after the last END.
 3 UnknownWord:MAP END|# more|END
 1 UnknownWord:MAP END \"\"
@@ -63,11 +69,36 @@ const FAULTS: &str = "\
 1 MissingEnd:MAP LAYER NAME
 2 MissingEnd:MAP LAYER FEATURE POINTS 1|
 2 MissingEnd:MAP LAYER NAME a TYPE POLYGON END|
-2 Lex(BadByte):MAP LAYER NAME a TYPE POLYGON END END|(";
+2 Lex(BadByte):MAP LAYER NAME a TYPE POLYGON END END|}";
 
 #[test]
 fn faults_have_their_lines_and_kinds(rt: HostRuntime) -> Result<(), Fail> {
-    assert_rows(&rt, rt.alloc(), FAULTS, 52)
+    assert_rows(&rt, rt.alloc(), FAULTS, 57)
+}
+
+// Sources with a list, which is no keyword and no value. `|` stands for the end of a line.
+const LISTS: &str = "\
+2 UnknownWord:MAP|{LAYER} END
+2 WrongValue:MAP LAYER TYPE|{POLYGON} END END
+2 WrongValue:MAP LAYER NAME|{END} END
+2 WrongValue:MAP LAYER CLASS STYLE COLOR|{1} 2 3
+2 WrongValue:MAP LAYER CLASS STYLE COLOR 1|{2} 3
+2 WrongValue:MAP LAYER CLASS STYLE COLOR 1 2|{3}
+2 WrongValue:MAP LAYER CLASS STYLE COLOR|{#000000}
+2 WrongValue:MAP LAYER FEATURE POINTS|{1} 2
+2 WrongValue:MAP LAYER FEATURE POINTS 1|{2}
+2 WrongValue:MAP LAYER FEATURE POINTS|{END} END";
+
+#[test]
+fn lists_are_no_words_and_no_values(rt: HostRuntime) -> Result<(), Fail> {
+    let alloc = rt.alloc();
+    assert_eq!(rt; LISTS.lines().count(), 10);
+    for row in LISTS.lines() {
+        let (expected, source) = row.split_once(':').ok_or("a row without a colon")?;
+        let source = source.replace(alloc, '|', "\n")?;
+        assert_told(&rt, alloc, source.as_str(), expected)?;
+    }
+    Ok(())
 }
 
 // Blocks and values that may stand in a layer, likewise.

@@ -17,8 +17,8 @@ const FAULTS: [(u64, ParseKind); 9] = [
 
 // Their numbers and messages.
 const MESSAGES: &str = "\
-1 line 7: the quoted text that begins here has no closing quote
-1 line 7: a bracket outside of quotes, a control character, or a byte that is not UTF-8
+1 line 7: the quoted text, expression or list that begins here is not closed
+1 line 7: a bracket that closes nothing, a control character, or a byte that is not UTF-8
 2 line 7: a word that may not stand here
 3 line 7: a value that its keyword does not take
 4 line 7: the mapfile ends where an END is missing
