@@ -1,12 +1,15 @@
 #!/usr/bin/env python3
 """Tries the exit statuses of the program, and what it writes then. Usage: exit_statuses.py PROGRAM
 
-A session that is played ends with 0, also with a faulty script; a faulty mapfile with 1 and its line on
-standard error alone; a full standard output with 3; too little memory for the map with 4.
+What is played or checked ends with 0, also a faulty script; a faulty mapfile with 1 and its line on standard
+error alone, a file that can't be read with 1 and its name; words that are no form with 2 and a text on standard
+error alone; a full standard output with 3; too little memory for the map with 4.
 """
+import os
 import resource
 import subprocess
 import sys
+import tempfile
 
 MAP = b'MAP LAYER NAME "a" TYPE POLYGON END END\n%%\n'
 QUERY = b"QUERY a\n"
@@ -17,25 +20,61 @@ MISSING = b"""<?xml version="1.0" encoding="UTF-8"?>
 """
 FEATURE = b" FEATURE POINTS" + b" 1 2" * 60_000 + b" END END"
 LARGE = b"MAP LAYER NAME 'a' TYPE POLYGON" + FEATURE * 30 + b" END END\n%%\n"
+REFUSED = b"""error: the following required arguments were not provided:
+  <SCRIPT>
+
+Usage: mapservd run <FILE> <SCRIPT>
+
+For more information, try '--help'.
+"""
+NOT_UTF8 = b"error: a word is not UTF-8\n"
+FILES = {
+    "good.map": MAP.removesuffix(b"%%\n"),
+    "bad.map": b"MAP\n\nWEB END\n",
+    "large.map": LARGE.removesuffix(b"%%\n"),
+    "good.script": QUERY,
+    "bad.script": b"QUERY a\nx\n",
+}
 
 
-def run(session, limit=None, stdout=subprocess.PIPE):
+def run(session, *words, limit=None, stdout=subprocess.PIPE):
     bound = None
     if limit:
         bound = lambda: resource.setrlimit(resource.RLIMIT_AS, (limit, limit))
-    done = subprocess.run([sys.argv[1]], input=session, stdout=stdout, stderr=subprocess.PIPE, preexec_fn=bound)
+    done = subprocess.run([sys.argv[1], *words], input=session, stdout=stdout, stderr=subprocess.PIPE, preexec_fn=bound)
     return done.returncode, done.stdout, done.stderr
 
 
 def main():
     wrong = 0
-    with open("/dev/full", "wb") as full:
+    answer = b"ANSWER text/xml 215\n" + MISSING
+    sys.argv[1] = os.path.abspath(sys.argv[1])
+    with tempfile.TemporaryDirectory() as folder, open("/dev/full", "wb") as full:
+        os.chdir(folder)
+        for name, text in FILES.items():
+            with open(name, "wb") as file:
+                file.write(text)
         rows = [
-            ("played", run(MAP + QUERY), (0, b"ANSWER text/xml 215\n" + MISSING, b"")),
+            ("played", run(MAP + QUERY), (0, answer, b"")),
             ("faulty script", run(MAP + b"x\n"), (0, b"fault script 1\n", b"")),
             ("faulty mapfile", run(b"MAP\nWEB END\n"), (1, b"", b"fault line 2 kind 2\n")),
             ("full output", run(MAP + QUERY, stdout=full), (3, None, b"")),
             ("no memory", run(LARGE, limit=16_000_000), (4, b"", b"")),
+            ("check", run(b"", "check", "good.map"), (0, b"ok 1 layers 0 features\n", b"")),
+            ("check many", run(b"", "check", "large.map"), (0, b"ok 1 layers 30 features\n", b"")),
+            ("check faulty", run(b"", "check", "bad.map"), (1, b"", b"fault line 3 kind 2\n")),
+            ("check no file", run(b"", "check", "no.map"), (1, b"", b"fault file no.map\n")),
+            ("check a folder", run(b"", "check", "."), (1, b"", b"fault file .\n")),
+            ("check full output", run(b"", "check", "good.map", stdout=full), (3, None, b"")),
+            ("check no memory", run(b"", "check", "large.map", limit=16_000_000), (4, b"", b"")),
+            ("run", run(b"", "run", "good.map", "good.script"), (0, answer, b"")),
+            ("run faulty script", run(b"", "run", "good.map", "bad.script"), (0, b"fault script 2\n", b"")),
+            ("run faulty mapfile", run(b"", "run", "bad.map", "no.script"), (1, b"", b"fault line 3 kind 2\n")),
+            ("run no script", run(b"", "run", "good.map", "no.script"), (1, b"", b"fault file no.script\n")),
+            ("run no mapfile", run(b"", "run", "no.map", "no.script"), (1, b"", b"fault file no.map\n")),
+            ("run full output", run(b"", "run", "good.map", "good.script", stdout=full), (3, None, b"")),
+            ("words", run(MAP + QUERY, "run", "good.map"), (2, b"", REFUSED)),
+            ("no text", run(MAP + QUERY, "check", b"\xff.map"), (2, b"", NOT_UTF8)),
         ]
     for name, found, expected in rows:
         if found != expected:

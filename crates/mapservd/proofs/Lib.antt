@@ -1,6 +1,7 @@
 pub mod Commands
 pub mod HexLines
 pub mod Lines
+pub mod Matched
 pub mod Outgoing
 pub mod Parting
 pub mod Playing

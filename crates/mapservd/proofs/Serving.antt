@@ -5,10 +5,11 @@ use Rattle.std.proofs.KnownBytes.{Appends-kept}
 use Rattle.mapdefs.specs.declared.map.MapFields.{MapFields}
 use Rattle.mapmachine.specs.Machine.{State}
 use Rattle.mapparse.specs.Parsed.{parsed}
+use Rattle.mapservd.specs.Forms.{HasReadFile, HasReadMap, RunsTo}
 use Rattle.mapservd.specs.Sent.{IsSent}
 use Rattle.mapservd.specs.Session.{Streams, HasRead, Ends, IsTold, Tells, opened}
 use Rattle.mapservd.specs.declared.outcome.Outcome.{Outcome}
-use Rattle.mapservd.specs.declared.outcome.Outcome.TheVariants.{Played, MapfileFault, InputFailed, OutputFailed, NoMemory}
+use Rattle.mapservd.specs.declared.outcome.Outcome.TheVariants.{Played, Checked, MapfileFault, FileFailed, WordsRefused, InputFailed, OutputFailed, NoMemory}
 
 -- a line that went out whole and was flushed was told
 pub told-whole : (a b c : Option (List ℕ)) (line : List ℕ) (before after : ℕ) (failed : Bool) → IsSent a b line before after → Keeps b c → IsTold a c line failed
@@ -24,8 +25,26 @@ pub served : (outcome : Outcome) (old new : Streams) (failed : Bool) (mapfile sc
     Keeps old.errors new.errors → Tells outcome old new failed
 served Played old new failed mapfile script map state read is_map ends kept =
     record { mapfile = mapfile; script = script; read = read; map = map; is_map = is_map; state = state; ends = ends; errors = kept }
+served Checked old new failed mapfile script map state read is_map ends kept = absurd ends
+served FileFailed old new failed mapfile script map state read is_map ends kept = absurd ends
+served WordsRefused old new failed mapfile script map state read is_map ends kept = absurd ends
 served MapfileFault old new failed mapfile script map state read is_map ends kept = absurd ends
 served InputFailed old new failed mapfile script map state read is_map ends kept = absurd ends
 served OutputFailed old new failed mapfile script map state read is_map ends kept =
     record { mapfile = mapfile; script = script; read = read; map = map; is_map = is_map; state = state; ends = ends; errors = kept }
 served NoMemory old new failed mapfile script map state read is_map ends kept = absurd ends
+
+-- what is told of a script that was read after its mapfile, by the outcome
+pub ran : (outcome : Outcome) (file script : List ℕ) (before after : Option (List ℕ)) (old new : Streams) (failed : Bool) (map : MapFields) (bytes : List ℕ) (state : State) →
+    HasReadMap before after map → HasReadFile old.input new.input bytes → Ends outcome (opened map) bytes state old.output new.output →
+    Keeps old.errors new.errors → RunsTo outcome file script before after old new failed
+ran Played file script before after old new failed map bytes state read read_script ends kept =
+    record { map = map; read = read; script = bytes; read_script = read_script; state = state; ends = ends; errors = kept }
+ran OutputFailed file script before after old new failed map bytes state read read_script ends kept =
+    record { map = map; read = read; script = bytes; read_script = read_script; state = state; ends = ends; errors = kept }
+ran Checked file script before after old new failed map bytes state read read_script ends kept = absurd ends
+ran MapfileFault file script before after old new failed map bytes state read read_script ends kept = absurd ends
+ran FileFailed file script before after old new failed map bytes state read read_script ends kept = absurd ends
+ran WordsRefused file script before after old new failed map bytes state read read_script ends kept = absurd ends
+ran InputFailed file script before after old new failed map bytes state read read_script ends kept = absurd ends
+ran NoMemory file script before after old new failed map bytes state read read_script ends kept = absurd ends

@@ -1,3 +1,4 @@
+pub mod Forms
 pub mod Lines
 pub mod Parts
 pub mod Playing
@@ -5,4 +6,6 @@ pub mod Reading
 pub mod Script
 pub mod Sent
 pub mod Session
+pub mod Summary
 pub mod Transcript
+pub mod Words

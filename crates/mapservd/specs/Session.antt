@@ -10,7 +10,7 @@ use Rattle.mapservd.specs.Parts.{AreParts}
 use Rattle.mapservd.specs.Playing.{HasPlayed, HasPartlyPlayed}
 use Rattle.mapservd.specs.Transcript.{mapfile_fault}
 use Rattle.mapservd.specs.declared.outcome.Outcome.{Outcome}
-use Rattle.mapservd.specs.declared.outcome.Outcome.TheVariants.{Played, MapfileFault, InputFailed, OutputFailed, NoMemory}
+use Rattle.mapservd.specs.declared.outcome.Outcome.TheVariants.{Played, MapfileFault, FileFailed, InputFailed, OutputFailed, NoMemory}
 
 -- the three streams: what is left of the input, and what the two writers hold, where it is known
 pub record Streams : Type 0 where
@@ -38,11 +38,9 @@ opened map = record { map = map; sequence = 0 }
 -- bytes of it, or all of them where the flush failed
 abbrev pub Ends : Outcome → State → List ℕ → State → Option (List ℕ) → Option (List ℕ) → Type 0
 Ends Played old script new before after = HasPlayed old script new before after
-Ends MapfileFault old script new before after = ⊥
-Ends InputFailed old script new before after = ⊥
 Ends OutputFailed old script new before after =
     ((written : ℕ) × HasPartlyPlayed old script new before after written) ⊎ HasPlayed old script new before after
-Ends NoMemory old script new before after = ⊥
+Ends _ old script new before after = ⊥
 
 -- the mapfile describes a map, and playing the script on it had this outcome
 pub record IsServed (outcome : Outcome) (old new : Streams) : Type 0 where
@@ -61,15 +59,25 @@ pub record IsTold (before after : Option (List ℕ)) (line : List ℕ) (failed :
   pub bytes : Appends before after (take count line)
   pub all : failed ≡ false → length line ≤ count
 
--- the mapfile has a fault, which was told to the errors alone
+-- the mapfile has a fault, which a writer was told
+pub record HasToldFault (mapfile : List ℕ) (before after : Option (List ℕ)) (failed : Bool) : Type 0 where
+  pub fault : Fault
+  pub is_fault : parsed mapfile ≡ Err fault
+  pub told : IsTold before after (mapfile_fault fault.line (number_of fault.kind)) failed
+
+-- there is no map: the mapfile's fault was told, or memory was refused and nothing told
+abbrev pub IsWithoutMap : Outcome → List ℕ → Option (List ℕ) → Option (List ℕ) → Bool → Type 0
+IsWithoutMap MapfileFault mapfile before after failed = HasToldFault mapfile before after failed
+IsWithoutMap NoMemory mapfile before after failed = Keeps before after
+IsWithoutMap _ mapfile before after failed = ⊥
+
+-- the mapfile of a session has a fault, which was told to the errors alone
 pub record IsFaulty (old new : Streams) (failed : Bool) : Type 0 where
   pub mapfile : List ℕ
   pub script : List ℕ
   pub read : HasRead old.input new.input mapfile script
-  pub fault : Fault
-  pub is_fault : parsed mapfile ≡ Err fault
   pub output : Keeps old.output new.output
-  pub told : IsTold old.errors new.errors (mapfile_fault fault.line (number_of fault.kind)) failed
+  pub told : HasToldFault mapfile old.errors new.errors failed
 
 -- what an outcome tells of the streams; `failed` says whether the writer of errors has failed
 abbrev pub Tells : Outcome → Streams → Streams → Bool → Type 0
@@ -78,19 +86,19 @@ Tells MapfileFault old new failed = IsFaulty old new failed
 Tells InputFailed old new failed = IsSilent old new
 Tells OutputFailed old new failed = IsServed OutputFailed old new
 Tells NoMemory old new failed = IsSilent old new
+Tells _ old new failed = ⊥
 
--- the reader failed
+-- the reader of a session failed
 abbrev pub is_input_failed : Outcome → Bool
-is_input_failed Played = false
-is_input_failed MapfileFault = false
 is_input_failed InputFailed = true
-is_input_failed OutputFailed = false
-is_input_failed NoMemory = false
+is_input_failed _ = false
 
--- the writer of the transcript failed
+-- the reader of a file failed
+abbrev pub is_file_failed : Outcome → Bool
+is_file_failed FileFailed = true
+is_file_failed _ = false
+
+-- the writer of the output failed
 abbrev pub is_output_failed : Outcome → Bool
-is_output_failed Played = false
-is_output_failed MapfileFault = false
-is_output_failed InputFailed = false
 is_output_failed OutputFailed = true
-is_output_failed NoMemory = false
+is_output_failed _ = false

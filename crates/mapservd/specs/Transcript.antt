@@ -50,6 +50,10 @@ transcript replies = flat_map reply_text replies
 abbrev pub script_fault : ℕ → List ℕ
 script_fault number = codes "fault script " ++ (decimal number ++ codes "\n")
 
+-- a file that can't be read, by its name
+abbrev pub file_fault : List ℕ → List ℕ
+file_fault name = codes "fault file " ++ (name ++ codes "\n")
+
 -- the fault of a mapfile, by its line and the number of its kind
 abbrev pub mapfile_fault : ℕ → ℕ → List ℕ
 mapfile_fault line kind = codes "fault line " ++ (decimal line ++ (codes " kind " ++ (decimal kind ++ codes "\n")))

@@ -1,17 +1,23 @@
 ghost use Rattle.std.specs.Prelude.{◌≡◌};
 
-/// How a session ended.
+/// How the program ended.
 #[derive(Clone, Copy, Debug, PartialEq, Eq)]
 pub enum Outcome {
     /// The script was played, or its fault written.
     Played,
+    /// The mapfile has no fault, and the line of its map was written.
+    Checked,
     /// The mapfile has a fault, which was told.
     MapfileFault,
-    /// The reader failed.
+    /// A mapfile or a script could not be read, and was told by its name.
+    FileFailed,
+    /// The words have no form of the program, or ask for help, and were answered.
+    WordsRefused,
+    /// The reader of the session failed.
     InputFailed,
-    /// The writer of the transcript failed.
+    /// The writer of the transcript, or of the map's line, failed.
     OutputFailed,
-    /// Memory was refused for the session's bytes or for the map.
+    /// Memory was refused for the words, for bytes that were read or for the map.
     NoMemory,
 }
 
@@ -19,14 +25,18 @@ impl Outcome {
     /// The exit status of the program.
     pub fn status(self) -> u8
         ensures played { self ≡ Outcome.Played → result ≡ 0 }
+        ensures checked { self ≡ Outcome.Checked → result ≡ 0 }
         ensures mapfile_fault { self ≡ Outcome.MapfileFault → result ≡ 1 }
+        ensures file_failed { self ≡ Outcome.FileFailed → result ≡ 1 }
+        ensures words_refused { self ≡ Outcome.WordsRefused → result ≡ 2 }
         ensures input_failed { self ≡ Outcome.InputFailed → result ≡ 3 }
         ensures output_failed { self ≡ Outcome.OutputFailed → result ≡ 3 }
         ensures no_memory { self ≡ Outcome.NoMemory → result ≡ 4 }
     {
         match self {
-            Outcome::Played => 0,
-            Outcome::MapfileFault => 1,
+            Outcome::Played | Outcome::Checked => 0,
+            Outcome::MapfileFault | Outcome::FileFailed => 1,
+            Outcome::WordsRefused => 2,
             Outcome::InputFailed | Outcome::OutputFailed => 3,
             Outcome::NoMemory => 4,
         }

@@ -22,8 +22,8 @@ fn send<S: Sink>(sink: &mut S, bytes: &[u8]) -> Result<(), PutFailed>
     }
 }
 
-// Writes some pieces of text, one after the other.
-fn send_pieces<S: Sink>(sink: &mut S, pieces: &[&[u8]]) -> Result<(), PutFailed>
+/// Writes some pieces of text, one after the other.
+pub fn send_pieces<S: Sink>(sink: &mut S, pieces: &[&[u8]]) -> Result<(), PutFailed>
     ensures ok { OnOk result (IsSent (S.held sink.old) (S.held sink.new) (flat_map (λ piece. piece.now) pieces.now) (S.taken sink.old) (S.taken sink.new)) }
     ensures part { OnErr result (IsPartlySent (S.held sink.old) (S.held sink.new) (flat_map (λ piece. piece.now) pieces.now) (S.taken sink.old) (S.taken sink.new)) }
     ensures flag { MatchResult result (λ _. S.put_failed sink.new ≡ S.put_failed sink.old) (λ _. S.put_failed sink.new ≡ true) }

@@ -1,13 +1,16 @@
-ghost use Rattle.std.specs.Prelude.{◌≡◌, ◌||◌, true, false};
+ghost use Rattle.std.specs.Prelude.{◌≡◌, ◌||◌, IfOk, IfErr, OnOk, Ok, true, false};
+ghost use Rattle.std.specs.List.{flat_map};
+ghost use Rattle.mapparse.specs.Parsed.{parsed};
 ghost use Rattle.mapservd.specs.declared.outcome.Outcome.TheVariants.{Played, MapfileFault};
-ghost use Rattle.mapservd.specs.Session.{Tells, Ends, IsTold, is_input_failed, is_output_failed};
+ghost use Rattle.mapservd.specs.Session.{Tells, Ends, IsTold, IsWithoutMap, is_input_failed, is_output_failed};
 ghost use Rattle.mapservd.specs.Transcript.{mapfile_fault};
 
 use crate::input::{ReadFault, read_all};
 use crate::outcome::Outcome;
 use crate::parts::split_session;
 use crate::play::play_script;
-use crate::sending::send_mapfile_fault;
+use crate::sending::{send_mapfile_fault, send_pieces};
+use mapdefs::Map;
 use mapmachine::{Machine, Sink, Source};
 use mapparse::{ParseFault, parse};
 use std::alloc::Global;
@@ -35,18 +38,31 @@ pub fn serve_session<I: Source, O: Sink, E: Sink>(
         Err(ReadFault::NoMemory) => return Outcome::NoMemory,
     };
     let (mapfile, script) = split_session(&session);
-    match parse(alloc, mapfile) {
+    match open_map(alloc, mapfile, errors) {
         Ok(map) => play_out(&mut Machine::open(alloc, map), script, output),
-        Err(ParseFault::At { line, kind }) => {
-            tell_mapfile_fault(errors, line, kind.number());
-            Outcome::MapfileFault
-        }
-        Err(ParseFault::NoMemory) => Outcome::NoMemory,
+        Err(outcome) => outcome,
     }
 }
 
-// Plays a script, and flushes what it wrote.
-fn play_out<O: Sink>(machine: &mut Machine, script: &[u8], output: &mut O) -> Outcome
+/// The map of a mapfile, or how the program ends without it. The mapfile's fault is told.
+pub fn open_map<E: Sink>(alloc: Global, mapfile: &[u8], errors: &mut E) -> Result<Map, Outcome>
+    ensures map { IfOk result (λ map. parsed mapfile.now ≡ Ok map) }
+    ensures same { OnOk result (errors.new ≡ errors.old) }
+    ensures without { IfErr result (λ outcome. IsWithoutMap outcome mapfile.now (E.held errors.old) (E.held errors.new) (E.put_failed errors.new)) }
+    ensures flushed { IfErr result (λ outcome. outcome ≡ MapfileFault → E.put_failed errors.new ≡ false → E.is_flushed errors.new ≡ true) }
+{
+    match parse(alloc, mapfile) {
+        Ok(map) => Ok(map),
+        Err(ParseFault::At { line, kind }) => {
+            tell_mapfile_fault(errors, line, kind.number());
+            Err(Outcome::MapfileFault)
+        }
+        Err(ParseFault::NoMemory) => Err(Outcome::NoMemory),
+    }
+}
+
+/// Plays a script, and flushes what it wrote.
+pub fn play_out<O: Sink>(machine: &mut Machine, script: &[u8], output: &mut O) -> Outcome
     ensures ends { Ends result machine.old script.now machine.new (O.held output.old) (O.held output.new) }
     ensures flushed { result ≡ Played → O.is_flushed output.new ≡ true }
     ensures flag { O.put_failed output.new ≡ (is_output_failed result || O.put_failed output.old) }
@@ -68,6 +84,20 @@ fn tell_mapfile_fault<E: Sink>(errors: &mut E, line: u64, kind: u8)
 {
     // Where it can't be written, the outcome still tells.
     match send_mapfile_fault(errors, line, kind) {
+        Ok(()) => {
+            let _ = errors.flush();
+        }
+        Err(_) => {}
+    }
+}
+
+/// Tells a line, in pieces.
+pub fn tell<E: Sink>(errors: &mut E, pieces: &[&[u8]])
+    ensures told { IsTold (E.held errors.old) (E.held errors.new) (flat_map (λ piece. piece.now) pieces.now) (E.put_failed errors.new) }
+    ensures flushed { E.put_failed errors.new ≡ false → E.is_flushed errors.new ≡ true }
+{
+    // Where it can't be written, the outcome still tells.
+    match send_pieces(errors, pieces) {
         Ok(()) => {
             let _ = errors.flush();
         }

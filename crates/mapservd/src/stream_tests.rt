@@ -7,18 +7,20 @@ use std::alloc::{AllocError, Global};
 use std::io::{self, Read, Write};
 use std::test::Fail;
 
-// A stream in memory: it gives and takes so many bytes at once, and one of its calls fails.
+/// A stream in memory: it gives and takes so many bytes at once, and one of its calls fails.
 #[derive(Drop)]
-struct Memory<'a> {
+pub struct Memory<'a> {
     left: &'a [u8],
-    held: Vec<u8>,
+    /// The bytes that it has taken.
+    pub held: Vec<u8>,
     at_once: usize,
     calls: usize,
     failing: Option<usize>,
 }
 
 impl<'a> Memory<'a> {
-    fn new(alloc: Global, left: &'a [u8], at_once: usize, failing: Option<usize>) -> Self {
+    /// A stream that has these bytes left. The call of that number fails, counted from 0.
+    pub fn new(alloc: Global, left: &'a [u8], at_once: usize, failing: Option<usize>) -> Self {
         Memory {
             left,
             held: Vec::new(alloc),
@@ -204,7 +206,10 @@ fn faults_that_cannot_be_told_are_faults(rt: HostRuntime) -> Result<(), Fail> {
 #[test]
 fn statuses_are_those_of_the_profile(rt: HostRuntime) {
     assert_eq!(rt; Outcome::Played.status(), 0);
+    assert_eq!(rt; Outcome::Checked.status(), 0);
     assert_eq!(rt; Outcome::MapfileFault.status(), 1);
+    assert_eq!(rt; Outcome::FileFailed.status(), 1);
+    assert_eq!(rt; Outcome::WordsRefused.status(), 2);
     assert_eq!(rt; Outcome::InputFailed.status(), 3);
     assert_eq!(rt; Outcome::OutputFailed.status(), 3);
     assert_eq!(rt; Outcome::NoMemory.status(), 4);

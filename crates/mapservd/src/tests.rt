@@ -253,11 +253,13 @@ fn long_scripts_are_played_to_their_end(rt: HostRuntime) -> Result<(), Fail> {
     Ok(())
 }
 
-// A writer that holds so many bytes more, and then fails.
+/// A writer that holds so many bytes more, and then fails.
 #[derive(Drop)]
-struct Narrow {
-    held: Vec<u8>,
-    room: usize,
+pub struct Narrow {
+    /// The bytes that it holds.
+    pub held: Vec<u8>,
+    /// How many more it will hold.
+    pub room: usize,
 }
 
 impl Write for Narrow {

@@ -1,0 +1,24 @@
+use Rattle.std.proofs.Common.{◌≡◌, ◌∙◌, sym, rules, codes}
+use Rattle.clap.specs.Words.{found_of, rows_of}
+use Rattle.clap.specs.declared.parser.matches.ArgMatches.TheViews.{out-ArgMatches}
+use Rattle.clap.proofs.WalkLemmas.{first_value-rows}
+use Rattle.mapservd.proofs.Matched.{named}
+use Rattle.mapservd.proofs.words.command_of.Goals as goal
+
+pub returns-in-check : goal.returns-in-check
+returns-in-check c =
+    let s = c.in-Some.ensures in
+    let at = named (out-ArgMatches c.args.matches.now).subcommand c.in-Some.name.now (rows_of (found_of c.in-Some.inner.now)) s.name s.rows in
+    let name : c.in-Some.name.now ≡ codes "check" = search rules in
+    let file = sym (first_value-rows (found_of c.in-Some.inner.now) (codes "FILE")) ∙ sym c.in_ok-file.ensures in
+    rw at (name, file)
+
+pub returns-in_ok-get_str-in-run : goal.returns-in_ok-get_str-in-run
+returns-in_ok-get_str-in-run c =
+    let s = c.in-Some.ensures in
+    let inner = found_of c.in-Some.inner.now in
+    let at = named (out-ArgMatches c.args.matches.now).subcommand c.in-Some.name.now (rows_of inner) s.name s.rows in
+    let name : c.in-Some.name.now ≡ codes "run" = search rules in
+    let file = sym (first_value-rows inner (codes "FILE")) ∙ sym c.in_ok-file.ensures in
+    let script = sym (first_value-rows inner (codes "SCRIPT")) ∙ sym c.in_ok-get_str-in-run.ensures in
+    rw at (name, file, script)

@@ -1,0 +1,56 @@
+-- The command line (docs/PROFILE.md, "The program").
+use Rattle.std.specs.Prelude.{◌≡◌, List, [], ◌∷◌, Option, Some, None, IsSomeAnd, Bool, true, false, codes}
+use Rattle.clap.specs.Words.{App, Row, Rule, Text, fault_of, first_of, subcommand_of, takes, new_app, new_rule, with_rule, with_subcommand}
+use Rattle.mapservd.specs.declared.form.Command.{Command}
+use Rattle.mapservd.specs.declared.form.Command.TheVariants.{Session, Check, Run}
+use Rattle.mapservd.specs.declared.words.WordsFault.{WordsFault}
+use Rattle.mapservd.specs.declared.words.WordsFault.TheVariants.{Refused, NoMemory}
+
+-- a word that names a file, and must be there
+abbrev pub file_rule : Rule
+file_rule = record (new_rule (codes "FILE")) { required = true }
+
+-- a word that names a script, and must be there
+abbrev pub script_rule : Rule
+script_rule = record (new_rule (codes "SCRIPT")) { required = true }
+
+-- `check FILE`
+abbrev pub check_app : App
+check_app = with_rule (new_app (codes "check")) file_rule
+
+-- `run FILE SCRIPT`
+abbrev pub run_app : App
+run_app = with_rule (with_rule (new_app (codes "run")) file_rule) script_rule
+
+-- the program by its name, whose words don't begin with it
+abbrev pub named_app : App
+named_app = record { top = record (new_app (codes "mapservd")).top { no_binary_name = true }; subs = [] }
+
+-- the command line: no words, or one of the two forms
+abbrev pub app : App
+app = with_subcommand (with_subcommand named_app check_app.top) run_app.top
+
+-- a command is what matches say: none of the forms, or the name of one with its files
+abbrev pub IsCommand : Option (Text × List Row) → Command → Type 0
+IsCommand None Session = Unit {0}
+IsCommand None (Check file) = ⊥
+IsCommand None (Run file script) = ⊥
+IsCommand (Some m) Session = ⊥
+IsCommand (Some m) (Check file) = (m.0 ≡ codes "check") × (first_of (codes "FILE") m.1 ≡ Some file.now)
+IsCommand (Some m) (Run file script) =
+    (m.0 ≡ codes "run") × (first_of (codes "FILE") m.1 ≡ Some file.now) × (first_of (codes "SCRIPT") m.1 ≡ Some script.now)
+
+-- the words were refused
+abbrev pub is_refusal : WordsFault → Bool
+is_refusal (Refused text) = true
+is_refusal NoMemory = false
+
+-- the law on words that are written out: without words no form is named; `check` has its file, and `run` the mapfile before
+-- the script; and words that lack a file, or begin with another word, are refused
+pub record FormsAreWritten : Type 0 where
+  pub none : subcommand_of app [] ≡ None
+  pub check : IsSomeAnd (subcommand_of app (codes "check" ∷ codes "a.map" ∷ [])) (λ m. (m.0 ≡ codes "check") × (first_of (codes "FILE") m.1 ≡ Some (codes "a.map")))
+  pub run : IsSomeAnd (subcommand_of app (codes "run" ∷ codes "a.map" ∷ codes "b.txt" ∷ []))
+      (λ m. (m.0 ≡ codes "run") × (first_of (codes "FILE") m.1 ≡ Some (codes "a.map")) × (first_of (codes "SCRIPT") m.1 ≡ Some (codes "b.txt")))
+  pub taken : (fault_of app [] ≡ []) × (fault_of app (codes "check" ∷ codes "a.map" ∷ []) ≡ []) × (fault_of app (codes "run" ∷ codes "a.map" ∷ codes "b.txt" ∷ []) ≡ [])
+  pub refused : (takes app (codes "check" ∷ []) ≡ false) × (takes app (codes "run" ∷ codes "a.map" ∷ []) ≡ false) × (takes app (codes "serve" ∷ codes "a.map" ∷ []) ≡ false)

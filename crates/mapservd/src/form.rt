@@ -1,0 +1,18 @@
+/// What the words of a command line ask for.
+#[derive(Clone, Copy, Debug, PartialEq, Eq)]
+pub enum Command<'a> {
+    /// To play a session from standard input. There are no words.
+    Session,
+    /// To check a mapfile, and say how much it has.
+    Check {
+        /// Its name.
+        file: &'a str,
+    },
+    /// To play a script on the map of a mapfile.
+    Run {
+        /// The name of the mapfile.
+        file: &'a str,
+        /// The name of the script.
+        script: &'a str,
+    },
+}

@@ -1,0 +1,231 @@
+use crate::files::{check_file, run_files};
+use crate::form::Command;
+use crate::stream_tests::Memory;
+use crate::summary::summary;
+use crate::tests::{Narrow, exception};
+use crate::words::{WordsFault, command};
+use mapmachine::{Flagged, WriteFault};
+use mapparse::parse;
+use std::alloc::{AllocError, Global};
+use std::str;
+use std::test::Fail;
+
+// What is told of some words: their form, or why they were refused.
+fn told(alloc: Global, words: &[&str]) -> Result<String, AllocError> {
+    match command(alloc, words) {
+        Ok(Command::Session) => String::from_str(alloc, "a session"),
+        Ok(Command::Check { file }) => format!(in alloc; "check {file}"),
+        Ok(Command::Run { file, script }) => format!(in alloc; "run {file} and then {script}"),
+        Err(WordsFault::Refused { text }) => Ok(text),
+        Err(WordsFault::NoMemory) => Err(AllocError),
+    }
+}
+
+// Words with spaces between them, and what is told of them, with `~` for a line feed.
+const WORDS: &str = "\
+|a session
+check m.map|check m.map
+run a b|run a and then b
+run same same|run same and then same
+check run|check run
+check -- -m|check -m
+check|error: the following required arguments were not provided:~  <FILE>~~Usage: mapservd check <FILE>~~For more information, try '--help'.~
+run a|error: the following required arguments were not provided:~  <SCRIPT>~~Usage: mapservd run <FILE> <SCRIPT>~~For more information, try '--help'.~
+check a b|error: unexpected argument 'b' found~~Usage: mapservd check <FILE>~~For more information, try '--help'.~
+run a b c|error: unexpected argument 'c' found~~Usage: mapservd run <FILE> <SCRIPT>~~For more information, try '--help'.~
+m.map|error: unrecognized subcommand 'm.map'~~Usage: mapservd [COMMAND]~~For more information, try '--help'.~
+serve m.map|error: unrecognized subcommand 'serve'~~Usage: mapservd [COMMAND]~~For more information, try '--help'.~
+CHECK a|error: unrecognized subcommand 'CHECK'~~Usage: mapservd [COMMAND]~~For more information, try '--help'.~
+--port 80|error: unexpected argument '--port' found~~Usage: mapservd [COMMAND]~~For more information, try '--help'.~
+check --help|Reads a mapfile, and says how many layers and features it has~~Usage: mapservd check <FILE>~~Arguments:~  <FILE>  ~~Options:~  -h, --help  Print help~
+--help|Plays map requests~~Usage: mapservd [COMMAND]~~Commands:~  check  Reads a mapfile, and says how many layers and features it has~  run    Plays a script on the map of a mapfile~  help   Print this message or the help of the given subcommand(s)~~Options:~  -h, --help  Print help~";
+
+#[test]
+fn words_have_their_forms(rt: HostRuntime) -> Result<(), Fail> {
+    let alloc = rt.alloc();
+    assert_eq!(rt; WORDS.lines().count(), 16);
+    for row in WORDS.lines() {
+        let (line, expected) = row.split_once('|').ok_or("a row without its form")?;
+        let expected = expected.replace(alloc, '~', "\n")?;
+        let words: Vec<&str> = line.split_whitespace().collect(alloc)?;
+        assert_eq!(rt; told(alloc, &words)?.as_str(), expected.as_str(), "{row}");
+    }
+    Ok(())
+}
+
+// A map without layers, and one of 2 layers and 3 features, two of them in its first layer.
+const NONE: &str = "MAP~END~";
+
+const SOME: &str =
+    "MAP~LAYER NAME a TYPE POLYGON~FEATURE POINTS 1 2 END END~FEATURE POINTS 3 4 5 6 END END~END~LAYER NAME b TYPE POLYGON~FEATURE POINTS 7 8 END END~END~END~";
+
+#[test]
+fn summaries_are_written_up_to_a_failure(rt: HostRuntime) -> Result<(), Fail> {
+    let alloc = rt.alloc();
+    let map = parse(alloc, SOME.replace(alloc, '~', "\n")?.as_bytes())?;
+    let line = b"ok 2 layers 3 features\n";
+    for room in 0..30 {
+        let mut sink = Flagged::new(Narrow {
+            held: Vec::new(alloc),
+            room,
+        });
+        let expected = if room < 23 {
+            Err(WriteFault {
+                written: room as u128,
+            })
+        } else {
+            Ok(())
+        };
+        assert_eq!(rt; summary(&map, &mut sink), expected);
+        assert_eq!(rt; sink.into_inner().held.as_slice(), &line[..room.min(23)]);
+    }
+    Ok(())
+}
+
+// A file in memory, which can't be read if it is `!`.
+fn file_of(alloc: Global, text: &str) -> Flagged<Memory<'_>> {
+    let failing = if text == "!" { Some(0) } else { None };
+    Flagged::new(Memory::new(alloc, text.as_bytes(), 7, failing))
+}
+
+// The exit status of a form over files, one of whose calls to write may fail, and what is written to
+// the output and to the errors.
+fn formed(
+    alloc: Global,
+    form: &str,
+    texts: (&str, &str),
+    failing: Option<usize>,
+) -> Result<String, AllocError> {
+    let mut file = file_of(alloc, texts.0);
+    let mut script = file_of(alloc, texts.1);
+    let mut output = Flagged::new(Memory::new(alloc, &[], 5, failing));
+    let mut errors = Flagged::new(Memory::new(alloc, &[], 5, None));
+    let outcome = if form == "check" {
+        check_file(alloc, "m.map", &mut file, &mut output, &mut errors)
+    } else {
+        run_files(
+            alloc,
+            "m.map",
+            &mut file,
+            "s.txt",
+            &mut script,
+            &mut output,
+            &mut errors,
+        )
+    };
+    let (output, errors) = (output.into_inner().held, errors.into_inner().held);
+    format!(in alloc;
+        "{}|{}|{}",
+        outcome.status(),
+        str::from_utf8(&output).unwrap_or("?"),
+        str::from_utf8(&errors).unwrap_or("?")
+    )
+}
+
+// Forms with their mapfile and their script, then the exit status, the output and the errors. `~` is a
+// line feed, `!` a file that can't be read, `*` the map of 2 layers, `@` the exception of a query
+// without parameters. A mapfile and a script have several faults where the first is to be told.
+const FORMS: &str = "\
+check|MAP END||0|ok 0 layers 0 features~|
+check|*||0|ok 2 layers 3 features~|
+check|*|!|0|ok 2 layers 3 features~|
+check|MAP~~WEB END||1||fault line 3 kind 2~
+check|(||1||fault line 1 kind 1~
+check|||1||fault line 1 kind 4~
+check|!||1||fault file m.map~
+run|MAP END|QUERY a~|0|@|
+run|*|QUERY a~QUERY b~|0|@@|
+run|*||0||
+run|MAP END|QUERY a~x~|0|fault script 2~|
+run|MAP~END~END|!|1||fault line 3 kind 2~
+run|MAP END|!|1||fault file s.txt~
+run|!|!|1||fault file m.map~
+run|!|x~|1||fault file m.map~";
+
+// A row in which all letters stand for themselves.
+fn spelt(alloc: Global, row: &str) -> Result<String, AllocError> {
+    let document = exception(alloc, "MissingParameterValue", "REQUEST")?;
+    let row = row.replace(alloc, '*', SOME)?;
+    let row = row.replace(alloc, '@', document.as_str())?;
+    row.replace(alloc, '~', "\n")
+}
+
+#[test]
+fn forms_end_as_they_should(rt: HostRuntime) -> Result<(), Fail> {
+    let alloc = rt.alloc();
+    assert_eq!(rt; FORMS.lines().count(), 15);
+    for line in FORMS.lines() {
+        let row = spelt(alloc, line)?;
+        let (form, row) = row.split_once('|').ok_or("a row without a form")?;
+        let (mapfile, row) = row.split_once('|').ok_or("a row without a mapfile")?;
+        let (script, expected) = row.split_once('|').ok_or("a row without a script")?;
+        let found = formed(alloc, form, (mapfile, script), None)?;
+        assert_eq!(rt; found.as_str(), expected, "{line}");
+    }
+    Ok(())
+}
+
+// Forms, the number of their call that fails, of those that write 5 bytes at most and of the flush after
+// them, and what becomes of it. The line of `check` has seven such calls, the fault of a script five.
+const FAILING: &str = "\
+check|0|3||
+check|3|3|ok 0 laye|
+check|7|3|ok 0 layers 0 features~|
+check|8|0|ok 0 layers 0 features~|
+run|0|3||
+run|2|3|fault scri|
+run|5|3|fault script 1~|
+run|6|0|fault script 1~|";
+
+#[test]
+fn outputs_that_fail_end_a_form(rt: HostRuntime) -> Result<(), Fail> {
+    let alloc = rt.alloc();
+    assert_eq!(rt; FAILING.lines().count(), 8);
+    for line in FAILING.lines() {
+        let row = line.replace(alloc, '~', "\n")?;
+        let (form, row) = row.split_once('|').ok_or("a row without a form")?;
+        let (failing, expected) = row.split_once('|').ok_or("a row without a number")?;
+        let found = formed(alloc, form, ("MAP END", "x\n"), Some(failing.parse()?))?;
+        assert_eq!(rt; found.as_str(), expected, "{line}");
+    }
+    Ok(())
+}
+
+#[test]
+fn refusals_print_their_text(rt: HostRuntime) -> Result<(), Fail> {
+    let alloc = rt.alloc();
+    let text = String::from_str(alloc, "no such form\n")?;
+    let refused = WordsFault::Refused { text }.to_string(alloc)?;
+    assert_eq!(rt; refused.as_str(), "no such form\n");
+    assert_eq!(rt;
+        WordsFault::NoMemory.to_string(alloc)?.as_str(),
+        "out of memory"
+    );
+    Ok(())
+}
+
+#[test]
+fn commands_that_differ_in_one_field_are_unequal(rt: HostRuntime) {
+    let commands = [
+        Command::Session,
+        Command::Check { file: "a" },
+        Command::Check { file: "b" },
+        Command::Run {
+            file: "a",
+            script: "b",
+        },
+        Command::Run {
+            file: "a",
+            script: "a",
+        },
+        Command::Run {
+            file: "b",
+            script: "b",
+        },
+    ];
+    for (i, one) in commands.iter().enumerate() {
+        for (j, other) in commands.iter().enumerate() {
+            assert_eq!(rt; one == other, i == j, "{one:?} and {other:?}");
+        }
+    }
+}

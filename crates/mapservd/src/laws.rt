@@ -1,0 +1,10 @@
+//! Laws of the definitions that the contracts cite. A law is a function without arguments whose contract
+//! states it.
+
+ghost use Rattle.mapservd.specs.Words.{FormsAreWritten};
+
+/// Without words no form is asked for by name, `check a.map` names its file, and `run a.map b.txt` the
+/// mapfile before the script. Words that lack a file, or begin with another word, are refused.
+pub fn forms_are_written()
+    ensures { FormsAreWritten }
+{}
