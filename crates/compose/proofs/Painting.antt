@@ -9,6 +9,7 @@ use Rattle.std.specs.List.{flat_map, find, fold}
 use Rattle.std.specs.Option.{option_map_or, option_or}
 use Rattle.geom.specs.Device.{DevicePoint}
 use Rattle.geom.specs.Edge.{EdgeEnds}
+use Rattle.geom.specs.Scale.{PictureScale}
 use Rattle.geom.specs.EvenOdd.{edges}
 use Rattle.mapdefs.specs.declared.colour.Rgb.{Rgb}
 use Rattle.mapdefs.specs.declared.layer.LayerFields.{LayerFields}
@@ -77,10 +78,10 @@ pub painted_end : {X : Type 0} (f : X → List Thing) (xs : List X) (i : ℕ) (a
 painted_end f xs i a b e p = rw (take_all i xs (omega arith)) at p
 
 -- a canvas of the background that is painted over with the paint list is the picture
-painted-canvas : (m : MapFields) (view : ViewValue) (chosen : List ℕ) (background : Rgb) (b : PictureFields) →
-    IsPainted (record { width = view.width; height = view.height; pixels = replicate (view.width * view.height) background }) b (paint_list view m chosen) →
-    IsPictureOf m view chosen background b
-painted-canvas m view chosen background b p = record {
+painted-canvas : (m : MapFields) (view : ViewValue) (scale : PictureScale) (chosen : List ℕ) (background : Rgb) (b : PictureFields) →
+    IsPainted (record { width = view.width; height = view.height; pixels = replicate (view.width * view.height) background }) b (paint_list view scale m chosen) →
+    IsPictureOf m view scale chosen background b
+painted-canvas m view scale chosen background b p = record {
   width = p.width;
   height = p.height;
   area = p.area ∙ length-replicate (view.width * view.height) background ∙ rw (p.width, p.height);
@@ -93,11 +94,11 @@ painted-canvas m view chosen background b p = record {
 }
 
 -- the same of any canvas that is one of the background
-pub painted-picture : (m : MapFields) (view : ViewValue) (chosen : List ℕ) (background : Rgb) (a b : PictureFields) →
+pub painted-picture : (m : MapFields) (view : ViewValue) (scale : PictureScale) (chosen : List ℕ) (background : Rgb) (a b : PictureFields) →
     a ≡ record { width = view.width; height = view.height; pixels = replicate (view.width * view.height) background } →
-    IsPainted a b (paint_list view m chosen) → IsPictureOf m view chosen background b
-painted-picture m view chosen background a b e p =
-    painted-canvas m view chosen background b (subst (λ (x : PictureFields). IsPainted x b (paint_list view m chosen)) e p)
+    IsPainted a b (paint_list view scale m chosen) → IsPictureOf m view scale chosen background b
+painted-picture m view scale chosen background a b e p =
+    painted-canvas m view scale chosen background b (subst (λ (x : PictureFields). IsPainted x b (paint_list view scale m chosen)) e p)
 
 -- pixels that have a colour where rings cover them, and else are as they were, are painted over with the rings
 pub painted-fill : (rings : List (List DevicePoint)) (polygon : List EdgeEnds) (colour : Rgb) (a : PictureFields) (pixels : List Rgb) → edges rings ≡ polygon →
@@ -117,9 +118,9 @@ painted-nothing f [] a h = painted-none a
 painted-nothing f (x ∷ xs) a h = rw (h x) (painted-nothing f xs a h)
 
 -- what a layer paints is what its index in the map does
-pub painted-chosen : (view : ViewValue) (m : MapFields) (index : ℕ) (layer : LayerFields) (a b : PictureFields) → index < length m.layers →
-    layer ≡ get_or m.layers index layer → IsPainted a b (layer_things view layer) → IsPainted a b (chosen_things view m index)
-painted-chosen view m index layer a b h e p = rw (slice_get-get_or m.layers index layer h, ← e) p
+pub painted-chosen : (view : ViewValue) (scale : PictureScale) (m : MapFields) (index : ℕ) (layer : LayerFields) (a b : PictureFields) → index < length m.layers →
+    layer ≡ get_or m.layers index layer → IsPainted a b (layer_things view scale layer) → IsPainted a b (chosen_things view scale m index)
+painted-chosen view scale m index layer a b h e p = rw (slice_get-get_or m.layers index layer h, ← e) p
 
 -- what a test picks over what it picked before is what it picks
 cond-same : {X : Type 0} (b : Bool) (x y z : X) → cond b x (cond b y z) ≡ cond b x z

@@ -4,6 +4,7 @@ use Rattle.std.specs.List.{flat_map}
 use Rattle.std.specs.Option.{option_map_or}
 use Rattle.geom.specs.Device.{DevicePoint, pixel_centre}
 use Rattle.geom.specs.EvenOdd.{is_inside}
+use Rattle.geom.specs.Scale.{PictureScale}
 use Rattle.mapdefs.specs.Class.{class_of, is_visible_layer}
 use Rattle.mapdefs.specs.declared.class.ClassFields.{ClassFields}
 use Rattle.mapdefs.specs.declared.colour.Rgb.{Rgb}
@@ -13,7 +14,7 @@ use Rattle.mapdefs.specs.declared.layer.Kind.TheVariants as kind
 use Rattle.mapdefs.specs.declared.layer.LayerFields.{LayerFields}
 use Rattle.mapdefs.specs.declared.map.MapFields.{MapFields}
 use Rattle.mapdefs.specs.declared.style.StyleFields.{StyleFields}
-use Rattle.viewport.specs.View.{ViewValue, device_point, scale_of}
+use Rattle.viewport.specs.View.{ViewValue, device_point}
 
 -- what is painted: rings that are filled with a colour
 pub data Thing : Type 0 where
@@ -45,20 +46,20 @@ style_things view _ feature style = []
 abbrev pub class_things : ViewValue → Kind → FeatureFields → ClassFields → List Thing
 class_things view kind feature class = flat_map (style_things view kind feature) class.styles
 
--- what is painted of a feature: what its class paints, if it has one
-abbrev pub feature_things : ViewValue → LayerFields → FeatureFields → List Thing
-feature_things view layer feature =
-    option_map_or (class_things view layer.kind feature) (class_of (scale_of view) layer feature) []
+-- what is painted of a feature at a scale: what its class paints, if it has one
+abbrev pub feature_things : ViewValue → PictureScale → LayerFields → FeatureFields → List Thing
+feature_things view scale layer feature =
+    option_map_or (class_things view layer.kind feature) (class_of scale layer feature) []
 
--- what is painted of a layer: its features, in order, where it is visible
-abbrev pub layer_things : ViewValue → LayerFields → List Thing
-layer_things view layer =
-    if is_visible_layer (scale_of view) layer then flat_map (feature_things view layer) layer.features else []
+-- what is painted of a layer: its features, in order, where it is visible at the scale
+abbrev pub layer_things : ViewValue → PictureScale → LayerFields → List Thing
+layer_things view scale layer =
+    if is_visible_layer scale layer then flat_map (feature_things view scale layer) layer.features else []
 
 -- what is painted of the layer of that index in the map
-abbrev pub chosen_things : ViewValue → MapFields → ℕ → List Thing
-chosen_things view m index = option_map_or (layer_things view) (slice_get m.layers index) []
+abbrev pub chosen_things : ViewValue → PictureScale → MapFields → ℕ → List Thing
+chosen_things view scale m index = option_map_or (layer_things view scale) (slice_get m.layers index) []
 
 -- all that is painted, from the first to the last: the chosen layers, in order
-abbrev pub paint_list : ViewValue → MapFields → List ℕ → List Thing
-paint_list view m chosen = flat_map (chosen_things view m) chosen
+abbrev pub paint_list : ViewValue → PictureScale → MapFields → List ℕ → List Thing
+paint_list view scale m chosen = flat_map (chosen_things view scale m) chosen

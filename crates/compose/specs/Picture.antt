@@ -1,6 +1,7 @@
 -- The picture of a map (docs/PROFILE.md, "How features are painted").
 use Rattle.std.specs.Prelude.{◌≡◌, ℕ, ◌+◌, ◌*◌, ◌<◌, List, length, reverse, find, Some, slice_get}
 use Rattle.std.specs.Option.{option_map_or}
+use Rattle.geom.specs.Scale.{PictureScale}
 use Rattle.mapdefs.specs.declared.colour.Rgb.{Rgb}
 use Rattle.mapdefs.specs.declared.map.MapFields.{MapFields}
 use Rattle.mapdefs.specs.declared.picture.PictureFields.{PictureFields}
@@ -13,9 +14,9 @@ colour_at background things i j =
     option_map_or (λ thing. colour_in thing i j) (find (λ thing. covers thing i j) (reverse things)) background
 
 -- the picture has the view's sides, as many pixels as these say, and each pixel has its colour
-pub record IsPictureOf (m : MapFields) (view : ViewValue) (chosen : List ℕ) (background : Rgb) (picture : PictureFields) : Type 0 where
+pub record IsPictureOf (m : MapFields) (view : ViewValue) (scale : PictureScale) (chosen : List ℕ) (background : Rgb) (picture : PictureFields) : Type 0 where
   pub width : picture.width ≡ view.width
   pub height : picture.height ≡ view.height
   pub area : length picture.pixels ≡ picture.width * picture.height
   pub pixels : (i j : ℕ) → i < view.width → j < view.height →
-      slice_get picture.pixels (j * view.width + i) ≡ Some (colour_at background (paint_list view m chosen) i j)
+      slice_get picture.pixels (j * view.width + i) ≡ Some (colour_at background (paint_list view scale m chosen) i j)

@@ -6,14 +6,16 @@ ghost use Rattle.compose.specs.Painted.{IsPainted, IsPaintedWithin, last_colour}
 ghost use Rattle.compose.specs.Picture.{IsPictureOf};
 
 use crate::canvas::Canvas;
-use crate::classes::{class_of, is_visible};
+use crate::classes::class_of;
 use crate::polygon::Polygon;
 use mapdefs::{ClassFields, Feature, Kind, LayerFields, Map, Picture, Rgb, Style};
+use scaledenom::Scale;
 use std::alloc::{AllocError, Global};
 use viewport::View;
 
 /// The picture of the chosen layers in the view. `chosen` has their indices in the map. They are painted
-/// in that order, one that is chosen twice also twice, and whether they are switched on or not.
+/// in that order, one that is chosen twice also twice, and whether they are switched on or not. Layers
+/// and classes that aren't visible at the scale are left out.
 ///
 /// It takes memory for the picture, and for the edges of one feature at a time. `AllocError` comes only
 /// where that is refused.
@@ -21,49 +23,52 @@ pub fn picture(
     alloc: Global,
     map: &Map,
     view: View,
+    scale: Scale,
     chosen: &[usize],
     background: Rgb,
 ) -> Result<Picture, AllocError>
     requires { All (λ index. index < length map.now.layers) chosen.now }
-    ensures { IfOk result (IsPictureOf map.now view chosen.now background) }
+    ensures { IfOk result (IsPictureOf map.now view scale chosen.now background) }
 {
     let layers = map.get().layers.as_slice();
     let mut canvas = Canvas::new(alloc, view.width(), view.height(), background)?;
     for index in chosen {
-        paint_layer(alloc, &mut canvas, view, layers[*index].get())?;
+        paint_layer(alloc, &mut canvas, view, scale, layers[*index].get())?;
     }
     Ok(canvas.into_picture())
 }
 
-// Paints a layer, where it is visible.
+// Paints a layer, where it is visible at the scale.
 fn paint_layer(
     alloc: Global,
     canvas: &mut Canvas,
     view: View,
+    scale: Scale,
     layer: &LayerFields,
 ) -> Result<(), AllocError>
-    ensures { OnOk result (IsPainted canvas.old canvas.new (layer_things view layer.now)) }
+    ensures { OnOk result (IsPainted canvas.old canvas.new (layer_things view scale layer.now)) }
 {
-    if !is_visible(layer.min, layer.max) {
+    if !scale.within(layer.min, layer.max) {
         return Ok(());
     }
     for feature in layer.features.as_slice() {
-        paint_feature(alloc, canvas, view, layer, feature)?;
+        paint_feature(alloc, canvas, view, scale, layer, feature)?;
     }
     Ok(())
 }
 
-// Paints a feature of the layer, if it has a class.
+// Paints a feature of the layer, if it has a class at the scale.
 fn paint_feature(
     alloc: Global,
     canvas: &mut Canvas,
     view: View,
+    scale: Scale,
     layer: &LayerFields,
     feature: &Feature,
 ) -> Result<(), AllocError>
-    ensures { OnOk result (IsPainted canvas.old canvas.new (feature_things view layer.now feature.now)) }
+    ensures { OnOk result (IsPainted canvas.old canvas.new (feature_things view scale layer.now feature.now)) }
 {
-    match class_of(layer) {
+    match class_of(scale, layer) {
         Some(class) => paint_class(alloc, canvas, view, layer.kind, feature, class),
         None => Ok(()),
     }

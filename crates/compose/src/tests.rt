@@ -3,11 +3,12 @@ ghost use Rattle.mapdefs.specs.MapLimits.{ClassNamesSymbolsOf, LayerNamesSymbols
 ghost use Rattle.mapdefs.specs.declared.limits.TheConstants.{MAX_LAYERS};
 
 use crate::picture;
-use geom::{Coordinate, Micro, PictureSide, World, WorldBox};
+use geom::{Coordinate, Micro, NUMBER_LIMIT, PictureSide, World, WorldBox};
 use mapdefs::{
     Class, ClassFields, Feature, FeatureFields, Items, Kind, Layer, LayerFields, Map, MapFields,
     Picture, Rgb, Rule, Style, StyleFields, Text,
 };
+use scaledenom::Scale;
 use std::alloc::{AllocError, Global};
 use std::process::Abort;
 use std::test::Fail;
@@ -46,10 +47,28 @@ fn style(colour: Option<Rgb>) -> Style
     })
 }
 
+// The least scale denominator at which a thing is visible, and the first that is too great.
+type Bounds = (Option<Micro>, Option<Micro>);
+
+// A bound, `-` for none.
+fn bound(text: &str) -> Result<Option<Micro>, Fail> {
+    match text {
+        "-" => Ok(None),
+        number => Ok(Some(Micro::read(number.as_bytes(), NUMBER_LIMIT)?)),
+    }
+}
+
+// Bounds with `..` between them.
+fn bounds(text: &str) -> Result<Bounds, Fail> {
+    let (min, max) = text.split_once("..").ok_or("no two bounds")?;
+    Ok((bound(min)?, bound(max)?))
+}
+
 // A class of two styles with the colours of these two letters.
-fn class(alloc: Global, letters: &str, max: Option<Micro>) -> Result<Class, Fail>
+fn class(alloc: Global, letters: &str, bounds: Bounds) -> Result<Class, Fail>
     ensures { IfOk result (ClassNamesSymbolsOf 0) }
 {
+    let (min, max) = bounds;
     let [first, second] = *letters.as_bytes() else {
         return Err("not two letters".into());
     };
@@ -58,7 +77,7 @@ fn class(alloc: Global, letters: &str, max: Option<Micro>) -> Result<Class, Fail
     styles.push(style(colour_of(second)))?;
     Ok(Class::new(ClassFields {
         rule: Rule::Always,
-        min: None,
+        min,
         max,
         styles,
         label: None,
@@ -123,23 +142,18 @@ fn kind_of(word: &str) -> Result<Kind, Fail> {
     }
 }
 
-// A layer of one feature with one class. Its kind, the letters of the class's colours, and what has a
-// bound on its scale: `class`, `layer` or `none`.
+// A layer of one feature with one class. Its kind, the letters of the class's colours, and the bounds on
+// the scale of the class and of the layer with a comma between them, or `none`.
 fn layer(alloc: Global, words: &str, rings: &str) -> Result<Layer, Fail>
     ensures { IfOk result (LayerNamesSymbolsOf 0) }
 {
     let (kind, words) = words.split_once(' ').ok_or("no colours")?;
     let (letters, bounded) = words.split_once(' ').ok_or("no bounds")?;
-    let bound = Some(Micro::new(1_000_000));
-    let (max, layer_max) = match bounded {
-        "class" => (bound, None),
-        "layer" => (None, bound),
-        "none" => (None, None),
-        _ => return Err("no bounds".into()),
-    };
+    let (of_class, of_layer) = bounded.split_once(',').unwrap_or(("-..-", "-..-"));
+    let (min, max) = bounds(of_layer)?;
     let kind = kind_of(kind)?;
     let mut classes = Items::new(alloc);
-    classes.push(class(alloc, letters, max)?)?;
+    classes.push(class(alloc, letters, bounds(of_class)?)?)?;
     let mut features = Items::new(alloc);
     features.push(feature(alloc, rings)?)?;
     Ok(Layer::new(LayerFields {
@@ -155,8 +169,8 @@ fn layer(alloc: Global, words: &str, rings: &str) -> Result<Layer, Fail>
         csv_y: Text::of(String::new(alloc)),
         queryable: false,
         tolerance: 0,
-        min: None,
-        max: layer_max,
+        min,
+        max,
         classes,
         features,
     }))
@@ -219,7 +233,8 @@ fn letters_of(alloc: Global, picture: &Picture) -> Result<String, AllocError> {
     Ok(text)
 }
 
-// The picture of four degrees by four in four pixels by four: the pixel centres are at half degrees.
+// The picture of four degrees by four in four pixels by four: the pixel centres are at half degrees. The
+// scale that is given is that of 0.28 degrees in a pixel.
 fn drawn(alloc: Global, map: &Map, chosen: &[usize], background: &str) -> Result<String, Fail>
     requires { All (λ index. index < length map.now.layers) chosen.now }
 {
@@ -231,7 +246,8 @@ fn drawn(alloc: Global, map: &Map, chosen: &[usize], background: &str) -> Result
     let high = Micro::new(4_000_000);
     let side = PictureSide::new(4).unwrap();
     let view = View::new(WorldBox::new(low, low, high, high), side, side);
-    let picture = picture(alloc, map, view, chosen, background)?;
+    let scale = Scale::of(280_000, PictureSide::new(1).unwrap());
+    let picture = picture(alloc, map, view, scale, chosen, background)?;
     Ok(letters_of(alloc, &picture)?)
 }
 
@@ -329,12 +345,36 @@ const STYLES: &str = "\
 .... .##. .##. ....;.;0;polygon -# none;10,10 30,10 30,30 10,30
 .... .... .... ....;.;0;polygon -- none;10,10 30,10 30,30 10,30
 # Not painted yet.
-.... .... .... ....;.;0;polygon #- class;10,10 30,10 30,30 10,30
-.... .... .... ....;.;0;polygon #- layer;10,10 30,10 30,30 10,30
 .... .... .... ....;.;0;line #- none;10,10 30,10 30,30 10,30
 .... .... .... ....;.;0;point #- none;10,10 30,10 30,30 10,30";
 
 #[test]
 fn styles_paint_in_order(rt: HostRuntime) -> Result<(), Fail> {
-    assert_drawn(&rt, rt.alloc(), STYLES, 7)
+    assert_drawn(&rt, rt.alloc(), STYLES, 5)
+}
+
+// Bounds on the scale denominator, which is 111,319,491, of the class and of the layer.
+const SCALES: &str = "\
+# a thing is visible from its first bound on, and before its second
+.... .##. .##. ....;.;0;polygon #- -..-,111319491..-;10,10 30,10 30,30 10,30
+.... .... .... ....;.;0;polygon #- -..-,111319491.000001..-;10,10 30,10 30,30 10,30
+.... .... .... ....;.;0;polygon #- -..-,-..111319491;10,10 30,10 30,30 10,30
+.... .##. .##. ....;.;0;polygon #- -..-,-..111319491.000001;10,10 30,10 30,30 10,30
+.... .##. .##. ....;.;0;polygon #- 111319491..-,-..-;10,10 30,10 30,30 10,30
+.... .... .... ....;.;0;polygon #- 111319491.000001..-,-..-;10,10 30,10 30,30 10,30
+.... .... .... ....;.;0;polygon #- -..111319491,-..-;10,10 30,10 30,30 10,30
+.... .##. .##. ....;.;0;polygon #- -..111319491.000001,-..-;10,10 30,10 30,30 10,30
+# both bounds
+.... .##. .##. ....;.;0;polygon #- 111319490..111319492,111319489..111319493;10,10 30,10 30,30 10,30
+.... .... .... ....;.;0;polygon #- -..-,111319492..111319490;10,10 30,10 30,30 10,30
+# a second bound of 0 or less is none, and a first one below 0 is reached
+.... .##. .##. ....;.;0;polygon #- -..0,-..-0.000007;10,10 30,10 30,30 10,30
+.... .##. .##. ....;.;0;polygon #- -1000000000000..-,-5..-;10,10 30,10 30,30 10,30
+.... .... .... ....;.;0;polygon #- -..-,1000000000000..-;10,10 30,10 30,30 10,30
+# the smallest second bound that counts
+.... .... .... ....;.;0;polygon #- -..-,-..0.000001;10,10 30,10 30,30 10,30";
+
+#[test]
+fn things_are_visible_between_their_bounds(rt: HostRuntime) -> Result<(), Fail> {
+    assert_drawn(&rt, rt.alloc(), SCALES, 14)
 }

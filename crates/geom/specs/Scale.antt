@@ -1,12 +1,58 @@
--- Scales, and what is visible at them (docs/PROFILE.md, "Scale").
-use Rattle.std.specs.Prelude.{ℕ, ℤ, Bool, true, false, Option, None}
+-- Scales, and what is visible at them (OGC 06-042, 7.2.4.6.9, the pixel of 0.28 mm; the rest docs/PROFILE.md, "Scale").
+use Rattle.std.specs.Prelude.{◌≡◌, ℕ, ◌*◌, ◌<◌, ◌≤◌, ℤ, pos, ◌*ℤ◌, ◌<ℤ◌, ◌≤ℤ◌, int_le, Bool, true, not, ◌||◌, ◌&&◌, ◌↔◌, IsTrue, Option, None, Some}
 
 -- the scale of a picture: so many millionths of a degree are shown by so many pixels, from left to right
 pub record PictureScale : Type 0 where
   pub span : ℕ
   pub width : ℕ
 
--- whether a thing with these bounds on the scale denominator is visible: without bounds it always is
+-- a millionth of a degree counts as 0.111319491 m on the ground, in nanometres
+abbrev pub ground_unit : ℕ
+ground_unit = 111319491
+
+-- a pixel counts as 0.28 mm, in nanometres
+abbrev pub pixel_unit : ℕ
+pixel_unit = 280000
+
+-- how wide the shown part of the world is on the ground, in nanometres
+abbrev pub ground_width : PictureScale → ℕ
+ground_width scale = scale.span * ground_unit
+
+-- how wide the picture is, in nanometres
+abbrev pub picture_width : PictureScale → ℕ
+picture_width scale = scale.width * pixel_unit
+
+-- the scale denominator is the ground's width by the picture's; whether it is a bound, in millionths, or more
+abbrev pub reaches : PictureScale → ℤ → Bool
+reaches scale bound = int_le (bound *ℤ pos (picture_width scale)) (pos (ground_width scale * 1000000))
+
+-- the least scale denominator is reached, if there is one
+abbrev pub is_from : PictureScale → Option ℤ → Bool
+is_from scale None = true
+is_from scale (Some min) = reaches scale min
+
+-- the first scale denominator that is too great isn't reached, if there is one; 0 or less is none
+abbrev pub is_before : PictureScale → Option ℤ → Bool
+is_before scale None = true
+is_before scale (Some max) = int_le max (pos 0) || not (reaches scale max)
+
+-- whether a thing with these bounds on the scale denominator is visible: from the first on, and before the second
 abbrev pub is_visible : PictureScale → Option ℤ → Option ℤ → Bool
-is_visible scale None None = true
-is_visible scale _ _ = false
+is_visible scale min max = is_from scale min && is_before scale max
+
+-- the scale denominator is the fraction p / q: q times the ground's width is p times the picture's
+abbrev pub IsDenominator : PictureScale → ℕ → ℕ → Type 0
+IsDenominator scale p q = q * ground_width scale ≡ p * picture_width scale
+
+-- the law that a bound is reached exactly where the fraction of a million of it is at most the scale denominator
+abbrev pub BoundsAreFractions : Type 0
+BoundsAreFractions = (scale : PictureScale) (p q : ℕ) (bound : ℤ) → 1 ≤ scale.width → 1 ≤ q → IsDenominator scale p q →
+    IsTrue (reaches scale bound) ↔ ((bound *ℤ pos q) ≤ℤ pos (p * 1000000))
+
+-- the law that of a thing up to a bound and a thing from that bound on exactly one is visible
+abbrev pub OneOfTwoIsVisible : Type 0
+OneOfTwoIsVisible = (scale : PictureScale) (bound : ℤ) → pos 0 <ℤ bound → is_visible scale None (Some bound) ≡ not (is_visible scale (Some bound) None)
+
+-- the law that 0.28 degrees in a pixel are shown at the scale denominator 111,319,491
+abbrev pub WorkedScale : Type 0
+WorkedScale = IsDenominator (record { span = 280000; width = 1 }) 111319491 1

@@ -2,7 +2,7 @@
 use Rattle.std.specs.Prelude.{◌≡◌, ℕ, List, [], ◌∷◌, Result, Ok, Err}
 use Rattle.mapdefs.specs.declared.map.MapFields.{MapFields}
 use Rattle.mapdefs.specs.declared.picture.PictureFields.{PictureFields}
-use Rattle.viewport.specs.View.{ViewValue}
+use Rattle.viewport.specs.View.{ViewValue, scale_of}
 use Rattle.wmsquery.specs.Meaning.{IsMeaning}
 use Rattle.wmsquery.specs.Report.{report}
 use Rattle.wmsquery.specs.declared.fault.WmsFault.{WmsFault}
@@ -29,7 +29,7 @@ view_of request = record { area = request.area; width = request.width; height = 
 abbrev pub Answers : MapFields → Result MapRequest WmsFault → Answer → Type 0
 Answers map (Ok request) answer =
     (picture : PictureFields)
-    × IsPictureOf map (view_of request) request.chosen request.background picture
+    × IsPictureOf map (view_of request) (scale_of (view_of request)) request.chosen request.background picture
     × (answer ≡ record { mime = mime.Pixmap; body = ppm picture })
 Answers map (Err fault) answer = answer ≡ record { mime = mime.Xml; body = report fault }
 

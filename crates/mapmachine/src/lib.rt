@@ -15,6 +15,8 @@ mod machine;
 mod netpbm;
 mod reply;
 mod stream;
+#[cfg(test)]
+mod tests;
 
 pub use bytes::Bytes;
 pub use machine::Machine;

@@ -1,10 +1,12 @@
-ghost use Rattle.std.specs.Prelude.{◌≡◌, ◌<◌, All, length, Ok, Err, IfOk, OnErr};
+ghost use Rattle.std.specs.Prelude.{◌≡◌, ◌<◌, ◌-ℤ◌, unsigned_abs, All, length, Ok, Err, IfOk, OnErr};
 ghost use Rattle.geom.specs.World.{IsExtent};
 
 use crate::netpbm::ppm;
 use crate::reply::{Answer, Event, Mime, Reply};
 use compose::picture as picture_of;
+use geom::{PictureSide, WorldBox};
 use mapdefs::{Items, Map};
+use scaledenom::Scale;
 use std::alloc::{AllocError, Global};
 use std::marker::Model;
 use viewport::View;
@@ -28,6 +30,15 @@ impl Model for Machine {
     ghost coded = { Prim.hlevel (codes, expr.the_row.coded) };
 
     ghost view = { λ m. record { map = m.map; sequence = m.sequence } };
+}
+
+// The scale at which an area is shown by that many columns of pixels.
+fn scale_of(area: WorldBox, width: PictureSide) -> Scale
+    requires { IsExtent area }
+    ensures { result ≡ record { span = unsigned_abs (area.maxx -ℤ area.minx); width = width } }
+{
+    let span = area.maxx().millionths() - area.minx().millionths();
+    Scale::of(span as u32, width)
 }
 
 impl Machine {
@@ -59,7 +70,15 @@ impl Machine {
     {
         let view = View::new(request.area, request.width, request.height);
         let chosen = request.chosen.as_slice();
-        let picture = picture_of(self.alloc, &self.map, view, chosen, request.background)?;
+        let scale = scale_of(request.area, request.width);
+        let picture = picture_of(
+            self.alloc,
+            &self.map,
+            view,
+            scale,
+            chosen,
+            request.background,
+        )?;
         Ok(Answer {
             mime: Mime::Pixmap,
             body: ppm(self.alloc, &picture)?,

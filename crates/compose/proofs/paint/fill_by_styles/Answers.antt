@@ -1,4 +1,3 @@
-use Rattle.std.proofs.Common.{sym, ◌∙◌}
 use Rattle.compose.proofs.Painting.{painted-last, painted-none}
 use Rattle.compose.proofs.paint.fill_by_styles.Goals as goal
 

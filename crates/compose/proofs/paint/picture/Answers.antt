@@ -15,12 +15,12 @@ loop-index-preserved c =
     let there : index < length c.args.map.now.layers = All-get_or (λ (k : ℕ). k < length c.args.map.now.layers) c.args.chosen.now c.loop-index.index-index 0 c.loop-index-test.true c.requires in
     let is = rw layers at c.index-layers-index.is in
     let painted = rw c.get-in-loop-index.ensures.value at c.in_ok-paint_layer.ensures in
-    painted_next (chosen_things c.args.view c.args.map.now) c.args.chosen.now c.loop-index.index-index index _ c.loop-index.canvas _
+    painted_next (chosen_things c.args.view c.args.scale c.args.map.now) c.args.chosen.now c.loop-index.index-index index _ c.loop-index.canvas _
     c.loop-index-test.true (sym (get_or_default_zero c.args.chosen.now c.loop-index.index-index index c.loop-index-test.true)) c.loop-index.invariant
-    (painted-chosen c.args.view c.args.map.now index c.index-layers-index.result _ _ there is painted)
+    (painted-chosen c.args.view c.args.scale c.args.map.now index c.index-layers-index.result _ _ there is painted)
 
 pub returns : goal.returns
 returns c =
     let blank = rw (c.width.ensures, c.height.ensures) at c.in_ok-canvas.ensures in
-    let painted = painted_end (chosen_things c.args.view c.args.map.now) c.args.chosen.now c.loop-index.index-index c.in_ok-canvas.canvas c.loop-index.canvas (omega arith) c.loop-index.invariant in
-    rw c.into_picture.ensures (painted-picture c.args.map.now c.args.view c.args.chosen.now c.args.background c.in_ok-canvas.canvas c.loop-index.canvas blank painted)
+    let painted = painted_end (chosen_things c.args.view c.args.scale c.args.map.now) c.args.chosen.now c.loop-index.index-index c.in_ok-canvas.canvas c.loop-index.canvas (omega arith) c.loop-index.invariant in
+    rw c.into_picture.ensures (painted-picture c.args.map.now c.args.view c.args.scale c.args.chosen.now c.args.background c.in_ok-canvas.canvas c.loop-index.canvas blank painted)

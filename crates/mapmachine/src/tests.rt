@@ -1,0 +1,150 @@
+ghost use Rattle.std.specs.Prelude.{◌≡◌, ◌≤◌, [], length, All, IfOk};
+ghost use Rattle.mapdefs.specs.MapLimits.{ClassNamesSymbolsOf, LayerNamesSymbolsOf};
+ghost use Rattle.mapdefs.specs.declared.limits.TheConstants.{MAX_LAYERS};
+
+use crate::Machine;
+use geom::{Coordinate, Micro, NUMBER_LIMIT, World, WorldBox};
+use mapdefs::{
+    Class, ClassFields, Feature, FeatureFields, Items, Kind, Layer, LayerFields, Map, MapFields,
+    Rgb, Rule, Style, StyleFields, Text,
+};
+use std::alloc::{AllocError, Global};
+use std::process::Abort;
+use std::test::Fail;
+
+// A class that paints in the colour 10 20 30, whatever the scale.
+fn class(alloc: Global) -> Result<Class, AllocError>
+    ensures { IfOk result (ClassNamesSymbolsOf 0) }
+{
+    let (red, green, blue) = (10, 20, 30);
+    let style = Style::new(StyleFields {
+        colour: Some(Rgb { red, green, blue }),
+        outline: None,
+        width: 1,
+        size: 1,
+        symbol: None,
+    });
+    Ok(Class::new(ClassFields {
+        rule: Rule::Always,
+        min: None,
+        max: None,
+        styles: Items::of(vec![in alloc; style]?),
+        label: None,
+    }))
+}
+
+// The place of that many degrees east and north, of which there are a few.
+fn place(x: i8, y: i8) -> World {
+    let east = Coordinate::new(Micro::new(i64::from(x) * 1_000_000));
+    let north = Coordinate::new(Micro::new(i64::from(y) * 1_000_000));
+    World::new(east, north)
+}
+
+// A square of two degrees round the place without longitude and latitude.
+fn square(alloc: Global) -> Result<Feature, AllocError>
+    ensures { IfOk result (λ feature. feature.values ≡ []) }
+{
+    let mut ring = Items::new(alloc);
+    ring.push(place(-1, -1))?;
+    ring.push(place(1, -1))?;
+    ring.push(place(1, 1))?;
+    ring.push(place(-1, 1))?;
+    Ok(Feature::new(FeatureFields {
+        parts: Items::of(vec![in alloc; ring]?),
+        text: None,
+        values: Items::new(alloc),
+    }))
+}
+
+// A layer `a` of the square, with these bounds on the scale denominator.
+fn layer(alloc: Global, min: Option<Micro>, max: Option<Micro>) -> Result<Layer, AllocError>
+    ensures { IfOk result (LayerNamesSymbolsOf 0) }
+{
+    let mut classes = Items::new(alloc);
+    classes.push(class(alloc)?)?;
+    let mut features = Items::new(alloc);
+    features.push(square(alloc)?)?;
+    Ok(Layer::new(LayerFields {
+        name: Text::from_str(alloc, "a")?,
+        title: Text::of(String::new(alloc)),
+        kind: Kind::Polygon,
+        on: true,
+        classitem: None,
+        labelitem: None,
+        items: Items::new(alloc),
+        csv_x: Text::of(String::new(alloc)),
+        csv_y: Text::of(String::new(alloc)),
+        queryable: false,
+        tolerance: 0,
+        min,
+        max,
+        classes,
+        features,
+    }))
+}
+
+// A map of four degrees by four, with these layers.
+fn map_of(alloc: Global, layers: Items<Layer>) -> Map
+    requires count { length layers ≤ MAX_LAYERS }
+    requires symbols { All (LayerNamesSymbolsOf 0) layers }
+{
+    let zero = Micro::new(0);
+    let four = Micro::new(4_000_000);
+    Map::new(MapFields {
+        title: Text::of(String::new(alloc)),
+        url: Text::of(String::new(alloc)),
+        extent: WorldBox::new(zero, zero, four, four),
+        font: None,
+        symbols: Items::new(alloc),
+        layers,
+    })
+}
+
+// The machine of a map with that layer alone.
+fn machine(alloc: Global, min: Option<Micro>, max: Option<Micro>) -> Result<Machine, AllocError> {
+    let mut layers = Items::new(alloc);
+    layers.push(layer(alloc, min, max)?)?;
+    Ok(Machine::open(alloc, map_of(alloc, layers)))
+}
+
+// A bound, `-` for none.
+fn bound(text: &str) -> Result<Option<Micro>, Fail> {
+    match text {
+        "-" => Ok(None),
+        number => Ok(Some(Micro::read(number.as_bytes(), NUMBER_LIMIT)?)),
+    }
+}
+
+// A picture of 0.28 degrees in one pixel is at the scale denominator 111,319,491, and so is one of half
+// as many in half as many, whatever its height. The first bound, the second, the rest of the query, and
+// the colour of the first pixel's red, which is that of the layer, 10, or of the background.
+const PICTURES: &str = "\
+111319491 - BBOX=0,0,0.28,0.28&WIDTH=1&HEIGHT=1 10
+- 111319491 BBOX=0,0,0.28,0.28&WIDTH=1&HEIGHT=1 255
+111319491.000001 - BBOX=0,0,0.28,0.28&WIDTH=1&HEIGHT=1 255
+- 111319491.000001 BBOX=0,0,0.28,0.28&WIDTH=1&HEIGHT=1 10
+111319491 111319491.000001 BBOX=0.1,0.2,0.66,0.3&WIDTH=2&HEIGHT=3 10
+222638982 222638982.000001 BBOX=0.1,0.2,0.66,0.3&WIDTH=1&HEIGHT=2 10";
+
+#[test]
+fn layers_are_seen_at_worked_scales(rt: HostRuntime) -> Result<(), Fail> {
+    let alloc = rt.alloc();
+    for row in PICTURES.lines() {
+        let words: Vec<&str> = row.split(' ').collect(alloc)?;
+        let [min, max, query, red] = words.as_slice() else {
+            panic!(rt; "a row without four words: {row}");
+        };
+        let machine = machine(alloc, bound(min)?, bound(max)?)?;
+        let query = format!(in alloc;
+            "VERSION=1.3.0&REQUEST=GetMap&LAYERS=a&STYLES=&CRS=CRS:84&{query}&FORMAT=image/x-portable-pixmap"
+        )?;
+        let answer = machine.reply(query.as_str().as_bytes())?;
+        // the header has 11 bytes
+        assert_eq!(rt;
+            answer.body.as_slice().get(11),
+            Some(&red.parse::<u8>()?),
+            "{row}"
+        );
+    }
+    Ok(())
+}
