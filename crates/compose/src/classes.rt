@@ -1,33 +1,52 @@
-ghost use Rattle.std.specs.Prelude.{◌≡◌, ℕ, List};
+ghost use Rattle.std.specs.Prelude.{◌≡◌};
 ghost use Rattle.std.specs.Option.{option_copied};
-ghost use Rattle.mapdefs.specs.Class.{holds, admits, class_of};
-ghost use Rattle.mapdefs.specs.declared.feature.FeatureFields.{FeatureFields as FeatureValue};
-ghost use Rattle.mapdefs.specs.declared.layer.LayerFields.{LayerFields as LayerValue};
+ghost use Rattle.mapdefs.specs.Class.{class_value, admits, class_of};
 
-use mapdefs::{ClassFields, LayerFields, Rule};
+use expressions::{holds, item_value};
+use mapdefs::{ClassFields, FeatureFields, LayerFields};
 use scaledenom::Scale;
 
-// Whether the rule is true of a feature. The rules that look at items hold of none yet.
-fn holds(rule: &Rule) -> bool
-    ensures { (items values : List (List ℕ)) (value : List ℕ) → result ≡ holds rule.now items values value }
+// The value that the rules of the layer's classes look at.
+fn class_value<'a>(layer: &LayerFields, feature: &'a FeatureFields) -> &'a str
+    ensures { result.now ≡ class_value layer.now feature.now }
 {
-    matches!(rule, Rule::Always)
+    match &layer.classitem {
+        Some(name) => item_value(
+            layer.items.as_slice(),
+            feature.values.as_slice(),
+            name.as_str(),
+        ),
+        None => "",
+    }
 }
 
-// Whether a feature may be of the class at the scale.
-fn admits(scale: Scale, class: &ClassFields) -> bool
-    ensures { (layer : LayerValue) (feature : FeatureValue) → result ≡ admits scale layer feature class.now }
+// Whether a feature of the layer may be of the class at the scale. The value is that of the class item.
+fn admits(
+    scale: Scale,
+    layer: &LayerFields,
+    feature: &FeatureFields,
+    value: &str,
+    class: &ClassFields,
+) -> bool
+    requires { value.now ≡ class_value layer.now feature.now }
+    ensures { result ≡ admits scale layer.now feature.now class.now }
 {
-    scale.within(class.min, class.max) && holds(&class.rule)
+    let (names, values) = (layer.items.as_slice(), feature.values.as_slice());
+    scale.within(class.min, class.max) && holds(&class.rule, names, values, value)
 }
 
 /// The class of a feature of the layer at the scale: the first one that it may be of.
-pub fn class_of(scale: Scale, layer: &LayerFields) -> Option<&ClassFields>
-    ensures { (feature : FeatureValue) → option_copied result ≡ class_of scale layer.now feature }
+pub fn class_of<'a>(
+    scale: Scale,
+    layer: &'a LayerFields,
+    feature: &FeatureFields,
+) -> Option<&'a ClassFields>
+    ensures { option_copied result ≡ class_of scale layer.now feature.now }
 {
+    let value = class_value(layer, feature);
     for class in layer.classes.as_slice() {
         let class = class.get();
-        if admits(scale, class) {
+        if admits(scale, layer, feature, value, class) {
             return Some(class);
         }
     }

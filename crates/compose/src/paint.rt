@@ -68,7 +68,7 @@ fn paint_feature(
 ) -> Result<(), AllocError>
     ensures { OnOk result (IsPainted canvas.old canvas.new (feature_things view scale layer.now feature.now)) }
 {
-    match class_of(scale, layer) {
+    match class_of(scale, layer, feature.get()) {
         Some(class) => paint_class(alloc, canvas, view, layer.kind, feature, class),
         None => Ok(()),
     }

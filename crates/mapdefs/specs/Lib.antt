@@ -8,4 +8,5 @@ pub mod Name
 pub mod Nesting
 pub mod PictureLimits
 pub mod StyleLimits
+pub mod Truth
 pub mod formers

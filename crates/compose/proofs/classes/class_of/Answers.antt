@@ -4,14 +4,14 @@ use Rattle.compose.proofs.Finding.{find-here, find-after}
 use Rattle.compose.proofs.classes.class_of.Goals as goal
 
 pub returns-then-admits : goal.returns-then-admits
-returns-then-admits c = λ feature.
-    let passes = rw c.get-class.ensures.value at (sym (c.admits.ensures c.args.layer.now feature) ∙ c.if-admits.true) in
+returns-then-admits c =
+    let passes = rw c.get-class.ensures.value at (sym c.admits.ensures ∙ c.if-admits.true) in
     ap Some c.get-class.ensures.value
-    ∙ sym (find-here (admits c.args.scale c.args.layer.now feature) c.as_slice-class-items.result.now c.loop-class.class-index _ c.loop-class-test.true c.class-item.is passes)
-    ∙ c.loop-class.invariant feature
+    ∙ sym (find-here (admits c.args.scale c.args.layer.now c.args.feature.now) c.as_slice-class-items.result.now c.loop-class.class-index _ c.loop-class-test.true c.class-item.is passes)
+    ∙ c.loop-class.invariant
 
 pub loop-class-preserved : goal.loop-class-preserved
-loop-class-preserved c = λ feature.
-    let fails = rw c.get-class.ensures.value at (sym (c.admits.ensures c.args.layer.now feature) ∙ c.if-admits.false) in
-    find-after (admits c.args.scale c.args.layer.now feature) c.as_slice-class-items.result.now c.loop-class.class-index _ c.loop-class-test.true c.class-item.is fails
-    ∙ c.loop-class.invariant feature
+loop-class-preserved c =
+    let fails = rw c.get-class.ensures.value at (sym c.admits.ensures ∙ c.if-admits.false) in
+    find-after (admits c.args.scale c.args.layer.now c.args.feature.now) c.as_slice-class-items.result.now c.loop-class.class-index _ c.loop-class-test.true c.class-item.is fails
+    ∙ c.loop-class.invariant

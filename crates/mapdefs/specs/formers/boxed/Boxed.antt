@@ -1,6 +1,7 @@
 -- `Boxed` as a type that may hold the type that holds it.
-use mathlib.Core.Path.{refl}
-use mathlib.Core.Former.{Former, this, const, pair, via}
+use mathlib.Core.Path.{◌≡◌, refl}
+use mathlib.Core.List.{List, [], ◌∷◌}
+use mathlib.Core.Former.{Former, this, const, pair, via, arity, children}
 use base.Stored.{gnil}
 use base.Fml.{ftrue}
 use denote.RattleType.{RattleType}
@@ -9,6 +10,7 @@ use denote.RawPtr.{Ptr}
 use denote.Sharing.{nothing}
 use denote.HoleLaws.{Alike}
 use denote.HolePlaces.{Recodes, struct_places, laid, one_value}
+use denote.Hole.Carrier.{listed}
 use denote.Hole.Fix.{over}
 use denote.Param.Weighed.{Weighed}
 use denote.Model.Placed.{view_places}
@@ -27,6 +29,12 @@ the_former g = g
 
 abbrev pub the_weighed : {g : Former {0}} → Weighed g → Weighed (the_former g)
 the_weighed w = w
+
+abbrev pub the_items : (X : Type 0) → X → List X
+the_items X d = d ∷ []
+
+pub the_items_listed : (X : Type 0) (d : X) → listed (arity (the_former this) ((the_former this).shape X d)) (children (the_former this) X d) ≡ the_items X d
+the_items_listed X d = refl
 
 abbrev fields : Former {0}
 fields = via (pair (const (Ptr × Global)) this) Inside (λ X a. ((a.inner.ptr, a.inner.alloc), a.inner.value))

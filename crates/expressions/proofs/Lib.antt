@@ -1,0 +1,10 @@
+pub mod Complete
+pub mod CompleteParts
+pub mod Cuts
+pub mod Limits
+pub mod Numbers
+pub mod Parts
+pub mod Sound
+pub mod SoundParts
+pub mod Truths
+pub mod Words

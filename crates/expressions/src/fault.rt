@@ -1,0 +1,43 @@
+ghost use Rattle.std.specs.Prelude.{◌≡◌};
+
+use std::alloc::AllocError;
+use thiserror::Error;
+
+/// Why a text is no expression.
+#[derive(Clone, Copy, Debug, PartialEq, Eq, Error)]
+#[error("no expression from byte {at} on")]
+pub struct ExprFault {
+    /// The index of the byte at which no reading can go on, from 0. It is the text's length where the
+    /// text ends too early.
+    pub at: usize,
+}
+
+/// Why no expression was read.
+#[derive(Clone, Copy, Debug, PartialEq, Eq, Error)]
+pub enum ExprError {
+    /// The text is no expression.
+    #[error("{0}")]
+    Fault(ExprFault),
+    /// Memory was refused.
+    #[error("out of memory")]
+    NoMemory,
+}
+
+/// What stops reading within a text.
+#[derive(Clone, Copy, Debug)]
+pub enum Stop {
+    /// No reading goes on where so many bytes are left.
+    Fault { left: usize },
+    /// Memory was refused.
+    NoMemory,
+}
+
+impl From<AllocError> for Stop {
+    ghost use Rattle.expressions.specs.declared.fault.Stop.TheVariants.{NoMemory};
+
+    ghost from_gives = { λ _ stop. stop ≡ NoMemory };
+
+    fn from(_error: AllocError) -> Stop {
+        Stop::NoMemory
+    }
+}
