@@ -29,3 +29,8 @@ product-is a b p q = rw (wide-below a p, wide-below b q) (to_z-of_z w128 (a *ℤ
 pub difference-is : (d a b p q : ℤ) → d ≡ to_z w64 (of_z w64 a) -ℤ to_z w64 (of_z w64 b) → a ≡ p → b ≡ q →
     IsBelow (2 ^ 47) p → IsBelow (2 ^ 47) q → to_z w128 (of_z w128 d) ≡ p -ℤ q
 difference-is d a b p q h e f below_p below_q = rw (h, e, f) (omega (arith, ints))
+
+-- the difference of two coordinates, as i64 computes it
+pub coordinate_difference-is : (a b p q : ℤ) → a ≡ p → b ≡ q → IsBelow (2 ^ 47) p → IsBelow (2 ^ 47) q →
+    to_z w64 (of_z w64 (to_z w64 (of_z w64 a) -ℤ to_z w64 (of_z w64 b))) ≡ p -ℤ q
+coordinate_difference-is a b p q e f below_p below_q = rw (e, f) (omega (arith, ints))

@@ -5,6 +5,8 @@ pub mod Cuts
 pub mod Digits
 pub mod Integers
 pub mod Numerals
+pub mod Products
+pub mod Quotients
 pub mod Readings
 pub mod Rounding
 pub mod Written

@@ -24,7 +24,7 @@ impl Model for Edge {
 }
 
 impl Edge {
-    ghost use Rattle.geom.specs.Edge.{IsDeviceEdge, low_end, high_end, crosses_height, crosses_at_or_left, meets_at_or_left};
+    ghost use Rattle.geom.specs.Edge.{IsDeviceEdge, low_end, high_end, rise, run, crosses_height, crosses_at_or_left, meets_at_or_left};
 
     /// The edge from one point to another.
     pub fn new(from: Device, to: Device) -> Self
@@ -33,8 +33,9 @@ impl Edge {
         Edge { from, to }
     }
 
-    // The end that lies higher up in the picture; of two equally high ones the first.
-    fn low_end(self) -> Device
+    /// The end with the smaller y, which lies higher up in the picture; of two equally high ones the
+    /// first.
+    pub fn low_end(self) -> Device
         ensures { result ≡ low_end self }
     {
         if self.from.y() <= self.to.y() {
@@ -44,8 +45,8 @@ impl Edge {
         }
     }
 
-    // The other end.
-    fn high_end(self) -> Device
+    /// The other end.
+    pub fn high_end(self) -> Device
         ensures { result ≡ high_end self }
     {
         if self.from.y() <= self.to.y() {
@@ -53,6 +54,25 @@ impl Edge {
         } else {
             self.from
         }
+    }
+
+    /// How much y grows from the low end to the high end, in sixteenths of a pixel: 0 for a horizontal
+    /// edge, and never less.
+    pub fn rise(self) -> i64
+        ensures value { result ≡ rise self }
+        ensures range { IsBelow (2 ^ 48) result }
+        ensures limits { IsDeviceEdge self }
+    {
+        self.high_end().y() - self.low_end().y()
+    }
+
+    /// How much x grows from the low end to the high end, in sixteenths of a pixel. It is below 0 where
+    /// the edge goes to the left.
+    pub fn run(self) -> i64
+        ensures value { result ≡ run self }
+        ensures range { IsBelow (2 ^ 48) result }
+    {
+        self.high_end().x() - self.low_end().x()
     }
 
     // Whether exactly one end has a y of at most the height.
@@ -142,6 +162,16 @@ mod tests {
             let crosses = edge.crosses_at_or_left(point_at(point));
             assert_eq!(rt; crosses, expected, "{from:?} to {to:?} at {point:?}");
         }
+    }
+
+    #[test]
+    fn edges_rise_downwards(rt: HostRuntime) {
+        let edge = Edge::new(point_at((3, 50)), point_at((41, 7)));
+        assert_eq!(rt; (edge.rise(), edge.run()), (43, -38));
+        assert_eq!(rt;
+            (edge.low_end(), edge.high_end()),
+            (point_at((41, 7)), point_at((3, 50)))
+        );
     }
 
     // Points, pixels and edges that differ in one number are two.

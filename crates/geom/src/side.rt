@@ -1,5 +1,6 @@
-ghost use Rattle.std.specs.Prelude.{◌≡◌, ◌≤◌, length};
+ghost use Rattle.std.specs.Prelude.{◌≡◌, ◌≤◌, ◌<◌, ◌+◌, length};
 ghost use Rattle.geom.specs.Side.{picture_side};
+ghost use Rattle.geom.specs.declared.side.TheConstants.{MAX_PICTURE_SIDE};
 
 use std::marker::Model;
 
@@ -38,6 +39,14 @@ impl PictureSide {
         Some(PictureSide { pixels })
     }
 
+    /// The side whose last pixel has that index, counted from 0.
+    pub fn with_last(index: u16) -> Self
+        requires { index < MAX_PICTURE_SIDE }
+        ensures { result ≡ index + 1 }
+    {
+        PictureSide { pixels: index + 1 }
+    }
+
     /// The number of pixels.
     pub fn pixels(self) -> u16
         ensures value { result ≡ self }
@@ -59,6 +68,10 @@ mod tests {
                 Some(pixels)
             );
         }
+        assert_eq!(rt;
+            Some(PictureSide::with_last(2_047)),
+            PictureSide::new(2_048)
+        );
         for pixels in [0, 2_049, 65_535] {
             assert_eq!(rt; PictureSide::new(pixels), None, "{pixels} pixels");
         }

@@ -10,7 +10,8 @@ use borrow.Author.Differences.{up, down}
 use lib.IntN.{ℤ, pos, negsuc, neg_ℤ, ◌+ℤ◌, ◌-ℤ◌, ◌*ℤ◌}
 use lib.Signed.{◌<ℤ◌, ◌≤ℤ◌}
 use Rattle.viewport.specs.View.{shown_by, sixteenths, MarginsAreRoundedUp, WindowHasNearPlaces}
-use Rattle.viewport.proofs.Quotients.{quotient_parts, sixteenths-law}
+use Rattle.geom.proofs.Quotients.{quotient_parts}
+use Rattle.viewport.proofs.Quotients.{sixteenths-law}
 
 -- the millionths that so many pixels show are enough for them
 pub shown-enough : (margin pixels span : ℕ) → 0 < pixels → margin * span ≤ shown_by margin pixels span * pixels

@@ -1,7 +1,8 @@
 use Rattle.std.proofs.Common.{◌*◌, ◌^◌, ◌≤◌, arith, pos, ◌*ℤ◌}
 use Rattle.std.proofs.lemmas.Int.{ints}
 use Rattle.geom.specs.Range.{IsBelow}
-use Rattle.viewport.proofs.Quotients.{share-is, share-below, quotient-below, word-below}
+use Rattle.geom.proofs.Quotients.{quotient-below}
+use Rattle.viewport.proofs.Quotients.{share-is, share-below, word-below}
 use Rattle.viewport.proofs.view.sixteenths.Goals as goal
 
 pub returns-clause-range : goal.returns-clause-range

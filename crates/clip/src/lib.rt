@@ -1,0 +1,15 @@
+//! The rows of a picture that an edge crosses.
+//!
+//! Proved: `classify` finds the rows whose pixel centres' height an edge crosses, and whether it lies
+//! right of the view, left of it or neither (`class_of`); what each of these answers means is `IsClass`.
+//!
+//! Words: a *view* is here the picture's columns and rows. An edge *crosses a row* where it crosses the
+//! height of the row's pixel centres. An edge that lies left of the view counts for each pixel of the
+//! rows that it crosses, one that lies right of it for none.
+#![tactic(auto)]
+
+mod class;
+mod rows;
+
+pub use class::{Class, classify};
+pub use rows::Rows;

@@ -1,0 +1,57 @@
+ghost use Rattle.std.specs.Prelude.{◌≡◌, ◌^◌, ◌≤◌, nat_le};
+ghost use Rattle.clip.specs.Class.{first_row, has_row, rows_of};
+ghost use Rattle.geom.specs.Range.{IsBelow};
+
+use geom::{Edge, PictureSide};
+
+/// Some rows of a picture, counted from the top: those from one row to before another.
+#[derive(Clone, Copy, Debug, PartialEq, Eq)]
+pub struct Rows {
+    /// The first row.
+    pub from: u16,
+    /// The row after the last one.
+    pub to: u16,
+}
+
+impl Rows {
+    /// Whether the row is one of them.
+    pub fn has(self, row: u16) -> bool
+        ensures { result ≡ has_row self row }
+    {
+        self.from <= row && row < self.to
+    }
+
+    // Whether there is none.
+    pub fn is_empty(self) -> bool
+        ensures { result ≡ nat_le self.to self.from }
+    {
+        self.to <= self.from
+    }
+}
+
+/// The rows of a picture that an edge crosses. They may be none.
+pub fn rows_of(edge: Edge, height: PictureSide) -> Rows
+    ensures { result ≡ rows_of edge height }
+{
+    Rows {
+        from: first_row(edge.low_end().y(), height),
+        to: first_row(edge.high_end().y(), height),
+    }
+}
+
+// The first row whose pixel centres lie at that height or below it, or the picture's height.
+#[tactic(auto, unfolding(crate::specs::Class::first_row))]
+fn first_row(y: i64, height: PictureSide) -> u16
+    requires { IsBelow (2 ^ 47) y }
+    ensures { result ≡ first_row y height }
+{
+    let row = (y + 7).div_euclid(16);
+    let last = i64::from(height.pixels());
+    if row <= 0 {
+        0
+    } else if row < last {
+        row as u16
+    } else {
+        height.pixels()
+    }
+}
