@@ -14,7 +14,7 @@ use Rattle.clip.specs.Class.{at_least_zero, first_row, rows_of, has_row, crosses
 use Rattle.clip.proofs.Sides.{crosses-ends}
 
 -- an index that is cut off at 0 and at h is at most j where it was
-cut-at_most : (q : ℤ) (h j : ℕ) → j < h → nat_le (min (at_least_zero q) h) j ≡ int_le q (pos j)
+pub cut-at_most : (q : ℤ) (h j : ℕ) → j < h → nat_le (min (at_least_zero q) h) j ≡ int_le q (pos j)
 cut-at_most (pos n) h j p = same_test (nat_le (min n h) j) (int_le (pos n) (pos j))
     (λ e. le-leb n j (omega (arith, leb-true (min n h) j e)))
     (λ e. le-leb (min n h) j (omega (arith, leb-true n j e)))

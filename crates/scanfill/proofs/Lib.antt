@@ -1,0 +1,10 @@
+pub mod Columns
+pub mod Flipping
+pub mod Parity
+pub mod Quotients
+pub mod Readings
+pub mod Rings
+pub mod Shares
+pub mod Sizes
+pub mod Steps
+pub mod Words

@@ -1,0 +1,6 @@
+pub mod Column
+pub mod Flips
+pub mod Law
+pub mod Reading
+pub mod Runs
+pub mod Walk

@@ -1,0 +1,17 @@
+-- The runs of a row (docs/PROFILE.md, "When a pixel belongs to a polygon").
+use Rattle.std.specs.Prelude.{◌≡◌, ℕ, ◌≤◌, ◌<◌, Bool, true, false, List, [], ◌∷◌}
+use Rattle.scanfill.specs.declared.span.Span.{Span}
+
+-- the span is the first longest run of pixels that pass a test, from one column to before another
+pub record IsRunFrom (test : ℕ → Bool) (start end : ℕ) (span : Span) : Type 0 where
+  pub begins : start ≤ span.from
+  pub some : span.from < span.to
+  pub within : span.to ≤ end
+  pub before : (i : ℕ) → start ≤ i → i < span.from → test i ≡ false
+  pub inside : (i : ℕ) → span.from ≤ i → i < span.to → test i ≡ true
+  pub after : span.to < end → test span.to ≡ false
+
+-- the spans are the longest runs of pixels that pass, from one column to before another, rising
+abbrev pub AreRunsFrom : (ℕ → Bool) → ℕ → ℕ → List Span → Type 0
+AreRunsFrom test start end [] = (i : ℕ) → start ≤ i → i < end → test i ≡ false
+AreRunsFrom test start end (span ∷ spans) = IsRunFrom test start end span × AreRunsFrom test span.to end spans

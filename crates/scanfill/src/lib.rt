@@ -1,0 +1,28 @@
+//! The rows of a polygon: its edges clipped to the view and stepped from row to row, and the spans of
+//! pixels between them.
+//!
+//! Proved: `laws::runs` says that the clipped edges and their columns find the very pixels that the
+//! even-odd rule finds, for any rings and any view. `EdgeWalk::column` is the least column whose pixel
+//! centre the edge crosses at it or left of it (`IsColumn`), in each row that the walk comes to. What
+//! `Cover::row` leaves are the longest runs of covered pixels, rising (`AreRunsFrom`).
+//!
+//! Words: a *span* is a run of pixels in a row, its end excluded. A *cover* is a shape that covers pixels.
+//! A *walk* goes down an edge, row by row. A *flip* is a column at which the pixels of a row go in or out.
+#![tactic(auto)]
+
+mod cover;
+mod flips;
+pub mod laws;
+mod place;
+mod polygon;
+mod reading;
+mod span;
+mod walk;
+mod work;
+
+pub use cover::Cover;
+pub use polygon::Polygon;
+pub use reading::Reading;
+pub use span::{Span, Spans};
+pub use walk::EdgeWalk;
+pub use work::Work;

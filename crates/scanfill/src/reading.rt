@@ -1,0 +1,59 @@
+ghost use Rattle.std.specs.Prelude.{◌≡◌, ℕ, ◌≤◌, Bool, [], IfOk, OnOk};
+ghost use Rattle.scanfill.specs.Reading.{AllAre, IsReading};
+ghost use Rattle.scanfill.specs.Runs.{AreRunsFrom};
+
+use crate::span::{Span, Spans};
+use std::alloc::AllocError;
+
+/// Reads a row from left to right into its spans. Every cover's row is read by it.
+#[derive(Clone, Copy, Debug, PartialEq, Eq)]
+pub enum Reading {
+    /// The last pixel isn't covered, or there is none yet.
+    Outside,
+    /// The last pixel is covered.
+    Inside {
+        /// The first pixel of its run.
+        from: u16,
+    },
+}
+
+impl Reading {
+    /// Reads the pixels from one column to before another, of which all are covered or none is. A run that
+    /// ends before them is added to `out`. They may be none.
+    pub fn go_on(
+        self,
+        from: u16,
+        to: u16,
+        is_covered: bool,
+        out: &mut Spans,
+    ) -> Result<Reading, AllocError>
+        requires { from ≤ to }
+        ensures { IfOk result (λ next. (test : ℕ → Bool) (end : ℕ) → to ≤ end → AllAre test is_covered from to →
+            IsReading test end from self out.old → IsReading test end to next out.new) }
+    {
+        if from == to {
+            return Ok(self);
+        }
+        match self {
+            Reading::Outside if is_covered => Ok(Reading::Inside { from }),
+            Reading::Inside { from: start } if !is_covered => {
+                out.push(Span {
+                    from: start,
+                    to: from,
+                })?;
+                Ok(Reading::Outside)
+            }
+            same => Ok(same),
+        }
+    }
+
+    /// Ends the row, at its end. A run that lasts up to there is added to `out`.
+    pub fn finish(self, end: u16, out: &mut Spans) -> Result<(), AllocError>
+        ensures { OnOk result ((test : ℕ → Bool) → IsReading test end end self out.old → AreRunsFrom test 0 end out.new) }
+    {
+        match self {
+            Reading::Outside => Ok(()),
+            Reading::Inside { from } => out.push(Span { from, to: end }),
+        }
+    }
+}
