@@ -1,5 +1,7 @@
 pub mod Columns
+pub mod Counting
 pub mod Flipping
+pub mod Marching
 pub mod Parity
 pub mod Quotients
 pub mod Readings
@@ -7,4 +9,5 @@ pub mod Rings
 pub mod Shares
 pub mod Sizes
 pub mod Steps
+pub mod Sweeping
 pub mod Words

@@ -51,10 +51,6 @@ leads-ended test end start from to out some within none inside = λ rest runs. s
 pub leads-all : (test : ℕ → Bool) (end : ℕ) (out : List Span) → LeadsFrom test end end out → AreRunsFrom test 0 end out
 leads-all test end out lead = subst (λ xs. AreRunsFrom test 0 end xs) (append-nil out) (lead [] (λ i first last. absurd (omega arith)))
 
--- a row begins outside of a run
-pub leads-none : (test : ℕ → Bool) (end : ℕ) → LeadsFrom test end 0 []
-leads-none test end = λ rest runs. runs
-
 -- tests that agree have the same runs
 pub runs-same : (test other : ℕ → Bool) (from end : ℕ) (spans : List Span) → ((i : ℕ) → i < end → test i ≡ other i) →
     AreRunsFrom test from end spans → AreRunsFrom other from end spans

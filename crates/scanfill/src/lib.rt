@@ -4,19 +4,26 @@
 //! Proved: `laws::runs` says that the clipped edges and their columns find the very pixels that the
 //! even-odd rule finds, for any rings and any view. `EdgeWalk::column` is the least column whose pixel
 //! centre the edge crosses at it or left of it (`IsColumn`), in each row that the walk comes to. What
-//! `Cover::row` leaves are the longest runs of covered pixels, rising (`AreRunsFrom`).
+//! `Cover::row` and `Sweep::next` leave are the longest runs of covered pixels, rising (`AreRunsFrom`).
 //!
 //! Words: a *span* is a run of pixels in a row, its end excluded. A *cover* is a shape that covers pixels.
 //! A *walk* goes down an edge, row by row. A *flip* is a column at which the pixels of a row go in or out.
+//! A *crossing* is an edge as a sweep knows it: left of the view, or walked. A *sweep* gives a polygon's
+//! rows from the top.
 #![tactic(auto)]
 
 mod cover;
+mod crossing;
+mod crossings;
 mod flips;
 pub mod laws;
 mod place;
 mod polygon;
 mod reading;
 mod span;
+mod sweep;
+#[cfg(test)]
+mod tests;
 mod walk;
 mod work;
 
@@ -24,5 +31,6 @@ pub use cover::Cover;
 pub use polygon::Polygon;
 pub use reading::Reading;
 pub use span::{Span, Spans};
+pub use sweep::Sweep;
 pub use walk::EdgeWalk;
 pub use work::Work;

@@ -5,10 +5,12 @@ ghost use Rattle.geom.specs.EvenOdd.{edges, is_covered, ring_edges};
 ghost use Rattle.geom.specs.declared.side.TheConstants.{MAX_PICTURE_SIDE};
 ghost use Rattle.scanfill.specs.Flips.{flip_if, is_flipped};
 ghost use Rattle.scanfill.specs.Runs.{AreRunsFrom};
+ghost use Rattle.scanfill.specs.Sweep.{walk_count};
 
 use crate::cover::Cover;
 use crate::flips::Flips;
 use crate::span::Spans;
+use crate::sweep::Sweep;
 use crate::walk::EdgeWalk;
 use crate::work::Work;
 use clip::{Class, Rows, classify};
@@ -49,6 +51,24 @@ impl Polygon {
         ensures { result ≡ edges.items }
     {
         Polygon { edges }
+    }
+
+    /// A sweep over a picture of that width and height, from its first row. Each edge is classified once,
+    /// and each that is to be walked is started, which makes two divisions. Where memory is refused no work
+    /// is counted.
+    pub fn sweep(
+        &self,
+        width: PictureSide,
+        height: PictureSide,
+        work: &mut Work,
+    ) -> Result<Sweep<'_>, AllocError>
+        ensures sweep { IfOk result (λ sweep. sweep ≡ record { edges = self.now; width = width; height = height; row = 0 }) }
+        ensures work { OnOk result (work.new ≡ record { divisions = min (work.old.divisions + 2 * walk_count self.now width height) (2 ^ 64 - 1) }) }
+        ensures err { OnErr result (work.new ≡ work.old) }
+    {
+        let (sweep, counted) = Sweep::new(&self.edges, width, height, *work)?;
+        *work = counted;
+        Ok(sweep)
     }
 }
 

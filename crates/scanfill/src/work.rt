@@ -15,7 +15,7 @@ impl Work {
         Work { divisions: 0 }
     }
 
-    // Counts so many divisions more.
+    /// Counts so many divisions more.
     pub fn add(&mut self, divisions: u64)
         ensures { self.new ≡ record { divisions = min (self.old.divisions + divisions) (2 ^ 64 - 1) } }
     {
