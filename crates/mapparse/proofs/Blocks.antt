@@ -5,7 +5,7 @@ use Rattle.maplex.specs.declared.fault.Tail.{Tail}
 use Rattle.maplex.specs.Token.{TokenValue}
 use Rattle.mapparse.specs.declared.context.Block.{Block}
 use Rattle.mapparse.specs.declared.fault.Fault.{Fault}
-use Rattle.mapparse.specs.Entries.{Entries, Nothing, Inside, with_block}
+use Rattle.mapparse.specs.Entries.{Entries, Nothing, with_block}
 use Rattle.mapparse.specs.Fault.{and_then}
 use Rattle.mapparse.specs.Meaning.{value_in, latitude_in, block_in, CountIsEnough}
 use Rattle.mapparse.specs.Says.{Saying, Ends, Opens, Takes, Longitude, Passes, says}

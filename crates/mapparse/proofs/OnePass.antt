@@ -6,13 +6,13 @@ use Rattle.std.specs.Str.{str_eq_ignore_ascii_case}
 use Rattle.maplex.specs.declared.fault.Tail.{Tail}
 use Rattle.maplex.specs.declared.fault.Tail.TheVariants as tails
 use Rattle.maplex.specs.Token.{TokenValue}
-use Rattle.mapdefs.specs.declared.limits.TheConstants.{MAX_VERTICES}
+use Rattle.mapdefs.specs.declared.limits.TheConstants.{MAX_VERTICES, MAX_LINE_WIDTH, MAX_SQUARE, MAX_TOLERANCE}
 use Rattle.mapdefs.specs.declared.colour.Rgb.{Rgb}
 use Rattle.mapdefs.specs.declared.layer.Kind.{Kind}
 use Rattle.mapparse.specs.declared.colour.Component.{Component}
 use Rattle.mapparse.specs.declared.context.Block.{Block}
 use Rattle.mapparse.specs.declared.context.Block.TheVariants as block
-use Rattle.mapparse.specs.declared.context.TextKeyword.TheVariants.{LayerName}
+use Rattle.mapparse.specs.declared.context.TextKeyword.TheVariants.{MapName, LayerName, ClassItem, LabelItem, Template, FeatureText}
 use Rattle.mapparse.specs.declared.context.ColourKeyword.{ColourKeyword}
 use Rattle.mapparse.specs.declared.context.ColourKeyword.TheVariants.{StyleColour, ImageColour}
 use Rattle.mapparse.specs.declared.context.Context.TheVariants.{Keywords, Values, Latitude}
@@ -30,6 +30,7 @@ use Rattle.mapparse.specs.declared.value.Value.{Value}
 use Rattle.mapparse.specs.declared.value.Value.TheVariants as value
 use Rattle.mapparse.specs.declared.value.ValueStep.{ValueStep}
 use Rattle.mapparse.specs.declared.value.ValueStep.TheVariants.{More, Whole}
+use Rattle.mapparse.specs.Count.{bounded_of}
 use Rattle.mapparse.specs.Colour.{component_of, rgb_of}
 use Rattle.mapparse.specs.Draft.{with_value}
 use Rattle.mapparse.specs.Draft as draft
@@ -73,6 +74,18 @@ kind-stays : (kind : Option Kind) → StaysIn block.Layer (option_map (λ k. Who
 kind-stays None = tt
 kind-stays (Some k) = λ line own o. refl
 
+width-stays : (width : Option ℕ) → StaysIn block.Style (option_map (λ n. Whole (value.Width n)) width)
+width-stays None = tt
+width-stays (Some n) = λ line own o. refl
+
+size-stays : (size : Option ℕ) → StaysIn block.Style (option_map (λ n. Whole (value.Size n)) size)
+size-stays None = tt
+size-stays (Some n) = λ line own o. refl
+
+tolerance-stays : (tolerance : Option ℕ) → StaysIn block.Layer (option_map (λ n. Whole (value.Tolerance n)) tolerance)
+tolerance-stays None = tt
+tolerance-stays (Some n) = λ line own o. refl
+
 first-stays : (w : ColourKeyword) (b : Block) → Suits (expected.Colour w) b → (colour : Option Rgb) (red : Option Component) → StaysIn b (colour_step w colour red)
 first-stays StyleColour b p (Some colour) red = rw p (λ line own o. refl)
 first-stays StyleColour b p None None = tt
@@ -100,7 +113,15 @@ unused-stays b zero = unused-noted b
 unused-stays b (suc fewer) = tt
 
 shaped-stays : (e : Expected) (b : Block) (t : TokenValue) → Suits e b → StaysIn b (step_in e t)
+shaped-stays (expected.Text MapName) b t p = rw p (λ line own o. refl)
 shaped-stays (expected.Text LayerName) b t p = rw p (λ line own o. refl)
+shaped-stays (expected.Text ClassItem) b t p = rw p (λ line own o. refl)
+shaped-stays (expected.Text LabelItem) b t p = rw p (λ line own o. refl)
+shaped-stays (expected.Text Template) b t p = rw p (λ line own o. refl)
+shaped-stays (expected.Text FeatureText) b t p = rw p (λ line own o. refl)
+shaped-stays expected.Width b t p = rw p (width-stays (bounded_of 1 MAX_LINE_WIDTH t.text))
+shaped-stays expected.Size b t p = rw p (size-stays (bounded_of 1 MAX_SQUARE t.text))
+shaped-stays expected.Tolerance b t p = rw p (tolerance-stays (bounded_of 0 MAX_TOLERANCE t.text))
 shaped-stays expected.Kind b t p = rw p (kind-stays (kind_of t.text))
 shaped-stays (expected.Colour w) b t p = first-stays w b p (hex_at t) (component_of t.text)
 shaped-stays (expected.Green w r) b t p = green-stays w b r p (component_of t.text)
@@ -143,7 +164,15 @@ value-given tail k e b (t ∷ ts) s p =
 
 -- a block of the keyword of a value
 suited : (e : Expected) → (b : Block) × Suits e b
+suited (expected.Text MapName) = (block.Map, refl)
 suited (expected.Text LayerName) = (block.Layer, refl)
+suited (expected.Text ClassItem) = (block.Layer, refl)
+suited (expected.Text LabelItem) = (block.Layer, refl)
+suited (expected.Text Template) = (block.Layer, refl)
+suited (expected.Text FeatureText) = (block.Feature, refl)
+suited expected.Width = (block.Style, refl)
+suited expected.Size = (block.Style, refl)
+suited expected.Tolerance = (block.Layer, refl)
 suited expected.Kind = (block.Layer, refl)
 suited (expected.Colour StyleColour) = (block.Style, refl)
 suited (expected.Green StyleColour r) = (block.Style, refl)

@@ -1,6 +1,6 @@
 -- What the open blocks say, and the drafts that keep it.
 use Rattle.std.proofs.Common.{◌≡◌, List, [], ◌∷◌, length, map, refl, sym, ap, ◌++◌, Bool, true, false, ◌∙◌}
-use Rattle.std.specs.Prelude.{if◌then◌else◌, nat_le, ◌==◌, Option, None, Some, option_and_then, unwrap_or, Result, Ok, Err}
+use Rattle.std.specs.Prelude.{if◌then◌else◌, nat_le, ◌==◌, Option, None, Some, option_and_then, is_some, unwrap_or, Result, Ok, Err}
 use Rattle.std.specs.Option.{option_map_or}
 use Rattle.std.proofs.lemmas.List.{map-append, length-map}
 use Rattle.maplex.specs.Token.{TokenValue}
@@ -9,29 +9,28 @@ use Rattle.mapdefs.specs.declared.layer.Kind.TheVariants.{Polygon}
 use Rattle.mapdefs.specs.declared.limits.TheConstants.{MAX_LAYERS, MAX_CLASSES, MAX_STYLES, MAX_FEATURES}
 use Rattle.mapparse.specs.declared.context.Block.{Block}
 use Rattle.mapparse.specs.declared.context.Block.TheVariants as block
-use Rattle.mapparse.specs.declared.context.TextKeyword.TheVariants.{LayerName}
+use Rattle.mapparse.specs.declared.context.TextKeyword.TheVariants.{MapName, LayerName, ClassItem, LabelItem, Template, FeatureText}
 use Rattle.mapparse.specs.declared.context.ColourKeyword.TheVariants.{StyleColour}
 use Rattle.mapparse.specs.declared.context.Expected.{Expected}
 use Rattle.mapparse.specs.declared.context.Expected.TheVariants as expected
 use Rattle.mapparse.specs.declared.context.Role.{Role}
 use Rattle.mapparse.specs.declared.context.Role.TheVariants as role
 use Rattle.mapparse.specs.declared.draft.Drafts.{Drafts}
+use Rattle.mapparse.specs.declared.draft.LayerDraft.{LayerDraft}
 use Rattle.mapparse.specs.declared.draft.Named.{Named}
 use Rattle.mapparse.specs.declared.fault.Fault.{Fault}
 use Rattle.mapparse.specs.declared.fault.ParseKind.TheVariants.{DuplicateName}
 use Rattle.mapparse.specs.declared.keyword.Keyword.{Keyword}
 use Rattle.mapparse.specs.declared.keyword.Keyword.TheVariants as keyword
-use Rattle.mapparse.specs.declared.tree.ClassTree.{ClassTree}
-use Rattle.mapparse.specs.declared.tree.FeatureTree.{FeatureTree}
 use Rattle.mapparse.specs.declared.tree.LayerTree.{LayerTree}
 use Rattle.mapparse.specs.Draft as draft
-use Rattle.mapparse.specs.End.{finished_layer, ends}
+use Rattle.mapparse.specs.End.{layer_with, finished_layer, ends}
 use Rattle.mapparse.specs.Entries.{Entries, Nothing, Inside, with_block, last, blocks, vertices}
 use Rattle.mapparse.specs.Fault.{and_then}
 use Rattle.mapparse.specs.Name.{is_taken}
 use Rattle.mapparse.specs.Says.{layer_fault, closing_fault, is_full}
 use Rattle.mapparse.specs.Table.{map_role, layer_role, class_role, style_role, feature_role, passed_role, passed_label_role, end_role, role_of}
-use Rattle.mapparse.specs.Tree.{style_tree, class_tree, feature_tree, layer_name, layer_kind, layer_tree, map_tree}
+use Rattle.mapparse.specs.Tree.{style_tree, class_tree, feature_tree, layer_name, layer_kind, class_item, label_item, template, layer_tolerance, feature_text, layer_tree, map_tree}
 
 -- what the open blocks say so far; a block that isn't open says nothing
 pub record OpenBlocks : Type 0 where
@@ -49,12 +48,16 @@ drafts_of o = record {
   layer = record {
     name = last layer_name o.layer;
     kind = last layer_kind o.layer;
+    classitem = last class_item o.layer;
+    labelitem = last label_item o.layer;
+    queryable = is_some (last template o.layer);
+    tolerance = last layer_tolerance o.layer;
     classes = map class_tree (blocks block.Class o.layer);
     features = map feature_tree (blocks block.Feature o.layer);
   };
   class = class_tree o.class;
   style = style_tree o.style;
-  feature = record { parts = record { whole = map vertices (blocks block.Points o.feature); next = vertices o.points } };
+  feature = record { parts = record { whole = map vertices (blocks block.Points o.feature); next = vertices o.points }; text = last feature_text o.feature };
 }
 
 -- a block says this, within the blocks round it, and none is open inside it
@@ -95,7 +98,15 @@ pub record Nests (c b : Block) : Type 0 where
 
 -- the keyword of a value is one of the block; a value without effect may stand in each
 abbrev pub Suits : Expected → Block → Type 0
+Suits (expected.Text MapName) b = b ≡ block.Map
 Suits (expected.Text LayerName) b = b ≡ block.Layer
+Suits (expected.Text ClassItem) b = b ≡ block.Layer
+Suits (expected.Text LabelItem) b = b ≡ block.Layer
+Suits (expected.Text Template) b = b ≡ block.Layer
+Suits (expected.Text FeatureText) b = b ≡ block.Feature
+Suits expected.Width b = b ≡ block.Style
+Suits expected.Size b = b ≡ block.Style
+Suits expected.Tolerance b = b ≡ block.Layer
 Suits expected.Kind b = b ≡ block.Layer
 Suits (expected.Colour StyleColour) b = b ≡ block.Style
 Suits (expected.Green StyleColour r) b = b ≡ block.Style
@@ -113,6 +124,7 @@ nests : {c b : Block} → ((own : Entries) (o : OpenBlocks) → in_block c Nothi
 nests p q r = record { opened = p; parent = q; ended = r }
 
 fits-map : (k : Keyword) → Fits block.Map (map_role k)
+fits-map keyword.Name = refl
 fits-map keyword.Layer = nests (λ own o. refl) (λ own o. refl) (λ inner own o. refl)
 fits-map keyword.Legend = nests (λ own o. refl) (λ own o. refl) (λ inner own o. refl)
 fits-map keyword.OutputFormat = nests (λ own o. refl) (λ own o. refl) (λ inner own o. refl)
@@ -125,6 +137,10 @@ fits-map _ = tt
 fits-layer : (k : Keyword) → Fits block.Layer (layer_role k)
 fits-layer keyword.Name = refl
 fits-layer keyword.Kind = refl
+fits-layer keyword.ClassItem = refl
+fits-layer keyword.LabelItem = refl
+fits-layer keyword.Template = refl
+fits-layer keyword.Tolerance = refl
 fits-layer keyword.Class = nests (λ own o. refl) (λ own o. refl) (λ inner own o. refl)
 fits-layer keyword.Feature = nests (λ own o. refl) (λ own o. refl) (λ inner own o. refl)
 fits-layer keyword.Projection = nests (λ own o. refl) (λ own o. refl) (λ inner own o. refl)
@@ -137,9 +153,12 @@ fits-class _ = tt
 
 fits-style : (k : Keyword) → Fits block.Style (style_role k)
 fits-style keyword.Color = refl
+fits-style keyword.Width = refl
+fits-style keyword.Size = refl
 fits-style _ = tt
 
 fits-feature : (k : Keyword) → Fits block.Feature (feature_role k)
+fits-feature keyword.Text = refl
 fits-feature keyword.Points = nests (λ own o. refl) (λ own o. refl) (λ inner own o. refl)
 fits-feature _ = tt
 
@@ -224,21 +243,16 @@ abbrev pub unless_fault : {A : Type 0} → Option Fault → A → Result A Fault
 unless_fault None a = Ok a
 unless_fault (Some f) a = Err f
 
-module _ (earlier : List LayerTree) (t : TokenValue) (classes : List ClassTree) (features : List FeatureTree) (with_layer : LayerTree → Drafts) where
+module _ (earlier : List LayerTree) (t : TokenValue) (layer : LayerDraft) (with_layer : LayerTree → Drafts) where
   taken-ends : (name : Named) (kind : Kind) (taken : Bool) →
-      and_then (if taken then Err (record { line = name.line; kind = DuplicateName }) else Ok (record { name = name.text; kind = kind; classes = classes; features = features })) (λ layer. Ok (with_layer layer))
-      ≡ unless_fault (if taken then Some (record { line = name.line; kind = DuplicateName }) else None) (with_layer (record { name = name.text; kind = kind; classes = classes; features = features }))
+      and_then (if taken then Err (record { line = name.line; kind = DuplicateName }) else Ok (layer_with name.text kind layer)) (λ made. Ok (with_layer made))
+      ≡ unless_fault (if taken then Some (record { line = name.line; kind = DuplicateName }) else None) (with_layer (layer_with name.text kind layer))
   taken-ends name kind true = refl
   taken-ends name kind false = refl
 
   layer-ends : (name : Option Named) (kind : Option Kind) →
-      and_then (finished_layer name kind (record { name = name; kind = kind; classes = classes; features = features }) earlier t) (λ layer. Ok (with_layer layer))
-      ≡ unless_fault (layer_fault name kind earlier t) (with_layer (record {
-        name = option_map_or (λ (n : Named). n.text) name [];
-        kind = unwrap_or kind Polygon;
-        classes = classes;
-        features = features;
-      }))
+      and_then (finished_layer name kind layer earlier t) (λ made. Ok (with_layer made))
+      ≡ unless_fault (layer_fault name kind earlier t) (with_layer (layer_with (option_map_or (λ (n : Named). n.text) name []) (unwrap_or kind Polygon) layer))
   layer-ends (Some name) (Some kind) = taken-ends name kind (is_taken name.text earlier)
   layer-ends (Some name) None = refl
   layer-ends None (Some kind) = refl
@@ -251,10 +265,10 @@ given-unless false f a b p = ap (λ x. Ok x) p
 -- the END of a block, in drafts and by what it says
 pub same-end : (b : Block) (up own : Entries) (o : OpenBlocks) (t : TokenValue) → ends b (drafts_of (in_block b own o)) t ≡ unless_fault (closing_fault b (above b up o) own t) (drafts_of (after_end b own o))
 same-end block.Layer up own o t =
-    layer-ends (map_tree o.map).layers t (map class_tree (blocks block.Class own)) (map feature_tree (blocks block.Feature own))
-    (λ layer. record (drafts_of (in_block block.Map o.map o)) { map = record { layers = (map_tree o.map).layers ++ layer ∷ [] } })
+    layer-ends (map_tree o.map).layers t (drafts_of (in_block block.Layer own o)).layer
+    (λ layer. record (drafts_of (in_block block.Map o.map o)) { map = record (map_tree o.map) { layers = (map_tree o.map).layers ++ layer ∷ [] } })
     (last layer_name own) (last layer_kind own)
-    ∙ ap (λ (layers : List LayerTree). unless_fault (closing_fault block.Layer o.map own t) (record (drafts_of (in_block block.Map o.map o)) { map = record { layers = layers } }))
+    ∙ ap (λ (layers : List LayerTree). unless_fault (closing_fault block.Layer o.map own t) (record (drafts_of (in_block block.Map o.map o)) { map = record (map_tree o.map) { layers = layers } }))
     (sym (map-append layer_tree (blocks block.Layer o.map) (own ∷ [])))
 same-end block.Class up own o t = rw (map-append class_tree (blocks block.Class o.layer) (own ∷ [])) refl
 same-end block.Style up own o t = rw (map-append style_tree (blocks block.Style o.class) (own ∷ [])) refl

@@ -1,30 +1,34 @@
 -- What a mapfile may say is read of it where it is written out.
-use Rattle.std.proofs.Common.{◌≡◌, ℕ, zero, suc, ℤ, pos, negsuc, ◌/◌, ◌^◌, ◌+◌, ◌<◌, ◌≤◌, Bool, true, false, ◌||◌, List, [], ◌∷◌, ◌++◌, length, length-append, append_assoc, refl, ap, ◌∙◌, arith, codes, None, Ok}
-use Rattle.std.specs.Prelude.{not}
+use Rattle.std.proofs.Common.{◌≡◌, ℕ, zero, suc, ℤ, pos, negsuc, ◌/◌, ◌^◌, ◌+◌, ◌<◌, ◌≤◌, Bool, true, false, ◌||◌, List, [], ◌∷◌, ◌++◌, length, length-append, append_assoc, append-nil, refl, sym, ap, ◌∙◌, arith, codes, None, Some, Ok}
+use Rattle.std.specs.Prelude.{not, option_map}
+use Rattle.std.specs.Result.{result_ok}
 use Rattle.std.specs.Char.{is_ascii_digit}
 use Rattle.std.specs.Fmt.{decimal}
 use Rattle.std.specs.List.{list_all}
-use Rattle.std.proofs.lemmas.Bool.{lt-leb}
-use Rattle.geom.specs.declared.micro.TheConstants.{COORDINATE_LIMIT}
+use Rattle.std.proofs.lemmas.Bool.{lt-leb, le-leb}
+use Rattle.geom.specs.declared.micro.TheConstants.{COORDINATE_LIMIT, NUMBER_LIMIT}
 use Rattle.geom.specs.World.{Place, IsCoordinate}
-use Rattle.geom.specs.Decimal.{nearest}
+use Rattle.geom.specs.Decimal.{nearest, whole_of}
+use Rattle.geom.specs.Number.{count_of}
 use Rattle.geom.specs.Written.{written, six_digits}
+use Rattle.geom.proofs.Numerals.{numeral-read, whole-read}
 use Rattle.geom.proofs.Digits.{digits-cons}
 use Rattle.geom.proofs.Written.{numeral, coordinate-size, coordinate-written}
 use Rattle.maplex.specs.declared.fault.Tail.{Tail}
 use Rattle.maplex.specs.declared.fault.Tail.TheVariants as tails
 use Rattle.maplex.specs.Token.{TokenValue}
-use Rattle.mapdefs.specs.declared.limits.TheConstants.{MAX_VERTICES}
+use Rattle.mapdefs.specs.declared.limits.TheConstants.{MAX_VERTICES, MAX_LINE_WIDTH, MAX_SQUARE, MAX_TOLERANCE}
 use Rattle.mapparse.specs.declared.context.Block.{Block}
 use Rattle.mapparse.specs.declared.context.Block.TheVariants as block
 use Rattle.mapparse.specs.declared.keyword.Keyword.TheVariants.{End}
 use Rattle.mapparse.specs.declared.value.Value.{Value}
+use Rattle.mapparse.specs.Count.{bounded_of}
 use Rattle.mapparse.specs.Entries.{Entries, Nothing, Said, Vertex, Inside, vertex_count}
 use Rattle.mapparse.specs.Fault.{and_then}
 use Rattle.mapparse.specs.Keyword.{spelling, is_spelt}
 use Rattle.mapparse.specs.Meaning.{value_in, block_in, alone}
 use Rattle.mapparse.specs.Says.{closing_fault, is_full}
-use Rattle.mapparse.specs.Written.{bare, written_value, block_text, written_out, IsValueIn, layer_name, layer_kind, no_colour, style_colour, IsBlockIn, layer, class, feature, style, points, MaySay, nothing, said, vertex, inside, WrittenIsRead}
+use Rattle.mapparse.specs.Written.{bare, written_value, block_text, written_out, IsValueIn, map_name, layer_name, class_item, label_item, template, feature_text, style_width, style_size, layer_tolerance, layer_kind, no_colour, style_colour, IsBlockIn, layer, class, feature, style, points, MaySay, nothing, said, vertex, inside, WrittenIsRead}
 use Rattle.mapparse.proofs.Blocks.{block-enough}
 use Rattle.mapparse.proofs.Colours.{counts}
 
@@ -40,6 +44,19 @@ starts-other d ds digit = grind arith
 digits-not_end : (digits rest : List ℕ) → list_all is_ascii_digit digits ≡ true → 1 ≤ length digits → is_spelt (digits ++ rest) End ≡ false
 digits-not_end [] rest h some = absurd (omega arith)
 digits-not_end (d ∷ ds) rest h some = starts-other d (ds ++ rest) (digits-cons d ds h).0
+
+-- nor is a count
+count-not_end : (n : ℕ) → n < 2 ^ 64 → is_spelt (decimal n) End ≡ false
+count-not_end n small =
+    let is = numeral n small in
+    ap (λ text. is_spelt text End) (sym (append-nil (decimal n))) ∙ digits-not_end (decimal n) [] is.digits is.some
+
+-- a count that is written out is read as that count
+bounded-read : (least most n : ℕ) → least ≤ n → n ≤ most → most ≤ 65535 → bounded_of least most (decimal n) ≡ Some n
+bounded-read least most n above below small =
+    let count : count_of (decimal n) ≡ Some (pos n) =
+    ap (λ r. option_map whole_of (result_ok r)) (numeral-read n NUMBER_LIMIT (omega arith) (omega arith)) ∙ ap (λ z. Some z) (whole-read n) in
+    rw (count, le-leb least n above, le-leb n most below) refl
 
 size-not_end : (n : ℕ) → n < 2 ^ 64 → is_spelt (written (pos n)) End ≡ false
 size-not_end n small =
@@ -60,8 +77,22 @@ module _ (tail : Tail) (k : ℕ) where
   value-read : (b : Block) (above before : Entries) (v : Value) (line : ℕ) (rest : List TokenValue) → IsValueIn b v → length (written_value v line ++ rest) ≤ suc k →
       block_in tail (suc k) b above before (written_value v line ++ rest) ≡ block_in tail (suc k) b above (Said v line before) rest
   unfolding block_in value_in spelling nearest
+  value-read b above before v line rest (map_name text) p = on b above (Said v line before) rest (omega arith)
   value-read b above before v line rest (layer_name text) p = on b above (Said v line before) rest (omega arith)
+  value-read b above before v line rest (class_item text) p = on b above (Said v line before) rest (omega arith)
+  value-read b above before v line rest (label_item text) p = on b above (Said v line before) rest (omega arith)
+  value-read b above before v line rest (template text) p = on b above (Said v line before) rest (omega arith)
   value-read b above before v line rest layer_kind p = on b above (Said v line before) rest (omega arith)
+  value-read b above before v line rest (feature_text text) p = on b above (Said v line before) rest (omega arith)
+  value-read b above before v line rest (style_width n least most) p =
+      rw (count-not_end n (omega arith), bounded-read 1 MAX_LINE_WIDTH n least most (omega arith))
+      (on b above (Said v line before) rest (omega arith))
+  value-read b above before v line rest (style_size n least most) p =
+      rw (count-not_end n (omega arith), bounded-read 1 MAX_SQUARE n least most (omega arith))
+      (on b above (Said v line before) rest (omega arith))
+  value-read b above before v line rest (layer_tolerance n most) p =
+      rw (count-not_end n (omega arith), bounded-read 0 MAX_TOLERANCE n (omega arith) most (omega arith))
+      (on b above (Said v line before) rest (omega arith))
   value-read b above before v line rest no_colour p = on b above (Said v line before) rest (omega arith)
   value-read b above before v line rest (style_colour colour is) p =
       rw (counts colour.red colour.green colour.blue is.red is.green is.blue tail (bare line (decimal colour.red)) (bare line (decimal colour.green)) (bare line (decimal colour.blue)) rest refl refl refl refl refl refl)
@@ -104,7 +135,15 @@ module _ (tail : Tail) (k : ℕ) where
 value-here : (tail : Tail) (n : ℕ) (b : Block) (above before : Entries) (v : Value) (line : ℕ) (rest : List TokenValue) → IsValueIn b v → length (written_value v line ++ rest) ≤ n →
     block_in tail n b above before (written_value v line ++ rest) ≡ block_in tail n b above (Said v line before) rest
 value-here tail (suc k) b above before v line rest is p = value-read tail k b above before v line rest is p
+value-here tail zero b above before v line rest (map_name text) p = absurd (omega arith)
 value-here tail zero b above before v line rest (layer_name text) p = absurd (omega arith)
+value-here tail zero b above before v line rest (class_item text) p = absurd (omega arith)
+value-here tail zero b above before v line rest (label_item text) p = absurd (omega arith)
+value-here tail zero b above before v line rest (template text) p = absurd (omega arith)
+value-here tail zero b above before v line rest (feature_text text) p = absurd (omega arith)
+value-here tail zero b above before v line rest (style_width n least most) p = absurd (omega arith)
+value-here tail zero b above before v line rest (style_size n least most) p = absurd (omega arith)
+value-here tail zero b above before v line rest (layer_tolerance n most) p = absurd (omega arith)
 value-here tail zero b above before v line rest layer_kind p = absurd (omega arith)
 value-here tail zero b above before v line rest no_colour p = absurd (omega arith)
 value-here tail zero b above before v line rest (style_colour colour is) p = absurd (omega arith)

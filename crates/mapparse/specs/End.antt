@@ -1,5 +1,5 @@
 -- What an END does, and what is checked at it (docs/MAPFILE.md, "Blocks and words").
-use Rattle.std.specs.Prelude.{◌==◌, if◌then◌else◌, List, [], ◌∷◌, ◌++◌, length, Option, Some, Result, Ok, Err}
+use Rattle.std.specs.Prelude.{ℕ, ◌==◌, if◌then◌else◌, List, [], ◌∷◌, ◌++◌, length, Option, Some, Result, Ok, Err}
 use Rattle.maplex.specs.Token.{TokenValue}
 use Rattle.mapdefs.specs.declared.layer.Kind.{Kind}
 use Rattle.mapparse.specs.Name.{is_taken}
@@ -15,11 +15,24 @@ use Rattle.mapparse.specs.Fault.{refused, and_then}
 use Rattle.mapparse.specs.Parts.{with_part}
 use Rattle.mapparse.specs.Draft.{new_layer, new_class, new_style, new_feature}
 
+-- a layer with this name and this kind, and what else its draft has
+abbrev pub layer_with : List ℕ → Kind → LayerDraft → LayerTree
+layer_with name kind layer = record {
+  name = name;
+  kind = kind;
+  classitem = layer.classitem;
+  labelitem = layer.labelitem;
+  queryable = layer.queryable;
+  tolerance = layer.tolerance;
+  classes = layer.classes;
+  features = layer.features;
+}
+
 -- a layer with its name and its kind, unless an earlier layer has the name
 abbrev pub named_layer : Named → Kind → LayerDraft → List LayerTree → Result LayerTree Fault
 named_layer name kind layer earlier =
     if is_taken name.text earlier then Err (record { line = name.line; kind = DuplicateName })
-    else Ok (record { name = name.text; kind = kind; classes = layer.classes; features = layer.features })
+    else Ok (layer_with name.text kind layer)
 
 -- a layer has a name and a kind
 abbrev pub finished_layer : Option Named → Option Kind → LayerDraft → List LayerTree → TokenValue → Result LayerTree Fault
@@ -44,7 +57,7 @@ abbrev pub feature_end : Drafts → TokenValue → Result Drafts Fault
 feature_end d t =
     if length d.feature.parts.whole == 0 then refused MissingValue t
     else Ok (record d {
-      layer = record d.layer { features = d.layer.features ++ record { parts = d.feature.parts.whole } ∷ [] };
+      layer = record d.layer { features = d.layer.features ++ record { parts = d.feature.parts.whole; text = d.feature.text } ∷ [] };
       feature = new_feature;
     })
 

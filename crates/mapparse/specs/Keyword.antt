@@ -5,7 +5,7 @@ use Rattle.maplex.specs.declared.token.Shape.{Shape}
 use Rattle.maplex.specs.declared.token.Shape.TheVariants.{Word}
 use Rattle.maplex.specs.Token.{TokenValue}
 use Rattle.mapparse.specs.declared.keyword.Keyword.{Keyword}
-use Rattle.mapparse.specs.declared.keyword.Keyword.TheVariants.{Map, Layer, Name, Kind, Class, Style, Color, Feature, Points, Angle, Antialias, Debug, Dump, Extent, FontSet, Footer, Group, Header, ImageColor, ImageType, Label, LabelCache, LabelMaxScaleDenom, LabelMinScaleDenom, Legend, MaxSize, MaxWidth, Metadata, MinSize, MinWidth, OutputFormat, Projection, QueryMap, Reference, Resolution, ScaleBar, ShapePath, Size, Status, Template, Title, ToleranceUnits, Units, Validation, End}
+use Rattle.mapparse.specs.declared.keyword.Keyword.TheVariants.{Map, Layer, Name, Kind, Class, Style, Color, Feature, Points, Angle, Antialias, ClassItem, Debug, Dump, Extent, FontSet, Footer, Group, Header, ImageColor, ImageType, Label, LabelCache, LabelItem, LabelMaxScaleDenom, LabelMinScaleDenom, Legend, MaxSize, MaxWidth, Metadata, MinSize, MinWidth, OutputFormat, Projection, QueryMap, Reference, Resolution, ScaleBar, ShapePath, Size, Status, Template, Text, Title, Tolerance, ToleranceUnits, Units, Validation, Width, End}
 
 -- how a keyword is written
 unfoldable pub spelling : Keyword → List ℕ
@@ -20,6 +20,7 @@ spelling Feature = codes "FEATURE"
 spelling Points = codes "POINTS"
 spelling Angle = codes "ANGLE"
 spelling Antialias = codes "ANTIALIAS"
+spelling ClassItem = codes "CLASSITEM"
 spelling Debug = codes "DEBUG"
 spelling Dump = codes "DUMP"
 spelling Extent = codes "EXTENT"
@@ -31,6 +32,7 @@ spelling ImageColor = codes "IMAGECOLOR"
 spelling ImageType = codes "IMAGETYPE"
 spelling Label = codes "LABEL"
 spelling LabelCache = codes "LABELCACHE"
+spelling LabelItem = codes "LABELITEM"
 spelling LabelMaxScaleDenom = codes "LABELMAXSCALEDENOM"
 spelling LabelMinScaleDenom = codes "LABELMINSCALEDENOM"
 spelling Legend = codes "LEGEND"
@@ -49,20 +51,23 @@ spelling ShapePath = codes "SHAPEPATH"
 spelling Size = codes "SIZE"
 spelling Status = codes "STATUS"
 spelling Template = codes "TEMPLATE"
+spelling Text = codes "TEXT"
 spelling Title = codes "TITLE"
+spelling Tolerance = codes "TOLERANCE"
 spelling ToleranceUnits = codes "TOLERANCEUNITS"
 spelling Units = codes "UNITS"
 spelling Validation = codes "VALIDATION"
+spelling Width = codes "WIDTH"
 spelling End = codes "END"
 
 -- all keywords
 abbrev pub keywords : List Keyword
 keywords =
-    Map ∷ Layer ∷ Name ∷ Kind ∷ Class ∷ Style ∷ Color ∷ Feature ∷ Points ∷ Angle ∷ Antialias ∷ Debug ∷ Dump ∷ Extent
-    ∷ FontSet ∷ Footer ∷ Group ∷ Header ∷ ImageColor ∷ ImageType ∷ Label ∷ LabelCache ∷ LabelMaxScaleDenom ∷
-    LabelMinScaleDenom ∷ Legend ∷ MaxSize ∷ MaxWidth ∷ Metadata ∷ MinSize ∷ MinWidth ∷ OutputFormat ∷ Projection ∷
-    QueryMap ∷ Reference ∷ Resolution ∷ ScaleBar ∷ ShapePath ∷ Size ∷ Status ∷ Template ∷ Title ∷ ToleranceUnits ∷
-    Units ∷ Validation ∷ End ∷ []
+    Map ∷ Layer ∷ Name ∷ Kind ∷ Class ∷ Style ∷ Color ∷ Feature ∷ Points ∷ Angle ∷ Antialias ∷ ClassItem ∷ Debug ∷
+    Dump ∷ Extent ∷ FontSet ∷ Footer ∷ Group ∷ Header ∷ ImageColor ∷ ImageType ∷ Label ∷ LabelCache ∷ LabelItem ∷
+    LabelMaxScaleDenom ∷ LabelMinScaleDenom ∷ Legend ∷ MaxSize ∷ MaxWidth ∷ Metadata ∷ MinSize ∷ MinWidth ∷
+    OutputFormat ∷ Projection ∷ QueryMap ∷ Reference ∷ Resolution ∷ ScaleBar ∷ ShapePath ∷ Size ∷ Status ∷ Template
+    ∷ Text ∷ Title ∷ Tolerance ∷ ToleranceUnits ∷ Units ∷ Validation ∷ Width ∷ End ∷ []
 
 -- a text is a keyword, in letters of either case
 abbrev pub is_spelt : List ℕ → Keyword → Bool

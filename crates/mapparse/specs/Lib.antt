@@ -1,5 +1,6 @@
 pub mod Answer
 pub mod Colour
+pub mod Count
 pub mod Draft
 pub mod End
 pub mod Entries

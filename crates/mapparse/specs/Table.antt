@@ -2,7 +2,7 @@
 use Rattle.std.specs.Prelude.{Option, None, Some}
 use Rattle.mapparse.specs.declared.context.Block.{Block}
 use Rattle.mapparse.specs.declared.context.Block.TheVariants as block
-use Rattle.mapparse.specs.declared.context.TextKeyword.TheVariants.{LayerName}
+use Rattle.mapparse.specs.declared.context.TextKeyword.TheVariants.{MapName, LayerName, ClassItem, LabelItem, Template, FeatureText}
 use Rattle.mapparse.specs.declared.context.ColourKeyword.TheVariants.{StyleColour, ImageColour}
 use Rattle.mapparse.specs.declared.context.OnlyWord.TheVariants.{Pixels, On}
 use Rattle.mapparse.specs.declared.context.Expected.TheVariants as expected
@@ -14,6 +14,7 @@ use Rattle.mapparse.specs.declared.keyword.Keyword.TheVariants as keyword
 -- the keywords of MAP
 abbrev pub map_role : Keyword → Option Role
 map_role keyword.Layer = Some (Opens block.Layer)
+map_role keyword.Name = Some (Takes (expected.Text MapName))
 map_role keyword.Angle = Some (Takes (expected.Unused 0))
 map_role keyword.Debug = Some (Takes (expected.Unused 0))
 map_role keyword.FontSet = Some (Takes (expected.Unused 0))
@@ -38,6 +39,10 @@ map_role _ = None
 abbrev pub layer_role : Keyword → Option Role
 layer_role keyword.Name = Some (Takes (expected.Text LayerName))
 layer_role keyword.Kind = Some (Takes expected.Kind)
+layer_role keyword.ClassItem = Some (Takes (expected.Text ClassItem))
+layer_role keyword.LabelItem = Some (Takes (expected.Text LabelItem))
+layer_role keyword.Template = Some (Takes (expected.Text Template))
+layer_role keyword.Tolerance = Some (Takes expected.Tolerance)
 layer_role keyword.Class = Some (Opens block.Class)
 layer_role keyword.Feature = Some (Opens block.Feature)
 layer_role keyword.Debug = Some (Takes (expected.Unused 0))
@@ -71,6 +76,8 @@ class_role _ = None
 -- the keywords of STYLE
 abbrev pub style_role : Keyword → Option Role
 style_role keyword.Color = Some (Takes (expected.Colour StyleColour))
+style_role keyword.Width = Some (Takes expected.Width)
+style_role keyword.Size = Some (Takes expected.Size)
 style_role keyword.Antialias = Some (Takes (expected.Unused 0))
 style_role keyword.MaxSize = Some (Takes (expected.Unused 0))
 style_role keyword.MaxWidth = Some (Takes (expected.Unused 0))
@@ -82,6 +89,7 @@ style_role _ = None
 -- the keywords of FEATURE
 abbrev pub feature_role : Keyword → Option Role
 feature_role keyword.Points = Some (Opens block.Points)
+feature_role keyword.Text = Some (Takes (expected.Text FeatureText))
 feature_role keyword.End = Some Closes
 feature_role _ = None
 

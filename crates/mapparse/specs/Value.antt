@@ -18,6 +18,8 @@ use Rattle.mapparse.specs.declared.context.Expected.TheVariants as expected
 use Rattle.mapparse.specs.declared.value.Value.TheVariants as value
 use Rattle.mapparse.specs.declared.value.ValueStep.{ValueStep}
 use Rattle.mapparse.specs.declared.value.ValueStep.TheVariants.{More, Whole}
+use Rattle.mapdefs.specs.declared.limits.TheConstants.{MAX_LINE_WIDTH, MAX_SQUARE, MAX_TOLERANCE}
+use Rattle.mapparse.specs.Count.{bounded_of}
 use Rattle.mapparse.specs.Colour.{component_of, rgb_of, hex_colour}
 
 -- the kind of a layer's features that a text is
@@ -62,6 +64,9 @@ unused_step (suc fewer) = More (expected.Unused fewer)
 abbrev pub step_in : Expected → TokenValue → Option ValueStep
 step_in (expected.Text keyword) t = Some (Whole (value.Text keyword t.text))
 step_in expected.Kind t = option_map (λ kind. Whole (value.Kind kind)) (kind_of t.text)
+step_in expected.Width t = option_map (λ n. Whole (value.Width n)) (bounded_of 1 MAX_LINE_WIDTH t.text)
+step_in expected.Size t = option_map (λ n. Whole (value.Size n)) (bounded_of 1 MAX_SQUARE t.text)
+step_in expected.Tolerance t = option_map (λ n. Whole (value.Tolerance n)) (bounded_of 0 MAX_TOLERANCE t.text)
 step_in (expected.Colour keyword) t = colour_step keyword (hex_at t) (component_of t.text)
 step_in (expected.Green keyword r) t = option_map (λ g. More (expected.Blue keyword r g)) (component_of t.text)
 step_in (expected.Blue keyword r g) t = option_map (λ b. Whole (value.Colour keyword (rgb_of r g b))) (component_of t.text)

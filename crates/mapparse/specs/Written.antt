@@ -1,17 +1,18 @@
 -- Mapfiles that are written out from what they say (docs/MAPFILE.md, "Blocks and words").
-use Rattle.std.specs.Prelude.{◌≡◌, ℕ, ◌<◌, false, List, [], ◌∷◌, ◌++◌, map, codes, Option, None, Some, Ok}
+use Rattle.std.specs.Prelude.{◌≡◌, ℕ, ◌<◌, ◌≤◌, false, List, [], ◌∷◌, ◌++◌, map, codes, Option, None, Some, Ok}
 use Rattle.std.specs.Fmt.{decimal}
 use Rattle.geom.specs.World.{Place, IsCoordinate}
 use Rattle.geom.specs.Written.{written}
 use Rattle.mapdefs.specs.declared.colour.Rgb.{Rgb}
 use Rattle.mapdefs.specs.declared.layer.Kind.TheVariants.{Point, Line, Polygon}
-use Rattle.mapdefs.specs.declared.limits.TheConstants.{MAX_VERTICES}
+use Rattle.mapdefs.specs.declared.limits.TheConstants.{MAX_VERTICES, MAX_LINE_WIDTH, MAX_SQUARE, MAX_TOLERANCE}
 use Rattle.maplex.specs.declared.fault.Tail.TheVariants as tails
 use Rattle.maplex.specs.declared.token.Shape.TheVariants as shape
 use Rattle.maplex.specs.Token.{TokenValue}
 use Rattle.mapparse.specs.declared.context.Block.{Block}
 use Rattle.mapparse.specs.declared.context.Block.TheVariants as block
-use Rattle.mapparse.specs.declared.context.TextKeyword.TheVariants.{LayerName}
+use Rattle.mapparse.specs.declared.context.TextKeyword.{TextKeyword}
+use Rattle.mapparse.specs.declared.context.TextKeyword.TheVariants.{MapName, LayerName, ClassItem, LabelItem, Template, FeatureText}
 use Rattle.mapparse.specs.declared.context.ColourKeyword.TheVariants.{StyleColour, ImageColour}
 use Rattle.mapparse.specs.declared.value.Value.{Value}
 use Rattle.mapparse.specs.declared.value.Value.TheVariants as value
@@ -31,12 +32,24 @@ abbrev pub colour_texts : Option Rgb → List (List ℕ)
 colour_texts None = codes "-1" ∷ codes "-1" ∷ codes "-1" ∷ []
 colour_texts (Some colour) = decimal colour.red ∷ decimal colour.green ∷ decimal colour.blue ∷ []
 
+-- how a keyword that takes a text is written
+abbrev pub text_keyword : TextKeyword → List ℕ
+text_keyword MapName = codes "NAME"
+text_keyword LayerName = codes "NAME"
+text_keyword ClassItem = codes "CLASSITEM"
+text_keyword LabelItem = codes "LABELITEM"
+text_keyword Template = codes "TEMPLATE"
+text_keyword FeatureText = codes "TEXT"
+
 -- the keyword of a value, and its tokens
 abbrev pub written_value : Value → ℕ → List TokenValue
-written_value (value.Text LayerName text) line = bare line (codes "NAME") ∷ quoted line text ∷ []
+written_value (value.Text keyword text) line = bare line (text_keyword keyword) ∷ quoted line text ∷ []
 written_value (value.Kind Polygon) line = bare line (codes "TYPE") ∷ bare line (codes "POLYGON") ∷ []
 written_value (value.Kind Point) line = bare line (codes "TYPE") ∷ bare line (codes "POINT") ∷ []
 written_value (value.Kind Line) line = bare line (codes "TYPE") ∷ bare line (codes "LINE") ∷ []
+written_value (value.Width width) line = bare line (codes "WIDTH") ∷ bare line (decimal width) ∷ []
+written_value (value.Size size) line = bare line (codes "SIZE") ∷ bare line (decimal size) ∷ []
+written_value (value.Tolerance tolerance) line = bare line (codes "TOLERANCE") ∷ bare line (decimal tolerance) ∷ []
 written_value value.Nothing line = []
 written_value (value.Colour ImageColour colour) line = bare line (codes "IMAGECOLOR") ∷ map (bare line) (colour_texts colour)
 written_value (value.Colour StyleColour colour) line = bare line (codes "COLOR") ∷ map (bare line) (colour_texts colour)
@@ -70,8 +83,16 @@ pub record IsColour (colour : Rgb) : Type 0 where
 
 -- the values that a block may be given
 pub data IsValueIn : Block → Value → Type 0 where
+  map_name : (text : List ℕ) → IsValueIn block.Map (value.Text MapName text)
   layer_name : (text : List ℕ) → IsValueIn block.Layer (value.Text LayerName text)
+  class_item : (text : List ℕ) → IsValueIn block.Layer (value.Text ClassItem text)
+  label_item : (text : List ℕ) → IsValueIn block.Layer (value.Text LabelItem text)
+  template : (text : List ℕ) → IsValueIn block.Layer (value.Text Template text)
   layer_kind : IsValueIn block.Layer (value.Kind Polygon)
+  feature_text : (text : List ℕ) → IsValueIn block.Feature (value.Text FeatureText text)
+  style_width : (n : ℕ) → 1 ≤ n → n ≤ MAX_LINE_WIDTH → IsValueIn block.Style (value.Width n)
+  style_size : (n : ℕ) → 1 ≤ n → n ≤ MAX_SQUARE → IsValueIn block.Style (value.Size n)
+  layer_tolerance : (n : ℕ) → n ≤ MAX_TOLERANCE → IsValueIn block.Layer (value.Tolerance n)
   no_colour : IsValueIn block.Style (value.Colour StyleColour None)
   style_colour : (colour : Rgb) → IsColour colour → IsValueIn block.Style (value.Colour StyleColour (Some colour))
 

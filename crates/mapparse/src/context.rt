@@ -23,7 +23,12 @@ pub enum Block {
 /// The keywords that take a text.
 #[derive(Clone, Copy)]
 pub enum TextKeyword {
+    MapName,
     LayerName,
+    ClassItem,
+    LabelItem,
+    Template,
+    FeatureText,
 }
 
 /// The keywords that take a colour.
@@ -48,6 +53,12 @@ pub enum Expected {
     Text(TextKeyword),
     /// The kind of a layer's features.
     Kind,
+    /// The width of a style.
+    Width,
+    /// The size of a style.
+    Size,
+    /// The tolerance of a layer.
+    Tolerance,
     /// A colour: a text `#rrggbb`, or three counts of which the first is next.
     Colour(ColourKeyword),
     /// The count of green, after that of red.

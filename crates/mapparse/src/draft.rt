@@ -1,6 +1,7 @@
 ghost use Rattle.std.specs.Prelude.{◌≡◌};
-ghost use Rattle.mapparse.specs.Draft.{fresh, new_layer, new_class, new_style, new_feature, with_value, is_full};
+ghost use Rattle.mapparse.specs.Draft.{fresh, new_layer, new_class, new_style, new_feature, with_text, with_value, is_full};
 
+use crate::bounded::Bounded;
 use crate::capped::Capped;
 use crate::context::{Block, ColourKeyword, TextKeyword};
 use crate::parts::PartsDraft;
@@ -21,6 +22,10 @@ pub struct Named {
 pub struct LayerDraft {
     pub name: Option<Named>,
     pub kind: Option<Kind>,
+    pub classitem: Option<Text>,
+    pub labelitem: Option<Text>,
+    pub queryable: bool,
+    pub tolerance: Option<Bounded<0, 64>>,
     pub classes: Capped<ClassTree, MAX_CLASSES>,
     pub features: Capped<FeatureTree, MAX_FEATURES>,
 }
@@ -29,6 +34,7 @@ pub struct LayerDraft {
 #[derive(Drop)]
 pub struct FeatureDraft {
     pub parts: PartsDraft,
+    pub text: Option<Text>,
 }
 
 /// What was read of the open blocks. The draft of a block that isn't open is a new one.
@@ -49,6 +55,10 @@ impl LayerDraft {
         LayerDraft {
             name: None,
             kind: None,
+            classitem: None,
+            labelitem: None,
+            queryable: false,
+            tolerance: None,
             classes: Capped::new(alloc),
             features: Capped::new(alloc),
         }
@@ -71,7 +81,11 @@ impl StyleTree {
     pub fn new() -> Self
         ensures { result ≡ new_style }
     {
-        StyleTree { colour: None }
+        StyleTree {
+            colour: None,
+            width: None,
+            size: None,
+        }
     }
 }
 
@@ -82,6 +96,7 @@ impl FeatureDraft {
     {
         FeatureDraft {
             parts: PartsDraft::new(alloc),
+            text: None,
         }
     }
 }
@@ -93,6 +108,7 @@ impl Drafts {
     {
         Drafts {
             map: MapTree {
+                name: None,
                 layers: Capped::new(alloc),
             },
             layer: LayerDraft::new(alloc),
@@ -109,15 +125,30 @@ impl Drafts {
         self.map
     }
 
+    // Notes a text of a line.
+    fn set_text(&mut self, keyword: TextKeyword, text: Text, line: u64)
+        ensures { self.new ≡ with_text keyword text line self.old }
+    {
+        match keyword {
+            TextKeyword::MapName => self.map.name = Some(text),
+            TextKeyword::LayerName => self.layer.name = Some(Named { text, line }),
+            TextKeyword::ClassItem => self.layer.classitem = Some(text),
+            TextKeyword::LabelItem => self.layer.labelitem = Some(text),
+            TextKeyword::Template => self.layer.queryable = true,
+            TextKeyword::FeatureText => self.feature.text = Some(text),
+        }
+    }
+
     /// Notes a value of a line, in place of an earlier value of its keyword.
     pub fn set(&mut self, value: Value, line: u64)
         ensures { self.new ≡ with_value value line self.old }
     {
         match value {
-            Value::Text(TextKeyword::LayerName, text) => {
-                self.layer.name = Some(Named { text, line });
-            }
+            Value::Text(keyword, text) => self.set_text(keyword, text, line),
             Value::Kind(kind) => self.layer.kind = Some(kind),
+            Value::Width(width) => self.style.width = Some(width),
+            Value::Size(size) => self.style.size = Some(size),
+            Value::Tolerance(tolerance) => self.layer.tolerance = Some(tolerance),
             Value::Colour(ColourKeyword::StyleColour, colour) => self.style.colour = colour,
             Value::Colour(ColourKeyword::ImageColour, _) | Value::Nothing => {}
         }

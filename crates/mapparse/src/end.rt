@@ -27,6 +27,10 @@ fn finished_layer(draft: LayerDraft, earlier: &[LayerTree], end: &Token) -> Resu
     let LayerDraft {
         name,
         kind,
+        classitem,
+        labelitem,
+        queryable,
+        tolerance,
         classes,
         features,
     } = draft;
@@ -42,6 +46,10 @@ fn finished_layer(draft: LayerDraft, earlier: &[LayerTree], end: &Token) -> Resu
     Ok(LayerTree {
         name: name.text,
         kind,
+        classitem,
+        labelitem,
+        queryable,
+        tolerance,
         classes,
         features,
     })
@@ -88,9 +96,10 @@ fn end_feature(drafts: &mut Drafts, end: &Token, alloc: Global) -> Result<(), Pa
     if drafts.feature.parts.is_empty() {
         return Err(fault_of(ParseKind::MissingValue, end).into());
     }
-    let draft = mem::replace(&mut drafts.feature, FeatureDraft::new(alloc));
+    let FeatureDraft { parts, text } = mem::replace(&mut drafts.feature, FeatureDraft::new(alloc));
     drafts.layer.features.push(FeatureTree {
-        parts: draft.parts.into_parts(),
+        parts: parts.into_parts(),
+        text,
     })?;
     Ok(())
 }

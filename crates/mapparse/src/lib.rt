@@ -20,6 +20,7 @@
 //! *tree* is the whole mapfile as it is written. The *tail* is what stands after the last token.
 #![tactic(auto)]
 
+mod bounded;
 mod capped;
 mod colour;
 mod context;

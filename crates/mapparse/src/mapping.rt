@@ -1,8 +1,9 @@
-ghost use Rattle.std.specs.Prelude.{◌≡◌, ◌≤◌, map, length, IfOk};
+ghost use Rattle.std.specs.Prelude.{◌≡◌, ◌≤◌, map, length, codes, unwrap_or, IfOk};
 ghost use Rattle.geom.specs.World.{IsExtent};
-ghost use Rattle.mapdefs.specs.declared.limits.TheConstants.{MAX_TOLERANCE};
+ghost use Rattle.mapdefs.specs.declared.limits.TheConstants.{MAX_LINE_WIDTH, MAX_SQUARE, MAX_TOLERANCE};
 ghost use Rattle.mapparse.specs.Mapping.{tolerance_of, whole_world, map_of};
 
+use crate::bounded::Bounded;
 use crate::tree::{ClassTree, FeatureTree, LayerTree, MapTree, StyleTree};
 use geom::{Micro, WorldBox};
 use mapdefs::{
@@ -35,6 +36,30 @@ fn build_all<T: Build>(trees: Vec<T>, alloc: Global) -> Result<Items<T::Part>, A
     Ok(Items::of(parts))
 }
 
+// The width of a style, in pixels.
+fn width_of(width: Option<Bounded<1, 32>>) -> u8
+    ensures value { result ≡ unwrap_or width 1 }
+    ensures least { 1 ≤ result }
+    ensures most { result ≤ MAX_LINE_WIDTH }
+{
+    match width {
+        Some(width) => width.get() as u8,
+        None => 1,
+    }
+}
+
+// The size of a style, in pixels.
+fn size_of(size: Option<Bounded<1, 256>>) -> u16
+    ensures value { result ≡ unwrap_or size 1 }
+    ensures least { 1 ≤ result }
+    ensures most { result ≤ MAX_SQUARE }
+{
+    match size {
+        Some(size) => size.get(),
+        None => 1,
+    }
+}
+
 impl Build for StyleTree {
     type Part = Style;
 
@@ -46,8 +71,8 @@ impl Build for StyleTree {
         Ok(Style::new(StyleFields {
             colour: self.colour,
             outline: None,
-            width: 1,
-            size: 1,
+            width: width_of(self.width),
+            size: size_of(self.size),
             symbol: None,
         }))
     }
@@ -81,7 +106,7 @@ impl Build for FeatureTree {
     fn build(self, alloc: Global) -> Result<Feature, AllocError> {
         Ok(Feature::new(FeatureFields {
             parts: self.parts.into_items(),
-            text: None,
+            text: self.text,
             values: Items::new(alloc),
         }))
     }
@@ -98,6 +123,17 @@ fn tolerance_of(kind: Kind) -> u8
     }
 }
 
+// The tolerance of a layer, in pixels.
+fn layer_tolerance(tolerance: Option<Bounded<0, 64>>, kind: Kind) -> u8
+    ensures value { result ≡ unwrap_or tolerance (tolerance_of kind) }
+    ensures limit { result ≤ MAX_TOLERANCE }
+{
+    match tolerance {
+        Some(tolerance) => tolerance.get() as u8,
+        None => tolerance_of(kind),
+    }
+}
+
 impl Build for LayerTree {
     type Part = Layer;
 
@@ -109,6 +145,10 @@ impl Build for LayerTree {
         let LayerTree {
             name,
             kind,
+            classitem,
+            labelitem,
+            queryable,
+            tolerance,
             classes,
             features,
         } = self;
@@ -117,18 +157,28 @@ impl Build for LayerTree {
             name,
             kind,
             on: true,
-            classitem: None,
-            labelitem: None,
+            classitem,
+            labelitem,
             items: Items::new(alloc),
             csv_x: Text::from_str(alloc, "x")?,
             csv_y: Text::from_str(alloc, "y")?,
-            queryable: false,
-            tolerance: tolerance_of(kind),
+            queryable,
+            tolerance: layer_tolerance(tolerance, kind),
             min: None,
             max: None,
             classes: build_all(classes.into_vec(), alloc)?,
             features: build_all(features.into_vec(), alloc)?,
         }))
+    }
+}
+
+// The title of the service.
+fn title_of(name: Option<Text>, alloc: Global) -> Result<Text, AllocError>
+    ensures { IfOk result (λ title. title ≡ unwrap_or name (codes "WMS")) }
+{
+    match name {
+        Some(name) => Ok(name),
+        None => Text::from_str(alloc, "WMS"),
     }
 }
 
@@ -148,12 +198,13 @@ fn whole_world() -> WorldBox
 pub fn map_of(tree: MapTree, alloc: Global) -> Result<Map, AllocError>
     ensures { IfOk result (λ made. made ≡ map_of tree) }
 {
+    let MapTree { name, layers } = tree;
     Ok(Map::new(MapFields {
-        title: Text::from_str(alloc, "WMS")?,
+        title: title_of(name, alloc)?,
         url: Text::from_str(alloc, "http://localhost/wms?")?,
         extent: whole_world(),
         font: None,
         symbols: Items::new(alloc),
-        layers: build_all(tree.layers.into_vec(), alloc)?,
+        layers: build_all(layers.into_vec(), alloc)?,
     }))
 }

@@ -10,6 +10,7 @@ fn map_role(keyword: Keyword) -> Option<Role>
 {
     match keyword {
         Keyword::Layer => Some(Role::Opens(Block::Layer)),
+        Keyword::Name => Some(Role::Takes(Expected::Text(TextKeyword::MapName))),
         Keyword::Angle
         | Keyword::Debug
         | Keyword::FontSet
@@ -39,6 +40,10 @@ fn layer_role(keyword: Keyword) -> Option<Role>
     match keyword {
         Keyword::Name => Some(Role::Takes(Expected::Text(TextKeyword::LayerName))),
         Keyword::Kind => Some(Role::Takes(Expected::Kind)),
+        Keyword::ClassItem => Some(Role::Takes(Expected::Text(TextKeyword::ClassItem))),
+        Keyword::LabelItem => Some(Role::Takes(Expected::Text(TextKeyword::LabelItem))),
+        Keyword::Template => Some(Role::Takes(Expected::Text(TextKeyword::Template))),
+        Keyword::Tolerance => Some(Role::Takes(Expected::Tolerance)),
         Keyword::Class => Some(Role::Opens(Block::Class)),
         Keyword::Feature => Some(Role::Opens(Block::Feature)),
         Keyword::Debug
@@ -79,6 +84,8 @@ fn style_role(keyword: Keyword) -> Option<Role>
 {
     match keyword {
         Keyword::Color => Some(Role::Takes(Expected::Colour(ColourKeyword::StyleColour))),
+        Keyword::Width => Some(Role::Takes(Expected::Width)),
+        Keyword::Size => Some(Role::Takes(Expected::Size)),
         Keyword::Antialias
         | Keyword::MaxSize
         | Keyword::MaxWidth
@@ -95,6 +102,7 @@ fn feature_role(keyword: Keyword) -> Option<Role>
 {
     match keyword {
         Keyword::Points => Some(Role::Opens(Block::Points)),
+        Keyword::Text => Some(Role::Takes(Expected::Text(TextKeyword::FeatureText))),
         Keyword::End => Some(Role::Closes),
         _ => None,
     }

@@ -1,7 +1,9 @@
-ghost use Rattle.std.specs.Prelude.{◌≡◌, IsSome, IfOk, OnErr};
+ghost use Rattle.std.specs.Prelude.{◌≡◌, IsSome, IfOk, OnErr, option_map};
+ghost use Rattle.mapparse.specs.declared.value.ValueStep.TheVariants.{Whole};
 ghost use Rattle.mapparse.specs.Colour.{component_of};
 ghost use Rattle.mapparse.specs.Value.{kind_of, is_value, hex_at, colour_step, only_text, only_step, unused_step, step_in, value_step, coordinate_in};
 
+use crate::bounded::Bounded;
 use crate::colour::{Component, hex_colour, rgb_of};
 use crate::context::{ColourKeyword, Expected, OnlyWord, TextKeyword};
 use geom::Coordinate;
@@ -15,6 +17,9 @@ pub enum Value {
     Text(TextKeyword, Text),
     Kind(Kind),
     Colour(ColourKeyword, Option<Rgb>),
+    Width(Bounded<1, 32>),
+    Size(Bounded<1, 256>),
+    Tolerance(Bounded<0, 64>),
     /// The end of values that have no effect.
     Nothing,
 }
@@ -91,6 +96,13 @@ fn only_step(word: OnlyWord, text: &str) -> Option<ValueStep>
     }
 }
 
+// The last step of a value.
+fn whole(value: Option<Value>) -> Option<ValueStep>
+    ensures { result ≡ option_map (λ v. Whole v) value }
+{
+    value.map(ValueStep::Whole)
+}
+
 // Passes over a value that has no effect, before so many more.
 fn unused_step(more: u8) -> ValueStep
     ensures { result ≡ unused_step more }
@@ -116,6 +128,9 @@ fn step_in(
             Some(ValueStep::Whole(Value::Text(keyword, text)))
         }
         Expected::Kind => kind_of(token.text).map(|kind| ValueStep::Whole(Value::Kind(kind))),
+        Expected::Width => whole(Bounded::read(token.text).map(Value::Width)),
+        Expected::Size => whole(Bounded::read(token.text).map(Value::Size)),
+        Expected::Tolerance => whole(Bounded::read(token.text).map(Value::Tolerance)),
         Expected::Colour(keyword) => colour_step(keyword, token),
         Expected::Green(keyword, red) => Component::read(token.text).map(|green| ValueStep::More(
             Expected::Blue(keyword, red, green),

@@ -18,7 +18,7 @@ const FAULTS: &str = "\
 1 Lex(OpenString):MAP END 'a
 # Tokens that are no keywords of their block.
 2 UnknownWord:MAP|FOO 1|END
-2 UnknownWord:MAP|NAME \"a\"|END
+2 UnknownWord:MAP|TYPE \"a\"|END
 2 UnknownWord:MAP|'||' FOO|END
 2 UnknownWord:MAP|\"LAYER\"|END|END
 2 UnknownWord:MAP|MAP|END|END
@@ -40,10 +40,13 @@ const FAULTS: &str = "\
 3 MissingValue:MAP LAYER CLASS STYLE COLOR|1 2|end
 2 MissingValue:MAP LAYER FEATURE POINTS 1|END
 2 MissingValue:MAP LAYER FEATURE POINTS|END
+2 MissingValue:MAP LAYER TOLERANCE|END
+2 MissingValue:MAP LAYER FEATURE TEXT|END
 # ENDs before all that has to be given.
 4 MissingValue:MAP|LAYER|TYPE POLYGON|END|END
 4 MissingValue:MAP|LAYER|NAME a|END|END
 4 MissingValue:MAP|LAYER|FEATURE|END|END|END
+3 MissingValue:MAP LAYER FEATURE|TEXT a|END
 2 MissingValue:MAP LAYER NAME a TYPE POLYGON END LAYER NAME a|END
 # Values that their keyword doesn't take.
 3 WrongValue:MAP|LAYER|TYPE LINE|END|END
@@ -56,6 +59,15 @@ const FAULTS: &str = "\
 2 WrongValue:MAP LAYER CLASS STYLE|COLOR 255.5 0 0
 2 WrongValue:MAP LAYER CLASS STYLE|COLOR -1.5 0 0
 2 WrongValue:MAP LAYER CLASS STYLE|COLOR 9999999999999 0 0
+2 WrongValue:MAP LAYER CLASS STYLE|WIDTH 0
+2 WrongValue:MAP LAYER CLASS STYLE|WIDTH 33
+3 WrongValue:MAP LAYER CLASS STYLE|WIDTH|32.5
+2 WrongValue:MAP LAYER CLASS STYLE|SIZE 0
+2 WrongValue:MAP LAYER CLASS STYLE|SIZE 257
+2 WrongValue:MAP LAYER CLASS STYLE|SIZE -1
+2 WrongValue:MAP LAYER|TOLERANCE 65
+2 WrongValue:MAP LAYER|TOLERANCE -1
+2 WrongValue:MAP LAYER|TOLERANCE x
 1 WrongValue:MAP LAYER FEATURE POINTS 1 x
 2 WrongValue:MAP LAYER FEATURE POINTS|1000.000001 0
 2 WrongValue:MAP LAYER FEATURE POINTS 0|-1000.000001
@@ -73,7 +85,7 @@ const FAULTS: &str = "\
 
 #[test]
 fn faults_have_their_lines_and_kinds(rt: HostRuntime) -> Result<(), Fail> {
-    assert_rows(&rt, rt.alloc(), FAULTS, 57)
+    assert_rows(&rt, rt.alloc(), FAULTS, 69)
 }
 
 // Sources with a list, which is no keyword and no value. `|` stands for the end of a line.
@@ -110,6 +122,7 @@ const READ: &str = "\
 1 1 1 0 0:map layer name x type polygon|CLASS STYLE COLOR \"254.6\" -0.4 0 END END|end end
 1 0 0 0 0:map layer name x type polygon|NAME END2 NAME 'END' NAME POLYGON|end end
 1 0 0 0 0:map layer name x type polygon|TYPE 'polygon' TYPE Polygon|end end
+1 1 2 0 0:map layer name x type polygon|CLASS STYLE WIDTH 32 SIZE 256 END STYLE WIDTH 0.5 SIZE '1' END END TOLERANCE 64 TOLERANCE -0.4|end end
 1 0 0 1 2:map layer name x type polygon|FEATURE POINTS -1000 1000 END POINTS '1' 2. END END|end end
 1 0 0 2 2:map layer name x type polygon|FEATURE POINTS 1 2 END END FEATURE POINTS 1 2 END END|end end
 1 0 0 0 0:map layer name x type polygon|# END||end end
@@ -118,5 +131,5 @@ const READ: &str = "\
 
 #[test]
 fn keywords_and_values_are_read(rt: HostRuntime) -> Result<(), Fail> {
-    assert_rows(&rt, rt.alloc(), READ, 12)
+    assert_rows(&rt, rt.alloc(), READ, 13)
 }

@@ -1,13 +1,21 @@
 use crate::parse;
 use crate::tests::told::assert_told;
-use mapdefs::{Class, Feature, Layer, Map, Rgb, Style};
+use mapdefs::{Class, Feature, Layer, Map, Rgb, Style, Text};
 use std::alloc::{AllocError, Global};
 use std::test::Fail;
 
 // Two layers, and two of each block in the first, with values that are all different. A colour, a
 // name and a style that are given twice, and a style without a colour after one that has one.
 const WHOLE: &str = "MAP
+  NAME first
+  NAME 'Second map'
   LAYER
+    CLASSITEM depth
+    CLASSITEM \"kind\"
+    LABELITEM label
+    TEMPLATE t.html
+    TOLERANCE 9
+    TOLERANCE 5
     NAME rivers
     NAME \"Lakes\"
     TYPE POLYGON
@@ -15,6 +23,10 @@ const WHOLE: &str = "MAP
       STYLE
         COLOR 1 2 3
         COLOR 10 20 30
+        WIDTH 4
+        SIZE 6
+        WIDTH 3
+        SIZE \"7\"
       END
       STYLE
       END
@@ -25,7 +37,9 @@ const WHOLE: &str = "MAP
       STYLE COLOR 70 80 90 END
     END
     FEATURE
+      TEXT 'one'
       POINTS 1 2 3 4 5 6 END
+      TEXT 'Deep water'
       POINTS 7 8 9.5 -10 -11 .125 END
     END
     FEATURE
@@ -41,22 +55,22 @@ END";
 
 // What the map of WHOLE says, in the form of `write_map`.
 const SAID: &str = "\
-map WMS http://localhost/wms? -180000000 -90000000 180000000 90000000 None 0
-layer Lakes Lakes Polygon true None None 0 x y false 0 None None
+map Second map http://localhost/wms? -180000000 -90000000 180000000 90000000 None 0
+layer Lakes Lakes Polygon true kind label 0 x y true 5 None None
 class Always None None None
-style 10 20 30, None 1 1 None
+style 10 20 30, None 3 7 None
 style none, None 1 1 None
 class Always None None None
 style 11 44 77, None 1 1 None
 style none, None 1 1 None
 style 70 80 90, None 1 1 None
-feature None 0
+feature Deep water 0
 part 1000000 2000000, 3000000 4000000, 5000000 6000000,
 part 7000000 8000000, 9500000 -10000000, -11000000 125000,
-feature None 0
+feature - 0
 part 13000000 14000000,
-layer lakes lakes Polygon true None None 0 x y false 0 None None
-feature None 0
+layer lakes lakes Polygon true - - 0 x y false 0 None None
+feature - 0
 part 15000000 16000000, 17000000 18000000,
 ";
 
@@ -89,8 +103,8 @@ fn write_feature(text: &mut String, feature: &Feature) -> Result<(), AllocError>
     let feature = feature.get();
     write!(
         text,
-        "feature {:?} {}\n",
-        feature.text,
+        "feature {} {}\n",
+        text_or_dash(&feature.text),
         feature.values.len()
     )?;
     for part in feature.parts.as_slice() {
@@ -104,6 +118,13 @@ fn write_feature(text: &mut String, feature: &Feature) -> Result<(), AllocError>
     Ok(())
 }
 
+fn text_or_dash(text: &Option<Text>) -> &str {
+    match text {
+        Some(text) => text.as_str(),
+        None => "-",
+    }
+}
+
 fn write_layer(text: &mut String, layer: &Layer) -> Result<(), AllocError> {
     let layer = layer.get();
     let (name, title, kind, on) = (
@@ -115,9 +136,9 @@ fn write_layer(text: &mut String, layer: &Layer) -> Result<(), AllocError> {
     write!(text, "layer {name} {title} {kind:?} {on}")?;
     write!(
         text,
-        " {:?} {:?} {}",
-        layer.classitem,
-        layer.labelitem,
+        " {} {} {}",
+        text_or_dash(&layer.classitem),
+        text_or_dash(&layer.labelitem),
         layer.items.len()
     )?;
     let (x, y, queryable) = (layer.csv_x.as_str(), layer.csv_y.as_str(), layer.queryable);
@@ -199,7 +220,7 @@ fn styles_have_their_colours(rt: HostRuntime) -> Result<(), Fail> {
             )?;
             let expected = format!(in alloc;
                 "map WMS http://localhost/wms? -180000000 -90000000 180000000 90000000 None 0\n\
-                 layer a a Polygon true None None 0 x y false 0 None None\n\
+                 layer a a Polygon true - - 0 x y false 0 None None\n\
                  class Always None None None\n\
                  style {colour}, None 1 1 None\n\
                  style none, None 1 1 None\n"

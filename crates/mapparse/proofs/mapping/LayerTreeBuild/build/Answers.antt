@@ -8,6 +8,6 @@ new-requires-2 c = record {
   item_count = rw c.new.ensures (omega arith);
   class_count = rw (c.in_ok-build_all.ensures, length-map) c.into_vec.ensures.limit;
   feature_count = rw (c.in_ok-build_all-2.ensures, length-map) c.into_vec-2.ensures.limit;
-  tolerance = c.tolerance_of.ensures.limit;
+  tolerance = c.layer_tolerance.ensures.limit;
   values = rw (c.new.ensures, c.in_ok-build_all-2.ensures) (∣ no_values c.into_vec-2.result.items ∣₁);
 }
