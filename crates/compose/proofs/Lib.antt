@@ -1,3 +1,4 @@
 pub mod Finding
+pub mod Filling
 pub mod Painting
 pub mod Rings

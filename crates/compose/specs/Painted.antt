@@ -1,5 +1,5 @@
 -- Painting over a picture (docs/PROFILE.md, "How features are painted").
-use Rattle.std.specs.Prelude.{◌≡◌, ℕ, Bool, ◌/◌, ◌%◌, ◌<◌, if◌then◌else◌, pos, List, length, slice_index_or, Option, None}
+use Rattle.std.specs.Prelude.{◌≡◌, ℕ, Bool, ◌/◌, ◌%◌, ◌<◌, ◌≤◌, if◌then◌else◌, pos, List, length, slice_index_or, Option, None}
 use Rattle.std.specs.List.{fold}
 use Rattle.std.specs.Option.{option_or}
 use Rattle.geom.specs.Device.{DevicePoint, pixel_centre}
@@ -39,6 +39,13 @@ covers_pixel polygon width at = is_covered polygon (pixel_centre (pos (at % widt
 abbrev pub AreFilled : List EdgeEnds → Rgb → ℕ → List Rgb → List Rgb → Type 0
 AreFilled polygon colour width old new =
     (at : ℕ) → at < length old → colour_of new at ≡ (if covers_pixel polygon width at then colour else colour_of old at)
+
+-- the same of the rows from one to before another: those pixels are filled, and the others are as they were
+pub record AreRowsFilled (polygon : List EdgeEnds) (colour : Rgb) (width from past : ℕ) (old new : List Rgb) : Type 0 where
+  pub filled : (at : ℕ) → at < length old → from ≤ at / width → at / width < past →
+      colour_of new at ≡ (if covers_pixel polygon width at then colour else colour_of old at)
+  pub before : (at : ℕ) → at < length old → at / width < from → colour_of new at ≡ colour_of old at
+  pub after : (at : ℕ) → at < length old → past ≤ at / width → colour_of new at ≡ colour_of old at
 
 -- the colour that shows where styles fill the same rings one after another: the last one
 abbrev pub last_colour : List StyleFields → Option Rgb

@@ -7,9 +7,10 @@ ghost use Rattle.compose.specs.Picture.{IsPictureOf};
 
 use crate::canvas::Canvas;
 use crate::classes::class_of;
-use crate::polygon::Polygon;
+use crate::polygon::polygon_of;
 use mapdefs::{ClassFields, Feature, Kind, LayerFields, Map, Picture, Rgb, Style};
 use scaledenom::Scale;
+use scanfill::Polygon;
 use std::alloc::{AllocError, Global};
 use viewport::View;
 
@@ -17,8 +18,8 @@ use viewport::View;
 /// in that order, one that is chosen twice also twice, and whether they are switched on or not. Layers
 /// and classes that aren't visible at the scale are left out.
 ///
-/// It takes memory for the picture, and for the edges of one feature at a time. `AllocError` comes only
-/// where that is refused.
+/// It takes memory for the picture, and for one feature at a time: for its edges, for those that cross the
+/// picture as its rows are swept, and for a row. `AllocError` comes only where that is refused.
 pub fn picture(
     alloc: Global,
     map: &Map,
@@ -88,9 +89,8 @@ fn paint_class(
     match kind {
         Kind::Polygon => {
             let rings = feature.get().parts.as_slice();
-            let polygon = Polygon::new(alloc, view, rings)?;
-            fill_by_styles(canvas, &polygon, class.styles.as_slice());
-            Ok(())
+            let polygon = polygon_of(alloc, view, rings)?;
+            fill_by_styles(alloc, canvas, &polygon, class.styles.as_slice())
         }
         Kind::Point | Kind::Line => Ok(()),
     }
@@ -108,11 +108,17 @@ fn last_colour(styles: &[Style]) -> Option<Rgb>
 }
 
 // Fills the polygon by each style, in order: where it covers, the last colour shows.
-fn fill_by_styles(canvas: &mut Canvas, polygon: &Polygon, styles: &[Style])
-    ensures { IsPaintedWithin polygon.now canvas.old canvas.new (λ rings.
-        flat_map (λ (style : StyleValue). fills rings style.colour) styles.now) }
+fn fill_by_styles(
+    alloc: Global,
+    canvas: &mut Canvas,
+    polygon: &Polygon,
+    styles: &[Style],
+) -> Result<(), AllocError>
+    ensures { OnOk result (IsPaintedWithin polygon.now canvas.old canvas.new (λ rings.
+        flat_map (λ (style : StyleValue). fills rings style.colour) styles.now)) }
 {
-    if let Some(colour) = last_colour(styles) {
-        canvas.fill(polygon, colour);
+    match last_colour(styles) {
+        Some(colour) => canvas.fill(alloc, polygon, colour),
+        None => Ok(()),
     }
 }

@@ -1,5 +1,6 @@
 pub mod Columns
 pub mod Counting
+pub mod Covering
 pub mod Flipping
 pub mod Marching
 pub mod Parity

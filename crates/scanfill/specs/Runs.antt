@@ -1,5 +1,6 @@
 -- The runs of a row (docs/PROFILE.md, "When a pixel belongs to a polygon").
-use Rattle.std.specs.Prelude.{◌≡◌, ℕ, ◌≤◌, ◌<◌, Bool, true, false, List, [], ◌∷◌}
+use Rattle.std.specs.Prelude.{◌≡◌, ℕ, ◌≤◌, ◌<◌, Bool, true, false, ◌&&◌, nat_le, nat_lt, List, [], ◌∷◌}
+use Rattle.std.specs.List.{list_any}
 use Rattle.scanfill.specs.declared.span.Span.{Span}
 
 -- the span is the first longest run of pixels that pass a test, from one column to before another
@@ -15,3 +16,15 @@ pub record IsRunFrom (test : ℕ → Bool) (start end : ℕ) (span : Span) : Typ
 abbrev pub AreRunsFrom : (ℕ → Bool) → ℕ → ℕ → List Span → Type 0
 AreRunsFrom test start end [] = (i : ℕ) → start ≤ i → i < end → test i ≡ false
 AreRunsFrom test start end (span ∷ spans) = IsRunFrom test start end span × AreRunsFrom test span.to end spans
+
+-- the span holds the column
+abbrev pub has_column : ℕ → Span → Bool
+has_column i span = nat_le span.from i && nat_lt i span.to
+
+-- one of the spans holds the column
+abbrev pub is_in_spans : List Span → ℕ → Bool
+is_in_spans spans i = list_any (has_column i) spans
+
+-- the law: a pixel lies in one of the runs exactly where it passes
+abbrev pub AreThosePassing : Type 0
+AreThosePassing = (test : ℕ → Bool) (end : ℕ) (spans : List Span) → AreRunsFrom test 0 end spans → (i : ℕ) → i < end → is_in_spans spans i ≡ test i
