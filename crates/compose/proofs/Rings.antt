@@ -4,7 +4,7 @@ use Rattle.geom.specs.Device.{DevicePoint}
 use Rattle.geom.specs.Edge.{EdgeEnds}
 use Rattle.geom.specs.EvenOdd.{ring_edges}
 use Rattle.geom.specs.World.{Place}
-use Rattle.scanfill.proofs.Rings.{closing_edges, ring_edges-closing}
+use Rattle.geom.proofs.Rings.{closing_edges, ring_edges-closing}
 use Rattle.viewport.specs.View.{ViewValue, device_point}
 
 -- where the edges of a ring begin

@@ -4,9 +4,13 @@ pub mod Caps
 pub mod Cuts
 pub mod Digits
 pub mod Integers
+pub mod Lines
 pub mod Numerals
 pub mod Products
 pub mod Quotients
 pub mod Readings
+pub mod Rings
 pub mod Rounding
+pub mod Together
+pub mod Turning
 pub mod Written

@@ -2,7 +2,7 @@
 use Rattle.std.proofs.Common.{◌≡◌, ◌∙◌, ◌*◌, Bool, true, false, refl, ap, sym, arith}
 use Rattle.std.proofs.lemmas.Int.{ints}
 use Rattle.std.specs.Prelude.{int_le}
-use borrow.Author.Differences.{up, down, same_in, sum_is_lem, neg_is}
+use borrow.Author.Differences.{up, down, same_in, sum_is_lem, neg_is, product_is}
 use lib.IntN.{ℤ, pos, negsuc, neg_ℤ, ◌+ℤ◌, ◌-ℤ◌, ◌*ℤ◌}
 use lib.Signed.{◌<ℤ◌, ◌≤ℤ◌}
 
@@ -36,6 +36,21 @@ neg-mul a u = mul-comm (neg_ℤ a) u ∙ (mul-neg u a ∙ rw (mul-comm u a))
 
 pub sub-mul : (a b u : ℤ) → (a -ℤ b) *ℤ u ≡ a *ℤ u -ℤ b *ℤ u
 sub-mul a b u = add-mul a (neg_ℤ b) u ∙ ap (λ z. a *ℤ u +ℤ z) (neg-mul b u)
+
+-- a factor may be moved out
+pub mul-left_comm : (s t r : ℤ) → s *ℤ (t *ℤ r) ≡ t *ℤ (s *ℤ r)
+mul-left_comm s t r = same_in _ _ (omega (
+  arith,
+  ints,
+  ap (λ n. up s * n) (product_is t r).0,
+  ap (λ n. up s * n) (product_is t r).1,
+  ap (λ n. down s * n) (product_is t r).0,
+  ap (λ n. down s * n) (product_is t r).1,
+  ap (λ n. up t * n) (product_is s r).0,
+  ap (λ n. up t * n) (product_is s r).1,
+  ap (λ n. down t * n) (product_is s r).0,
+  ap (λ n. down t * n) (product_is s r).1,
+))
 
 -- signs of products
 pub product_nonneg : (a b : ℤ) → pos 0 ≤ℤ a → pos 0 ≤ℤ b → pos 0 ≤ℤ (a *ℤ b)

@@ -1,6 +1,7 @@
 //! Laws of the definitions. A law is a function without arguments whose contract states it.
 
 ghost use Rattle.geom.specs.Decimal.{NearestIsNearest};
+ghost use Rattle.geom.specs.Laws.{CrossingsLieOnTheLine, CrossingsStayLeft, RingsBeginAnywhere, RingsGoEitherWay, SharedEdgesCancel, TogetherIsInOne, TurnedEdgesCrossAlike};
 ghost use Rattle.geom.specs.Written.{WrittenIsRead};
 
 /// The rounding of decimal numbers gives the nearest whole number, and of two equally near ones the
@@ -13,4 +14,42 @@ pub fn nearest()
 /// digits, is read as that number.
 pub fn written()
     ensures { WrittenIsRead }
+{}
+
+/// An edge crosses the same points at them or left of them whichever way it goes.
+pub fn turned_edges()
+    ensures { TurnedEdgesCrossAlike }
+{}
+
+/// Where an edge crosses the height of a point at it or left of it, it does so for every point further
+/// right on that height.
+pub fn crossings_stay_left()
+    ensures { CrossingsStayLeft }
+{}
+
+/// An edge crosses at the place where the exact line through its ends meets the height: at a point or left
+/// of it exactly where that place, as a fraction, is at most the point's x.
+pub fn crossings_lie_on_the_line()
+    ensures { CrossingsLieOnTheLine }
+{}
+
+/// A ring may begin at any of its vertices: the same points lie inside.
+pub fn rings_begin_anywhere()
+    ensures { RingsBeginAnywhere }
+{}
+
+/// A ring may go either way round: the same points lie inside.
+pub fn rings_go_either_way()
+    ensures { RingsGoEitherWay }
+{}
+
+/// A point lies inside of two polygons taken together exactly where it lies inside of one of them and not
+/// of the other.
+pub fn polygons_together()
+    ensures { TogetherIsInOne }
+{}
+
+/// An edge that two polygons share, each in its own direction, counts for no point of both taken together.
+pub fn shared_edges_cancel()
+    ensures { SharedEdgesCancel }
 {}

@@ -2,7 +2,8 @@
 //!
 //! Proved: `Micro::read` reads the number that a decimal text means, by its clause `value`, and
 //! `laws::nearest` states that this is the nearest number of millionths. `Device::pixel` rounds down,
-//! and `Edge::crosses_at_or_left` decides the crossings that the even-odd rule counts.
+//! and `Edge::crosses_at_or_left` decides the crossings that the even-odd rule counts. Seven laws say what
+//! that rule means for edges that are turned, for rings and for two polygons (`specs/Laws.antt`).
 //! `PxBox::meets` and `WorldBox::meets` say whether two boxes share a pixel, and a place.
 //!
 //! Words: a *coordinate* is a longitude or a latitude, in millionths of a degree. A *place* is a point

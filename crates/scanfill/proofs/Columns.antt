@@ -7,12 +7,11 @@ use lib.Signed.{◌≤ℤ◌}
 use Rattle.geom.specs.Device.{IsDevicePoint, centre, pixel_centre}
 use Rattle.geom.specs.Edge.{EdgeEnds, IsDeviceEdge, low_end, high_end, rise, run, crosses_at_or_left}
 use Rattle.geom.specs.Range.{IsBelow}
-use Rattle.geom.proofs.Products.{add-mul, sub-mul, le_of, not_le_of, is_le, same_order}
+use Rattle.geom.proofs.Products.{add-mul, sub-mul, le_of, mul-left_comm, not_le_of, is_le, same_order}
 use Rattle.geom.proofs.Quotients.{least_from}
 use Rattle.clip.specs.Class.{crosses_row}
 use Rattle.clip.proofs.Sides.{crosses-rise, right-crosses, left-crosses}
 use Rattle.scanfill.specs.Column.{column_of, reach, IsColumn}
-use Rattle.scanfill.proofs.Quotients.{mul-left_comm}
 
 -- the edge meets row j at the centre of column i or left of it where so many whole columns and its reach are no less than 0
 meets-reach : (x y run rise c d i : ℤ) → c ≡ pos 16 *ℤ i +ℤ pos 8 →

@@ -6,7 +6,6 @@ pub mod Marching
 pub mod Parity
 pub mod Quotients
 pub mod Readings
-pub mod Rings
 pub mod Shares
 pub mod Sizes
 pub mod Steps

@@ -1,8 +1,7 @@
 -- A quotient that goes on by steps.
-use Rattle.std.proofs.Common.{◌≡◌, ◌∙◌, ℕ, ◌*◌, ap, arith}
+use Rattle.std.proofs.Common.{◌≡◌, ◌∙◌, ℕ, arith}
 use Rattle.std.proofs.lemmas.Int.{ints}
 use Rattle.std.specs.Int.{int_div_euclid}
-use borrow.Author.Differences.{up, down, same_in, product_is}
 use lib.IntN.{ℤ, pos, ◌+ℤ◌, ◌-ℤ◌, ◌*ℤ◌}
 use lib.Signed.{◌<ℤ◌, ◌≤ℤ◌}
 use Rattle.geom.specs.Range.{IsBelow}
@@ -17,21 +16,6 @@ pub left-below : (limit : ℕ) (m k : ℤ) → pos 0 <ℤ k → IsBelow limit k 
 left-below limit m k h b =
     let parts = left-parts m k h in
     record { above = omega (arith, ints, parts.0, parts.1); below = omega (arith, ints, parts.0, parts.1) }
-
--- a factor may be moved out
-pub mul-left_comm : (s t r : ℤ) → s *ℤ (t *ℤ r) ≡ t *ℤ (s *ℤ r)
-mul-left_comm s t r = same_in _ _ (omega (
-  arith,
-  ints,
-  ap (λ n. up s * n) (product_is t r).0,
-  ap (λ n. up s * n) (product_is t r).1,
-  ap (λ n. down s * n) (product_is t r).0,
-  ap (λ n. down s * n) (product_is t r).1,
-  ap (λ n. up t * n) (product_is s r).0,
-  ap (λ n. up t * n) (product_is s r).1,
-  ap (λ n. down t * n) (product_is s r).0,
-  ap (λ n. down t * n) (product_is s r).1,
-))
 
 -- the quotient of a number less s divisors and a rest: one less where what is left doesn't cover the rest
 pub quotient-fewer : (m k s rest next : ℤ) → pos 0 <ℤ k → pos 0 ≤ℤ rest → rest <ℤ k → next ≡ m -ℤ (s *ℤ k +ℤ rest) →

@@ -7,12 +7,12 @@ use lib.IntN.{ℤ, pos, neg_ℤ, ◌+ℤ◌, ◌-ℤ◌, ◌*ℤ◌}
 use lib.Signed.{◌<ℤ◌, ◌≤ℤ◌}
 use Rattle.geom.specs.Device.{centre}
 use Rattle.geom.specs.Edge.{EdgeEnds, low_end, rise, run}
-use Rattle.geom.proofs.Products.{add-mul, mul-sub, sub-mul}
+use Rattle.geom.proofs.Products.{add-mul, mul-left_comm, mul-sub, sub-mul}
 use Rattle.scanfill.specs.Column.{column_of, reach}
 use Rattle.scanfill.specs.Walk.{next_place, over_of, place_at, slope_of}
 use Rattle.scanfill.specs.declared.place.Place.{Place}
 use Rattle.scanfill.specs.declared.place.Slope.{Slope}
-use Rattle.scanfill.proofs.Quotients.{left-parts, mul-left_comm, quotient-fewer, quotient-same}
+use Rattle.scanfill.proofs.Quotients.{left-parts, quotient-fewer, quotient-same}
 
 -- the next place, by whether what is left covers the slope's rest
 pub next-fewer : (place : Place) (slope : Slope) → place.over <ℤ slope.rest →

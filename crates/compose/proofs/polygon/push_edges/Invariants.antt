@@ -1,7 +1,7 @@
 use Rattle.std.proofs.Common.{◌≡◌, ◌++◌, map, drop}
 use Rattle.geom.specs.EvenOdd.{ring_edges}
 use Rattle.viewport.specs.View.{device_point}
-use Rattle.scanfill.proofs.Rings.{closing_edges}
+use Rattle.geom.proofs.Rings.{closing_edges}
 use Rattle.compose.proofs.polygon.push_edges.Given as goal
 
 abbrev pub invariant-loop-place : goal.invariant-loop-place

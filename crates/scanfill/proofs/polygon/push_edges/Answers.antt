@@ -1,5 +1,5 @@
 use Rattle.std.proofs.Common.{◌++◌, ap, sym}
-use Rattle.scanfill.proofs.Rings.{ring_edges-closing}
+use Rattle.geom.proofs.Rings.{ring_edges-closing}
 use Rattle.scanfill.proofs.polygon.push_edges.Goals as goal
 
 pub loop-to-init : goal.loop-to-init

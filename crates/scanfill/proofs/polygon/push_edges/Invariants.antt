@@ -1,6 +1,6 @@
 use Rattle.std.proofs.Common.{◌≡◌, ◌++◌, drop}
 use Rattle.geom.specs.EvenOdd.{ring_edges}
-use Rattle.scanfill.proofs.Rings.{closing_edges}
+use Rattle.geom.proofs.Rings.{closing_edges}
 use Rattle.scanfill.proofs.polygon.push_edges.Given as goal
 
 abbrev pub invariant-loop-to : goal.invariant-loop-to
