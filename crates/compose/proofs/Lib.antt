@@ -1,4 +1,4 @@
-pub mod Finding
 pub mod Filling
+pub mod Finding
 pub mod Painting
 pub mod Rings

@@ -13,6 +13,8 @@ mod classes;
 mod paint;
 mod polygon;
 #[cfg(test)]
+mod ring_tests;
+#[cfg(test)]
 mod tests;
 
 pub use paint::picture;
