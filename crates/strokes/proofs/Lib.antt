@@ -1,0 +1,6 @@
+pub mod Beyond
+pub mod Keeping
+pub mod Sequences
+pub mod Marking
+pub mod Nearness
+pub mod Parts

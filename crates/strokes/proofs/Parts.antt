@@ -1,0 +1,27 @@
+-- The segments of a part, one after another.
+use Rattle.std.proofs.Common.{◌≡◌, ◌∙◌, Bool, true, false, if◌then◌else◌, List, [], ◌∷◌, map, refl, ap}
+use Rattle.std.specs.List.{zip}
+use Rattle.geom.specs.Device.{DevicePoint}
+use Rattle.geom.specs.Edge.{EdgeEnds}
+use Rattle.geom.specs.EvenOdd.{edge_between}
+use Rattle.scanfill.proofs.Rings.{closing_edges, ring_edges-closing}
+use Rattle.strokes.specs.Line.{segments_of}
+
+-- the segments from a vertex over those that follow, and where the line is closed back to the first one
+abbrev pub following : Bool → DevicePoint → DevicePoint → List DevicePoint → List EdgeEnds
+following closed first from [] = if closed then record { from = from; to = first } ∷ [] else []
+following closed first from (to ∷ rest) = record { from = from; to = to } ∷ following closed first to rest
+
+closing-following : (first from : DevicePoint) (rest : List DevicePoint) → closing_edges first from rest ≡ following true first from rest
+closing-following first from [] = refl
+closing-following first from (to ∷ rest) = ap (λ more. record { from = from; to = to } ∷ more) (closing-following first to rest)
+
+zip-following : (first from : DevicePoint) (rest : List DevicePoint) → map edge_between (zip (from ∷ rest) rest) ≡ following false first from rest
+zip-following first from [] = refl
+zip-following first from (to ∷ rest) = ap (λ more. record { from = from; to = to } ∷ more) (zip-following first to rest)
+
+-- the segments of a part are those from its first vertex on
+pub segments_of-following : (closed : Bool) (part : List DevicePoint) (first : DevicePoint) (rest : List DevicePoint) → part ≡ first ∷ rest →
+    segments_of closed part ≡ following closed first first rest
+segments_of-following true part first rest e = ring_edges-closing part first rest e ∙ closing-following first first rest
+segments_of-following false part first rest e = rw e (zip-following first first rest)

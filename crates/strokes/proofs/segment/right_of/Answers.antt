@@ -1,0 +1,30 @@
+use Rattle.std.proofs.Common.{◌^◌, arith}
+use Rattle.scanfill.proofs.Words.{wide, word}
+use Rattle.strokes.proofs.segment.right_of.Goals as goal
+
+pub returns-clause-value : goal.returns-clause-value
+returns-clause-value c = rw (
+  wide (2 ^ 97) c.minus.result (omega arith) c.minus.ensures.range,
+  c.minus.ensures.value,
+  wide (2 ^ 96) c.product.result (omega arith) c.product.ensures.range,
+  c.product.ensures.value,
+  wide (2 ^ 96) c.product-2.result (omega arith) c.product-2.ensures.range,
+  c.product-2.ensures.value,
+  word (2 ^ 48) c.difference.result (omega arith) c.difference.ensures.range,
+  c.difference.ensures.value,
+  word (2 ^ 48) c.difference-2.result (omega arith) c.difference-2.ensures.range,
+  c.difference-2.ensures.value,
+  word (2 ^ 48) c.rise.result (omega arith) c.rise.ensures.range,
+  c.rise.ensures.value,
+  word (2 ^ 48) c.run.result (omega arith) c.run.ensures.range,
+  c.run.ensures.value,
+  c.x.ensures.value,
+  word (2 ^ 47) c.args.point.x (omega arith) c.x.ensures.limits.across,
+  c.x-2.ensures.value,
+  word (2 ^ 47) c.low_end-low.result.x (omega arith) c.x-2.ensures.limits.across,
+  c.y.ensures.value,
+  word (2 ^ 47) c.args.point.y (omega arith) c.y.ensures.limits.down,
+  c.y-2.ensures.value,
+  word (2 ^ 47) c.low_end-low.result.y (omega arith) c.y-2.ensures.limits.down,
+  c.low_end-low.ensures,
+)

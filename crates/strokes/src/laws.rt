@@ -1,0 +1,24 @@
+//! What follows from the rules of lines.
+ghost use Rattle.strokes.specs.Law.{AreColumnsWide, AreRowsWide, IsNothing, IsSameBack};
+
+/// In each row whose centres lie between its ends, a segment that goes further down than across covers as many pixels as it is wide, side
+/// by side.
+pub fn steep()
+    ensures { AreRowsWide }
+{}
+
+/// In each column whose centres lie between its ends, a flat segment covers as many pixels as it is wide, one
+/// below another.
+pub fn flat()
+    ensures { AreColumnsWide }
+{}
+
+/// A segment covers the same pixels there and back.
+pub fn back()
+    ensures { IsSameBack }
+{}
+
+/// A segment of length 0 covers nothing.
+pub fn nothing()
+    ensures { IsNothing }
+{}
