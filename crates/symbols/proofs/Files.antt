@@ -1,0 +1,155 @@
+-- Files that are made from their parts are read.
+use Rattle.std.proofs.Common.{◌≡◌, ◌∙◌, ℕ, zero, suc, ◌+◌, ◌<◌, ◌≤◌, min, Bool, true, false, ◌||◌, ◌==◌, List, [], ◌∷◌, ◌++◌, length, drop, get_or, append_assoc, Some, refl, sym, ap, arith}
+use Rattle.std.proofs.lemmas.Bool.{and_from, lt-ltb}
+use Rattle.std.proofs.lemmas.List.Elements.{All-cons, All-head, All-tail}
+use Rattle.std.proofs.lemmas.List.{drop-drop, get_or-drop, length-append, length-drop}
+use Rattle.std.proofs.Math.Seq.{drop-append_seam, take-append_seam}
+use Rattle.std.specs.Char.{is_ascii_digit}
+use Rattle.std.specs.List.{list_all, list_any, prefix_len}
+use Rattle.std.specs.Prelude.{All, nat_lt}
+use Rattle.geom.specs.Decimal.{number_of}
+use Rattle.geom.proofs.Digits.{digit-range, digits-cons}
+use Rattle.geom.proofs.Written.{digit-not}
+use Rattle.std.proofs.lemmas.Bool.Decides.{nat_tests}
+use Rattle.symbols.specs.File.{AreDigits, IsPiece, Piece, Space, Comment, file_bytes, gap_bytes, piece_bytes}
+use Rattle.symbols.specs.Format.{capped, gap_len, has_space_at, header_of, is_line_end, is_space, number_at}
+use Rattle.symbols.specs.Law.{AreFilesRead}
+
+or-left : (t u : Bool) → (t || u) ≡ false → t ≡ false
+or-left true u h = h
+or-left false u h = refl
+
+or-right : (t u : Bool) → (t || u) ≡ false → u ≡ false
+or-right true u h = absurd (cc)
+or-right false u h = h
+
+comment-step : (b : ℕ) (xs : List ℕ) → is_line_end b ≡ false → gap_len true (b ∷ xs) ≡ suc (gap_len true xs)
+comment-step b xs h = rw h
+
+-- a comment is passed over up to the end of its line
+comment-passed : (text : List ℕ) (end : ℕ) (rest : List ℕ) → list_any is_line_end text ≡ false → is_line_end end ≡ true →
+    gap_len true ((text ++ end ∷ []) ++ rest) ≡ length (text ++ end ∷ []) + gap_len false rest
+comment-passed [] end rest none e = rw e (omega arith)
+comment-passed (b ∷ text) end rest none e =
+    let step = comment-step b ((text ++ end ∷ []) ++ rest) (or-left (is_line_end b) (list_any is_line_end text) none) in
+    let others = comment-passed text end rest (or-right (is_line_end b) (list_any is_line_end text) none) e in
+    step ∙ (ap suc others ∙ next (length (text ++ end ∷ [])) (gap_len false rest))
+  where
+    next : (n m : ℕ) → suc (n + m) ≡ suc n + m
+    next n m = omega arith
+
+-- so is each piece of a gap
+piece-passed : (piece : Piece) (rest : List ℕ) → IsPiece piece → gap_len false (piece_bytes piece ++ rest) ≡ length (piece_bytes piece) + gap_len false rest
+piece-passed (Space b) rest is = rw is (omega arith)
+piece-passed (Comment text end) rest is = ap suc (comment-passed text end rest is.0 is.1) ∙ next (length (text ++ end ∷ [])) (gap_len false rest)
+  where
+    next : (n m : ℕ) → suc (n + m) ≡ suc n + m
+    next n m = omega arith
+
+pub gap-passed : (pieces : List Piece) (rest : List ℕ) → All IsPiece pieces → gap_len false rest ≡ 0 → gap_len false (gap_bytes pieces ++ rest) ≡ length (gap_bytes pieces)
+gap-passed [] rest all none = none
+gap-passed (piece ∷ pieces) rest all none =
+    ap (gap_len false) (append_assoc (piece_bytes piece) (gap_bytes pieces) rest)
+    ∙ (piece-passed piece (gap_bytes pieces ++ rest) (All-head IsPiece piece pieces all)
+    ∙ (ap (λ n. length (piece_bytes piece) + n) (gap-passed pieces rest (All-tail IsPiece piece pieces all) none) ∙ sym (length-append (piece_bytes piece) (gap_bytes pieces))))
+
+-- a digit is no white space, nor begins a comment
+digit-no_space : (d : ℕ) → 48 ≤ d → d ≤ 57 → is_space d ≡ false
+digit-no_space d h k = grind (arith, nat_tests)
+
+-- so it is no gap
+digit-stays : (d : ℕ) (rest : List ℕ) → is_ascii_digit d ≡ true → gap_len false (d ∷ rest) ≡ 0
+digit-stays d rest h = let range = digit-range d h in rw (digit-no_space d range.0 range.1, digit-not d 35 h (omega arith))
+
+pub digits-stay : (digits rest : List ℕ) → AreDigits digits → gap_len false (digits ++ rest) ≡ 0
+digits-stay [] rest are = absurd (omega (arith, are.some))
+digits-stay (d ∷ ds) rest are = digit-stays d (ds ++ rest) (digits-cons d ds are.each).0
+
+-- the digits in front are all of them, where no digit follows
+digits-end : (digits rest : List ℕ) → list_all is_ascii_digit digits ≡ true → prefix_len is_ascii_digit rest ≡ 0 → prefix_len is_ascii_digit (digits ++ rest) ≡ length digits
+digits-end [] rest all none = none
+digits-end (d ∷ ds) rest all none =
+    let parts = digits-cons d ds all in
+    let more : prefix_len is_ascii_digit (d ∷ (ds ++ rest)) ≡ suc (prefix_len is_ascii_digit (ds ++ rest)) = rw parts.0 (omega arith) in
+    more ∙ ap suc (digits-end ds rest parts.1 none)
+
+-- no digit stands first in a gap, nor is white space one
+space-no_digit : (b : ℕ) → is_space b ≡ true → is_ascii_digit b ≡ false
+space-no_digit b h = go (is_ascii_digit b) refl
+  where
+    go : (t : Bool) → is_ascii_digit b ≡ t → t ≡ false
+    go true e = let range = digit-range b e in sym h ∙ digit-no_space b range.0 range.1
+    go false e = refl
+
+pub gap-no_digit : (pieces : List Piece) (rest : List ℕ) → All IsPiece pieces → 1 ≤ length pieces → prefix_len is_ascii_digit (gap_bytes pieces ++ rest) ≡ 0
+gap-no_digit [] rest all some = absurd (omega arith)
+gap-no_digit (Space b ∷ pieces) rest all some = rw (space-no_digit b (All-head IsPiece (Space b) pieces all))
+gap-no_digit (Comment text end ∷ pieces) rest all some = refl
+
+-- a number after a gap
+pub number-read : (bytes : List ℕ) (at : ℕ) (gap digits rest : List ℕ) → drop at bytes ≡ gap ++ (digits ++ rest) → gap_len false (gap ++ (digits ++ rest)) ≡ length gap →
+    AreDigits digits → prefix_len is_ascii_digit rest ≡ 0 → number_at bytes at ≡ Some (record { value = capped (number_of digits); end = at + length gap + length digits })
+number-read bytes at gap digits rest here passed are ends =
+    let gap_is : gap_len false (drop at bytes) ≡ length gap = ap (gap_len false) here ∙ passed in
+    let start : drop (at + length gap) bytes ≡ digits ++ rest = sym (drop-drop (length gap) at bytes) ∙ (ap (drop (length gap)) here ∙ drop-append_seam gap (digits ++ rest)) in
+    let count : prefix_len is_ascii_digit (digits ++ rest) ≡ length digits = digits-end digits rest are.each ends in
+    let some : (length digits == 0) ≡ false = not-zero (length digits) are.some in
+    rw (gap_is, start, count, some, take-append_seam digits rest)
+  where
+    not-zero : (n : ℕ) → 1 ≤ n → (n == 0) ≡ false
+    not-zero zero h = absurd (omega arith)
+    not-zero (suc n) h = grind (arith, nat_tests)
+
+-- what stands after it
+pub after-number : (bytes : List ℕ) (at : ℕ) (gap digits rest : List ℕ) → drop at bytes ≡ gap ++ (digits ++ rest) → drop (at + length gap + length digits) bytes ≡ rest
+after-number bytes at gap digits rest here =
+    sym (drop-drop (length digits) (at + length gap) bytes)
+    ∙ (ap (drop (length digits)) (sym (drop-drop (length gap) at bytes) ∙ (ap (drop (length gap)) here ∙ drop-append_seam gap (digits ++ rest))) ∙ drop-append_seam digits rest)
+
+-- white space at an index
+pub space-read : (bytes : List ℕ) (at b : ℕ) (rest : List ℕ) → drop at bytes ≡ b ∷ rest → is_space b ≡ true → has_space_at bytes at ≡ true
+space-read bytes at b rest here is =
+    let bound : at < length bytes = omega (arith, length-drop at bytes, ap length here) in
+    let byte : get_or bytes at 0 ≡ b = ap (λ k. get_or bytes k 0) (omega arith) ∙ (sym (get_or-drop at bytes 0 0) ∙ ap (λ xs. get_or xs 0 0) here) in
+    and_from (nat_lt at (length bytes)) (is_space (get_or bytes at 0)) (lt-ltb at (length bytes) bound) (ap is_space byte ∙ is)
+
+-- capped numbers as a header tests them
+capped-greatest : (n : ℕ) → n ≡ 255 → (capped n == 255) ≡ true
+unfolding capped
+capped-greatest n h = rw h
+
+capped-some : (n : ℕ) → 1 ≤ n → nat_lt 0 (capped n) ≡ true
+unfolding capped
+capped-some n h = lt-ltb 0 (min n 1000) (omega arith)
+
+-- the header of bytes whose numbers and white space are known
+header-read : (bytes : List ℕ) (width height greatest one two three : ℕ) → has_space_at bytes 2 ≡ true →
+    number_at bytes 2 ≡ Some (record { value = width; end = one }) → number_at bytes one ≡ Some (record { value = height; end = two }) →
+    number_at bytes two ≡ Some (record { value = greatest; end = three }) → (greatest == 255) ≡ true → nat_lt 0 width ≡ true → nat_lt 0 height ≡ true →
+    has_space_at bytes three ≡ true → header_of bytes ≡ Some (record { width = width; height = height; start = three + 1 })
+header-read bytes width height greatest one two three begins first second third most across down ends = rw (begins, first, second, third, most, across, down, ends)
+
+pub files : AreFilesRead
+files f is =
+    let bytes = file_bytes f in
+    let closing = f.end ∷ f.pixels in
+    let gap = gap_bytes (Space f.start ∷ f.first) in
+    let third = gap_bytes f.third ++ (f.greatest ++ closing) in
+    let second = gap_bytes f.second ++ (f.height ++ third) in
+    let pieces = All-cons IsPiece (Space f.start) f.first is.space is.one in
+    let one = number-read bytes 2 gap f.width second refl (gap-passed (Space f.start ∷ f.first) (f.width ++ second) pieces (digits-stay f.width second is.across)) is.across
+    (gap-no_digit f.second (f.height ++ third) is.two is.apart) in
+    let here = after-number bytes 2 gap f.width second refl in
+    let two = number-read bytes (2 + length gap + length f.width) (gap_bytes f.second) f.height third here (gap-passed f.second (f.height ++ third) is.two (digits-stay f.height third is.down)) is.down
+    (gap-no_digit f.third (f.greatest ++ closing) is.three is.after) in
+    let there = after-number bytes (2 + length gap + length f.width) (gap_bytes f.second) f.height third here in
+    let past = 2 + length gap + length f.width + length (gap_bytes f.second) + length f.height in
+    let three = number-read bytes past (gap_bytes f.third) f.greatest closing there (gap-passed f.third (f.greatest ++ closing) is.three (digits-stay f.greatest closing is.most)) is.most
+    (rw (space-no_digit f.end is.closed)) in
+    let end = after-number bytes past (gap_bytes f.third) f.greatest closing there in
+    let last = past + length (gap_bytes f.third) + length f.greatest in
+    let header = header-read bytes _ _ _ _ _ _ (space-read bytes 2 f.start (gap_bytes f.first ++ (f.width ++ second)) refl is.space) one two three
+    (capped-greatest (number_of f.greatest) is.colours) (capped-some (number_of f.width) is.columns) (capped-some (number_of f.height) is.rows)
+    (space-read bytes last f.end f.pixels end is.closed) in
+    let pixels : drop (last + 1) bytes ≡ f.pixels = sym (drop-drop 1 last bytes) ∙ ap (drop 1) end in
+    rw (header, pixels)

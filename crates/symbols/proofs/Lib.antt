@@ -1,0 +1,4 @@
+pub mod Capping
+pub mod Files
+pub mod Pictures
+pub mod Stamping

@@ -1,0 +1,5 @@
+pub mod File
+pub mod Format
+pub mod Law
+pub mod Netpbm
+pub mod Stamp

@@ -1,0 +1,36 @@
+-- The pixels of a pixmap that is stamped on the picture (docs/PROFILE.md, "When a pixel belongs to a symbol").
+use Rattle.std.specs.Prelude.{ℕ, ◌+◌, ◌*◌, ◌/◌, ◌==◌, ◌&&◌, not, Bool, false, if◌then◌else◌, ℤ, pos, ◌-ℤ◌, int_le, int_lt, Option, None, Some, slice_get}
+use Rattle.std.specs.Option.{option_and_then}
+use Rattle.clip.specs.Class.{at_least_zero}
+use Rattle.geom.specs.Device.{PixelPlace}
+use Rattle.mapdefs.specs.declared.colour.Rgb.{Rgb}
+use Rattle.mapdefs.specs.declared.symbol.PixmapFields.{PixmapFields}
+
+-- a stamp: a pixmap, and the pixel that it is stamped at
+pub record StampValue : Type 0 where
+  pub pixmap : PixmapFields
+  pub pixel : PixelPlace
+
+-- where a column or row of the picture lies on a side of a pixmap that is stamped round another, if it does
+abbrev pub position_on : ℕ → ℤ → ℤ → Option ℕ
+position_on side at index =
+    let apart = index -ℤ (at -ℤ pos (side / 2)) in
+    if int_le (pos 0) apart && int_lt apart (pos side) then Some (at_least_zero apart) else None
+
+-- the pixmap's pixel that falls into a column and a row of the picture, if one does
+abbrev pub pixel_at : StampValue → ℤ → ℤ → Option Rgb
+pixel_at s i j =
+    option_and_then (λ column. option_and_then (λ row. slice_get s.pixmap.pixels (row * s.pixmap.width + column)) (position_on s.pixmap.height s.pixel.j j))
+    (position_on s.pixmap.width s.pixel.i i)
+
+-- 255 0 255 stands for no colour
+abbrev pub is_transparent : Rgb → Bool
+is_transparent colour = colour.red == 255 && colour.green == 0 && colour.blue == 255
+
+-- a stamp covers the pixels into which one falls that has a colour
+abbrev pub is_coloured : Option Rgb → Bool
+is_coloured None = false
+is_coloured (Some colour) = not (is_transparent colour)
+
+unfoldable pub covers_pixel : StampValue → ℤ → ℤ → Bool
+covers_pixel s i j = is_coloured (pixel_at s i j)

@@ -1,0 +1,25 @@
+//! Pixmaps: read from Netpbm's P6 format, stamped on the picture, and pictures written in that format.
+//!
+//! Proved: `read` gives the pixmap that some bytes are or their first fault, by its clauses `pixmap` and
+//! `fault`, which cite `pixmap_of`. `Stamp` is a cover, transparent where the pixmap is 255 0 255, and
+//! `Stamp::colour` the pixmap's colour there. `write_ppm` gives the bytes of a picture. `laws::files`
+//! states that a file is read as the parts that it is made of, `laws::pictures` that a small picture is
+//! read as it was written.
+//!
+//! Words: a *pixmap* is the picture of a symbol. To *stamp* it is to lay it on the picture round a pixel. A
+//! *gap* is the white space and the comments between two numbers of a header.
+#![tactic(auto)]
+
+mod fault;
+mod header;
+pub mod laws;
+mod netpbm;
+mod pixels;
+mod stamp;
+#[cfg(test)]
+mod tests;
+
+pub use fault::PixFault;
+pub use netpbm::write_ppm;
+pub use pixels::read;
+pub use stamp::Stamp;

@@ -1,0 +1,152 @@
+ghost use Rattle.std.specs.Prelude.{◌≡◌, ℕ, ◌<◌, ◌≤◌, ◌^◌, ◌&&◌, [], true, false, min, pos, ◌-ℤ◌, ◌/◌, Some, slice_get, OnOk};
+ghost use Rattle.clip.specs.Class.{at_least_zero};
+ghost use Rattle.geom.specs.Range.{IsBelow};
+ghost use Rattle.geom.specs.declared.side.TheConstants.{MAX_PICTURE_SIDE};
+ghost use Rattle.scanfill.specs.Runs.{AreRunsFrom};
+ghost use Rattle.symbols.specs.Stamp.{covers_pixel, is_transparent, pixel_at, position_on};
+
+use geom::{PictureSide, Pixel};
+use mapdefs::{Pixmap, Rgb};
+use scanfill::{Cover, Reading, Span, Spans};
+use std::alloc::AllocError;
+use std::marker::Model;
+
+/// A pixmap that is stamped round a pixel. It covers the pixels where it has another colour than 255 0 255.
+#[derive(Debug, Drop)]
+pub struct Stamp<'a> {
+    pixmap: &'a Pixmap,
+    pixel: Pixel,
+}
+
+impl<'a> Model for Stamp<'a> {
+    ghost use Rattle.symbols.specs.Stamp.{StampValue};
+
+    ghost Value = { StampValue };
+
+    ghost view = { λ s. record { pixmap = s.pixmap.now; pixel = s.pixel } };
+}
+
+impl<'a> Stamp<'a> {
+    /// The pixmap, stamped round a pixel: that many whole halves of its sides lie left of it and above it.
+    pub fn new(pixmap: &'a Pixmap, pixel: Pixel) -> Self
+        ensures { result ≡ record { pixmap = pixmap.now; pixel = pixel } }
+    {
+        Stamp { pixmap, pixel }
+    }
+
+    /// The colour of a pixel that it covers.
+    #[tactic(auto, unfolding(crate::specs::Stamp::covers_pixel))]
+    pub fn colour(&self, i: u16, j: u16) -> Rgb
+        requires { covers_pixel self.now (pos i) (pos j) ≡ true }
+        ensures { pixel_at self.now (pos i) (pos j) ≡ Some result }
+    {
+        self.pixel_at(i, j).unwrap()
+    }
+
+    // The pixmap's pixel that falls into a column and a row.
+    fn pixel_at(&self, i: u16, j: u16) -> Option<Rgb>
+        ensures { result ≡ pixel_at self.now (pos i) (pos j) }
+    {
+        let fields = self.pixmap.get();
+        let column = position_on(fields.width, self.pixel.i(), i)?;
+        let row = position_on(fields.height, self.pixel.j(), j)?;
+        let index = usize::from(row) * usize::from(fields.width) + usize::from(column);
+        colour_at(fields.pixels.as_slice(), index)
+    }
+}
+
+// The colour of an index, if there is one.
+fn colour_at(pixels: &[Rgb], index: usize) -> Option<Rgb>
+    ensures { result ≡ slice_get pixels.now index }
+{
+    pixels.get(index).copied()
+}
+
+// Where a column or row of the picture lies on a side of the pixmap, if it does.
+fn position_on(side: u16, at: i64, index: u16) -> Option<u16>
+    requires { IsBelow (2 ^ 44) at }
+    ensures { result ≡ position_on side at (pos index) }
+{
+    let apart = i64::from(index) - (at - i64::from(side / 2));
+    if 0 <= apart && apart < i64::from(side) {
+        Some(apart as u16)
+    } else {
+        None
+    }
+}
+
+impl Cover for Stamp<'_> {
+    ghost covered = { λ s i j. covers_pixel s (pos i) (pos j) };
+
+    #[tactic(auto, unfolding(crate::specs::Stamp::covers_pixel))]
+    fn covers(&self, i: u16, j: u16) -> bool {
+        match self.pixel_at(i, j) {
+            Some(colour) => !is_transparent(colour),
+            None => false,
+        }
+    }
+
+    fn row(&self, j: u16, width: PictureSide, out: &mut Spans) -> Result<(), AllocError> {
+        out.clear();
+        match self.read_row(j, width, out) {
+            Ok(()) => Ok(()),
+            Err(error) => {
+                out.clear();
+                Err(error)
+            }
+        }
+    }
+}
+
+impl Stamp<'_> {
+    // Adds to the empty `out` the runs of a row.
+    fn read_row(&self, j: u16, width: PictureSide, out: &mut Spans) -> Result<(), AllocError>
+        requires row { j < MAX_PICTURE_SIDE }
+        requires empty { out.old ≡ [] }
+        ensures { OnOk result (AreRunsFrom (λ i. covers_pixel self.now (pos i) (pos j)) 0 width out.new) }
+    {
+        let end = width.pixels();
+        let span = self.columns(end);
+        let mut reading = Reading::Outside.go_on(0, span.from, false, out)?;
+        for column in span.from..span.to {
+            reading = reading.go_on(column, column + 1, self.covers(column, j), out)?;
+        }
+        let reading = reading.go_on(span.to, end, false, out)?;
+        reading.finish(end, out)
+    }
+
+    // The columns, of so many, that the pixmap lies in.
+    fn columns(&self, end: u16) -> Span
+        ensures rising { result.from ≤ result.to }
+        ensures within { result.to ≤ end }
+        ensures before { (i j : ℕ) → i < result.from → covers_pixel self.now (pos i) (pos j) ≡ false }
+        ensures after { (i j : ℕ) → result.to ≤ i → i < end → covers_pixel self.now (pos i) (pos j) ≡ false }
+    {
+        let width = self.pixmap.get().width;
+        let first = self.pixel.i() - i64::from(width / 2);
+        Span {
+            from: clamped(first, end),
+            to: clamped(first + i64::from(width), end),
+        }
+    }
+}
+
+// Whether the colour stands for none.
+fn is_transparent(colour: Rgb) -> bool
+    ensures { result ≡ is_transparent colour }
+{
+    colour.red == 255 && colour.green == 0 && colour.blue == 255
+}
+
+// The number, or 0 for one below it and `end` for one past that.
+fn clamped(number: i64, end: u16) -> u16
+    ensures { result ≡ min (at_least_zero number) end }
+{
+    if number <= 0 {
+        0
+    } else if number < i64::from(end) {
+        number as u16
+    } else {
+        end
+    }
+}

@@ -1,0 +1,260 @@
+use crate::{PixFault, Stamp, read, write_ppm};
+use geom::{PictureSide, Pixel};
+use mapdefs::{Items, Picture, PictureFields, Pixmap, Rgb};
+use scanfill::{Cover, Spans};
+use std::alloc::{AllocError, Global};
+use std::process::Abort;
+use std::test::Fail;
+
+fn side(pixels: u16) -> PictureSide {
+    PictureSide::new(pixels.clamp(1, 2_048)).unwrap()
+}
+
+fn pixel(i: i64, j: i64) -> Pixel {
+    let limit = 17_592_186_044_415;
+    Pixel::new(i.clamp(-limit, limit), j.clamp(-limit, limit))
+}
+
+// Two numbers with a character between them.
+fn two(text: &str, between: char) -> Result<(i64, i64), Fail> {
+    let (first, second) = text.split_once(between).ok_or("not two numbers")?;
+    Ok((first.parse()?, second.parse()?))
+}
+
+// A pixmap as its sides and its last colour, or the name of its fault.
+fn told(alloc: Global, bytes: &[u8]) -> Result<String, Fail> {
+    let text = match read(alloc, bytes) {
+        Ok(pixmap) => {
+            let fields = pixmap.get();
+            let Some(Rgb { red, green, blue }) = fields.pixels.as_slice().last().copied() else {
+                return Err("a pixmap without pixels".into());
+            };
+            let (width, height) = (fields.width, fields.height);
+            format!(in alloc; "{width}x{height} {red}.{green}.{blue}")?
+        }
+        Err(PixFault::Magic) => String::from_str(alloc, "Magic")?,
+        Err(PixFault::Header) => String::from_str(alloc, "Header")?,
+        Err(PixFault::Short) => String::from_str(alloc, "Short")?,
+        Err(PixFault::Limit) => String::from_str(alloc, "Limit")?,
+        Err(PixFault::NoMemory) => return Err("out of memory".into()),
+    };
+    Ok(text)
+}
+
+// Bytes, and after `=` the pixmap that they are or their fault, with `;` after each pair.
+const FILES: &str = "\
+P6 1 1 255\nabc=1x1 97.98.99;\
+P6\t2\x0b1\x0c255\rabcdef=2x1 100.101.102;\
+P6 1 2 255 abcdef=1x2 100.101.102;\
+P6 #c\n1 # d\r1#e\n255 xyz more=1x1 120.121.122;\
+P6\n#\n#\n  \n1 1 255 abc=1x1 97.98.99;\
+P6 001 01 0000255 abc=1x1 97.98.99;\
+P6 1 1 255  bc=1x1 32.98.99;\
+P6 1 1 255 #bc=1x1 35.98.99;\
+P6 1 1 255 ab=Short;\
+P6 2 1 255 abcde=Short;\
+P6 256 256 255 a=Short;\
+=Magic;\
+P=Magic;\
+6P 1 1 255 abc=Magic;\
+P5 1 1 255 abc=Magic;\
+p6 1 1 255 abc=Magic;\
+P6=Header;\
+P61 1 255 abc=Header;\
+P6#c\n1 1 255 abc=Header;\
+P6 1 1 255abc=Header;\
+P6 1 1 255#abc=Header;\
+P6 1 1 255=Header;\
+P6 1 1 254 abc=Header;\
+P6 1 1 256 abc=Header;\
+P6 1 1 65535 abcdef=Header;\
+P6 1 1 65791 abcdef=Header;\
+P6 0 1 255 abc=Header;\
+P6 1 0 255 abc=Header;\
+P6 1x1 255 abc=Header;\
+P6 -1 1 255 abc=Header;\
+P6 1 1=Header;\
+P6 # 1 1 255 abc=Header;\
+P6 257 0 255 abc=Header;\
+P6 257 1 254 abc=Header;\
+P6 257 1 255 abc=Limit;\
+P6 1 257 255 abc=Limit;\
+P6 65537 1 255 abc=Limit;\
+P6 99999999999999999999999 1 255 abc=Limit";
+
+#[test]
+fn files_are_read_or_have_their_faults(rt: HostRuntime) -> Result<(), Fail> {
+    for row in FILES.split(';') {
+        let (bytes, expected) = row.split_once('=').ok_or("a row without a result")?;
+        let found = told(rt.alloc(), bytes.as_bytes())?;
+        assert_eq!(rt; found.as_str(), expected, "{bytes}");
+    }
+    Ok(())
+}
+
+#[test]
+fn faults_have_their_messages(rt: HostRuntime) -> Result<(), Fail> {
+    let messages = [
+        (PixFault::Magic, "the bytes don't begin with P6"),
+        (
+            PixFault::Header,
+            "a header that can't be read, or without pixels",
+        ),
+        (PixFault::Short, "fewer bytes than the pixels need"),
+        (PixFault::Limit, "more than 256 pixels on a side"),
+        (PixFault::NoMemory, "out of memory"),
+    ];
+    for (fault, message) in messages {
+        let told = format!(in rt.alloc(); "{fault}")?;
+        assert_eq!(rt; told.as_str(), message);
+    }
+    Ok(())
+}
+
+// The pixmap of rows that `/` separates, transparent where they have a `.`.
+fn pixmap(alloc: Global, rows: &str) -> Result<Pixmap, Fail> {
+    let width = rows.split('/').next().ok_or("no row")?.len();
+    let height = rows.split('/').count();
+    let mut bytes = Vec::new(alloc);
+    let header = format!(in alloc; "P6 {width} {height} 255 ")?;
+    bytes.extend_from_slice(header.as_bytes())?;
+    for pixel in rows.bytes() {
+        match pixel {
+            b'.' => bytes.extend_from_slice(&[255, 0, 255])?,
+            b'#' => bytes.extend_from_slice(&[255, 0, 254])?,
+            _ => {}
+        }
+    }
+    Ok(read(alloc, bytes.as_slice())?)
+}
+
+// The rows of a stamp, one after another.
+fn drawn(
+    alloc: Global,
+    stamp: &Stamp<'_>,
+    width: PictureSide,
+    height: PictureSide,
+) -> Result<String, AllocError> {
+    let mut text = String::new(alloc);
+    let mut spans = Spans::new(alloc);
+    for j in 0..height.pixels() {
+        if j > 0 {
+            text.push(' ')?;
+        }
+        stamp.row(j, width, &mut spans)?;
+        for i in 0..width.pixels() {
+            let is_in = spans
+                .as_slice()
+                .iter()
+                .any(|span| span.from <= i && i < span.to);
+            let is_covered = stamp.covers(i, j);
+            text.push(match (is_in, is_covered) {
+                (true, true) => '#',
+                (false, false) => '.',
+                _ => '?',
+            })?;
+        }
+    }
+    Ok(text)
+}
+
+// The rows of a pixmap, the pixel that it is stamped at, the sides of a picture and its rows, worked by hand.
+const STAMPS: &str = "\
+.#|2,2|4 4|.... .... ..#. ....
+###/#.#/###|1,1|4 4|###. #.#. ###. ....
+###/#.#/###|0,0|3 3|.#. ##. ...
+##/.#|1,1|3 3|##. .#. ...
+##/#.|0,1|3 3|#.. ... ...
+#.#.#|0,1|4 3|.... #.#. ....
+#.#.#|4,1|4 3|.... ..#. ....
+#.#.#|5,1|4 3|.... ...# ....
+#.#.#|6,1|4 3|.... .... ....
+#/./#|1,-1|3 3|.#. ... ...
+#/./#|1,3|3 4|... ... .#. ...
+#/./#|1,4|3 4|... ... ... .#.
+../..|1,1|3 3|... ... ...
+#|-1,0|2 2|.. ..
+#|2,0|2 2|.. ..
+#..#|1,0|4 1|..#.
+#|17592186044415,0|2 2|.. ..
+#|0,-17592186044415|2 2|.. ..";
+
+// Whether a row of the table holds.
+fn is_stamp(alloc: Global, row: &str) -> Result<bool, Fail> {
+    let words: Vec<&str> = row.split('|').collect(alloc)?;
+    let [pixels, at, size, rows] = *words.as_slice() else {
+        return Err("not four parts".into());
+    };
+    let pixmap = pixmap(alloc, pixels)?;
+    let (i, j) = two(at, ',')?;
+    let (width, height) = two(size, ' ')?;
+    let width = side(width.clamp(1, 99) as u16);
+    let height = side(height.clamp(1, 99) as u16);
+    let stamp = Stamp::new(&pixmap, pixel(i, j));
+    Ok(drawn(alloc, &stamp, width, height)?.as_str() == rows)
+}
+
+#[test]
+fn stamps_have_worked_pixels(rt: HostRuntime) -> Result<(), Fail> {
+    for row in STAMPS.lines() {
+        assert!(rt; is_stamp(rt.alloc(), row)?, "{row}");
+    }
+    Ok(())
+}
+
+// Two pixels, the first one transparent.
+#[test]
+fn stamps_have_the_colours_of_their_pixmap(rt: HostRuntime) -> Result<(), Fail> {
+    let bytes = b"P6 2 1 255\n\xff\x00\xff\x00\xff\x00";
+    let pixmap = read(rt.alloc(), bytes.as_slice())?;
+    let stamp = Stamp::new(&pixmap, pixel(2, 2));
+    assert!(rt; !stamp.covers(1, 2));
+    assert!(rt; stamp.covers(2, 2));
+    if stamp.covers(2, 2) {
+        let green = Rgb {
+            red: 0,
+            green: 255,
+            blue: 0,
+        };
+        assert_eq!(rt; stamp.colour(2, 2), green);
+    }
+    Ok(())
+}
+
+// A picture of that many pixels on each side, all of different colours as far as there are so many.
+fn picture(alloc: Global, pixels: u16) -> Result<Picture, Fail> {
+    let side = side(pixels);
+    let mut colours = Items::new(alloc);
+    for j in 0..side.pixels() {
+        for i in 0..side.pixels() {
+            colours.push(Rgb {
+                red: (i % 256) as u8,
+                green: (j % 256) as u8,
+                blue: 20,
+            })?;
+        }
+    }
+    if colours.len() != usize::from(side.pixels()) * usize::from(side.pixels()) {
+        return Err("another number of pixels".into());
+    }
+    Ok(Picture::new(PictureFields {
+        width: side,
+        height: side,
+        pixels: colours,
+    }))
+}
+
+// What a picture is read as that was written.
+fn told_again(alloc: Global, pixels: u16) -> Result<String, Fail> {
+    let picture = picture(alloc, pixels)?;
+    let bytes = write_ppm(alloc, &picture)?;
+    told(alloc, bytes.as_slice())
+}
+
+#[test]
+fn written_pictures_are_read(rt: HostRuntime) -> Result<(), Fail> {
+    assert_eq!(rt; told_again(rt.alloc(), 7)?.as_str(), "7x7 6.6.20");
+    assert_eq!(rt; told_again(rt.alloc(), 256)?.as_str(), "256x256 255.255.20");
+    assert_eq!(rt; told_again(rt.alloc(), 257)?.as_str(), "Limit");
+    Ok(())
+}
