@@ -149,13 +149,14 @@ fn is_beyond(edge: Edge, width: u8, x: i64) -> bool
     are_left_of(edge, less(x, width)) || are_right_of(edge, more(x, width))
 }
 
-// Whether both ends lie left of it, and whether both lie right of it.
+// Whether both ends lie left of it.
 fn are_left_of(edge: Edge, x: i64) -> bool
     ensures { result ≡ are_left_of edge x }
 {
     edge.low_end().x() < x && edge.high_end().x() < x
 }
 
+// Whether both ends lie right of it.
 fn are_right_of(edge: Edge, x: i64) -> bool
     ensures { result ≡ are_right_of edge x }
 {
