@@ -1,5 +1,5 @@
 -- How a Logic is read, one part after another: what the code's own contracts cite (docs/MAPFILE.md, "Expressions").
-use Rattle.std.specs.Prelude.{ℕ, zero, suc, ◌+◌, ◌-◌, ◌==◌, ◌||◌, ◌&&◌, Bool, false, not, if◌then◌else◌, nat_lt, ℤ, List, [], ◌∷◌, length, take, drop, position, Option, None, Some, Result, Ok, Err, option_map, option_and_then, codes}
+use Rattle.std.specs.Prelude.{◌≡◌, ℕ, zero, suc, ◌+◌, ◌-◌, ◌==◌, ◌||◌, ◌&&◌, Bool, false, not, if◌then◌else◌, nat_lt, ℤ, List, [], ◌∷◌, length, take, drop, position, Option, None, Some, Result, Ok, Err, option_map, option_and_then, codes}
 use Rattle.std.specs.Char.{is_ascii_digit, to_ascii_lowercase}
 use Rattle.std.specs.Option.{option_or}
 use Rattle.std.specs.Str.{is_utf8}
@@ -15,7 +15,7 @@ use Rattle.mapdefs.specs.declared.expr.Expr.{Expr}
 use Rattle.mapdefs.specs.declared.expr.Expr.TheVariants as expr
 use Rattle.expressions.specs.declared.logic.Joint.{Joint}
 use Rattle.expressions.specs.declared.logic.Joint.TheVariants as joint
-use Rattle.expressions.specs.Grammar.{is_space, all_of, any_of}
+use Rattle.expressions.specs.Grammar.{is_space, all_of, any_of, IsLogic}
 
 -- what reading gives: a thing, and the bytes after it
 abbrev pub Reading : Type 0 → Type 0
@@ -204,3 +204,8 @@ logic_from (b ∷ bs) = if b == 40 then option_and_then alone (option_and_then c
 -- the tree of a text, if it is a Logic
 unfoldable pub logic_of : List ℕ → Option Expr
 logic_of text = logic_from text
+
+-- the law that this is the tree to which the grammar relates the text
+abbrev pub ReadingFollowsGrammar : Type 0
+ReadingFollowsGrammar = (written : List ℕ) (e : Expr) →
+    (logic_of written ≡ Some e → IsLogic written e) × (IsLogic written e → logic_of written ≡ Some e)

@@ -1,11 +1,12 @@
 -- What is written as a colour is read as this colour.
-use Rattle.std.proofs.Common.{◌≡◌, ℕ, zero, suc, ◌<◌, ◌==◌, Bool, true, false, ◌&&◌, inl, inr, [], ◌∷◌, refl, arith, Option, Some, None}
+use Rattle.std.proofs.Common.{◌≡◌, ℕ, zero, suc, ◌<◌, ◌==◌, Bool, true, false, ◌&&◌, inl, inr, List, [], ◌∷◌, refl, arith, Option, Some, None, Ok}
 use Rattle.std.specs.Prelude.{not, is_none, IsTrue}
 use Rattle.std.specs.Fmt.{decimal, digits}
 use Rattle.std.proofs.lemmas.Bool.{and_parts, cases_lt, eqb-true}
 use Rattle.hex.specs.Hex.{IsBytes}
 use Rattle.hex.proofs.HexLemmas.{decode_sized-encode_lower}
 use Rattle.geom.specs.Decimal.{nearest}
+use Rattle.maplex.specs.declared.fault.Tail.{Tail}
 use Rattle.maplex.specs.declared.token.Shape.{Shape}
 use Rattle.maplex.specs.declared.token.Shape.TheVariants.{Word, Text}
 use Rattle.mapparse.specs.declared.colour.Component.{Component}
@@ -99,23 +100,32 @@ module _ (t : TokenValue) (k : ℕ) (below : k < 256) (written : t.text ≡ deci
 
   -- it is read as red, as green and as blue
   module _ (is : IsTrue (is_value t.shape)) where
-    red-read : (w : ColourKeyword) → value_step (expected.Colour w) t ≡ Some (More (expected.Green w (Level k)))
+    red-read : (w : ColourKeyword) → value_step (expected.Colour w) t ≡ Ok (More (expected.Green w (Level k)))
     red-read w = rw (is, no_hex-in t.shape, level-at) refl
 
-    green-read : (w : ColourKeyword) (red : Component) → value_step (expected.Green w red) t ≡ Some (More (expected.Blue w red (Level k)))
+    green-read : (w : ColourKeyword) (red : Component) → value_step (expected.Green w red) t ≡ Ok (More (expected.Blue w red (Level k)))
     green-read w red = rw (is, level-at) refl
 
-    blue-read : (w : ColourKeyword) (red green : Component) → value_step (expected.Blue w red green) t ≡ Some (Whole (value.Colour w (rgb_of red green (Level k))))
+    blue-read : (w : ColourKeyword) (red green : Component) → value_step (expected.Blue w red green) t ≡ Ok (Whole (value.Colour w (rgb_of red green (Level k))))
     blue-read w red green = rw (is, level-at) refl
 
-pub counts : CountsAreColour
+-- three counts are the red, the green and the blue of the keyword's colour
+pub counts_of : (w : ColourKeyword) (red green blue : ℕ) → red < 256 → green < 256 → blue < 256 →
+    (tail : Tail) (r g b : TokenValue) (ts : List TokenValue) →
+    IsTrue (is_value r.shape) → IsTrue (is_value g.shape) → IsTrue (is_value b.shape) →
+    r.text ≡ decimal red → g.text ≡ decimal green → b.text ≡ decimal blue →
+    value_in tail (expected.Colour w) (r ∷ g ∷ b ∷ ts)
+    ≡ Ok (record { value = value.Colour w (Some (record { red = red; green = green; blue = blue })); line = b.line; rest = ts })
 unfolding value_in
-counts red green blue p q s tail r g b ts vr vg vb er eg eb =
+counts_of w red green blue p q s tail r g b ts vr vg vb er eg eb =
     rw (
       not_end-in r red p er r.shape,
-      red-read r red p er vr StyleColour,
+      red-read r red p er vr w,
       not_end-in g green q eg g.shape,
-      green-read g green q eg vg StyleColour (Level red),
+      green-read g green q eg vg w (Level red),
       not_end-in b blue s eb b.shape,
-      blue-read b blue s eb vb StyleColour (Level red) (Level green),
+      blue-read b blue s eb vb w (Level red) (Level green),
     ) refl
+
+pub counts : CountsAreColour
+counts = counts_of StyleColour

@@ -1,6 +1,6 @@
 -- Reading an inner context, and then the contexts round it.
-use Rattle.std.proofs.Common.{◌≡◌, List, [], ◌∷◌, length, refl, ap, ◌∙◌, arith}
-use Rattle.std.specs.Prelude.{Result, Ok, Err, IsOk}
+use Rattle.std.proofs.Common.{◌≡◌, List, [], ◌∷◌, length, inl, inr, refl, ap, ◌∙◌, arith}
+use Rattle.std.specs.Prelude.{Result, Ok, Err}
 use Rattle.maplex.specs.declared.fault.LexFault.{LexFault}
 use Rattle.maplex.specs.declared.fault.Tail.{Tail}
 use Rattle.maplex.specs.declared.fault.Tail.TheVariants.{Breaks}
@@ -12,11 +12,11 @@ use Rattle.mapparse.specs.declared.draft.Drafts.{Drafts}
 use Rattle.mapparse.specs.declared.fault.Fault.{Fault}
 use Rattle.mapparse.specs.declared.fault.ParseFault.{ParseFault}
 use Rattle.mapparse.specs.declared.fault.ParseFault.TheVariants.{At, NoMemory}
-use Rattle.mapparse.specs.Fault.{IsFaultOf, IsErrorOf, missing, lexical}
+use Rattle.mapparse.specs.Fault.{IsFaultOf, IsSound, IsErrorOf, missing, lexical}
 use Rattle.mapparse.specs.declared.reader.Reader.{Reader}
 use Rattle.mapparse.specs.Step.{read_token}
 use Rattle.mapparse.specs.Pass.{reads}
-use Rattle.mapparse.specs.Answer.{moved, goes_on, answer, IsStepErrorOf}
+use Rattle.mapparse.specs.Answer.{moved, goes_on, answer, IsSoundBefore, IsStepErrorOf}
 use Rattle.mapparse.proofs.Reading.{same-after, reads-at_most, reads-enough}
 
 -- a fault stays the fault of the map
@@ -54,9 +54,9 @@ module _ (f : LexFault) (t : TokenValue) (context : Context) (outer : List Conte
   pub sound-moved : (move : Move) (e : Drafts) → read_token context d t ≡ Ok (move, e) → goes_on (Breaks f) (context ∷ outer) (Ok (d, t ∷ [])) ≡ Err (lexical f)
   sound-moved move e p = answer-moved (Breaks f) t [] context outer d move e p ∙ answer-broken f (moved move context outer) e
 
-  sound-step : (step : Result (Move × Drafts) Fault) → IsOk step → read_token context d t ≡ step → goes_on (Breaks f) (context ∷ outer) (Ok (d, t ∷ [])) ≡ Err (lexical f)
-  sound-step (Ok step) ok p = sound-moved step.0 step.1 p
-  sound-step (Err fault) ok p = let no : ⊥ = cc in absurd no
+  sound-step : (step : Result (Move × Drafts) Fault) → IsSound step → read_token context d t ≡ step → IsSoundBefore f (goes_on (Breaks f) (context ∷ outer) (Ok (d, t ∷ [])))
+  sound-step (Ok step) sound p = inl (sound-moved step.0 step.1 p)
+  sound-step (Err fault) sound p = inr (rw (answer-refused (Breaks f) t [] context outer d fault p) sound)
 
 -- the error of reading a token in the innermost context is the error of the reader's step
 pub step-error : (t : TokenValue) (context : Context) (outer : List Context) (d : Drafts) (error : ParseFault) → IsErrorOf (read_token context d t) error → IsStepErrorOf (record { contexts = context ∷ outer; drafts = d }) t error

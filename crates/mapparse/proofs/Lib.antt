@@ -4,6 +4,7 @@ mod FirstFault
 mod Joining
 mod OnePass
 mod OpenBlocks
+mod Padding
 mod Reading
 mod Within
 mod Written

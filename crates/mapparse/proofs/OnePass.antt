@@ -1,20 +1,30 @@
 -- One pass over tokens gives what they mean.
 use Rattle.std.proofs.Common.{◌≡◌, ℕ, zero, suc, ◌≤◌, Bool, true, false, List, [], ◌∷◌, length, refl, sym, ap, subst, ◌∙◌, arith}
-use Rattle.std.specs.Prelude.{ℤ, if◌then◌else◌, nat_le, Option, None, Some, Result, Ok, Err, IfOk}
+use Rattle.std.specs.Prelude.{ℤ, int_lt, if◌then◌else◌, nat_le, nat_lt, codes, Option, None, Some, Result, Ok, Err, IfOk}
+use Rattle.std.specs.List.{slice_split}
 use Rattle.std.specs.Option.{ok_or, option_map}
 use Rattle.std.specs.Str.{str_eq_ignore_ascii_case}
 use Rattle.maplex.specs.declared.fault.Tail.{Tail}
 use Rattle.maplex.specs.declared.fault.Tail.TheVariants as tails
 use Rattle.maplex.specs.Token.{TokenValue}
-use Rattle.mapdefs.specs.declared.limits.TheConstants.{MAX_VERTICES, MAX_LINE_WIDTH, MAX_SQUARE, MAX_TOLERANCE}
+use Rattle.mapdefs.specs.declared.limits.TheConstants.{MAX_VERTICES, MAX_LINE_WIDTH, MAX_SQUARE, MAX_TOLERANCE, MAX_PRIORITY, MAX_BUFFER, MAX_ITEMS}
+use Rattle.mapdefs.specs.declared.class.Rule.{Rule}
+use Rattle.mapdefs.specs.declared.label.Position.{Position}
+use Rattle.mapdefs.specs.Name.{is_same_name}
+use Rattle.geom.specs.Number.{coordinate_of}
+use Rattle.geom.specs.World.{Area}
 use Rattle.mapdefs.specs.declared.colour.Rgb.{Rgb}
 use Rattle.mapdefs.specs.declared.layer.Kind.{Kind}
 use Rattle.mapparse.specs.declared.colour.Component.{Component}
 use Rattle.mapparse.specs.declared.context.Block.{Block}
 use Rattle.mapparse.specs.declared.context.Block.TheVariants as block
-use Rattle.mapparse.specs.declared.context.TextKeyword.TheVariants.{MapName, LayerName, ClassItem, LabelItem, Template, FeatureText}
+use Rattle.mapparse.specs.declared.context.TextKeyword.TheVariants.{MapName, LayerName, ClassItem, LabelItem, Template, CsvX, CsvY, ServiceWmsTitle, ServiceOwsTitle, ServiceWmsUrl, ServiceOwsUrl, LayerWmsTitle, LayerOwsTitle, FeatureText, FeatureItems}
 use Rattle.mapparse.specs.declared.context.ColourKeyword.{ColourKeyword}
-use Rattle.mapparse.specs.declared.context.ColourKeyword.TheVariants.{StyleColour, ImageColour}
+use Rattle.mapparse.specs.declared.context.ColourKeyword.TheVariants.{StyleColour, LabelColour, LabelOutline, ImageColour}
+use Rattle.mapparse.specs.declared.context.FlagKeyword.{FlagKeyword}
+use Rattle.mapparse.specs.declared.context.FlagKeyword.TheVariants.{Partials, Force}
+use Rattle.mapparse.specs.declared.context.ScaleKeyword.{ScaleKeyword}
+use Rattle.mapparse.specs.declared.context.ScaleKeyword.TheVariants.{LayerMin, LayerMax, ClassMin, ClassMax}
 use Rattle.mapparse.specs.declared.context.Context.TheVariants.{Keywords, Values, Latitude}
 use Rattle.mapparse.specs.declared.context.Expected.{Expected}
 use Rattle.mapparse.specs.declared.context.Expected.TheVariants as expected
@@ -23,14 +33,18 @@ use Rattle.mapparse.specs.declared.context.Role.{Role}
 use Rattle.mapparse.specs.declared.context.Role.TheVariants as role
 use Rattle.mapparse.specs.declared.draft.Drafts.{Drafts}
 use Rattle.mapparse.specs.declared.fault.Fault.{Fault}
-use Rattle.mapparse.specs.declared.fault.ParseKind.TheVariants.{UnknownWord, WrongValue, MissingValue, Limit}
+use Rattle.mapparse.specs.declared.fault.ParseKind.TheVariants.{UnknownWord, WrongValue, MissingValue, Limit, BadExpression}
 use Rattle.mapparse.specs.declared.keyword.Keyword.TheVariants as keyword
 use Rattle.mapparse.specs.declared.tree.MapTree.{MapTree}
 use Rattle.mapparse.specs.declared.value.Value.{Value}
 use Rattle.mapparse.specs.declared.value.Value.TheVariants as value
 use Rattle.mapparse.specs.declared.value.ValueStep.{ValueStep}
 use Rattle.mapparse.specs.declared.value.ValueStep.TheVariants.{More, Whole}
-use Rattle.mapparse.specs.Count.{bounded_of}
+use Rattle.mapparse.specs.Count.{bounded_of, number_in}
+use Rattle.mapparse.specs.Extent.{extent_of}
+use Rattle.mapparse.specs.Label.{position_of, flag_of, distance_of}
+use Rattle.mapparse.specs.Rule.{rule_of, is_comma}
+use Rattle.mapparse.specs.Setting.{web_expects, layer_expects, setting_in, names_step, keyed_step, parted_step}
 use Rattle.mapparse.specs.Colour.{component_of, rgb_of}
 use Rattle.mapparse.specs.Draft.{with_value}
 use Rattle.mapparse.specs.Draft as draft
@@ -45,8 +59,8 @@ use Rattle.mapparse.specs.Pass.{reads, passed}
 use Rattle.mapparse.specs.Says.{Saying, Ends, Opens, Takes, Longitude, Passes, closing_fault, ends_unless, is_full, role_says, says, vertex_says, passed_says}
 use Rattle.mapparse.specs.Step.{read_end, read_role, note_step, coordinate_at, pass_over, read_token}
 use Rattle.mapparse.specs.Tree.{map_tree}
-use Rattle.mapparse.specs.Value.{is_value, value_step, step_in, hex_at, kind_of, colour_step, only_text, unused_step, coordinate_in}
-use Rattle.mapparse.proofs.OpenBlocks.{OpenBlocks, drafts_of, in_block, above, after_end, Nests, Suits, Fits, fits-option, Frees, projection-frees, passed-frees, label-frees, same-room, unless_fault, same-end}
+use Rattle.mapparse.specs.Value.{is_value, value_step, step_in, plain_step, may_take, hex_at, kind_of, colour_step, only_text, unused_step, east_step, north_step, coordinate_in}
+use Rattle.mapparse.proofs.OpenBlocks.{OpenBlocks, only_map, metadata-ends, drafts_of, in_block, above, after_end, Nests, Suits, Fits, fits-option, Frees, projection-frees, passed-frees, label-frees, same-room, unless_fault, same-end}
 use Rattle.mapparse.proofs.Reading.{Ended, LeavesAtMost, read_after, reads-at_most, reads-enough}
 
 -- what is read of a block
@@ -62,6 +76,16 @@ abbrev StaysIn : Block → Option ValueStep → Type 0
 StaysIn b None = Unit {0}
 StaysIn b (Some (More next)) = Suits next b
 StaysIn b (Some (Whole v)) = IsNotedIn b v
+
+-- where there is one
+abbrev StepStays : Block → Result ValueStep Fault → Type 0
+StepStays b (Err f) = Unit {0}
+StepStays b (Ok step) = StaysIn b (Some step)
+
+step-or : (b : Block) (step : Option ValueStep) (f : Fault) → StaysIn b step → StepStays b (ok_or step f)
+step-or b None f p = tt
+step-or b (Some (More next)) f p = p
+step-or b (Some (Whole v)) f p = p
 
 -- nothing is noted of a value without effect
 unused-noted : (b : Block) → IsNotedIn b value.Nothing
@@ -86,23 +110,136 @@ tolerance-stays : (tolerance : Option ℕ) → StaysIn block.Layer (option_map (
 tolerance-stays None = tt
 tolerance-stays (Some n) = λ line own o. refl
 
+priority-stays : (n : Option ℕ) → StaysIn block.Label (option_map (λ n. Whole (value.Priority n)) n)
+priority-stays None = tt
+priority-stays (Some n) = λ line own o. refl
+
+buffer-stays : (n : Option ℕ) → StaysIn block.Label (option_map (λ n. Whole (value.Buffer n)) n)
+buffer-stays None = tt
+buffer-stays (Some n) = λ line own o. refl
+
+distance-stays : (n : Option ℕ) → StaysIn block.Label (option_map (λ n. Whole (value.Distance n)) n)
+distance-stays None = tt
+distance-stays (Some n) = λ line own o. refl
+
+position-stays : (position : Option Position) → StaysIn block.Label (option_map (λ p. Whole (value.Position p)) position)
+position-stays None = tt
+position-stays (Some p) = λ line own o. refl
+
+flag-stays : (w : FlagKeyword) (flag : Option Bool) → StaysIn block.Label (option_map (λ f. Whole (value.Flag w f)) flag)
+flag-stays w None = tt
+flag-stays Partials (Some f) = λ line own o. refl
+flag-stays Force (Some f) = λ line own o. refl
+
+scale-stays : (w : ScaleKeyword) (b : Block) → Suits (expected.Scale w) b → (scale : Option ℤ) → StaysIn b (option_map (λ z. Whole (value.Scale w z)) scale)
+scale-stays w b p None = tt
+scale-stays LayerMin b p (Some z) = rw p (λ line own o. refl)
+scale-stays LayerMax b p (Some z) = rw p (λ line own o. refl)
+scale-stays ClassMin b p (Some z) = rw p (λ line own o. refl)
+scale-stays ClassMax b p (Some z) = rw p (λ line own o. refl)
+
+rule-stays : (rule : Option Rule) → StaysIn block.Class (option_map (λ r. Whole (value.Rule r)) rule)
+rule-stays None = tt
+rule-stays (Some r) = λ line own o. refl
+
+colour-noted : (w : ColourKeyword) (b : Block) → Suits (expected.Colour w) b → (colour : Option Rgb) → IsNotedIn b (value.Colour w colour)
+colour-noted StyleColour b p colour = rw p (λ line own o. refl)
+colour-noted LabelColour b p colour = rw p (λ line own o. refl)
+colour-noted LabelOutline b p colour = rw p (λ line own o. refl)
+colour-noted ImageColour b p colour = image-noted b colour
+
+-- the counts of a colour are of one keyword
+green-suits : (w : ColourKeyword) (b : Block) (red : Component) → Suits (expected.Colour w) b → Suits (expected.Green w red) b
+green-suits StyleColour b red p = p
+green-suits LabelColour b red p = p
+green-suits LabelOutline b red p = p
+green-suits ImageColour b red p = tt
+
+from-green : (w : ColourKeyword) (b : Block) (red : Component) → Suits (expected.Green w red) b → Suits (expected.Colour w) b
+from-green StyleColour b red p = p
+from-green LabelColour b red p = p
+from-green LabelOutline b red p = p
+from-green ImageColour b red p = tt
+
+blue-suits : (w : ColourKeyword) (b : Block) (red green : Component) → Suits (expected.Colour w) b → Suits (expected.Blue w red green) b
+blue-suits StyleColour b red green p = p
+blue-suits LabelColour b red green p = p
+blue-suits LabelOutline b red green p = p
+blue-suits ImageColour b red green p = tt
+
+from-blue : (w : ColourKeyword) (b : Block) (red green : Component) → Suits (expected.Blue w red green) b → Suits (expected.Colour w) b
+from-blue StyleColour b red green p = p
+from-blue LabelColour b red green p = p
+from-blue LabelOutline b red green p = p
+from-blue ImageColour b red green p = tt
+
 first-stays : (w : ColourKeyword) (b : Block) → Suits (expected.Colour w) b → (colour : Option Rgb) (red : Option Component) → StaysIn b (colour_step w colour red)
-first-stays StyleColour b p (Some colour) red = rw p (λ line own o. refl)
-first-stays StyleColour b p None None = tt
-first-stays StyleColour b p None (Some red) = p
-first-stays ImageColour b p (Some colour) red = image-noted b (Some colour)
-first-stays ImageColour b p None None = tt
-first-stays ImageColour b p None (Some red) = tt
+first-stays w b p (Some colour) red = colour-noted w b p (Some colour)
+first-stays w b p None None = tt
+first-stays w b p None (Some red) = green-suits w b red p
 
 green-stays : (w : ColourKeyword) (b : Block) (red : Component) → Suits (expected.Green w red) b → (green : Option Component) → StaysIn b (option_map (λ g. More (expected.Blue w red g)) green)
 green-stays w b red p None = tt
-green-stays StyleColour b red p (Some green) = p
-green-stays ImageColour b red p (Some green) = tt
+green-stays w b red p (Some green) = blue-suits w b red green (from-green w b red p)
 
 blue-stays : (w : ColourKeyword) (b : Block) (red green : Component) → Suits (expected.Blue w red green) b → (blue : Option Component) → StaysIn b (option_map (λ c. Whole (value.Colour w (rgb_of red green c))) blue)
 blue-stays w b red green p None = tt
-blue-stays StyleColour b red green p (Some blue) = rw p (λ line own o. refl)
-blue-stays ImageColour b red green p (Some blue) = image-noted b (rgb_of red green blue)
+blue-stays w b red green p (Some blue) = colour-noted w b (from-blue w b red green p) (rgb_of red green blue)
+
+-- the sides of an extent
+west-stays : (x : Option ℤ) → StaysIn block.Map (option_map (λ z. More (expected.South z)) x)
+west-stays None = tt
+west-stays (Some z) = refl
+
+south-stays : (x : ℤ) (y : Option ℤ) → StaysIn block.Map (option_map (λ z. More (expected.East x z)) y)
+south-stays x None = tt
+south-stays x (Some z) = refl
+
+east-stays : (x y : ℤ) (east : Option ℤ) → StaysIn block.Map (east_step x y east)
+east-stays x y None = tt
+east-stays x y (Some z) = lies (int_lt x z)
+  where
+    lies : (east : Bool) → StaysIn block.Map (if east then Some (More (expected.North x y z)) else None)
+    lies true = refl
+    lies false = tt
+
+area-stays : (area : Option Area) → StaysIn block.Map (option_map (λ a. Whole (value.Extent a)) area)
+area-stays None = tt
+area-stays (Some a) = λ line own o. refl
+
+north-stays : (x y east : ℤ) (north : Option ℤ) → StaysIn block.Map (north_step x y east north)
+north-stays x y east None = tt
+north-stays x y east (Some z) = area-stays (extent_of x y east z)
+
+-- a CONFIG has no effect
+config-stays : (b : Block) (is : Bool) → StaysIn b (if is then None else Some (More (expected.Unused 0)))
+config-stays b true = tt
+config-stays b false = tt
+
+-- a setting
+names-stays : (names : List (List ℕ)) (t : TokenValue) → StepStays block.Layer (names_step names t)
+names-stays names t = few (nat_lt MAX_ITEMS (length names))
+  where
+    few : (many : Bool) → StepStays block.Layer (if many then refused Limit t else Ok (Whole (value.Items names)))
+    few true = tt
+    few false = λ line own o. refl
+
+keyed-stays : (key text : List ℕ) (t : TokenValue) → StepStays block.Layer (keyed_step key text t)
+keyed-stays key text t = of (is_same_name key (codes "ITEMS")) (is_same_name key (codes "CSV_X")) (is_same_name key (codes "CSV_Y"))
+  where
+    of : (items x y : Bool) → StepStays block.Layer (
+        if items then names_step (slice_split is_comma text) t
+        else if x then Ok (Whole (value.Text CsvX text))
+        else if y then Ok (Whole (value.Text CsvY text))
+        else Ok (Whole value.Nothing))
+    of true x y = names-stays (slice_split is_comma text) t
+    of false true y = λ line own o. refl
+    of false false true = λ line own o. refl
+    of false false false = unused-noted block.Layer
+
+parted-stays : (parts : Option (List ℕ × List ℕ)) (t : TokenValue) → StepStays block.Layer (parted_step parts t)
+parted-stays None t = unused-noted block.Layer
+parted-stays (Some parts) t = keyed-stays parts.0 parts.1 t
 
 only-stays : (b : Block) (same : Bool) → StaysIn b (if same then Some (Whole value.Nothing) else None)
 only-stays b true = unused-noted b
@@ -112,37 +249,65 @@ unused-stays : (b : Block) (more : ℕ) → StaysIn b (Some (unused_step more))
 unused-stays b zero = unused-noted b
 unused-stays b (suc fewer) = tt
 
-shaped-stays : (e : Expected) (b : Block) (t : TokenValue) → Suits e b → StaysIn b (step_in e t)
-shaped-stays (expected.Text MapName) b t p = rw p (λ line own o. refl)
-shaped-stays (expected.Text LayerName) b t p = rw p (λ line own o. refl)
-shaped-stays (expected.Text ClassItem) b t p = rw p (λ line own o. refl)
-shaped-stays (expected.Text LabelItem) b t p = rw p (λ line own o. refl)
-shaped-stays (expected.Text Template) b t p = rw p (λ line own o. refl)
-shaped-stays (expected.Text FeatureText) b t p = rw p (λ line own o. refl)
-shaped-stays expected.Width b t p = rw p (width-stays (bounded_of 1 MAX_LINE_WIDTH t.text))
-shaped-stays expected.Size b t p = rw p (size-stays (bounded_of 1 MAX_SQUARE t.text))
-shaped-stays expected.Tolerance b t p = rw p (tolerance-stays (bounded_of 0 MAX_TOLERANCE t.text))
-shaped-stays expected.Kind b t p = rw p (kind-stays (kind_of t.text))
-shaped-stays (expected.Colour w) b t p = first-stays w b p (hex_at t) (component_of t.text)
-shaped-stays (expected.Green w r) b t p = green-stays w b r p (component_of t.text)
-shaped-stays (expected.Blue w r g) b t p = blue-stays w b r g p (component_of t.text)
-shaped-stays (expected.Only word) b t p = only-stays b (str_eq_ignore_ascii_case t.text (only_text word))
-shaped-stays (expected.Unused more) b t p = unused-stays b more
+text-stays : (w : _) (b : Block) (text : List ℕ) → Suits (expected.Text w) b → StaysIn b (Some (Whole (value.Text w text)))
+text-stays MapName b text p = rw p (λ line own o. refl)
+text-stays LayerName b text p = rw p (λ line own o. refl)
+text-stays ClassItem b text p = rw p (λ line own o. refl)
+text-stays LabelItem b text p = rw p (λ line own o. refl)
+text-stays Template b text p = rw p (λ line own o. refl)
+text-stays CsvX b text p = rw p (λ line own o. refl)
+text-stays CsvY b text p = rw p (λ line own o. refl)
+text-stays ServiceWmsTitle b text p = rw p (λ line own o. refl)
+text-stays ServiceOwsTitle b text p = rw p (λ line own o. refl)
+text-stays ServiceWmsUrl b text p = rw p (λ line own o. refl)
+text-stays ServiceOwsUrl b text p = rw p (λ line own o. refl)
+text-stays LayerWmsTitle b text p = rw p (λ line own o. refl)
+text-stays LayerOwsTitle b text p = rw p (λ line own o. refl)
+text-stays FeatureText b text p = rw p (λ line own o. refl)
+text-stays FeatureItems b text p = rw p (λ line own o. refl)
 
-tested-stays : (b : Block) (is : Bool) (step : Option ValueStep) → StaysIn b step → StaysIn b (if is then step else None)
-tested-stays b true step p = p
-tested-stays b false step p = tt
+plain-stays : (e : Expected) (b : Block) (t : TokenValue) → Suits e b → StaysIn b (plain_step e t)
+plain-stays expected.Kind b t p = rw p (kind-stays (kind_of t.text))
+plain-stays expected.Width b t p = rw p (width-stays (bounded_of 1 MAX_LINE_WIDTH t.text))
+plain-stays expected.Size b t p = rw p (size-stays (bounded_of 1 MAX_SQUARE t.text))
+plain-stays expected.Tolerance b t p = rw p (tolerance-stays (bounded_of 0 MAX_TOLERANCE t.text))
+plain-stays expected.Priority b t p = rw p (priority-stays (bounded_of 1 MAX_PRIORITY t.text))
+plain-stays expected.Buffer b t p = rw p (buffer-stays (bounded_of 0 MAX_BUFFER t.text))
+plain-stays expected.Distance b t p = rw p (distance-stays (distance_of t.text))
+plain-stays expected.Position b t p = rw p (position-stays (position_of t.text))
+plain-stays (expected.Flag w) b t p = rw p (flag-stays w (flag_of t.text))
+plain-stays (expected.Scale w) b t p = scale-stays w b p (number_in t.text)
+plain-stays (expected.Colour w) b t p = first-stays w b p (hex_at t) (component_of t.text)
+plain-stays (expected.Green w r) b t p = green-stays w b r p (component_of t.text)
+plain-stays (expected.Blue w r g) b t p = blue-stays w b r g p (component_of t.text)
+plain-stays expected.West b t p = rw p (west-stays (coordinate_of t.text))
+plain-stays (expected.South x) b t p = rw p (south-stays x (coordinate_of t.text))
+plain-stays (expected.East x y) b t p = rw p (east-stays x y (coordinate_of t.text))
+plain-stays (expected.North x y east) b t p = rw p (north-stays x y east (coordinate_of t.text))
+plain-stays (expected.Only word) b t p = only-stays b (str_eq_ignore_ascii_case t.text (only_text word))
+plain-stays expected.ConfigKey b t p = config-stays b (is_same_name t.text (codes "LABELFONT"))
+plain-stays (expected.Unused more) b t p = unused-stays b more
+plain-stays _ b t p = tt
 
-step-stays : (e : Expected) (b : Block) (t : TokenValue) → Suits e b → StaysIn b (value_step e t)
-step-stays e b t p = tested-stays b (is_value t.shape) (step_in e t) (shaped-stays e b t p)
+shaped-stays : (e : Expected) (b : Block) (t : TokenValue) → Suits e b → StepStays b (step_in e t)
+shaped-stays (expected.Text w) b t p = text-stays w b t.text p
+shaped-stays expected.Rule b t p = rw p (step-or block.Class _ (fault_of BadExpression t) (rule-stays (rule_of t.shape t.text)))
+shaped-stays expected.Setting b t p = rw p (parted-stays (setting_in t.text) t)
+shaped-stays e b t p = step-or b (plain_step e t) (fault_of WrongValue t) (plain-stays e b t p)
+
+tested-stays : (b : Block) (t : TokenValue) (is : Bool) (step : Result ValueStep Fault) → StepStays b step → StepStays b (if is then step else refused WrongValue t)
+tested-stays b t true step p = p
+tested-stays b t false step p = tt
+
+step-stays : (e : Expected) (b : Block) (t : TokenValue) → Suits e b → StepStays b (value_step e t)
+step-stays e b t p = tested-stays b t (may_take e t.shape) (step_in e t) (shaped-stays e b t p)
 
 -- the rest of a value's tokens, by its next step
-abbrev value_after : Tail → TokenValue → List TokenValue → Option ValueStep → Result Given Fault
-value_after tail t ts step = elim step [
-  | None ↦ refused WrongValue t
-  | Some (More next) ↦ value_in tail next ts
-  | Some (Whole value) ↦ Ok (record { value = value; line = t.line; rest = ts })
-]
+abbrev value_after : Tail → TokenValue → List TokenValue → Result ValueStep Fault → Result Given Fault
+value_after tail t ts step = and_then step (λ s. elim s [
+  | More next ↦ value_in tail next ts
+  | Whole value ↦ Ok (record { value = value; line = t.line; rest = ts })
+])
 
 -- what a value comes to: the block notes it, and at most so many tokens are left
 record IsGivenIn (b : Block) (k : ℕ) (v : Given) : Type 0 where
@@ -150,17 +315,41 @@ record IsGivenIn (b : Block) (k : ℕ) (v : Given) : Type 0 where
   left : length v.rest ≤ k
 
 module _ (tail : Tail) (b : Block) (t : TokenValue) (ts : List TokenValue) (k : ℕ) (below : (e : Expected) → Suits e b → IfOk (value_in tail e ts) (IsGivenIn b k)) (p : length ts ≤ k) where
-  given-step : (last : Bool) (step : Option ValueStep) → StaysIn b step → IfOk (if last then refused MissingValue t else value_after tail t ts step) (IsGivenIn b k)
+  given-step : (last : Bool) (step : Result ValueStep Fault) → StepStays b step → IfOk (if last then refused MissingValue t else value_after tail t ts step) (IsGivenIn b k)
   given-step true step s = tt
-  given-step false None s = tt
-  given-step false (Some (More next)) s = below next s
-  given-step false (Some (Whole v)) s = record { noted = s; left = p }
+  given-step false (Err f) s = tt
+  given-step false (Ok (More next)) s = below next s
+  given-step false (Ok (Whole v)) s = record { noted = s; left = p }
 
 value-given : (tail : Tail) (k : ℕ) (e : Expected) (b : Block) (ts : List TokenValue) → Suits e b → length ts ≤ k → IfOk (value_in tail e ts) (IsGivenIn b k)
 unfolding value_in
 value-given tail k e b [] s p = tt
 value-given tail k e b (t ∷ ts) s p =
     given-step tail b t ts k (λ next q. value-given tail k next b ts q (omega arith)) (omega arith) (is_end t) (value_step e t) (step-stays e b t s)
+
+-- a key of METADATA takes a value of it
+web-suits : (key : List ℕ) → Suits (web_expects key) block.WebMetadata
+web-suits key = of (is_same_name key (codes "wms_title")) (is_same_name key (codes "ows_title")) (is_same_name key (codes "wms_onlineresource")) (is_same_name key (codes "ows_onlineresource"))
+  where
+    of : (a b c d : Bool) → Suits (
+        if a then expected.Text ServiceWmsTitle
+        else if b then expected.Text ServiceOwsTitle
+        else if c then expected.Text ServiceWmsUrl
+        else if d then expected.Text ServiceOwsUrl
+        else expected.Unused 0) block.WebMetadata
+    of true b c d = refl
+    of false true c d = refl
+    of false false true d = refl
+    of false false false true = refl
+    of false false false false = tt
+
+layer-suits : (key : List ℕ) → Suits (layer_expects key) block.LayerMetadata
+layer-suits key = of (is_same_name key (codes "wms_title")) (is_same_name key (codes "ows_title"))
+  where
+    of : (a b : Bool) → Suits (if a then expected.Text LayerWmsTitle else if b then expected.Text LayerOwsTitle else expected.Unused 0) block.LayerMetadata
+    of true b = refl
+    of false true = refl
+    of false false = tt
 
 -- a block of the keyword of a value
 suited : (e : Expected) → (b : Block) × Suits e b
@@ -169,14 +358,44 @@ suited (expected.Text LayerName) = (block.Layer, refl)
 suited (expected.Text ClassItem) = (block.Layer, refl)
 suited (expected.Text LabelItem) = (block.Layer, refl)
 suited (expected.Text Template) = (block.Layer, refl)
+suited (expected.Text CsvX) = (block.Layer, refl)
+suited (expected.Text CsvY) = (block.Layer, refl)
+suited (expected.Text ServiceWmsTitle) = (block.WebMetadata, refl)
+suited (expected.Text ServiceOwsTitle) = (block.WebMetadata, refl)
+suited (expected.Text ServiceWmsUrl) = (block.WebMetadata, refl)
+suited (expected.Text ServiceOwsUrl) = (block.WebMetadata, refl)
+suited (expected.Text LayerWmsTitle) = (block.LayerMetadata, refl)
+suited (expected.Text LayerOwsTitle) = (block.LayerMetadata, refl)
 suited (expected.Text FeatureText) = (block.Feature, refl)
+suited (expected.Text FeatureItems) = (block.Feature, refl)
 suited expected.Width = (block.Style, refl)
 suited expected.Size = (block.Style, refl)
 suited expected.Tolerance = (block.Layer, refl)
+suited expected.Priority = (block.Label, refl)
+suited expected.Buffer = (block.Label, refl)
+suited expected.Distance = (block.Label, refl)
+suited expected.Position = (block.Label, refl)
+suited (expected.Flag w) = (block.Label, refl)
+suited (expected.Scale LayerMin) = (block.Layer, refl)
+suited (expected.Scale LayerMax) = (block.Layer, refl)
+suited (expected.Scale ClassMin) = (block.Class, refl)
+suited (expected.Scale ClassMax) = (block.Class, refl)
+suited expected.Rule = (block.Class, refl)
+suited expected.Setting = (block.Layer, refl)
+suited expected.West = (block.Map, refl)
+suited (expected.South x) = (block.Map, refl)
+suited (expected.East x y) = (block.Map, refl)
+suited (expected.North x y east) = (block.Map, refl)
 suited expected.Kind = (block.Layer, refl)
 suited (expected.Colour StyleColour) = (block.Style, refl)
 suited (expected.Green StyleColour r) = (block.Style, refl)
 suited (expected.Blue StyleColour r g) = (block.Style, refl)
+suited (expected.Colour LabelColour) = (block.Label, refl)
+suited (expected.Green LabelColour r) = (block.Label, refl)
+suited (expected.Blue LabelColour r g) = (block.Label, refl)
+suited (expected.Colour LabelOutline) = (block.Label, refl)
+suited (expected.Green LabelOutline r) = (block.Label, refl)
+suited (expected.Blue LabelOutline r g) = (block.Label, refl)
 suited _ = (block.Map, tt)
 
 pub value-left : (tail : Tail) (e : Expected) (ts : List TokenValue) → IfOk (value_in tail e ts) (λ v. length v.rest ≤ length ts)
@@ -191,13 +410,13 @@ abbrev noted : Drafts → Given → Drafts × List TokenValue
 noted d v = (with_value v.value v.line d, v.rest)
 
 module _ (tail : Tail) (n : ℕ) (below : (e : Expected) (d : Drafts) (ts : List TokenValue) → length ts ≤ n → reads tail n (Values e) d ts ≡ and_then (value_in tail e ts) (λ v. Ok (noted d v))) where
-  value-step : (e : Expected) (d : Drafts) (t : TokenValue) (ts : List TokenValue) (last : Bool) (step : Option ValueStep) → length ts ≤ n →
+  value-step : (e : Expected) (d : Drafts) (t : TokenValue) (ts : List TokenValue) (last : Bool) (step : Result ValueStep Fault) → length ts ≤ n →
       and_then (if last then refused MissingValue t else note_step step d t) (read_after tail n (Values e) ts)
       ≡ and_then (if last then refused MissingValue t else value_after tail t ts step) (λ v. Ok (noted d v))
   value-step e d t ts true step p = refl
-  value-step e d t ts false None p = refl
-  value-step e d t ts false (Some (More next)) p = below next d ts p
-  value-step e d t ts false (Some (Whole v)) p = refl
+  value-step e d t ts false (Err f) p = refl
+  value-step e d t ts false (Ok (More next)) p = below next d ts p
+  value-step e d t ts false (Ok (Whole v)) p = refl
 
 -- a value is read in drafts as it is given
 reads-value : (tail : Tail) (n : ℕ) (e : Expected) (d : Drafts) (ts : List TokenValue) → length ts ≤ n → reads tail n (Values e) d ts ≡ and_then (value_in tail e ts) (λ v. Ok (noted d v))
@@ -382,19 +601,21 @@ module _ (tail : Tail) (n : ℕ) (below : (b : Block) (up own : Entries) (o : Op
     passed-here (Some (role.Opens c)) f g = opens-freely b up own o t ts room p c f (g own)
     passed-here (Some (role.Takes e)) f g = below b up own o ts p room
 
-  -- a token in VALIDATION
-  pair-here : (up own : Entries) (o : OpenBlocks) (t : TokenValue) (ts : List TokenValue) → length ts ≤ n → (last value : Bool) →
-      and_then (if last then Ok (Leaves, drafts_of o) else (if value then Ok (Enters (Values (expected.Unused 0)), drafts_of o) else refused WrongValue t)) (read_after tail n (Keywords block.Validation) ts)
-      ≡ and_then (and_then (if last then Ok Ends else (if value then Ok (Takes (expected.Unused 0)) else refused WrongValue t)) (block_after tail n block.Validation up own ts)) (closed block.Validation o)
-  pair-here up own o t ts p true value = refl
-  pair-here up own o t ts p false false = refl
-  pair-here up own o t ts p false true = takes-here block.Validation up own o t ts refl p (expected.Unused 0) tt
+  -- a token in METADATA and VALIDATION
+  pair-here : (b : Block) (up own : Entries) (o : OpenBlocks) (t : TokenValue) (ts : List TokenValue) → length ts ≤ n → is_full b (above b up o) ≡ false → drafts_of (in_block b own o) ≡ drafts_of (after_end b own o) → (e : Expected) → Suits e b → (last value : Bool) →
+      and_then (if last then Ok (Leaves, drafts_of (in_block b own o)) else (if value then Ok (Enters (Values e), drafts_of (in_block b own o)) else refused WrongValue t)) (read_after tail n (Keywords b) ts)
+      ≡ and_then (and_then (if last then Ok Ends else (if value then Ok (Takes e) else refused WrongValue t)) (block_after tail n b (above b up o) own ts)) (closed b o)
+  pair-here b up own o t ts p room same e suits true value = ap (λ d. Ok (d, ts)) same
+  pair-here b up own o t ts p room same e suits false false = refl
+  pair-here b up own o t ts p room same e suits false true = takes-here b up own o t ts room p e suits
 
   token-here : (b : Block) (up own : Entries) (o : OpenBlocks) (t : TokenValue) (ts : List TokenValue) → length ts ≤ n → is_full b (above b up o) ≡ false →
       and_then (read_token (Keywords b) (drafts_of (in_block b own o)) t) (read_after tail n (Keywords b) ts)
       ≡ and_then (and_then (says b (above b up o) own t) (block_after tail n b (above b up o) own ts)) (closed b o)
   token-here block.Points up own o t ts p q = points-here up own o t ts p (is_end t)
-  token-here block.Validation up own o t ts p q = pair-here up own o t ts p (is_end t) (is_value t.shape)
+  token-here block.Validation up own o t ts p q = pair-here block.Validation up own o t ts p q refl (expected.Unused 0) tt (is_end t) (is_value t.shape)
+  token-here block.WebMetadata up own o t ts p q = pair-here block.WebMetadata up own o t ts p q (metadata-ends own o) (web_expects t.text) (web-suits t.text) (is_end t) (is_value t.shape)
+  token-here block.LayerMetadata up own o t ts p q = pair-here block.LayerMetadata up own o t ts p q refl (layer_expects t.text) (layer-suits t.text) (is_end t) (is_value t.shape)
   token-here block.Projection up own o t ts p q = passed-here block.Projection up own o t ts q p refl _ (fits-option block.Projection (keyword_at t)) (projection-frees (keyword_at t))
   token-here block.Passed up own o t ts p q = passed-here block.Passed up own o t ts q p refl _ (fits-option block.Passed (keyword_at t)) (passed-frees (keyword_at t))
   token-here block.PassedLabel up own o t ts p q = passed-here block.PassedLabel up own o t ts q p refl _ (fits-option block.PassedLabel (keyword_at t)) (label-frees (keyword_at t))
@@ -402,6 +623,8 @@ module _ (tail : Tail) (n : ℕ) (below : (b : Block) (up own : Entries) (o : Op
   token-here block.Layer up own o t ts p q = role-here block.Layer up own o t ts q p _ (fits-option block.Layer (keyword_at t))
   token-here block.Class up own o t ts p q = role-here block.Class up own o t ts q p _ (fits-option block.Class (keyword_at t))
   token-here block.Style up own o t ts p q = role-here block.Style up own o t ts q p _ (fits-option block.Style (keyword_at t))
+  token-here block.Web up own o t ts p q = role-here block.Web up own o t ts q p _ (fits-option block.Web (keyword_at t))
+  token-here block.Label up own o t ts p q = role-here block.Label up own o t ts q p _ (fits-option block.Label (keyword_at t))
   token-here block.Feature up own o t ts p q = role-here block.Feature up own o t ts q p _ (fits-option block.Feature (keyword_at t))
 
 -- a block is read in drafts as it is read by what it says
@@ -414,7 +637,7 @@ joined tail (suc n) b up own o (t ∷ ts) p q = token-here tail n (λ c over inn
 
 -- nothing is open
 abbrev none_open : OpenBlocks
-none_open = record { map = Nothing; layer = Nothing; class = Nothing; style = Nothing; feature = Nothing; points = Nothing }
+none_open = only_map Nothing
 
 -- what the entries of a map come to
 abbrev pub to_tree : Entries → Result MapTree Fault

@@ -1,5 +1,5 @@
 -- What is made from a tree is within the limits.
-use Rattle.std.proofs.Common.{ℕ, List, map, refl}
+use Rattle.std.proofs.Common.{ℕ, List, map}
 use Rattle.std.specs.List.{All}
 use Rattle.std.proofs.lemmas.List.Elements.{All-map}
 use Rattle.mapdefs.specs.LayerLimits.{HasValues}
@@ -9,10 +9,11 @@ use Rattle.mapparse.specs.declared.tree.ClassTree.{ClassTree}
 use Rattle.mapparse.specs.declared.tree.FeatureTree.{FeatureTree}
 use Rattle.mapparse.specs.declared.tree.LayerTree.{LayerTree}
 use Rattle.mapparse.specs.Mapping.{style_of, class_of, feature_of, layer_of}
+use Rattle.mapparse.proofs.Padding.{length-values}
 
--- no feature has a value
-pub no_values : (features : List FeatureTree) → All (HasValues 0) (map feature_of features)
-no_values features = All-map (HasValues 0) feature_of features (λ k feature below. refl)
+-- each feature has a value for each item
+pub feature_values : (count : ℕ) (features : List FeatureTree) → All (HasValues count) (map (feature_of count) features)
+feature_values count features = All-map (HasValues count) (feature_of count) features (λ k feature below. length-values count _)
 
 -- no style names a symbol, whatever symbols there are
 module _ (count : ℕ) where

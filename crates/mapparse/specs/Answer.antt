@@ -1,5 +1,5 @@
 -- What a reader reads in the tokens that are left (docs/MAPFILE.md, "Blocks and words").
-use Rattle.std.specs.Prelude.{◌≡◌, List, [], ◌∷◌, length, Result, Ok, Err}
+use Rattle.std.specs.Prelude.{◌≡◌, ◌⊎◌, List, [], ◌∷◌, length, Result, Ok, Err, IfErr}
 use Rattle.maplex.specs.declared.fault.LexFault.{LexFault}
 use Rattle.maplex.specs.declared.fault.Tail.{Tail}
 use Rattle.maplex.specs.declared.fault.Tail.TheVariants.{Breaks}
@@ -8,6 +8,7 @@ use Rattle.mapparse.specs.declared.context.Context.{Context}
 use Rattle.mapparse.specs.declared.context.Move.{Move}
 use Rattle.mapparse.specs.declared.context.Move.TheVariants.{GoesOn, Enters, Leaves}
 use Rattle.mapparse.specs.declared.fault.Fault.{Fault}
+use Rattle.mapparse.specs.declared.fault.ParseKind.TheVariants.{BadExpression}
 use Rattle.mapparse.specs.declared.fault.ParseFault.{ParseFault}
 use Rattle.mapparse.specs.declared.fault.ParseFault.TheVariants.{At, NoMemory}
 use Rattle.mapparse.specs.declared.tree.MapTree.{MapTree}
@@ -32,9 +33,13 @@ goes_on tail (context ∷ outer) ended =
 abbrev pub answer : Reader → List TokenValue → Tail → Result MapTree Fault
 answer r ts tail = goes_on tail r.contexts (Ok (r.drafts, ts))
 
--- the error of reading one token: its fault is the fault whatever follows, and where memory was refused it has none, so
--- that the fault of what follows is the first
+-- memory may be refused where all is well up to a lexical fault that follows, or at an expression with a fault
+abbrev pub IsSoundBefore : LexFault → Result MapTree Fault → Type 0
+IsSoundBefore f reading = (reading ≡ Err (lexical f)) ⊎ IfErr reading (λ g. g.kind ≡ BadExpression)
+
+-- the error of reading one token: its fault is the fault whatever follows, and where memory was refused it has none but
+-- that of an expression, so that the fault of what follows is the first
 abbrev pub IsStepErrorOf : Reader → TokenValue → ParseFault → Type 0
 IsStepErrorOf r t (At line kind) =
     (ts : List TokenValue) (tail : Tail) → answer r (t ∷ ts) tail ≡ Err (record { line = line; kind = kind })
-IsStepErrorOf r t NoMemory = (f : LexFault) → answer r (t ∷ []) (Breaks f) ≡ Err (lexical f)
+IsStepErrorOf r t NoMemory = (f : LexFault) → IsSoundBefore f (answer r (t ∷ []) (Breaks f))

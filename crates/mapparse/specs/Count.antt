@@ -1,6 +1,13 @@
--- Counts within bounds (docs/MAPFILE.md, "Limits").
+-- Numbers, and counts within bounds (docs/MAPFILE.md, "Limits").
 use Rattle.std.specs.Prelude.{ℕ, ◌&&◌, nat_le, if◌then◌else◌, List, ℤ, pos, negsuc, Option, None, Some, option_and_then}
+use Rattle.std.specs.Result.{result_ok}
+use Rattle.geom.specs.declared.micro.TheConstants.{NUMBER_LIMIT}
+use Rattle.geom.specs.Decimal.{reading}
 use Rattle.geom.specs.Number.{count_of}
+
+-- the number that a text means, in millionths
+abbrev pub number_in : List ℕ → Option ℤ
+number_in text = result_ok (reading text NUMBER_LIMIT)
 
 -- a count that is within the bounds, both included
 abbrev pub bounded : ℕ → ℕ → ℤ → Option ℕ

@@ -13,7 +13,7 @@ use Rattle.mapparse.specs.declared.draft.LayerDraft.{LayerDraft}
 use Rattle.mapparse.specs.declared.draft.Drafts.{Drafts}
 use Rattle.mapparse.specs.Fault.{refused, and_then}
 use Rattle.mapparse.specs.Parts.{with_part}
-use Rattle.mapparse.specs.Draft.{new_layer, new_class, new_style, new_feature}
+use Rattle.mapparse.specs.Draft.{new_layer, new_class, new_style, new_label, new_feature}
 
 -- a layer with this name and this kind, and what else its draft has
 abbrev pub layer_with : List ℕ → Kind → LayerDraft → LayerTree
@@ -24,6 +24,13 @@ layer_with name kind layer = record {
   labelitem = layer.labelitem;
   queryable = layer.queryable;
   tolerance = layer.tolerance;
+  min = layer.min;
+  max = layer.max;
+  items = layer.items;
+  csv_x = layer.csv_x;
+  csv_y = layer.csv_y;
+  wms_title = layer.wms_title;
+  ows_title = layer.ows_title;
   classes = layer.classes;
   features = layer.features;
 }
@@ -52,12 +59,16 @@ class_end d = record d { layer = record d.layer { classes = d.layer.classes ++ d
 abbrev pub style_end : Drafts → Drafts
 style_end d = record d { class = record d.class { styles = d.class.styles ++ d.style ∷ [] }; style = new_style }
 
+-- at the END of a LABEL the class has it
+abbrev pub label_end : Drafts → Drafts
+label_end d = record d { class = record d.class { label = Some d.label }; label = new_label }
+
 -- at the END of a FEATURE, which has parts, the layer has it
 abbrev pub feature_end : Drafts → TokenValue → Result Drafts Fault
 feature_end d t =
     if length d.feature.parts.whole == 0 then refused MissingValue t
     else Ok (record d {
-      layer = record d.layer { features = d.layer.features ++ record { parts = d.feature.parts.whole; text = d.feature.text } ∷ [] };
+      layer = record d.layer { features = d.layer.features ++ record { parts = d.feature.parts.whole; text = d.feature.text; items = d.feature.items } ∷ [] };
       feature = new_feature;
     })
 
@@ -72,6 +83,7 @@ abbrev pub ends : Block → Drafts → TokenValue → Result Drafts Fault
 ends block.Layer d t = layer_end d t
 ends block.Class d t = Ok (class_end d)
 ends block.Style d t = Ok (style_end d)
+ends block.Label d t = Ok (label_end d)
 ends block.Feature d t = feature_end d t
 ends block.Points d t = points_end d t
 ends _ d t = Ok d

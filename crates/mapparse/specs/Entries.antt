@@ -1,5 +1,5 @@
 -- What a block says (docs/MAPFILE.md, "Blocks and words").
-use Rattle.std.specs.Prelude.{ℕ, ◌+◌, ◌==◌, if◌then◌else◌, List, [], ◌∷◌, ◌++◌, length, map, sum_by, Option, None}
+use Rattle.std.specs.Prelude.{ℕ, ◌+◌, ◌==◌, if◌then◌else◌, List, [], ◌∷◌, ◌++◌, length, map, sum_by, Option, None, Some}
 use Rattle.std.specs.Option.{option_or}
 use Rattle.geom.specs.World.{Place}
 use Rattle.mapparse.specs.declared.context.Block.{Block}
@@ -49,6 +49,10 @@ block_number block.Validation = 6
 block_number block.Projection = 7
 block_number block.Passed = 8
 block_number block.PassedLabel = 9
+block_number block.Label = 10
+block_number block.Web = 11
+block_number block.WebMetadata = 12
+block_number block.LayerMetadata = 13
 
 -- the inner blocks of a kind, in their order
 abbrev pub blocks : Block → Entries → List Entries
@@ -57,6 +61,21 @@ blocks b (Said value line before) = blocks b before
 blocks b (Vertex vertex before) = blocks b before
 blocks b (Inside c inner before) =
     if block_number b == block_number c then blocks b before ++ inner ∷ [] else blocks b before
+
+-- the last inner block of a kind
+abbrev pub last_block : Block → Entries → Option Entries
+last_block b Nothing = None
+last_block b (Said value line before) = last_block b before
+last_block b (Vertex vertex before) = last_block b before
+last_block b (Inside c inner before) = if block_number b == block_number c then Some inner else last_block b before
+
+-- what the last of the inner blocks of a kind gives that gives anything
+abbrev pub last_within : {A : Type 0} → Block → (Entries → Option A) → Entries → Option A
+last_within b wanted Nothing = None
+last_within b wanted (Said value line before) = last_within b wanted before
+last_within b wanted (Vertex vertex before) = last_within b wanted before
+last_within b wanted (Inside c inner before) =
+    if block_number b == block_number c then option_or (wanted inner) (last_within b wanted before) else last_within b wanted before
 
 -- the vertices, in their order
 abbrev pub vertices : Entries → List Place

@@ -1,12 +1,12 @@
 -- Faults, and the numbers of their kinds (docs/MAPFILE.md, "Faults").
-use Rattle.std.specs.Prelude.{◌≡◌, ℕ, Result, Ok, Err, IsOk}
+use Rattle.std.specs.Prelude.{◌≡◌, ℕ, Result, Ok, Err}
 use Rattle.maplex.specs.declared.fault.LexFault.{LexFault}
 use Rattle.maplex.specs.declared.fault.Tail.{Tail}
 use Rattle.maplex.specs.declared.fault.Tail.TheVariants.{Ends, Breaks}
 use Rattle.maplex.specs.Token.{TokenValue}
 use Rattle.mapparse.specs.declared.fault.Fault.{Fault}
 use Rattle.mapparse.specs.declared.fault.ParseKind.{ParseKind}
-use Rattle.mapparse.specs.declared.fault.ParseKind.TheVariants.{Lex, UnknownWord, WrongValue, MissingEnd, MissingValue, Limit, DuplicateName}
+use Rattle.mapparse.specs.declared.fault.ParseKind.TheVariants.{Lex, UnknownWord, WrongValue, MissingEnd, MissingValue, Limit, DuplicateName, BadExpression}
 use Rattle.mapparse.specs.declared.fault.ParseFault.{ParseFault}
 use Rattle.mapparse.specs.declared.fault.ParseFault.TheVariants.{At, NoMemory}
 
@@ -19,6 +19,7 @@ number_of MissingEnd = 4
 number_of MissingValue = 5
 number_of Limit = 6
 number_of DuplicateName = 8
+number_of BadExpression = 9
 
 -- a fault of a kind at a token
 abbrev pub fault_of : ParseKind → TokenValue → Fault
@@ -47,7 +48,12 @@ abbrev pub IsFaultOf : {A : Type 0} → Result A Fault → ParseFault → Type 0
 IsFaultOf reading (At line kind) = reading ≡ Err (record { line = line; kind = kind })
 IsFaultOf reading NoMemory = Unit {0}
 
--- the error is the fault of this reading, or memory was refused to a reading without a fault
+-- a reading has no fault, or only that of an expression, whose tree is made while its text is read
+abbrev pub IsSound : {A : Type 0} → Result A Fault → Type 0
+IsSound (Ok a) = Unit {0}
+IsSound (Err f) = f.kind ≡ BadExpression
+
+-- the error is the fault of this reading, or memory was refused to a sound one
 abbrev pub IsErrorOf : {A : Type 0} → Result A Fault → ParseFault → Type 0
 IsErrorOf reading (At line kind) = reading ≡ Err (record { line = line; kind = kind })
-IsErrorOf reading NoMemory = IsOk reading
+IsErrorOf reading NoMemory = IsSound reading

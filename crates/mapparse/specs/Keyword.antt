@@ -5,7 +5,7 @@ use Rattle.maplex.specs.declared.token.Shape.{Shape}
 use Rattle.maplex.specs.declared.token.Shape.TheVariants.{Word}
 use Rattle.maplex.specs.Token.{TokenValue}
 use Rattle.mapparse.specs.declared.keyword.Keyword.{Keyword}
-use Rattle.mapparse.specs.declared.keyword.Keyword.TheVariants.{Map, Layer, Name, Kind, Class, Style, Color, Feature, Points, Angle, Antialias, ClassItem, Debug, Dump, Extent, FontSet, Footer, Group, Header, ImageColor, ImageType, Label, LabelCache, LabelItem, LabelMaxScaleDenom, LabelMinScaleDenom, Legend, MaxSize, MaxWidth, Metadata, MinSize, MinWidth, OutputFormat, Projection, QueryMap, Reference, Resolution, ScaleBar, ShapePath, Size, Status, Template, Text, Title, Tolerance, ToleranceUnits, Units, Validation, Width, End}
+use Rattle.mapparse.specs.declared.keyword.Keyword.TheVariants.{Map, Layer, Name, Kind, Class, Style, Color, Feature, Points, Angle, Antialias, Buffer, ClassItem, Config, Debug, Dump, Empty, Encoding, Error, Expression, Extent, Font, FontSet, Footer, Force, Group, Header, ImageColor, ImagePath, ImageType, ImageUrl, Items, Label, LabelCache, LabelItem, LabelMaxScaleDenom, LabelMinScaleDenom, Legend, Log, MaxScaleDenom, MaxSize, MaxWidth, Metadata, MinDistance, MinFeatureSize, MinScaleDenom, MinSize, MinWidth, Offset, OutlineColor, OutlineWidth, OutputFormat, Partials, Position, Priority, Processing, Projection, QueryMap, Reference, RepeatDistance, Resolution, ScaleBar, ShapePath, Size, Status, Template, Text, Title, Tolerance, ToleranceUnits, Units, Validation, Web, Width, End}
 
 -- how a keyword is written
 unfoldable pub spelling : Keyword → List ℕ
@@ -20,31 +20,55 @@ spelling Feature = codes "FEATURE"
 spelling Points = codes "POINTS"
 spelling Angle = codes "ANGLE"
 spelling Antialias = codes "ANTIALIAS"
+spelling Buffer = codes "BUFFER"
 spelling ClassItem = codes "CLASSITEM"
+spelling Config = codes "CONFIG"
 spelling Debug = codes "DEBUG"
 spelling Dump = codes "DUMP"
+spelling Empty = codes "EMPTY"
+spelling Encoding = codes "ENCODING"
+spelling Error = codes "ERROR"
+spelling Expression = codes "EXPRESSION"
 spelling Extent = codes "EXTENT"
+spelling Font = codes "FONT"
 spelling FontSet = codes "FONTSET"
 spelling Footer = codes "FOOTER"
+spelling Force = codes "FORCE"
 spelling Group = codes "GROUP"
 spelling Header = codes "HEADER"
 spelling ImageColor = codes "IMAGECOLOR"
+spelling ImagePath = codes "IMAGEPATH"
 spelling ImageType = codes "IMAGETYPE"
+spelling ImageUrl = codes "IMAGEURL"
+spelling Items = codes "ITEMS"
 spelling Label = codes "LABEL"
 spelling LabelCache = codes "LABELCACHE"
 spelling LabelItem = codes "LABELITEM"
 spelling LabelMaxScaleDenom = codes "LABELMAXSCALEDENOM"
 spelling LabelMinScaleDenom = codes "LABELMINSCALEDENOM"
 spelling Legend = codes "LEGEND"
+spelling Log = codes "LOG"
+spelling MaxScaleDenom = codes "MAXSCALEDENOM"
 spelling MaxSize = codes "MAXSIZE"
 spelling MaxWidth = codes "MAXWIDTH"
 spelling Metadata = codes "METADATA"
+spelling MinDistance = codes "MINDISTANCE"
+spelling MinFeatureSize = codes "MINFEATURESIZE"
+spelling MinScaleDenom = codes "MINSCALEDENOM"
 spelling MinSize = codes "MINSIZE"
 spelling MinWidth = codes "MINWIDTH"
+spelling Offset = codes "OFFSET"
+spelling OutlineColor = codes "OUTLINECOLOR"
+spelling OutlineWidth = codes "OUTLINEWIDTH"
 spelling OutputFormat = codes "OUTPUTFORMAT"
+spelling Partials = codes "PARTIALS"
+spelling Position = codes "POSITION"
+spelling Priority = codes "PRIORITY"
+spelling Processing = codes "PROCESSING"
 spelling Projection = codes "PROJECTION"
 spelling QueryMap = codes "QUERYMAP"
 spelling Reference = codes "REFERENCE"
+spelling RepeatDistance = codes "REPEATDISTANCE"
 spelling Resolution = codes "RESOLUTION"
 spelling ScaleBar = codes "SCALEBAR"
 spelling ShapePath = codes "SHAPEPATH"
@@ -57,17 +81,21 @@ spelling Tolerance = codes "TOLERANCE"
 spelling ToleranceUnits = codes "TOLERANCEUNITS"
 spelling Units = codes "UNITS"
 spelling Validation = codes "VALIDATION"
+spelling Web = codes "WEB"
 spelling Width = codes "WIDTH"
 spelling End = codes "END"
 
 -- all keywords
 abbrev pub keywords : List Keyword
 keywords =
-    Map ∷ Layer ∷ Name ∷ Kind ∷ Class ∷ Style ∷ Color ∷ Feature ∷ Points ∷ Angle ∷ Antialias ∷ ClassItem ∷ Debug ∷
-    Dump ∷ Extent ∷ FontSet ∷ Footer ∷ Group ∷ Header ∷ ImageColor ∷ ImageType ∷ Label ∷ LabelCache ∷ LabelItem ∷
-    LabelMaxScaleDenom ∷ LabelMinScaleDenom ∷ Legend ∷ MaxSize ∷ MaxWidth ∷ Metadata ∷ MinSize ∷ MinWidth ∷
-    OutputFormat ∷ Projection ∷ QueryMap ∷ Reference ∷ Resolution ∷ ScaleBar ∷ ShapePath ∷ Size ∷ Status ∷ Template
-    ∷ Text ∷ Title ∷ Tolerance ∷ ToleranceUnits ∷ Units ∷ Validation ∷ Width ∷ End ∷ []
+    Map ∷ Layer ∷ Name ∷ Kind ∷ Class ∷ Style ∷ Color ∷ Feature ∷ Points ∷ Angle ∷ Antialias ∷ Buffer ∷ ClassItem ∷
+    Config ∷ Debug ∷ Dump ∷ Empty ∷ Encoding ∷ Error ∷ Expression ∷ Extent ∷ Font ∷ FontSet ∷ Footer ∷ Force ∷ Group
+    ∷ Header ∷ ImageColor ∷ ImagePath ∷ ImageType ∷ ImageUrl ∷ Items ∷ Label ∷ LabelCache ∷ LabelItem ∷
+    LabelMaxScaleDenom ∷ LabelMinScaleDenom ∷ Legend ∷ Log ∷ MaxScaleDenom ∷ MaxSize ∷ MaxWidth ∷ Metadata ∷
+    MinDistance ∷ MinFeatureSize ∷ MinScaleDenom ∷ MinSize ∷ MinWidth ∷ Offset ∷ OutlineColor ∷ OutlineWidth ∷
+    OutputFormat ∷ Partials ∷ Position ∷ Priority ∷ Processing ∷ Projection ∷ QueryMap ∷ Reference ∷ RepeatDistance
+    ∷ Resolution ∷ ScaleBar ∷ ShapePath ∷ Size ∷ Status ∷ Template ∷ Text ∷ Title ∷ Tolerance ∷ ToleranceUnits ∷
+    Units ∷ Validation ∷ Web ∷ Width ∷ End ∷ []
 
 -- a text is a keyword, in letters of either case
 abbrev pub is_spelt : List ℕ → Keyword → Bool

@@ -1,10 +1,14 @@
 -- From a mapfile as it is written to the map that it describes (docs/MAPFILE.md, "From the file to the map"). What no
 -- keyword gives yet has the value that it will have where its keyword isn't given.
-use Rattle.std.specs.Prelude.{ℕ, [], map, codes, true, pos, neg_ℤ, None, unwrap_or}
+use Rattle.std.specs.Prelude.{ℕ, Bool, true, false, ◌==◌, ◌-◌, List, [], ◌++◌, length, map, take, replicate, codes, pos, neg_ℤ, Option, None, Some, unwrap_or, option_map}
+use Rattle.std.specs.Option.{option_or}
+use Rattle.std.specs.List.{slice_split}
 use Rattle.geom.specs.World.{Area}
 use Rattle.mapdefs.specs.declared.class.Rule.TheVariants.{Always}
 use Rattle.mapdefs.specs.declared.class.ClassFields.{ClassFields}
 use Rattle.mapdefs.specs.declared.feature.FeatureFields.{FeatureFields}
+use Rattle.mapdefs.specs.declared.label.LabelFields.{LabelFields}
+use Rattle.mapdefs.specs.declared.label.Position.TheVariants.{Centre}
 use Rattle.mapdefs.specs.declared.layer.Kind.{Kind}
 use Rattle.mapdefs.specs.declared.layer.Kind.TheVariants.{Polygon}
 use Rattle.mapdefs.specs.declared.layer.LayerFields.{LayerFields}
@@ -12,6 +16,7 @@ use Rattle.mapdefs.specs.declared.map.MapFields.{MapFields}
 use Rattle.mapdefs.specs.declared.style.StyleFields.{StyleFields}
 use Rattle.mapparse.specs.declared.tree.StyleTree.{StyleTree}
 use Rattle.mapparse.specs.declared.tree.ClassTree.{ClassTree}
+use Rattle.mapparse.specs.declared.tree.LabelTree.{LabelTree}
 use Rattle.mapparse.specs.declared.tree.FeatureTree.{FeatureTree}
 use Rattle.mapparse.specs.declared.tree.LayerTree.{LayerTree}
 use Rattle.mapparse.specs.declared.tree.MapTree.{MapTree}
@@ -26,38 +31,73 @@ style_of style = record {
   symbol = None;
 }
 
--- a class has its styles, holds all features, is visible at each scale and has no label
-abbrev pub class_of : ClassTree → ClassFields
-class_of class = record { rule = Always; min = None; max = None; styles = map style_of class.styles; label = None }
+-- a label is black without a COLOR, has the priority 1, stands centred on its anchor, keeps no distance, and is neither
+-- cut off nor placed over others where that isn't given
+abbrev pub label_of : LabelTree → LabelFields
+label_of label = record {
+  colour = unwrap_or label.colour (Some (record { red = 0; green = 0; blue = 0 }));
+  outline = label.outline;
+  priority = unwrap_or label.priority 1;
+  position = unwrap_or label.position Centre;
+  buffer = unwrap_or label.buffer 0;
+  mindistance = unwrap_or label.distance 0;
+  partials = unwrap_or label.partials false;
+  force = unwrap_or label.force false;
+}
 
--- a feature has its parts and its text, and no values
-abbrev pub feature_of : FeatureTree → FeatureFields
-feature_of feature = record { parts = feature.parts; text = feature.text; values = [] }
+-- a class has its rule, without which it holds all features, its bounds on the scale, its styles and its label
+abbrev pub class_of : ClassTree → ClassFields
+class_of class = record {
+  rule = unwrap_or class.rule Always;
+  min = class.min;
+  max = class.max;
+  styles = map style_of class.styles;
+  label = option_map label_of class.label;
+}
+
+-- The values of so many items: the texts between semicolons in their order, further ones dropped, and missing ones empty.
+abbrev pub is_semicolon : ℕ → Bool
+is_semicolon byte = byte == 59
+
+abbrev pub padded : ℕ → List (List ℕ) → List (List ℕ)
+padded count values = values ++ replicate (count - length values) []
+
+abbrev pub values_of : ℕ → Option (List ℕ) → List (List ℕ)
+values_of count None = padded count []
+values_of count (Some text) = padded count (take count (slice_split is_semicolon text))
+
+-- a feature has its parts, its text, and a value for each item of its layer
+abbrev pub feature_of : ℕ → FeatureTree → FeatureFields
+feature_of count feature = record { parts = feature.parts; text = feature.text; values = values_of count feature.items }
 
 -- how far from the asked pixel a feature counts where that isn't given: features with an area are hit themselves, others from 3 pixels on
 abbrev pub tolerance_of : Kind → ℕ
 tolerance_of Polygon = 0
 tolerance_of _ = 3
 
--- a layer has its name, which is its title too, its kind, its class item and label item, its classes and its features; it
--- is switched on and visible at each scale, and has no items
+-- the first of two texts that is given
+abbrev pub either_text : Option (List ℕ) → Option (List ℕ) → Option (List ℕ)
+either_text first second = option_or first second
+
+-- a layer is switched on, has its `wms_title` as its title, else its `ows_title`, else its name, and reads the columns x
+-- and y of tables where no others are given
 abbrev pub layer_of : LayerTree → LayerFields
 layer_of layer = record {
   name = layer.name;
-  title = layer.name;
+  title = unwrap_or (either_text layer.wms_title layer.ows_title) layer.name;
   kind = layer.kind;
   on = true;
   classitem = layer.classitem;
   labelitem = layer.labelitem;
-  items = [];
-  csv_x = codes "x";
-  csv_y = codes "y";
+  items = unwrap_or layer.items [];
+  csv_x = unwrap_or layer.csv_x (codes "x");
+  csv_y = unwrap_or layer.csv_y (codes "y");
   queryable = layer.queryable;
   tolerance = unwrap_or layer.tolerance (tolerance_of layer.kind);
-  min = None;
-  max = None;
+  min = layer.min;
+  max = layer.max;
   classes = map class_of layer.classes;
-  features = map feature_of layer.features;
+  features = map (feature_of (length (unwrap_or layer.items []))) layer.features;
 }
 
 -- the whole world: 180 degrees to the west and east, and 90 to the south and north
@@ -69,12 +109,13 @@ whole_world = record {
   maxy = pos 90000000;
 }
 
--- a map has its name as its title, and its layers, shows the whole world, and has neither a font nor symbols
+-- a map has the title of its service, `wms_title` before `ows_title` before its name, its address alike, its extent,
+-- without which it shows the whole world, and its layers, and has neither a font nor symbols
 abbrev pub map_of : MapTree → MapFields
 map_of tree = record {
-  title = unwrap_or tree.name (codes "WMS");
-  url = codes "http://localhost/wms?";
-  extent = whole_world;
+  title = unwrap_or (either_text (either_text tree.wms_title tree.ows_title) tree.name) (codes "WMS");
+  url = unwrap_or (either_text tree.wms_url tree.ows_url) (codes "http://localhost/wms?");
+  extent = unwrap_or tree.extent whole_world;
   font = None;
   symbols = [];
   layers = map layer_of tree.layers;

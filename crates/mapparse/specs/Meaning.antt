@@ -1,5 +1,5 @@
 -- What the tokens of a mapfile mean (docs/MAPFILE.md, "Blocks and words").
-use Rattle.std.specs.Prelude.{◌≡◌, ◌≢◌, ℕ, ℤ, zero, suc, ◌<◌, ◌≤◌, if◌then◌else◌, List, [], ◌∷◌, ◌++◌, length, IsTrue, None, Some, Result, Ok, Err}
+use Rattle.std.specs.Prelude.{◌≡◌, ◌≢◌, ℕ, ℤ, zero, suc, ◌<◌, ◌≤◌, if◌then◌else◌, List, [], ◌∷◌, ◌++◌, length, IsTrue, Some, Result, Ok, Err}
 use Rattle.std.specs.Fmt.{decimal}
 use Rattle.std.specs.Option.{ok_or}
 use Rattle.maplex.specs.declared.fault.LexFault.{LexFault}
@@ -32,11 +32,10 @@ pub record Given : Type 0 where
 -- the value that a keyword takes of the tokens after it
 unfoldable pub value_in : Tail → Expected → List TokenValue → Result Given Fault
 value_in tail expected [] = Err (missing tail)
-value_in tail expected (t ∷ ts) = if is_end t then refused MissingValue t else elim (value_step expected t) [
-  | None ↦ refused WrongValue t
-  | Some (More next) ↦ value_in tail next ts
-  | Some (Whole value) ↦ Ok (record { value = value; line = t.line; rest = ts })
-]
+value_in tail expected (t ∷ ts) = if is_end t then refused MissingValue t else and_then (value_step expected t) (λ step. elim step [
+  | More next ↦ value_in tail next ts
+  | Whole value ↦ Ok (record { value = value; line = t.line; rest = ts })
+])
 
 -- the latitude of a vertex, and the tokens after it
 abbrev pub latitude_in : Tail → List TokenValue → Result (ℤ × List TokenValue) Fault

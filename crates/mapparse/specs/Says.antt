@@ -1,5 +1,5 @@
 -- What one token says in a block (docs/MAPFILE.md, "Blocks and words").
-use Rattle.std.specs.Prelude.{ℤ, Bool, false, if◌then◌else◌, nat_le, List, ◌==◌, length, Option, None, Some, option_and_then, Result, Ok, Err}
+use Rattle.std.specs.Prelude.{ℤ, Bool, false, if◌then◌else◌, nat_le, List, ◌==◌, length, is_some, Option, None, Some, option_and_then, Result, Ok, Err}
 use Rattle.std.specs.Option.{ok_or}
 use Rattle.maplex.specs.Token.{TokenValue}
 use Rattle.mapdefs.specs.declared.limits.TheConstants.{MAX_LAYERS, MAX_CLASSES, MAX_STYLES, MAX_FEATURES, MAX_VERTICES}
@@ -7,16 +7,16 @@ use Rattle.mapdefs.specs.declared.layer.Kind.{Kind}
 use Rattle.mapparse.specs.declared.context.Block.{Block}
 use Rattle.mapparse.specs.declared.context.Block.TheVariants as block
 use Rattle.mapparse.specs.declared.context.Expected.{Expected}
-use Rattle.mapparse.specs.declared.context.Expected.TheVariants as expected
 use Rattle.mapparse.specs.declared.context.Role.{Role}
 use Rattle.mapparse.specs.declared.context.Role.TheVariants as role
 use Rattle.mapparse.specs.declared.draft.Named.{Named}
 use Rattle.mapparse.specs.declared.fault.Fault.{Fault}
 use Rattle.mapparse.specs.declared.fault.ParseKind.TheVariants.{UnknownWord, WrongValue, MissingValue, Limit, DuplicateName}
 use Rattle.mapparse.specs.declared.tree.LayerTree.{LayerTree}
-use Rattle.mapparse.specs.Entries.{Entries, last, blocks, vertices, vertex_count}
+use Rattle.mapparse.specs.Entries.{Entries, last, blocks, last_block, vertices, vertex_count}
 use Rattle.mapparse.specs.Fault.{fault_of, refused, and_then}
 use Rattle.mapparse.specs.Name.{is_taken}
+use Rattle.mapparse.specs.Setting.{pair_expects}
 use Rattle.mapparse.specs.Keyword.{keyword_at, is_end}
 use Rattle.mapparse.specs.Table.{role_of}
 use Rattle.mapparse.specs.Value.{is_value, coordinate_in}
@@ -48,11 +48,12 @@ abbrev pub ends_unless : Option Fault → Result Saying Fault
 ends_unless None = Ok Ends
 ends_unless (Some f) = Err f
 
--- the block has as many inner blocks of this kind as a map may have
+-- the block has as many inner blocks of this kind as a map may have; a class has one LABEL
 abbrev pub is_full : Block → Entries → Bool
 is_full block.Layer own = nat_le MAX_LAYERS (length (blocks block.Layer own))
 is_full block.Class own = nat_le MAX_CLASSES (length (blocks block.Class own))
 is_full block.Style own = nat_le MAX_STYLES (length (blocks block.Style own))
+is_full block.Label own = is_some (last_block block.Label own)
 is_full block.Feature own = nat_le MAX_FEATURES (length (blocks block.Feature own))
 is_full _ own = false
 
@@ -72,9 +73,9 @@ vertex_says above own t =
 abbrev pub points_say : Entries → Entries → TokenValue → Result Saying Fault
 points_say above own t = if is_end t then ends_unless (closing_fault block.Points above own t) else vertex_says above own t
 
--- in VALIDATION stands its END, or the first value of a pair, of which a second one follows
-abbrev pub pair_says : TokenValue → Result Saying Fault
-pair_says t = if is_end t then Ok Ends else (if is_value t.shape then Ok (Takes (expected.Unused 0)) else refused WrongValue t)
+-- in METADATA and VALIDATION stands their END, or a key, after which its value comes
+abbrev pub pair_says : Block → TokenValue → Result Saying Fault
+pair_says b t = if is_end t then Ok Ends else (if is_value t.shape then Ok (Takes (pair_expects b t.text)) else refused WrongValue t)
 
 -- in a block that is read over a token says nothing, unless it ends the block or opens another one
 abbrev pub passed_says : Option Role → Result Saying Fault
@@ -89,7 +90,9 @@ role_at b t = option_and_then (role_of b) (keyword_at t)
 -- what a token says in a block, of which the parent says this before it, and the block this so far
 abbrev pub says : Block → Entries → Entries → TokenValue → Result Saying Fault
 says block.Points above own t = points_say above own t
-says block.Validation above own t = pair_says t
+says block.Validation above own t = pair_says block.Validation t
+says block.WebMetadata above own t = pair_says block.WebMetadata t
+says block.LayerMetadata above own t = pair_says block.LayerMetadata t
 says block.Projection above own t = passed_says (role_at block.Projection t)
 says block.Passed above own t = passed_says (role_at block.Passed t)
 says block.PassedLabel above own t = passed_says (role_at block.PassedLabel t)

@@ -1,12 +1,11 @@
 -- How one token is read, by its context (docs/MAPFILE.md, "Blocks and words").
-use Rattle.std.specs.Prelude.{ℤ, if◌then◌else◌, nat_le, Option, None, Some, option_and_then, Result, Ok}
+use Rattle.std.specs.Prelude.{ℤ, if◌then◌else◌, nat_le, Option, None, Some, option_and_then, Result, Ok, Err}
 use Rattle.std.specs.Option.{ok_or}
 use Rattle.maplex.specs.Token.{TokenValue}
 use Rattle.mapdefs.specs.declared.limits.TheConstants.{MAX_VERTICES}
 use Rattle.mapparse.specs.declared.context.Block.{Block}
 use Rattle.mapparse.specs.declared.context.Block.TheVariants as block
 use Rattle.mapparse.specs.declared.context.Expected.{Expected}
-use Rattle.mapparse.specs.declared.context.Expected.TheVariants as expected
 use Rattle.mapparse.specs.declared.context.Role.{Role}
 use Rattle.mapparse.specs.declared.context.Role.TheVariants.{Closes, Opens, Takes}
 use Rattle.mapparse.specs.declared.context.Context.{Context}
@@ -20,6 +19,7 @@ use Rattle.mapparse.specs.declared.fault.Fault.{Fault}
 use Rattle.mapparse.specs.declared.fault.ParseKind.TheVariants.{UnknownWord, WrongValue, MissingValue, Limit}
 use Rattle.mapparse.specs.Fault.{fault_of, refused, and_then}
 use Rattle.mapparse.specs.Keyword.{keyword_at, is_end}
+use Rattle.mapparse.specs.Setting.{pair_expects}
 use Rattle.mapparse.specs.Table.{role_of}
 use Rattle.mapparse.specs.Value.{is_value, value_step, coordinate_in}
 use Rattle.mapparse.specs.Parts.{vertex_count, with_vertex}
@@ -42,10 +42,10 @@ abbrev pub read_keyword : Block → Drafts → TokenValue → Result (Move × Dr
 read_keyword b d t = read_role b (option_and_then (role_of b) (keyword_at t)) d t
 
 -- a whole value is noted, and of another one more is expected
-abbrev pub note_step : Option ValueStep → Drafts → TokenValue → Result (Move × Drafts) Fault
-note_step None d t = refused WrongValue t
-note_step (Some (More next)) d t = Ok (GoesOn (Values next), d)
-note_step (Some (Whole value)) d t = Ok (Leaves, with_value value t.line d)
+abbrev pub note_step : Result ValueStep Fault → Drafts → TokenValue → Result (Move × Drafts) Fault
+note_step (Err f) d t = Err f
+note_step (Ok (More next)) d t = Ok (GoesOn (Values next), d)
+note_step (Ok (Whole value)) d t = Ok (Leaves, with_value value t.line d)
 
 -- a token is read as a value
 abbrev pub read_value : Expected → Drafts → TokenValue → Result (Move × Drafts) Fault
@@ -79,16 +79,18 @@ pass_over b (Some Closes) d = Ok (Leaves, d)
 pass_over b (Some (Opens inner)) d = Ok (Enters (Keywords inner), d)
 pass_over b _ d = Ok (GoesOn (Keywords b), d)
 
--- a token is read in VALIDATION: its END, or the first value of a pair
-abbrev pub read_pair : Drafts → TokenValue → Result (Move × Drafts) Fault
-read_pair d t =
+-- a token is read in METADATA or VALIDATION: its END, or a key
+abbrev pub read_pair : Block → Drafts → TokenValue → Result (Move × Drafts) Fault
+read_pair b d t =
     if is_end t then Ok (Leaves, d)
-    else (if is_value t.shape then Ok (Enters (Values (expected.Unused 0)), d) else refused WrongValue t)
+    else (if is_value t.shape then Ok (Enters (Values (pair_expects b t.text)), d) else refused WrongValue t)
 
 -- a token is read in its context: how reading goes on, and what was read of the open blocks
 abbrev pub read_token : Context → Drafts → TokenValue → Result (Move × Drafts) Fault
 read_token (Keywords block.Points) d t = read_longitude d t
-read_token (Keywords block.Validation) d t = read_pair d t
+read_token (Keywords block.Validation) d t = read_pair block.Validation d t
+read_token (Keywords block.WebMetadata) d t = read_pair block.WebMetadata d t
+read_token (Keywords block.LayerMetadata) d t = read_pair block.LayerMetadata d t
 read_token (Keywords block.Projection) d t = pass_over block.Projection (option_and_then (role_of block.Projection) (keyword_at t)) d
 read_token (Keywords block.Passed) d t = pass_over block.Passed (option_and_then (role_of block.Passed) (keyword_at t)) d
 read_token (Keywords block.PassedLabel) d t = pass_over block.PassedLabel (option_and_then (role_of block.PassedLabel) (keyword_at t)) d

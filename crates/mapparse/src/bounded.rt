@@ -21,8 +21,8 @@ impl<const LEAST: usize, const MOST: usize> Model for Bounded<LEAST, MOST> {
 }
 
 impl<const LEAST: usize, const MOST: usize> Bounded<LEAST, MOST> {
-    // The count, if it is within the bounds.
-    fn of(count: i64) -> Option<Self>
+    /// The count, if it is within the bounds.
+    pub fn of(count: i64) -> Option<Self>
         requires { MOST ≤ 65535 }
         ensures { result ≡ bounded LEAST MOST count }
     {

@@ -32,6 +32,14 @@ impl<T, const N: usize> Capped<T, N> {
         }
     }
 
+    /// The list of these elements.
+    pub fn of(items: Vec<T>) -> Self
+        requires { length items.items ≤ N }
+        ensures { result ≡ items.items }
+    {
+        Capped { items }
+    }
+
     /// Whether there is no room for a further element.
     pub fn is_full(&self) -> bool
         ensures { result ≡ nat_le N (length self.now) }

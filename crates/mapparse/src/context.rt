@@ -10,6 +10,12 @@ pub enum Block {
     Style,
     Feature,
     Points,
+    Label,
+    Web,
+    /// Keys and values of a WEB, of which some say what the service is called.
+    WebMetadata,
+    /// Keys and values of a LAYER, of which some say what it is called.
+    LayerMetadata,
     /// Pairs of values that have no effect.
     Validation,
     /// It is read over up to the next bare word END.
@@ -29,12 +35,26 @@ pub enum TextKeyword {
     LabelItem,
     Template,
     FeatureText,
+    FeatureItems,
+    /// The columns of longitude and latitude in a layer's tables.
+    CsvX,
+    CsvY,
+    /// The keys of a WEB's METADATA.
+    ServiceWmsTitle,
+    ServiceOwsTitle,
+    ServiceWmsUrl,
+    ServiceOwsUrl,
+    /// The keys of a LAYER's METADATA.
+    LayerWmsTitle,
+    LayerOwsTitle,
 }
 
 /// The keywords that take a colour.
 #[derive(Clone, Copy)]
 pub enum ColourKeyword {
     StyleColour,
+    LabelColour,
+    LabelOutline,
     /// A MAP's IMAGECOLOR, which has no effect.
     ImageColour,
 }
@@ -44,6 +64,22 @@ pub enum ColourKeyword {
 pub enum OnlyWord {
     Pixels,
     On,
+}
+
+/// The keywords that take TRUE or FALSE.
+#[derive(Clone, Copy)]
+pub enum FlagKeyword {
+    Partials,
+    Force,
+}
+
+/// The keywords that take a scale denominator.
+#[derive(Clone, Copy)]
+pub enum ScaleKeyword {
+    LayerMin,
+    LayerMax,
+    ClassMin,
+    ClassMax,
 }
 
 /// What a keyword still expects, with the values that were read for it.
@@ -59,6 +95,33 @@ pub enum Expected {
     Size,
     /// The tolerance of a layer.
     Tolerance,
+    /// The priority of a label.
+    Priority,
+    /// How far a label's box is widened.
+    Buffer,
+    /// How far labels of one text stay apart.
+    Distance,
+    /// Where a label stands.
+    Position,
+    /// TRUE or FALSE.
+    Flag(FlagKeyword),
+    /// A scale denominator.
+    Scale(ScaleKeyword),
+    /// The rule of a class.
+    Rule,
+    /// A setting of a layer: its key, an equals sign, its value.
+    Setting,
+    /// The key of a CONFIG, after which its value comes.
+    ConfigKey,
+    /// The west of the extent, after which south, east and north come. What was read of it is kept as
+    /// plain numbers, in millionths of a degree.
+    West,
+    /// The south of the extent, after its west.
+    South(i64),
+    /// The east of the extent, after its west and its south.
+    East(i64, i64),
+    /// The north of the extent, after its west, its south and its east.
+    North(i64, i64, i64),
     /// A colour: a text `#rrggbb`, or three counts of which the first is next.
     Colour(ColourKeyword),
     /// The count of green, after that of red.

@@ -1,13 +1,14 @@
 ghost use Rattle.std.specs.Prelude.{◌≡◌};
-ghost use Rattle.mapparse.specs.Draft.{fresh, new_layer, new_class, new_style, new_feature, with_text, with_value, is_full};
+ghost use Rattle.mapparse.specs.Draft.{fresh, new_map, new_layer, new_class, new_style, new_label, new_feature, with_other_text, with_text, with_scale, with_colour, with_flag, with_value, is_full};
 
 use crate::bounded::Bounded;
 use crate::capped::Capped;
-use crate::context::{Block, ColourKeyword, TextKeyword};
+use crate::context::{Block, ColourKeyword, FlagKeyword, ScaleKeyword, TextKeyword};
 use crate::parts::PartsDraft;
-use crate::tree::{ClassTree, FeatureTree, LayerTree, MapTree, StyleTree};
+use crate::tree::{ClassTree, FeatureTree, LabelTree, LayerTree, MapTree, StyleTree};
 use crate::value::Value;
-use mapdefs::{Kind, MAX_CLASSES, MAX_FEATURES, Text};
+use geom::Micro;
+use mapdefs::{Kind, MAX_CLASSES, MAX_FEATURES, MAX_ITEMS, Rgb, Text};
 use std::alloc::Global;
 
 /// A name, and the line of its token.
@@ -26,6 +27,13 @@ pub struct LayerDraft {
     pub labelitem: Option<Text>,
     pub queryable: bool,
     pub tolerance: Option<Bounded<0, 64>>,
+    pub min: Option<Micro>,
+    pub max: Option<Micro>,
+    pub items: Option<Capped<Text, MAX_ITEMS>>,
+    pub csv_x: Option<Text>,
+    pub csv_y: Option<Text>,
+    pub wms_title: Option<Text>,
+    pub ows_title: Option<Text>,
     pub classes: Capped<ClassTree, MAX_CLASSES>,
     pub features: Capped<FeatureTree, MAX_FEATURES>,
 }
@@ -35,6 +43,7 @@ pub struct LayerDraft {
 pub struct FeatureDraft {
     pub parts: PartsDraft,
     pub text: Option<Text>,
+    pub items: Option<Text>,
 }
 
 /// What was read of the open blocks. The draft of a block that isn't open is a new one.
@@ -44,7 +53,25 @@ pub struct Drafts {
     pub layer: LayerDraft,
     pub class: ClassTree,
     pub style: StyleTree,
+    pub label: LabelTree,
     pub feature: FeatureDraft,
+}
+
+impl MapTree {
+    /// A MAP of which nothing was read.
+    pub fn new(alloc: Global) -> Self
+        ensures { result ≡ new_map }
+    {
+        MapTree {
+            name: None,
+            extent: None,
+            wms_title: None,
+            ows_title: None,
+            wms_url: None,
+            ows_url: None,
+            layers: Capped::new(alloc),
+        }
+    }
 }
 
 impl LayerDraft {
@@ -59,6 +86,13 @@ impl LayerDraft {
             labelitem: None,
             queryable: false,
             tolerance: None,
+            min: None,
+            max: None,
+            items: None,
+            csv_x: None,
+            csv_y: None,
+            wms_title: None,
+            ows_title: None,
             classes: Capped::new(alloc),
             features: Capped::new(alloc),
         }
@@ -71,7 +105,11 @@ impl ClassTree {
         ensures { result ≡ new_class }
     {
         ClassTree {
+            rule: None,
+            min: None,
+            max: None,
             styles: Capped::new(alloc),
+            label: None,
         }
     }
 }
@@ -89,6 +127,24 @@ impl StyleTree {
     }
 }
 
+impl LabelTree {
+    /// A LABEL of which nothing was read.
+    pub fn new() -> Self
+        ensures { result ≡ new_label }
+    {
+        LabelTree {
+            colour: None,
+            outline: None,
+            priority: None,
+            position: None,
+            buffer: None,
+            distance: None,
+            partials: None,
+            force: None,
+        }
+    }
+}
+
 impl FeatureDraft {
     /// A FEATURE of which nothing was read.
     pub fn new(alloc: Global) -> Self
@@ -97,6 +153,7 @@ impl FeatureDraft {
         FeatureDraft {
             parts: PartsDraft::new(alloc),
             text: None,
+            items: None,
         }
     }
 }
@@ -107,13 +164,11 @@ impl Drafts {
         ensures { result ≡ fresh }
     {
         Drafts {
-            map: MapTree {
-                name: None,
-                layers: Capped::new(alloc),
-            },
+            map: MapTree::new(alloc),
             layer: LayerDraft::new(alloc),
             class: ClassTree::new(alloc),
             style: StyleTree::new(),
+            label: LabelTree::new(),
             feature: FeatureDraft::new(alloc),
         }
     }
@@ -125,17 +180,70 @@ impl Drafts {
         self.map
     }
 
+    // Notes a text of a MAP or a FEATURE.
+    fn set_other_text(&mut self, keyword: TextKeyword, text: Text)
+        ensures { self.new ≡ with_other_text keyword text self.old }
+    {
+        match keyword {
+            TextKeyword::MapName => self.map.name = Some(text),
+            TextKeyword::ServiceWmsTitle => self.map.wms_title = Some(text),
+            TextKeyword::ServiceOwsTitle => self.map.ows_title = Some(text),
+            TextKeyword::ServiceWmsUrl => self.map.wms_url = Some(text),
+            TextKeyword::ServiceOwsUrl => self.map.ows_url = Some(text),
+            TextKeyword::FeatureText => self.feature.text = Some(text),
+            TextKeyword::FeatureItems => self.feature.items = Some(text),
+            _ => {}
+        }
+    }
+
     // Notes a text of a line.
     fn set_text(&mut self, keyword: TextKeyword, text: Text, line: u64)
         ensures { self.new ≡ with_text keyword text line self.old }
     {
         match keyword {
-            TextKeyword::MapName => self.map.name = Some(text),
             TextKeyword::LayerName => self.layer.name = Some(Named { text, line }),
             TextKeyword::ClassItem => self.layer.classitem = Some(text),
             TextKeyword::LabelItem => self.layer.labelitem = Some(text),
             TextKeyword::Template => self.layer.queryable = true,
-            TextKeyword::FeatureText => self.feature.text = Some(text),
+            TextKeyword::CsvX => self.layer.csv_x = Some(text),
+            TextKeyword::CsvY => self.layer.csv_y = Some(text),
+            TextKeyword::LayerWmsTitle => self.layer.wms_title = Some(text),
+            TextKeyword::LayerOwsTitle => self.layer.ows_title = Some(text),
+            _ => self.set_other_text(keyword, text),
+        }
+    }
+
+    // Notes a bound on the scale.
+    fn set_scale(&mut self, keyword: ScaleKeyword, scale: Micro)
+        ensures { self.new ≡ with_scale keyword scale self.old }
+    {
+        match keyword {
+            ScaleKeyword::LayerMin => self.layer.min = Some(scale),
+            ScaleKeyword::LayerMax => self.layer.max = Some(scale),
+            ScaleKeyword::ClassMin => self.class.min = Some(scale),
+            ScaleKeyword::ClassMax => self.class.max = Some(scale),
+        }
+    }
+
+    // Notes a colour.
+    fn set_colour(&mut self, keyword: ColourKeyword, colour: Option<Rgb>)
+        ensures { self.new ≡ with_colour keyword colour self.old }
+    {
+        match keyword {
+            ColourKeyword::StyleColour => self.style.colour = colour,
+            ColourKeyword::LabelColour => self.label.colour = Some(colour),
+            ColourKeyword::LabelOutline => self.label.outline = colour,
+            ColourKeyword::ImageColour => {}
+        }
+    }
+
+    // Notes what a LABEL says of its place, TRUE or FALSE.
+    fn set_flag(&mut self, keyword: FlagKeyword, flag: bool)
+        ensures { self.new ≡ with_flag keyword flag self.old }
+    {
+        match keyword {
+            FlagKeyword::Partials => self.label.partials = Some(flag),
+            FlagKeyword::Force => self.label.force = Some(flag),
         }
     }
 
@@ -149,8 +257,17 @@ impl Drafts {
             Value::Width(width) => self.style.width = Some(width),
             Value::Size(size) => self.style.size = Some(size),
             Value::Tolerance(tolerance) => self.layer.tolerance = Some(tolerance),
-            Value::Colour(ColourKeyword::StyleColour, colour) => self.style.colour = colour,
-            Value::Colour(ColourKeyword::ImageColour, _) | Value::Nothing => {}
+            Value::Priority(priority) => self.label.priority = Some(priority),
+            Value::Buffer(buffer) => self.label.buffer = Some(buffer),
+            Value::Distance(distance) => self.label.distance = Some(distance),
+            Value::Position(position) => self.label.position = Some(position),
+            Value::Flag(keyword, flag) => self.set_flag(keyword, flag),
+            Value::Scale(keyword, scale) => self.set_scale(keyword, scale),
+            Value::Rule(rule) => self.class.rule = Some(rule),
+            Value::Items(items) => self.layer.items = Some(items),
+            Value::Extent(extent) => self.map.extent = Some(extent),
+            Value::Colour(keyword, colour) => self.set_colour(keyword, colour),
+            Value::Nothing => {}
         }
     }
 
@@ -162,10 +279,15 @@ impl Drafts {
             Block::Layer => self.map.layers.is_full(),
             Block::Class => self.layer.classes.is_full(),
             Block::Style => self.class.styles.is_full(),
+            Block::Label => self.class.label.is_some(),
             Block::Feature => self.layer.features.is_full(),
-            // A mapfile has one MAP, POINTS are limited by their vertices, and the others are not kept.
+            // A mapfile has one MAP, POINTS are limited by their vertices, keys and values add up, and the
+            // others are not kept.
             Block::Map
             | Block::Points
+            | Block::Web
+            | Block::WebMetadata
+            | Block::LayerMetadata
             | Block::Validation
             | Block::Projection
             | Block::Passed

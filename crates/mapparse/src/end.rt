@@ -1,14 +1,14 @@
 ghost use Rattle.std.specs.Prelude.{◌≡◌, ◌<◌, false, length, Ok, OnOk, MatchResult};
 ghost use Rattle.mapdefs.specs.declared.limits.TheConstants.{MAX_LAYERS, MAX_CLASSES, MAX_STYLES, MAX_FEATURES};
 ghost use Rattle.mapparse.specs.Draft.{is_full};
-ghost use Rattle.mapparse.specs.End.{finished_layer, layer_end, class_end, style_end, feature_end, points_end, ends};
+ghost use Rattle.mapparse.specs.End.{finished_layer, layer_end, class_end, style_end, label_end, feature_end, points_end, ends};
 ghost use Rattle.mapparse.specs.Fault.{IsErrorOf};
 ghost use Rattle.mapparse.specs.Name.{is_taken};
 
 use crate::context::Block;
 use crate::draft::{Drafts, FeatureDraft, LayerDraft};
 use crate::fault::{Fault, ParseFault, ParseKind, fault_of};
-use crate::tree::{ClassTree, FeatureTree, LayerTree, StyleTree};
+use crate::tree::{ClassTree, FeatureTree, LabelTree, LayerTree, StyleTree};
 use maplex::Token;
 use std::alloc::{AllocError, Global};
 use std::mem;
@@ -31,6 +31,13 @@ fn finished_layer(draft: LayerDraft, earlier: &[LayerTree], end: &Token) -> Resu
         labelitem,
         queryable,
         tolerance,
+        min,
+        max,
+        items,
+        csv_x,
+        csv_y,
+        wms_title,
+        ows_title,
         classes,
         features,
     } = draft;
@@ -50,6 +57,13 @@ fn finished_layer(draft: LayerDraft, earlier: &[LayerTree], end: &Token) -> Resu
         labelitem,
         queryable,
         tolerance,
+        min,
+        max,
+        items,
+        csv_x,
+        csv_y,
+        wms_title,
+        ows_title,
         classes,
         features,
     })
@@ -86,6 +100,14 @@ fn end_style(drafts: &mut Drafts) -> Result<(), AllocError>
     drafts.class.styles.push(style)
 }
 
+// Ends a LABEL: the class gets it.
+fn end_label(drafts: &mut Drafts)
+    ensures { drafts.new ≡ label_end drafts.old }
+{
+    let label = mem::replace(&mut drafts.label, LabelTree::new());
+    drafts.class.label = Some(label);
+}
+
 // Ends a FEATURE: the layer gets it.
 fn end_feature(drafts: &mut Drafts, end: &Token, alloc: Global) -> Result<(), ParseFault>
     requires { length drafts.old.layer.features < MAX_FEATURES }
@@ -96,10 +118,12 @@ fn end_feature(drafts: &mut Drafts, end: &Token, alloc: Global) -> Result<(), Pa
     if drafts.feature.parts.is_empty() {
         return Err(fault_of(ParseKind::MissingValue, end).into());
     }
-    let FeatureDraft { parts, text } = mem::replace(&mut drafts.feature, FeatureDraft::new(alloc));
+    let feature = mem::replace(&mut drafts.feature, FeatureDraft::new(alloc));
+    let FeatureDraft { parts, text, items } = feature;
     drafts.layer.features.push(FeatureTree {
         parts: parts.into_parts(),
         text,
+        items,
     })?;
     Ok(())
 }
@@ -133,11 +157,18 @@ pub fn close(
         Block::Layer => end_layer(drafts, end, alloc)?,
         Block::Class => end_class(drafts, alloc)?,
         Block::Style => end_style(drafts)?,
+        Block::Label => end_label(drafts),
         Block::Feature => end_feature(drafts, end, alloc)?,
         Block::Points => end_points(drafts, end, alloc)?,
         // There is nothing to check, and nothing to keep.
-        Block::Map | Block::Validation | Block::Projection | Block::Passed | Block::PassedLabel =>
-            {}
+        Block::Map
+        | Block::Web
+        | Block::WebMetadata
+        | Block::LayerMetadata
+        | Block::Validation
+        | Block::Projection
+        | Block::Passed
+        | Block::PassedLabel => {}
     }
     Ok(())
 }

@@ -23,12 +23,15 @@ pub enum ParseKind {
     /// An END before a value or a keyword that has to be given.
     #[error("an END before all that has to be given was given")]
     MissingValue,
-    /// A block or a vertex more than a map may have.
-    #[error("more layers, classes, styles, features or vertices than a map may have")]
+    /// A block, a vertex or an item more than a map may have.
+    #[error("more layers, classes, styles, labels, features, vertices or items than a map may have")]
     Limit,
     /// A layer whose name an earlier layer has. The line is that of the name.
     #[error("an earlier layer has the same name")]
     DuplicateName,
+    /// The value of EXPRESSION is no expression.
+    #[error("no expression")]
+    BadExpression,
 }
 
 impl ParseKind {
@@ -44,6 +47,7 @@ impl ParseKind {
             ParseKind::MissingValue => 5,
             ParseKind::Limit => 6,
             ParseKind::DuplicateName => 8,
+            ParseKind::BadExpression => 9,
         }
     }
 }

@@ -11,8 +11,7 @@
 //! `laws::counts_are_colour`). The reader goes over the tokens once, with a draft for each kind of
 //! block; that this gives what the blocks say is a theorem (`proofs/OnePass`).
 //!
-//! Out of memory: where reading a token allocates, out of memory is the error of a token without a
-//! fault only. What takes no memory fails with a `Fault` alone.
+//! What takes no memory fails with a `Fault` alone.
 //!
 //! Words: a *keyword* is a bare word of a block. A *block* opens with its keyword and closes with END.
 //! A *value* stands after the keyword that takes it. A *context* is what a token is read as: a keyword
@@ -27,18 +26,23 @@ mod context;
 mod contexts;
 mod draft;
 mod end;
+mod extent;
 mod fault;
 mod keyword;
+mod label;
 pub mod laws;
 mod mapfile;
 mod mapping;
 mod number;
 mod parts;
 mod reader;
+mod rule;
+mod setting;
 mod step;
 mod table;
 #[cfg(test)]
 mod tests;
+mod texts;
 mod tree;
 mod value;
 

@@ -1,14 +1,23 @@
-ghost use Rattle.std.specs.Prelude.{◌≡◌, ◌≤◌, map, length, codes, unwrap_or, IfOk};
+ghost use Rattle.std.specs.Prelude.{◌≡◌, ◌≤◌, [], map, take, length, unwrap_or, IfOk, OnOk};
+ghost use Rattle.std.specs.List.{slice_split};
 ghost use Rattle.geom.specs.World.{IsExtent};
-ghost use Rattle.mapdefs.specs.declared.limits.TheConstants.{MAX_LINE_WIDTH, MAX_SQUARE, MAX_TOLERANCE};
-ghost use Rattle.mapparse.specs.Mapping.{tolerance_of, whole_world, map_of};
+ghost use Rattle.mapdefs.specs.declared.limits.TheConstants.{MAX_FEATURES, MAX_LINE_WIDTH, MAX_SQUARE, MAX_TOLERANCE};
+ghost use Rattle.mapdefs.specs.ClassLimits.{IsRuleWithinLimits};
+ghost use Rattle.mapdefs.specs.declared.class.Rule.TheVariants.{Always};
+ghost use Rattle.mapdefs.specs.declared.limits.TheConstants.{MAX_ITEMS};
+ghost use Rattle.mapparse.specs.Mapping.{is_semicolon, label_of, padded, values_of, feature_of, tolerance_of, whole_world, map_of};
 
 use crate::bounded::Bounded;
-use crate::tree::{ClassTree, FeatureTree, LayerTree, MapTree, StyleTree};
+use crate::capped::Capped;
+use crate::extent::Extent;
+use crate::rule::ClassRule;
+use crate::texts::{semicolon_parts, texts_of};
+use crate::tree::{ClassTree, FeatureTree, LabelTree, LayerTree, MapTree, StyleTree};
 use geom::{Micro, WorldBox};
 use mapdefs::{
-    Class, ClassFields, Feature, FeatureFields, Items, Kind, Layer, LayerFields, Map, MapFields,
-    Rule, Style, StyleFields, Text,
+    Class, ClassFields, Feature, FeatureFields, Items, Kind, Label, LabelFields, Layer,
+    LayerFields, MAX_FEATURES, MAX_ITEMS, Map, MapFields, Position, Rgb, Rule, Style, StyleFields,
+    Text,
 };
 use std::alloc::{AllocError, Global};
 
@@ -36,27 +45,20 @@ fn build_all<T: Build>(trees: Vec<T>, alloc: Global) -> Result<Items<T::Part>, A
     Ok(Items::of(parts))
 }
 
-// The width of a style, in pixels.
-fn width_of(width: Option<Bounded<1, 32>>) -> u8
-    ensures value { result ≡ unwrap_or width 1 }
-    ensures least { 1 ≤ result }
-    ensures most { result ≤ MAX_LINE_WIDTH }
+// A count, or what stands for it where it isn't given.
+fn count_or<const LEAST: usize, const MOST: usize>(
+    count: Option<Bounded<LEAST, MOST>>,
+    default: u16,
+) -> u16
+    requires least { LEAST ≤ default }
+    requires most { default ≤ MOST }
+    ensures value { result ≡ unwrap_or count.entry default }
+    ensures least { LEAST ≤ result }
+    ensures most { result ≤ MOST }
 {
-    match width {
-        Some(width) => width.get() as u8,
-        None => 1,
-    }
-}
-
-// The size of a style, in pixels.
-fn size_of(size: Option<Bounded<1, 256>>) -> u16
-    ensures value { result ≡ unwrap_or size 1 }
-    ensures least { 1 ≤ result }
-    ensures most { result ≤ MAX_SQUARE }
-{
-    match size {
-        Some(size) => size.get(),
-        None => 1,
+    match count {
+        Some(count) => count.get(),
+        None => default,
     }
 }
 
@@ -71,11 +73,43 @@ impl Build for StyleTree {
         Ok(Style::new(StyleFields {
             colour: self.colour,
             outline: None,
-            width: width_of(self.width),
-            size: size_of(self.size),
+            width: count_or(self.width, 1) as u8,
+            size: count_or(self.size, 1),
             symbol: None,
         }))
     }
+}
+
+// The rule of a class.
+fn rule_of(rule: Option<ClassRule>) -> Rule
+    ensures value { result ≡ unwrap_or rule Always }
+    ensures limits { ∥ IsRuleWithinLimits result ∥₁ }
+{
+    match rule {
+        Some(rule) => rule.get(),
+        None => Rule::Always,
+    }
+}
+
+// The label of a class.
+fn label_of(tree: LabelTree) -> Label
+    ensures { result ≡ label_of tree }
+{
+    let black = Rgb {
+        red: 0,
+        green: 0,
+        blue: 0,
+    };
+    Label::new(LabelFields {
+        colour: tree.colour.unwrap_or(Some(black)),
+        outline: tree.outline,
+        priority: count_or(tree.priority, 1) as u8,
+        position: tree.position.unwrap_or(Position::Centre),
+        buffer: count_or(tree.buffer, 0) as u8,
+        mindistance: count_or(tree.distance, 0),
+        partials: tree.partials.unwrap_or(false),
+        force: tree.force.unwrap_or(false),
+    })
 }
 
 impl Build for ClassTree {
@@ -86,34 +120,84 @@ impl Build for ClassTree {
     ghost part = { class_of };
 
     fn build(self, alloc: Global) -> Result<Class, AllocError> {
+        let ClassTree {
+            rule,
+            min,
+            max,
+            styles,
+            label,
+        } = self;
         Ok(Class::new(ClassFields {
-            rule: Rule::Always,
-            min: None,
-            max: None,
-            styles: build_all(self.styles.into_vec(), alloc)?,
-            label: None,
+            rule: rule_of(rule),
+            min,
+            max,
+            styles: build_all(styles.into_vec(), alloc)?,
+            label: label.map(label_of),
         }))
     }
 }
 
-impl Build for FeatureTree {
-    type Part = Feature;
+// The values of a feature's items, as many as the layer has items.
+fn values_of(items: Option<Text>, count: usize, alloc: Global) -> Result<Items<Text>, AllocError>
+    ensures { IfOk result (λ made. made ≡ values_of count items) }
+{
+    let mut values = match &items {
+        Some(text) => first_parts(text.as_str(), count, alloc)?,
+        None => Vec::new(alloc),
+    };
+    fill_up(&mut values, count, alloc)?;
+    Ok(Items::of(values))
+}
 
-    ghost use Rattle.mapparse.specs.Mapping.{feature_of};
-
-    ghost part = { feature_of };
-
-    fn build(self, alloc: Global) -> Result<Feature, AllocError> {
-        Ok(Feature::new(FeatureFields {
-            parts: self.parts.into_items(),
-            text: self.text,
-            values: Items::new(alloc),
-        }))
+// Adds empty values up to so many.
+fn fill_up(values: &mut Vec<Text>, count: usize, alloc: Global) -> Result<(), AllocError>
+    ensures { OnOk result (values.new.items ≡ padded count values.old.items) }
+{
+    while values.len() < count {
+        values.push(Text::from_str(alloc, "")?)?;
     }
+    Ok(())
+}
+
+// The first texts between semicolons, so many at most.
+fn first_parts(text: &str, count: usize, alloc: Global) -> Result<Vec<Text>, AllocError>
+    ensures { IfOk result (λ made. made.items ≡ take count (slice_split is_semicolon text.now)) }
+{
+    let parts = semicolon_parts(text, alloc)?;
+    let mut texts = texts_of(&parts, alloc)?;
+    texts.truncate(count);
+    Ok(texts)
+}
+
+// The feature of a layer with so many items.
+fn feature_of(tree: FeatureTree, count: usize, alloc: Global) -> Result<Feature, AllocError>
+    ensures { IfOk result (λ made. made ≡ feature_of count tree) }
+{
+    let FeatureTree { parts, text, items } = tree;
+    Ok(Feature::new(FeatureFields {
+        parts: parts.into_items(),
+        text,
+        values: values_of(items, count, alloc)?,
+    }))
+}
+
+// The features of a layer with so many items, in their order.
+fn features_of(
+    trees: Vec<FeatureTree>,
+    count: usize,
+    alloc: Global,
+) -> Result<Items<Feature>, AllocError>
+    ensures { IfOk result (λ made. made ≡ map (feature_of count) trees.items) }
+{
+    let mut features = Vec::with_capacity(alloc, trees.len())?;
+    for tree in trees {
+        features.push(feature_of(tree, count, alloc)?)?;
+    }
+    Ok(Items::of(features))
 }
 
 // How far from the asked pixel a feature counts, in pixels.
-fn tolerance_of(kind: Kind) -> u8
+fn tolerance_of(kind: Kind) -> u16
     ensures value { result ≡ tolerance_of kind }
     ensures limit { result ≤ MAX_TOLERANCE }
 {
@@ -123,14 +207,40 @@ fn tolerance_of(kind: Kind) -> u8
     }
 }
 
-// The tolerance of a layer, in pixels.
-fn layer_tolerance(tolerance: Option<Bounded<0, 64>>, kind: Kind) -> u8
-    ensures value { result ≡ unwrap_or tolerance (tolerance_of kind) }
-    ensures limit { result ≤ MAX_TOLERANCE }
+// The names of a layer's items.
+fn items_of(items: Option<Capped<Text, MAX_ITEMS>>, alloc: Global) -> Items<Text>
+    ensures value { result ≡ unwrap_or items [] }
+    ensures limit { length result ≤ MAX_ITEMS }
 {
-    match tolerance {
-        Some(tolerance) => tolerance.get() as u8,
-        None => tolerance_of(kind),
+    match items {
+        Some(items) => Items::of(items.into_vec()),
+        None => Items::new(alloc),
+    }
+}
+
+// The items of a layer, and its features with their values.
+fn with_items(
+    items: Option<Capped<Text, MAX_ITEMS>>,
+    features: Capped<FeatureTree, MAX_FEATURES>,
+    alloc: Global,
+) -> Result<(Items<Text>, Items<Feature>), AllocError>
+    ensures items { IfOk result (λ made. made.0 ≡ unwrap_or items []) }
+    ensures features { IfOk result (λ made. made.1 ≡ map (feature_of (length made.0)) features) }
+    ensures item_count { IfOk result (λ made. length made.0 ≤ MAX_ITEMS) }
+    ensures feature_count { IfOk result (λ made. length made.1 ≤ MAX_FEATURES) }
+{
+    let items = items_of(items, alloc);
+    let features = features_of(features.into_vec(), items.len(), alloc)?;
+    Ok((items, features))
+}
+
+// A text, or what stands for it where it isn't given.
+fn text_or(text: Option<Text>, default: &str, alloc: Global) -> Result<Text, AllocError>
+    ensures { IfOk result (λ made. made ≡ unwrap_or text default.now) }
+{
+    match text {
+        Some(text) => Ok(text),
+        None => Text::from_str(alloc, default),
     }
 }
 
@@ -149,39 +259,43 @@ impl Build for LayerTree {
             labelitem,
             queryable,
             tolerance,
+            min,
+            max,
+            items,
+            csv_x,
+            csv_y,
+            wms_title,
+            ows_title,
             classes,
             features,
         } = self;
+        let (items, features) = with_items(items, features, alloc)?;
+        let title = text_or(wms_title.or(ows_title), name.as_str(), alloc)?;
+        let csv_x = text_or(csv_x, "x", alloc)?;
+        let csv_y = text_or(csv_y, "y", alloc)?;
+        let classes = build_all(classes.into_vec(), alloc)?;
+        let tolerance = count_or(tolerance, tolerance_of(kind)) as u8;
         Ok(Layer::new(LayerFields {
-            title: Text::from_str(alloc, name.as_str())?,
             name,
+            title,
             kind,
             on: true,
             classitem,
             labelitem,
-            items: Items::new(alloc),
-            csv_x: Text::from_str(alloc, "x")?,
-            csv_y: Text::from_str(alloc, "y")?,
+            items,
+            csv_x,
+            csv_y,
             queryable,
-            tolerance: layer_tolerance(tolerance, kind),
-            min: None,
-            max: None,
-            classes: build_all(classes.into_vec(), alloc)?,
-            features: build_all(features.into_vec(), alloc)?,
+            tolerance,
+            min,
+            max,
+            classes,
+            features,
         }))
     }
 }
 
-// The title of the service.
-fn title_of(name: Option<Text>, alloc: Global) -> Result<Text, AllocError>
-    ensures { IfOk result (λ title. title ≡ unwrap_or name (codes "WMS")) }
-{
-    match name {
-        Some(name) => Ok(name),
-        None => Text::from_str(alloc, "WMS"),
-    }
-}
-
+// The whole world: 180 degrees to the west and east, and 90 to the south and north.
 fn whole_world() -> WorldBox
     ensures value { result ≡ whole_world }
     ensures limits { IsExtent result }
@@ -194,15 +308,36 @@ fn whole_world() -> WorldBox
     )
 }
 
+// The part of the world that a map shows.
+fn area_of(extent: Option<Extent>) -> WorldBox
+    ensures value { result ≡ unwrap_or extent whole_world }
+    ensures limits { IsExtent result }
+{
+    match extent {
+        Some(extent) => extent.get(),
+        None => whole_world(),
+    }
+}
+
 /// The map that a mapfile describes. It takes the vertices over as they are.
 pub fn map_of(tree: MapTree, alloc: Global) -> Result<Map, AllocError>
     ensures { IfOk result (λ made. made ≡ map_of tree) }
 {
-    let MapTree { name, layers } = tree;
+    let MapTree {
+        name,
+        extent,
+        wms_title,
+        ows_title,
+        wms_url,
+        ows_url,
+        layers,
+    } = tree;
+    let title = wms_title.or(ows_title).or(name);
+    let url = wms_url.or(ows_url);
     Ok(Map::new(MapFields {
-        title: title_of(name, alloc)?,
-        url: Text::from_str(alloc, "http://localhost/wms?")?,
-        extent: whole_world(),
+        title: text_or(title, "WMS", alloc)?,
+        url: text_or(url, "http://localhost/wms?", alloc)?,
+        extent: area_of(extent),
         font: None,
         symbols: Items::new(alloc),
         layers: build_all(layers.into_vec(), alloc)?,

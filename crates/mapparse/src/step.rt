@@ -12,6 +12,7 @@ use crate::draft::Drafts;
 use crate::end::close;
 use crate::fault::{Fault, ParseFault, ParseKind, fault_of};
 use crate::keyword::{Keyword, is_end};
+use crate::setting::pair_expects;
 use crate::table::role_of;
 use crate::value::{ValueStep, coordinate_in, is_value, value_step};
 use geom::{Coordinate, World};
@@ -77,9 +78,8 @@ fn read_value(
         return Err(fault_of(ParseKind::MissingValue, token).into());
     }
     match value_step(expected, token, alloc)? {
-        None => Err(fault_of(ParseKind::WrongValue, token).into()),
-        Some(ValueStep::More(next)) => Ok(Move::GoesOn(Context::Values(next))),
-        Some(ValueStep::Whole(value)) => {
+        ValueStep::More(next) => Ok(Move::GoesOn(Context::Values(next))),
+        ValueStep::Whole(value) => {
             drafts.set(value, token.line);
             Ok(Move::Leaves)
         }
@@ -147,11 +147,11 @@ fn pass_over(block: Block, token: &Token) -> Move
     }
 }
 
-// Reads the END of VALIDATION, or the first value of a pair.
-fn read_pair(token: &Token) -> Result<Move, Fault>
+// Reads the END of METADATA or VALIDATION, or a key.
+fn read_pair(block: Block, token: &Token) -> Result<Move, Fault>
     ensures { (d : DraftsValue) → MatchResult result
-        (λ next. read_pair d token.now ≡ Ok (next, d))
-        (λ fault. read_pair d token.now ≡ Err fault) }
+        (λ next. read_pair block d token.now ≡ Ok (next, d))
+        (λ fault. read_pair block d token.now ≡ Err fault) }
 {
     if is_end(token) {
         return Ok(Move::Leaves);
@@ -159,7 +159,7 @@ fn read_pair(token: &Token) -> Result<Move, Fault>
     if !is_value(token) {
         return Err(fault_of(ParseKind::WrongValue, token));
     }
-    Ok(Move::Enters(Context::Values(Expected::Unused(0))))
+    Ok(Move::Enters(Context::Values(pair_expects(block, token.text))))
 }
 
 /// Reads a token in its context, and notes what was read. The result is how reading goes on.
@@ -176,11 +176,17 @@ pub fn read_token(
     match *context {
         Context::Keywords(block) => match block {
             Block::Points => read_longitude(drafts, token, alloc),
-            Block::Validation => Ok(read_pair(token)?),
+            Block::Validation => Ok(read_pair(Block::Validation, token)?),
+            Block::WebMetadata => Ok(read_pair(Block::WebMetadata, token)?),
+            Block::LayerMetadata => Ok(read_pair(Block::LayerMetadata, token)?),
             Block::Projection | Block::Passed | Block::PassedLabel => Ok(pass_over(block, token)),
-            Block::Map | Block::Layer | Block::Class | Block::Style | Block::Feature => {
-                read_keyword(block, drafts, token, alloc)
-            }
+            Block::Map
+            | Block::Web
+            | Block::Layer
+            | Block::Class
+            | Block::Style
+            | Block::Label
+            | Block::Feature => read_keyword(block, drafts, token, alloc),
         },
         Context::Values(expected) => read_value(expected, drafts, token, alloc),
         Context::Latitude(longitude) => read_latitude(longitude, drafts, token),

@@ -1,7 +1,9 @@
 ghost use Rattle.std.specs.Prelude.{◌≡◌};
-ghost use Rattle.mapparse.specs.Table.{map_role, layer_role, class_role, style_role, feature_role, passed_role, passed_label_role, end_role, role_of};
+ghost use Rattle.mapparse.specs.Table.{map_role, web_role, layer_role, class_role, style_role, label_role, feature_role, passed_role, passed_label_role, end_role, role_of};
 
-use crate::context::{Block, ColourKeyword, Expected, OnlyWord, Role, TextKeyword};
+use crate::context::{
+    Block, ColourKeyword, Expected, FlagKeyword, OnlyWord, Role, ScaleKeyword, TextKeyword,
+};
 use crate::keyword::Keyword;
 
 // The keywords of MAP.
@@ -10,7 +12,10 @@ fn map_role(keyword: Keyword) -> Option<Role>
 {
     match keyword {
         Keyword::Layer => Some(Role::Opens(Block::Layer)),
+        Keyword::Web => Some(Role::Opens(Block::Web)),
         Keyword::Name => Some(Role::Takes(Expected::Text(TextKeyword::MapName))),
+        Keyword::Extent => Some(Role::Takes(Expected::West)),
+        Keyword::Config => Some(Role::Takes(Expected::ConfigKey)),
         Keyword::Angle
         | Keyword::Debug
         | Keyword::FontSet
@@ -33,6 +38,28 @@ fn map_role(keyword: Keyword) -> Option<Role>
     }
 }
 
+// The keywords of WEB.
+fn web_role(keyword: Keyword) -> Option<Role>
+    ensures { result ≡ web_role keyword }
+{
+    match keyword {
+        Keyword::Metadata => Some(Role::Opens(Block::WebMetadata)),
+        Keyword::Validation => Some(Role::Opens(Block::Validation)),
+        Keyword::Empty
+        | Keyword::Error
+        | Keyword::Footer
+        | Keyword::Header
+        | Keyword::ImagePath
+        | Keyword::ImageUrl
+        | Keyword::Log
+        | Keyword::MaxScaleDenom
+        | Keyword::MinScaleDenom
+        | Keyword::Template => Some(Role::Takes(Expected::Unused(0))),
+        Keyword::End => Some(Role::Closes),
+        _ => None,
+    }
+}
+
 // The keywords of LAYER.
 fn layer_role(keyword: Keyword) -> Option<Role>
     ensures { result ≡ layer_role keyword }
@@ -44,6 +71,10 @@ fn layer_role(keyword: Keyword) -> Option<Role>
         Keyword::LabelItem => Some(Role::Takes(Expected::Text(TextKeyword::LabelItem))),
         Keyword::Template => Some(Role::Takes(Expected::Text(TextKeyword::Template))),
         Keyword::Tolerance => Some(Role::Takes(Expected::Tolerance)),
+        Keyword::MinScaleDenom => Some(Role::Takes(Expected::Scale(ScaleKeyword::LayerMin))),
+        Keyword::MaxScaleDenom => Some(Role::Takes(Expected::Scale(ScaleKeyword::LayerMax))),
+        Keyword::Processing => Some(Role::Takes(Expected::Setting)),
+        Keyword::Metadata => Some(Role::Opens(Block::LayerMetadata)),
         Keyword::Class => Some(Role::Opens(Block::Class)),
         Keyword::Feature => Some(Role::Opens(Block::Feature)),
         Keyword::Debug
@@ -71,6 +102,10 @@ fn class_role(keyword: Keyword) -> Option<Role>
 {
     match keyword {
         Keyword::Style => Some(Role::Opens(Block::Style)),
+        Keyword::Label => Some(Role::Opens(Block::Label)),
+        Keyword::Expression => Some(Role::Takes(Expected::Rule)),
+        Keyword::MinScaleDenom => Some(Role::Takes(Expected::Scale(ScaleKeyword::ClassMin))),
+        Keyword::MaxScaleDenom => Some(Role::Takes(Expected::Scale(ScaleKeyword::ClassMax))),
         Keyword::Group | Keyword::Name | Keyword::Status | Keyword::Template | Keyword::Title =>
             Some(Role::Takes(Expected::Unused(0))),
         Keyword::End => Some(Role::Closes),
@@ -96,6 +131,36 @@ fn style_role(keyword: Keyword) -> Option<Role>
     }
 }
 
+// The keywords of LABEL.
+fn label_role(keyword: Keyword) -> Option<Role>
+    ensures { result ≡ label_role keyword }
+{
+    match keyword {
+        Keyword::Color => Some(Role::Takes(Expected::Colour(ColourKeyword::LabelColour))),
+        Keyword::OutlineColor => Some(Role::Takes(Expected::Colour(ColourKeyword::LabelOutline))),
+        Keyword::Priority => Some(Role::Takes(Expected::Priority)),
+        Keyword::Position => Some(Role::Takes(Expected::Position)),
+        Keyword::Buffer => Some(Role::Takes(Expected::Buffer)),
+        Keyword::MinDistance => Some(Role::Takes(Expected::Distance)),
+        Keyword::Partials => Some(Role::Takes(Expected::Flag(FlagKeyword::Partials))),
+        Keyword::Force => Some(Role::Takes(Expected::Flag(FlagKeyword::Force))),
+        Keyword::Antialias
+        | Keyword::Encoding
+        | Keyword::Font
+        | Keyword::Kind
+        | Keyword::MaxSize
+        | Keyword::MinFeatureSize
+        | Keyword::MinSize
+        | Keyword::OutlineWidth
+        | Keyword::RepeatDistance
+        | Keyword::Size => Some(Role::Takes(Expected::Unused(0))),
+        Keyword::Offset => Some(Role::Takes(Expected::Unused(1))),
+        Keyword::Style => Some(Role::Opens(Block::Passed)),
+        Keyword::End => Some(Role::Closes),
+        _ => None,
+    }
+}
+
 // The keywords of FEATURE.
 fn feature_role(keyword: Keyword) -> Option<Role>
     ensures { result ≡ feature_role keyword }
@@ -103,6 +168,7 @@ fn feature_role(keyword: Keyword) -> Option<Role>
     match keyword {
         Keyword::Points => Some(Role::Opens(Block::Points)),
         Keyword::Text => Some(Role::Takes(Expected::Text(TextKeyword::FeatureText))),
+        Keyword::Items => Some(Role::Takes(Expected::Text(TextKeyword::FeatureItems))),
         Keyword::End => Some(Role::Closes),
         _ => None,
     }
@@ -150,12 +216,18 @@ pub fn role_of(block: Block, keyword: Keyword) -> Option<Role>
 {
     match block {
         Block::Map => map_role(keyword),
+        Block::Web => web_role(keyword),
         Block::Layer => layer_role(keyword),
         Block::Class => class_role(keyword),
         Block::Style => style_role(keyword),
+        Block::Label => label_role(keyword),
         Block::Feature => feature_role(keyword),
         Block::Passed => passed_role(keyword),
         Block::PassedLabel => passed_label_role(keyword),
-        Block::Points | Block::Validation | Block::Projection => end_role(keyword),
+        Block::Points
+        | Block::WebMetadata
+        | Block::LayerMetadata
+        | Block::Validation
+        | Block::Projection => end_role(keyword),
     }
 }

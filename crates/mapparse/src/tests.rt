@@ -4,3 +4,4 @@ mod map;
 mod messages;
 mod told;
 mod unused;
+mod words;

@@ -1,13 +1,24 @@
 use crate::bounded::Bounded;
 use crate::capped::Capped;
+use crate::extent::Extent;
 use crate::parts::Parts;
-use mapdefs::{Kind, MAX_CLASSES, MAX_FEATURES, MAX_LAYERS, MAX_STYLES, Rgb, Text};
+use crate::rule::ClassRule;
+use geom::Micro;
+use mapdefs::{
+    Kind, MAX_CLASSES, MAX_FEATURES, MAX_ITEMS, MAX_LAYERS, MAX_STYLES, Position, Rgb, Text,
+};
 
 /// A MAP as it is written.
 #[derive(Drop)]
 pub struct MapTree {
     /// Its last NAME.
     pub name: Option<Text>,
+    pub extent: Option<Extent>,
+    /// The titles and addresses that the METADATA of its WEB blocks give, each the last of its key.
+    pub wms_title: Option<Text>,
+    pub ows_title: Option<Text>,
+    pub wms_url: Option<Text>,
+    pub ows_url: Option<Text>,
     pub layers: Capped<LayerTree, MAX_LAYERS>,
 }
 
@@ -21,6 +32,15 @@ pub struct LayerTree {
     /// Whether a TEMPLATE is given.
     pub queryable: bool,
     pub tolerance: Option<Bounded<0, 64>>,
+    pub min: Option<Micro>,
+    pub max: Option<Micro>,
+    /// The names of its items.
+    pub items: Option<Capped<Text, MAX_ITEMS>>,
+    pub csv_x: Option<Text>,
+    pub csv_y: Option<Text>,
+    /// The titles that its METADATA give, each the last of its key.
+    pub wms_title: Option<Text>,
+    pub ows_title: Option<Text>,
     pub classes: Capped<ClassTree, MAX_CLASSES>,
     pub features: Capped<FeatureTree, MAX_FEATURES>,
 }
@@ -28,7 +48,25 @@ pub struct LayerTree {
 /// A CLASS as it is written.
 #[derive(Drop)]
 pub struct ClassTree {
+    pub rule: Option<ClassRule>,
+    pub min: Option<Micro>,
+    pub max: Option<Micro>,
     pub styles: Capped<StyleTree, MAX_STYLES>,
+    pub label: Option<LabelTree>,
+}
+
+/// A LABEL as it is written.
+#[derive(Drop)]
+pub struct LabelTree {
+    /// Its COLOR, if one is given: none where a component is -1.
+    pub colour: Option<Option<Rgb>>,
+    pub outline: Option<Rgb>,
+    pub priority: Option<Bounded<1, 10>>,
+    pub position: Option<Position>,
+    pub buffer: Option<Bounded<0, 64>>,
+    pub distance: Option<Bounded<0, 4096>>,
+    pub partials: Option<bool>,
+    pub force: Option<bool>,
 }
 
 /// A STYLE as it is written.
@@ -45,4 +83,6 @@ pub struct StyleTree {
 pub struct FeatureTree {
     pub parts: Parts,
     pub text: Option<Text>,
+    /// The values of its items, with semicolons between them.
+    pub items: Option<Text>,
 }

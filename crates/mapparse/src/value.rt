@@ -1,15 +1,24 @@
-ghost use Rattle.std.specs.Prelude.{◌≡◌, IsSome, IfOk, OnErr, option_map};
-ghost use Rattle.mapparse.specs.declared.value.ValueStep.TheVariants.{Whole};
+ghost use Rattle.std.specs.Prelude.{◌≡◌, option_map, Ok, MatchResult};
+ghost use Rattle.mapparse.specs.declared.value.ValueStep.TheVariants.{Whole, More};
+ghost use Rattle.mapparse.specs.Fault.{IsErrorOf};
+ghost use Rattle.mapparse.specs.declared.value.Value.TheVariants as ValueTree;
 ghost use Rattle.mapparse.specs.Colour.{component_of};
-ghost use Rattle.mapparse.specs.Value.{kind_of, is_value, hex_at, colour_step, only_text, only_step, unused_step, step_in, value_step, coordinate_in};
+ghost use Rattle.mapparse.specs.Value.{kind_of, is_value, hex_at, colour_step, only_text, only_step, unused_step, east_step, north_step, config_step, rule_step, plain_step, step_in, may_take, value_step, coordinate_in};
 
 use crate::bounded::Bounded;
+use crate::capped::Capped;
 use crate::colour::{Component, hex_colour, rgb_of};
-use crate::context::{ColourKeyword, Expected, OnlyWord, TextKeyword};
-use geom::Coordinate;
-use mapdefs::{Kind, Rgb, Text};
+use crate::context::{ColourKeyword, Expected, FlagKeyword, OnlyWord, ScaleKeyword, TextKeyword};
+use crate::extent::Extent;
+use crate::fault::{ParseFault, ParseKind, fault_of};
+use crate::label::{distance_of, flag_of, position_of};
+use crate::number::read_number;
+use crate::rule::{ClassRule, RuleError};
+use crate::setting::setting_step;
+use geom::{Coordinate, Micro};
+use mapdefs::{Kind, MAX_ITEMS, Position, Rgb, Text};
 use maplex::{Shape, Token};
-use std::alloc::{AllocError, Global};
+use std::alloc::Global;
 
 /// A whole value, with its keyword.
 #[derive(Drop)]
@@ -20,6 +29,16 @@ pub enum Value {
     Width(Bounded<1, 32>),
     Size(Bounded<1, 256>),
     Tolerance(Bounded<0, 64>),
+    Priority(Bounded<1, 10>),
+    Buffer(Bounded<0, 64>),
+    Distance(Bounded<0, 4096>),
+    Position(Position),
+    Flag(FlagKeyword, bool),
+    Scale(ScaleKeyword, Micro),
+    Rule(ClassRule),
+    /// The names of a layer's items.
+    Items(Capped<Text, MAX_ITEMS>),
+    Extent(Extent),
     /// The end of values that have no effect.
     Nothing,
 }
@@ -113,47 +132,141 @@ fn unused_step(more: u8) -> ValueStep
     }
 }
 
-// Reads a bare word or a quoted text of a value.
-fn step_in(
-    expected: Expected,
-    token: &Token,
-    alloc: Global,
-) -> Result<Option<ValueStep>, AllocError>
-    ensures ok { IfOk result (λ step. step ≡ step_in expected token.now) }
-    ensures err { OnErr result (IsSome (step_in expected token.now)) }
+// Reads the east of an extent, which lies to the east of its west.
+fn east_step(minx: i64, miny: i64, east: Option<Coordinate>) -> Option<ValueStep>
+    ensures { result ≡ east_step minx miny east }
 {
-    Ok(match expected {
-        Expected::Text(keyword) => {
-            let text = Text::from_str(alloc, token.text)?;
-            Some(ValueStep::Whole(Value::Text(keyword, text)))
-        }
-        Expected::Kind => kind_of(token.text).map(|kind| ValueStep::Whole(Value::Kind(kind))),
-        Expected::Width => whole(Bounded::read(token.text).map(Value::Width)),
-        Expected::Size => whole(Bounded::read(token.text).map(Value::Size)),
-        Expected::Tolerance => whole(Bounded::read(token.text).map(Value::Tolerance)),
-        Expected::Colour(keyword) => colour_step(keyword, token),
-        Expected::Green(keyword, red) => Component::read(token.text).map(|green| ValueStep::More(
-            Expected::Blue(keyword, red, green),
-        )),
-        Expected::Blue(keyword, red, green) => Component::read(token.text).map(|blue| {
-            ValueStep::Whole(Value::Colour(keyword, rgb_of(red, green, blue)))
-        }),
-        Expected::Only(word) => only_step(word, token.text),
-        Expected::Unused(more) => Some(unused_step(more)),
-    })
+    let maxx = east?.get().millionths();
+    if minx < maxx {
+        Some(ValueStep::More(Expected::North(minx, miny, maxx)))
+    } else {
+        None
+    }
 }
 
-/// Reads a token of a value. It is none where the token isn't such a value.
-pub fn value_step(
-    expected: Expected,
-    token: &Token,
-    alloc: Global,
-) -> Result<Option<ValueStep>, AllocError>
-    ensures ok { IfOk result (λ step. step ≡ value_step expected token.now) }
-    ensures err { OnErr result (IsSome (value_step expected token.now)) }
+// The last step of an extent.
+fn extent_step(extent: Option<Extent>) -> Option<ValueStep>
+    ensures { result ≡ option_map (λ area. Whole (ValueTree.Extent area)) extent }
 {
-    if !is_value(token) {
-        return Ok(None);
+    match extent {
+        Some(extent) => Some(ValueStep::Whole(Value::Extent(extent))),
+        None => None,
+    }
+}
+
+// Reads the north of an extent, which lies to the north of its south.
+fn north_step(minx: i64, miny: i64, maxx: i64, north: Option<Coordinate>) -> Option<ValueStep>
+    ensures { result ≡ north_step minx miny maxx north }
+{
+    let maxy = north?.get();
+    let (minx, miny, maxx) = (Micro::new(minx), Micro::new(miny), Micro::new(maxx));
+    extent_step(Extent::of(minx, miny, maxx, maxy))
+}
+
+// Reads the key of a CONFIG. There are no fonts yet, so that none may be named.
+fn config_step(key: &str) -> Option<ValueStep>
+    ensures { result ≡ config_step key.now }
+{
+    if key == "LABELFONT" {
+        None
+    } else {
+        Some(ValueStep::More(Expected::Unused(0)))
+    }
+}
+
+// Reads a token of a value of which nothing is kept but numbers.
+fn plain_step(expected: Expected, token: &Token) -> Option<ValueStep>
+    ensures { result ≡ plain_step expected token.now }
+{
+    let text = token.text;
+    match expected {
+        Expected::Kind => whole(kind_of(text).map(Value::Kind)),
+        Expected::Width => whole(Bounded::read(text).map(Value::Width)),
+        Expected::Size => whole(Bounded::read(text).map(Value::Size)),
+        Expected::Tolerance => whole(Bounded::read(text).map(Value::Tolerance)),
+        Expected::Priority => whole(Bounded::read(text).map(Value::Priority)),
+        Expected::Buffer => whole(Bounded::read(text).map(Value::Buffer)),
+        Expected::Distance => whole(distance_of(text).map(Value::Distance)),
+        Expected::Position => whole(position_of(text).map(Value::Position)),
+        Expected::Flag(keyword) => whole(flag_of(text).map(|flag| Value::Flag(keyword, flag))),
+        Expected::Scale(keyword) => whole(read_number(text).map(|scale| Value::Scale(
+            keyword, scale,
+        ))),
+        Expected::Colour(keyword) => colour_step(keyword, token),
+        Expected::Green(keyword, red) => Component::read(text).map(|green| ValueStep::More(
+            Expected::Blue(keyword, red, green),
+        )),
+        Expected::Blue(keyword, red, green) => Component::read(text).map(|blue| {
+            ValueStep::Whole(Value::Colour(keyword, rgb_of(red, green, blue)))
+        }),
+        Expected::West => Coordinate::read(text).map(|x| ValueStep::More(Expected::South(
+            x.get().millionths(),
+        ))),
+        Expected::South(x) => Coordinate::read(text).map(|y| ValueStep::More(Expected::East(
+            x,
+            y.get().millionths(),
+        ))),
+        Expected::East(x, y) => east_step(x, y, Coordinate::read(text)),
+        Expected::North(x, y, east) => north_step(x, y, east, Coordinate::read(text)),
+        Expected::Only(word) => only_step(word, text),
+        Expected::ConfigKey => config_step(text),
+        Expected::Unused(more) => Some(unused_step(more)),
+        // They are kept as texts.
+        Expected::Text(_) | Expected::Rule | Expected::Setting => None,
+    }
+}
+
+// Reads the rule of a class.
+fn rule_step(token: &Token, alloc: Global) -> Result<ValueStep, ParseFault>
+    ensures { MatchResult result
+        (λ step. rule_step token.now ≡ Ok step)
+        (IsErrorOf (rule_step token.now)) }
+{
+    match ClassRule::read(token, alloc) {
+        Ok(rule) => Ok(ValueStep::Whole(Value::Rule(rule))),
+        Err(RuleError::NoExpression) => Err(fault_of(ParseKind::BadExpression, token).into()),
+        Err(RuleError::NoMemory) => Err(ParseFault::NoMemory),
+    }
+}
+
+// Reads a token of a value.
+fn step_in(expected: Expected, token: &Token, alloc: Global) -> Result<ValueStep, ParseFault>
+    ensures { MatchResult result
+        (λ step. step_in expected token.now ≡ Ok step)
+        (IsErrorOf (step_in expected token.now)) }
+{
+    match expected {
+        Expected::Text(keyword) => {
+            let text = Text::from_str(alloc, token.text)?;
+            Ok(ValueStep::Whole(Value::Text(keyword, text)))
+        }
+        Expected::Rule => rule_step(token, alloc),
+        Expected::Setting => setting_step(token, alloc),
+        _ => match plain_step(expected, token) {
+            Some(step) => Ok(step),
+            None => Err(fault_of(ParseKind::WrongValue, token).into()),
+        },
+    }
+}
+
+// Whether a token of this shape may be a value of a keyword. Only a rule may be a Logic or a List.
+fn may_take(expected: &Expected, token: &Token) -> bool
+    ensures { result ≡ may_take expected.now token.now.shape }
+{
+    match expected {
+        Expected::Rule => true,
+        _ => is_value(token),
+    }
+}
+
+/// Reads a token of a value.
+pub fn value_step(expected: Expected, token: &Token, alloc: Global) -> Result<ValueStep, ParseFault>
+    ensures { MatchResult result
+        (λ step. value_step expected token.now ≡ Ok step)
+        (IsErrorOf (value_step expected token.now)) }
+{
+    if !may_take(&expected, token) {
+        return Err(fault_of(ParseKind::WrongValue, token).into());
     }
     step_in(expected, token, alloc)
 }

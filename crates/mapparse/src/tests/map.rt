@@ -1,14 +1,28 @@
 use crate::parse;
 use crate::tests::told::assert_told;
-use mapdefs::{Class, Feature, Layer, Map, Rgb, Style, Text};
+use geom::Micro;
+use mapdefs::{Class, Feature, Label, Layer, Map, Rgb, Rule, Style, Text};
 use std::alloc::{AllocError, Global};
 use std::test::Fail;
 
-// Two layers, and two of each block in the first, with values that are all different. A colour, a
-// name and a style that are given twice, and a style without a colour after one that has one.
+// Two layers, and two of each block in the first, with values that are all different. Keywords and keys
+// that are given twice, and blocks without a value after one that has it.
 const WHOLE: &str = "MAP
   NAME first
   NAME 'Second map'
+  EXTENT 1 2 3 4
+  EXTENT -10 20.5 30 '40'
+  CONFIG MS_ERRORFILE 'stderr'
+  WEB
+    METADATA
+      wms_title 'First title'
+      'ows_onlineresource' 'http://a.example/?'
+      WMS_TITLE 'In capitals'
+    END
+    TEMPLATE web.html
+    METADATA 'wms_title' Waters ows_title 'Other title' END
+  END
+  WEB METADATA ows_title Third ows_onlineresource 'http://b.example/map?' END END
   LAYER
     CLASSITEM depth
     CLASSITEM \"kind\"
@@ -16,10 +30,40 @@ const WHOLE: &str = "MAP
     TEMPLATE t.html
     TOLERANCE 9
     TOLERANCE 5
+    MINSCALEDENOM 1
+    MINSCALEDENOM 1000.5
+    MAXSCALEDENOM 2e6
+    METADATA ows_title Still wms_title 'Inland waters' wms_onlineresource x END
+    METADATA 'ows_title' Last END
+    PROCESSING ITEMS=depth
+    PROCESSING 'ITEMS=kind, label,depth'
+    PROCESSING CSV_X=lon
+    PROCESSING 'CSV_Y=lat=y'
+    PROCESSING 'csv_x=other'
+    PROCESSING CLOSE_CONNECTION
     NAME rivers
     NAME \"Lakes\"
     TYPE POLYGON
     CLASS
+      EXPRESSION x
+      EXPRESSION {shallow,deep water, }
+      MINSCALEDENOM 3
+      MAXSCALEDENOM 4
+      LABEL
+        COLOR 1 1 1
+        COLOR 12 34 56
+        OUTLINECOLOR '#010203'
+        PRIORITY 2
+        PRIORITY 9
+        POSITION ul
+        POSITION 'Lc'
+        BUFFER 5
+        MINDISTANCE 60
+        PARTIALS true
+        FORCE FALSE
+        SIZE large
+        STYLE COLOR 200 201 202 PRIORITY 4 END
+      END
       STYLE
         COLOR 1 2 3
         COLOR 10 20 30
@@ -32,45 +76,55 @@ const WHOLE: &str = "MAP
       END
     END
     CLASS
+      EXPRESSION '/deep/'
+      LABEL MINDISTANCE -1 FORCE TRUE COLOR -1 2 3 END
       STYLE COLOR 4 5 6 COLOR '#0b2c4d' END
       STYLE COLOR 7 8 9 COLOR 40 -1 60 END
       STYLE COLOR 70 80 90 END
     END
     FEATURE
       TEXT 'one'
+      ITEMS 'none'
+      ITEMS 'mud;;1.5;further'
       POINTS 1 2 3 4 5 6 END
       TEXT 'Deep water'
       POINTS 7 8 9.5 -10 -11 .125 END
     END
     FEATURE
       POINTS 13 14 END
+      ITEMS sand
     END
   END
   layer
     type 'polygon'
     name lakes
-    feature points 15 16 17 18 end end
+    class label end end
+    feature points 15 16 17 18 end items a;b end
   end
 END";
 
 // What the map of WHOLE says, in the form of `write_map`.
 const SAID: &str = "\
-map Second map http://localhost/wms? -180000000 -90000000 180000000 90000000 None 0
-layer Lakes Lakes Polygon true kind label 0 x y true 5 None None
-class Always None None None
+map Waters http://b.example/map? -10000000 20500000 30000000 40000000 None 0
+layer Lakes Inland waters Polygon true kind label [kind] [ label] [depth] lon lat=y true 5 1000500000 2000000000000
+class in [shallow] [deep water] [ ] 3000000 4000000
+label Some(Rgb { red: 12, green: 34, blue: 56 }) Some(Rgb { red: 1, green: 2, blue: 3 }) 9 LowerCentre 5 60 true false
 style 10 20 30, None 3 7 None
 style none, None 1 1 None
-class Always None None None
+class is /deep/ - -
+label None None 1 Centre 0 0 false true
 style 11 44 77, None 1 1 None
 style none, None 1 1 None
 style 70 80 90, None 1 1 None
-feature Deep water 0
+feature Deep water [mud] [] [1.5]
 part 1000000 2000000, 3000000 4000000, 5000000 6000000,
 part 7000000 8000000, 9500000 -10000000, -11000000 125000,
-feature - 0
+feature - [sand] [] []
 part 13000000 14000000,
-layer lakes lakes Polygon true - - 0 x y false 0 None None
-feature - 0
+layer lakes lakes Polygon true - - x y false 0 - -
+class all - -
+label Some(Rgb { red: 0, green: 0, blue: 0 }) None 1 Centre 0 0 false false
+feature -
 part 15000000 16000000, 17000000 18000000,
 ";
 
@@ -84,14 +138,58 @@ fn write_style(text: &mut String, style: &Style) -> Result<(), AllocError> {
     write!(text, " {outline:?} {width} {size} {symbol:?}\n")
 }
 
-fn write_class(text: &mut String, class: &Class) -> Result<(), AllocError> {
-    let class = class.get();
-    let (min, max) = (class.min, class.max);
+fn write_texts(text: &mut String, texts: &[Text]) -> Result<(), AllocError> {
+    for one in texts {
+        write!(text, " [{}]", one.as_str())?;
+    }
+    Ok(())
+}
+
+fn write_rule(text: &mut String, rule: &Rule) -> Result<(), AllocError> {
+    match rule {
+        Rule::Always => text.push_str("class all"),
+        Rule::Equals(value) => write!(text, "class is {}", value.as_str()),
+        Rule::OneOf(values) => {
+            text.push_str("class in")?;
+            write_texts(text, values.as_slice())
+        }
+        Rule::Logic(expr) => write!(text, "class {expr:?}"),
+    }
+}
+
+// Bounds on the scale in millionths.
+fn write_bounds(
+    text: &mut String,
+    min: Option<Micro>,
+    max: Option<Micro>,
+) -> Result<(), AllocError> {
+    for bound in [min, max] {
+        match bound {
+            Some(bound) => write!(text, " {}", bound.millionths())?,
+            None => text.push_str(" -")?,
+        }
+    }
+    text.push('\n')
+}
+
+fn write_label(text: &mut String, label: &Label) -> Result<(), AllocError> {
+    let label = label.get();
+    let (colour, outline, position) = (label.colour, label.outline, label.position);
+    let (priority, buffer, distance) = (label.priority, label.buffer, label.mindistance);
     write!(
         text,
-        "class {:?} {min:?} {max:?} {:?}\n",
-        class.rule, class.label
+        "label {colour:?} {outline:?} {priority} {position:?} {buffer} {distance}"
     )?;
+    write!(text, " {} {}\n", label.partials, label.force)
+}
+
+fn write_class(text: &mut String, class: &Class) -> Result<(), AllocError> {
+    let class = class.get();
+    write_rule(text, &class.rule)?;
+    write_bounds(text, class.min, class.max)?;
+    if let Some(label) = &class.label {
+        write_label(text, label)?;
+    }
     for style in class.styles.as_slice() {
         write_style(text, style)?;
     }
@@ -101,12 +199,9 @@ fn write_class(text: &mut String, class: &Class) -> Result<(), AllocError> {
 // A part is its vertices in millionths of a degree.
 fn write_feature(text: &mut String, feature: &Feature) -> Result<(), AllocError> {
     let feature = feature.get();
-    write!(
-        text,
-        "feature {} {}\n",
-        text_or_dash(&feature.text),
-        feature.values.len()
-    )?;
+    write!(text, "feature {}", text_or_dash(&feature.text))?;
+    write_texts(text, feature.values.as_slice())?;
+    text.push('\n')?;
     for part in feature.parts.as_slice() {
         text.push_str("part")?;
         for vertex in part.as_slice() {
@@ -136,14 +231,14 @@ fn write_layer(text: &mut String, layer: &Layer) -> Result<(), AllocError> {
     write!(text, "layer {name} {title} {kind:?} {on}")?;
     write!(
         text,
-        " {} {} {}",
+        " {} {}",
         text_or_dash(&layer.classitem),
-        text_or_dash(&layer.labelitem),
-        layer.items.len()
+        text_or_dash(&layer.labelitem)
     )?;
+    write_texts(text, layer.items.as_slice())?;
     let (x, y, queryable) = (layer.csv_x.as_str(), layer.csv_y.as_str(), layer.queryable);
-    let (tolerance, min, max) = (layer.tolerance, layer.min, layer.max);
-    write!(text, " {x} {y} {queryable} {tolerance} {min:?} {max:?}\n")?;
+    write!(text, " {x} {y} {queryable} {}", layer.tolerance)?;
+    write_bounds(text, layer.min, layer.max)?;
     for class in layer.classes.as_slice() {
         write_class(text, class)?;
     }
@@ -220,8 +315,8 @@ fn styles_have_their_colours(rt: HostRuntime) -> Result<(), Fail> {
             )?;
             let expected = format!(in alloc;
                 "map WMS http://localhost/wms? -180000000 -90000000 180000000 90000000 None 0\n\
-                 layer a a Polygon true - - 0 x y false 0 None None\n\
-                 class Always None None None\n\
+                 layer a a Polygon true - - x y false 0 - -\n\
+                 class all - -\n\
                  style {colour}, None 1 1 None\n\
                  style none, None 1 1 None\n"
             )?;
@@ -231,6 +326,36 @@ fn styles_have_their_colours(rt: HostRuntime) -> Result<(), Fail> {
         }
     }
     assert_eq!(rt; asserted, 15);
+    Ok(())
+}
+
+// What stands in a MAP, and the title and the address of its service, or the title of its layer.
+const TITLES: &str = "\
+WMS http://localhost/wms?:
+Nile http://localhost/wms?:NAME Nile
+Ob http://localhost/wms?:NAME Nile WEB METADATA ows_title Ob END END
+Po http://localhost/wms?:WEB METADATA wms_title Po ows_title Ob END END NAME Nile
+ http://localhost/wms?:NAME Nile WEB METADATA wms_title '' END END
+WMS http://o/:WEB METADATA ows_onlineresource http://o/ END END
+WMS http://w/:WEB METADATA wms_onlineresource http://w/ END METADATA ows_onlineresource http://o/ END END
+WMS http://localhost/wms?:LAYER NAME a TYPE POLYGON METADATA wms_title Don wms_onlineresource http://d/ END END
+WMS http://localhost/wms?:LAYER NAME a TYPE POLYGON METADATA ows_title Don END END";
+
+#[test]
+fn services_have_their_titles_and_addresses(rt: HostRuntime) -> Result<(), Fail> {
+    let alloc = rt.alloc();
+    assert_eq!(rt; TITLES.lines().count(), 9);
+    for row in TITLES.lines() {
+        let (title, rest) = row.split_once(" http").ok_or("a row without an address")?;
+        let (address, source) = rest
+            .split_once("?:")
+            .or(rest.split_once("/:"))
+            .ok_or("no source")?;
+        let source = format!(in alloc; "MAP {source} END")?;
+        let start = format!(in alloc; "map {title} http{address}")?;
+        let text = said(alloc, source.as_str())?;
+        assert!(rt; text.as_str().starts_with(start.as_str()), "{row}");
+    }
     Ok(())
 }
 

@@ -23,7 +23,7 @@ const MESSAGES: &str = "\
 3 line 7: a value that its keyword does not take
 4 line 7: the mapfile ends where an END is missing
 5 line 7: an END before all that has to be given was given
-6 line 7: more layers, classes, styles, features or vertices than a map may have
+6 line 7: more layers, classes, styles, labels, features, vertices or items than a map may have
 8 line 7: an earlier layer has the same name
 8 line 80: an earlier layer has the same name";
 
