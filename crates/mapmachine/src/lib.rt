@@ -2,8 +2,8 @@
 //!
 //! Proved: `Machine::run` is a run of the machine (clause `run`): each event has its reply in order, an
 //! answered query the picture that it asks for or the document of its first fault, and a reply that is
-//! out of memory leaves the state. `reply` and `step` are single events of it. `put_all` says of each
-//! sink what went out, also where it failed.
+//! out of memory leaves the state. `reply` and `step` are single events of it. `put_all` and
+//! `put_pieces` say of each sink what went out, also where it failed.
 //!
 //! Words: the *state* is the map and a *sequence*, which counts published changes. An *event* is what
 //! comes in, a *reply* what goes out. The reply to a query is an *answer*: a mime type and a body.
@@ -21,4 +21,4 @@ mod tests;
 pub use bytes::Bytes;
 pub use machine::Machine;
 pub use reply::{Answer, Event, Mime, Reply};
-pub use stream::{Flagged, PutFailed, Sink, Source, TakeFailed, WriteFault, put_all};
+pub use stream::{Flagged, PutFailed, Sink, Source, TakeFailed, WriteFault, put_all, put_pieces};

@@ -1,4 +1,5 @@
 ghost use Rattle.std.specs.Prelude.{◌≡◌, ◌≤◌, ◌<◌, ◌+◌, ℕ, List, Bool, Option, true, false, nat_eq, if◌then◌else◌, length, take, IfOk, IfErr, OnOk, OnErr, MatchResult};
+ghost use Rattle.std.specs.List.{flat_map};
 ghost use Rattle.std.specs.Io.KnownBytes.{Appends, Keeps, ReadConsumes};
 
 use std::io::{Read, Write};
@@ -91,6 +92,29 @@ pub fn put_all<S: Sink>(sink: &mut S, bytes: &[u8]) -> Result<(), WriteFault>
             Err(_) => {
                 return Err(WriteFault {
                     written: written as u128,
+                });
+            }
+        }
+    }
+    Ok(())
+}
+
+/// Puts some pieces into the sink, one after the other, or says after how many of their bytes it failed.
+pub fn put_pieces<S: Sink>(sink: &mut S, pieces: &[&[u8]]) -> Result<(), WriteFault>
+    ensures ok { OnOk result (Appends (S.held sink.old) (S.held sink.new) (flat_map (λ piece. piece.now) pieces.now)) }
+    ensures all_taken { OnOk result (S.taken sink.new ≡ S.taken sink.old + length (flat_map (λ piece. piece.now) pieces.now)) }
+    ensures part { IfErr result (λ e. Appends (S.held sink.old) (S.held sink.new) (take e.written (flat_map (λ piece. piece.now) pieces.now))) }
+    ensures short { IfErr result (λ e. e.written < length (flat_map (λ piece. piece.now) pieces.now)) }
+    ensures part_taken { IfErr result (λ e. S.taken sink.new ≡ S.taken sink.old + e.written) }
+    ensures flag { MatchResult result (λ _. S.put_failed sink.new ≡ S.put_failed sink.old) (λ _. S.put_failed sink.new ≡ true) }
+{
+    let before = sink.taken();
+    for piece in pieces {
+        match put_all(sink, piece) {
+            Ok(()) => {}
+            Err(_) => {
+                return Err(WriteFault {
+                    written: sink.taken() - before,
                 });
             }
         }

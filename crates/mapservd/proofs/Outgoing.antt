@@ -50,13 +50,3 @@ sent-partly a b c s t n m k first p = record {
   bytes = rw (take-append-add s t p.part) (Appends-trans a b c s (take p.part t) first.bytes p.bytes);
   count = omega (arith, first.count, p.count);
 }
-
--- the texts of some things and then a part of that of the next one went out: a part of those of all things did
-pub partly-next : {X : Type 0} (f : X → List ℕ) (xs : List X) (i : ℕ) (d : X) (text : List ℕ) (a b c : Option (List ℕ)) (n m k : ℕ) → i < length xs →
-    text ≡ f (get_or xs i d) → IsSent a b (flat_map f (take i xs)) n m → IsPartlySent b c text m k → IsPartlySent a c (flat_map f xs) n k
-partly-next f xs i d text a b c n m k h is first p =
-    let all : xs ≡ take i xs ++ (get_or xs i d ∷ drop (i + 1) xs) = sym (take-append-drop i xs) ∙ ap (λ ys. take i xs ++ ys) (drop_more xs i d h) in
-    let next : IsPartlySent b c (f (get_or xs i d)) m k = rw is at p in
-    rw (all, flat_map-append f (take i xs) (get_or xs i d ∷ drop (i + 1) xs))
-    (sent-partly a b c (flat_map f (take i xs)) (f (get_or xs i d) ++ flat_map f (drop (i + 1) xs)) n m k first
-    (partly-more b c (f (get_or xs i d)) (flat_map f (drop (i + 1) xs)) m k next))

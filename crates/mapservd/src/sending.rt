@@ -5,7 +5,7 @@ ghost use Rattle.mapservd.specs.Sent.{IsSent, IsPartlySent};
 ghost use Rattle.mapservd.specs.Transcript.{hex_line, hex_lines, line_start, body_text, answer_line, reply_text, script_fault, mapfile_fault};
 
 use itoa::Buffer;
-use mapmachine::{Answer, Mime, PutFailed, Reply, Sink, put_all};
+use mapmachine::{Answer, Mime, PutFailed, Reply, Sink, put_all, put_pieces};
 
 // The most bytes of a picture that are written on one line.
 const LINE: usize = 32;
@@ -28,10 +28,10 @@ pub fn send_pieces<S: Sink>(sink: &mut S, pieces: &[&[u8]]) -> Result<(), PutFai
     ensures part { OnErr result (IsPartlySent (S.held sink.old) (S.held sink.new) (flat_map (λ piece. piece.now) pieces.now) (S.taken sink.old) (S.taken sink.new)) }
     ensures flag { MatchResult result (λ _. S.put_failed sink.new ≡ S.put_failed sink.old) (λ _. S.put_failed sink.new ≡ true) }
 {
-    for piece in pieces {
-        send(sink, piece)?;
+    match put_pieces(sink, pieces) {
+        Ok(()) => Ok(()),
+        Err(_) => Err(PutFailed),
     }
-    Ok(())
 }
 
 // Puts a line of hexadecimal into the front of the room, and says how many bytes it has.

@@ -1,0 +1,43 @@
+-- The path and the query of a target that stands among some bytes.
+use Rattle.std.proofs.Common.{◌≡◌, ℕ, ◌+◌, ◌-◌, ◌≤◌, inl, inr, List, true, false, length, take, drop, min, refl, arith, length-take, length-drop}
+use Rattle.std.specs.List.{slice_range, before_first, after_first, position_or_len}
+use Rattle.std.proofs.lemmas.Bool.Decides.{leb_tells}
+use Rattle.std.proofs.lemmas.List.{drop-take, drop-drop}
+use Rattle.std.proofs.Math.ListN.{drop_of_length-le}
+use Rattle.httpedge.specs.Meaning.{Refused, Asks, is_question_mark, is_served, target_meaning}
+use Rattle.httpedge.specs.declared.refusal.Refusal.TheVariants.{NotFound}
+
+-- what stands after so many bytes of a range and one more, or nothing
+range-after : (bytes : List ℕ) (start end n from : ℕ) → start ≤ end → end ≤ length bytes → from ≡ min (start + n + 1) end →
+    drop (n + 1) (slice_range bytes start end) ≡ slice_range bytes from end
+range-after bytes start end n from ordered within e =
+    elim (leb_tells (start + n + 1) end) [
+      | inl inside ↦
+          let at : from ≡ start + (n + 1) = omega (arith, e, inside.1) in
+          let rest : end - start ≡ (n + 1) + (end - from) = omega (arith, at, inside.1) in
+          rw (rest, drop-take (n + 1) (end - from) (drop start bytes), drop-drop (n + 1) start bytes, at) refl
+      | inr outside ↦
+          let at : from ≡ end = omega (arith, e, outside.1) in
+          let none : end - from ≡ 0 = omega (arith, at) in
+          let short : length (slice_range bytes start end) ≤ n + 1 = omega (arith, length-take (end - start) (drop start bytes), length-drop start bytes, outside.1, ordered, within) in
+          rw (none) (drop_of_length-le (slice_range bytes start end) short)
+    ]
+
+-- a path that isn't served isn't found
+pub target-refused : (target text path : List ℕ) (n : ℕ) → text ≡ target → n ≡ position_or_len is_question_mark text → path ≡ take n text → is_served path ≡ false →
+    target_meaning target ≡ Refused NotFound
+unfolding target_meaning
+target-refused target text path n is count front unserved =
+    let e : is_served (before_first is_question_mark target) ≡ false = rw (← is, ← count, ← front) unserved in
+    rw e refl
+
+-- of a path that is served the query is asked
+pub target-asked : (bytes : List ℕ) (start end from : ℕ) (text path : List ℕ) (n : ℕ) → start ≤ end → end ≤ length bytes → text ≡ slice_range bytes start end →
+    n ≡ position_or_len is_question_mark text → path ≡ take n text → is_served path ≡ true → from ≡ min (start + n + 1) end →
+    target_meaning (slice_range bytes start end) ≡ Asks (slice_range bytes from end)
+unfolding target_meaning
+target-asked bytes start end from text path n ordered within is count front served e =
+    let s : is_served (before_first is_question_mark (slice_range bytes start end)) ≡ true = rw (← is, ← count, ← front) served in
+    let q : after_first is_question_mark (slice_range bytes start end) ≡ slice_range bytes from end =
+    rw (← is, ← count, is) (range-after bytes start end n from ordered within e) in
+    rw (s, q) refl

@@ -1,0 +1,17 @@
+use Rattle.std.proofs.Common.{length, ap, arith}
+use Rattle.std.specs.List.{list_all}
+use Rattle.httpedge.specs.Came.{is_newline}
+use Rattle.httpedge.proofs.Heads.{nothing-headless}
+use Rattle.httpedge.proofs.came.Came.new.Goals as goal
+
+pub returns-clause-came : goal.returns-clause-came
+returns-clause-came c =
+    let none = c.in_ok-with_capacity.ensures.items in
+    record {
+      room = omega (arith, c.in_ok-with_capacity.ensures.exact);
+      limit = omega (arith, ap length none);
+      blank = λ e. ap (list_all is_newline) none;
+      no_head = λ e. rw none nothing-headless;
+      below = λ e. omega (arith, ap length none);
+      query = λ span e. absurd (cc);
+    }

@@ -1,0 +1,34 @@
+ghost use Rattle.std.specs.Prelude.{ℕ, List, Result};
+ghost use Rattle.mapmachine.specs.declared.reply.Answer.{Answer};
+ghost use Rattle.httpedge.specs.declared.asks.Busy.{Busy};
+
+use mapmachine::{Answer, Machine};
+use thiserror::Error;
+
+/// A query can't be answered now.
+#[derive(Clone, Copy, Debug, PartialEq, Eq, Error)]
+#[error("the server is busy")]
+pub struct Busy;
+
+/// Who is asked queries.
+pub trait Asks {
+    // What may be said to a query: the asked one before, the query, what is said, and the asked one after.
+    ghost answers: { Self → List ℕ → Result Answer Busy → Self → Type 0 };
+
+    /// The answer to a query.
+    fn answer(&mut self, query: &[u8]) -> Result<Answer, Busy>
+        ensures { answers self.old query.now result self.new };
+}
+
+impl Asks for Machine {
+    ghost use Rattle.httpedge.specs.Asking.{machine_answers};
+
+    ghost answers = { machine_answers };
+
+    fn answer(&mut self, query: &[u8]) -> Result<Answer, Busy> {
+        match self.reply(query) {
+            Ok(answer) => Ok(answer),
+            Err(_) => Err(Busy),
+        }
+    }
+}

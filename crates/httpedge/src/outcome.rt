@@ -1,0 +1,13 @@
+use crate::Refusal;
+use mapmachine::Answer;
+
+/// What is written to a client.
+#[derive(Debug, Drop)]
+pub enum Outcome {
+    /// The answer to its query.
+    Answered(Answer),
+    /// That its stream is refused.
+    Refused(Refusal),
+    /// That its query can't be answered now.
+    Busy,
+}

@@ -1,0 +1,28 @@
+ghost use Rattle.std.specs.Prelude.{◌≡◌};
+ghost use Rattle.httpedge.specs.Response.{status_of};
+
+use http::StatusCode;
+
+/// Why a stream asks no query.
+#[derive(Clone, Copy, Debug, PartialEq, Eq)]
+pub enum Refusal {
+    /// It has no head.
+    BadRequest,
+    /// Its target has a path that isn't served.
+    NotFound,
+    /// Its method isn't GET.
+    MethodNotAllowed,
+}
+
+impl Refusal {
+    /// The status that it is answered with.
+    pub fn status(self) -> StatusCode
+        ensures { result ≡ status_of self }
+    {
+        match self {
+            Refusal::BadRequest => StatusCode::BAD_REQUEST,
+            Refusal::NotFound => StatusCode::NOT_FOUND,
+            Refusal::MethodNotAllowed => StatusCode::METHOD_NOT_ALLOWED,
+        }
+    }
+}

@@ -1,0 +1,103 @@
+ghost use Rattle.std.specs.Prelude.{◌≡◌, ◌<◌, ◌+◌, ◌++◌, length, take, OnOk, IfErr, MatchResult, true, codes};
+ghost use Rattle.std.specs.Io.KnownBytes.{Appends};
+ghost use Rattle.httpedge.specs.Response.{mime_text, refusal_text, busy_text, body_text, answer_text, response};
+
+use crate::{Outcome, Refusal};
+use itoa::Buffer;
+use mapmachine::{Answer, Mime, Sink, WriteFault, put_all, put_pieces};
+
+// The mime type of an answer.
+fn mime_text(mime: Mime) -> &'static [u8]
+    ensures { result.now ≡ mime_text mime }
+{
+    match mime {
+        Mime::Pixmap => b"image/x-portable-pixmap",
+        Mime::Xml => b"text/xml",
+    }
+}
+
+// The response of a refusal.
+#[tactic(auto, unfolding(crate::specs::Response::refusal_text))]
+fn refusal_text(refusal: Refusal) -> &'static [u8]
+    ensures { result.now ≡ refusal_text refusal }
+{
+    match refusal {
+        Refusal::BadRequest => {
+            b"HTTP/1.1 400 Bad Request\r\nContent-Length: 0\r\nConnection: close\r\n\r\n"
+        }
+        Refusal::NotFound => {
+            b"HTTP/1.1 404 Not Found\r\nContent-Length: 0\r\nConnection: close\r\n\r\n"
+        }
+        Refusal::MethodNotAllowed => {
+            b"HTTP/1.1 405 Method Not Allowed\r\nAllow: GET\r\nContent-Length: 0\r\nConnection: close\r\n\r\n"
+        }
+    }
+}
+
+// The response of a server that is busy.
+#[tactic(auto, unfolding(crate::specs::Response::busy_text))]
+fn busy_text() -> &'static [u8]
+    ensures { result.now ≡ busy_text }
+{
+    b"HTTP/1.1 503 Service Unavailable\r\nContent-Length: 0\r\nConnection: close\r\n\r\n"
+}
+
+// Writes the head of an answer, and its body from where it stands.
+#[tactic(auto, unfolding(crate::specs::Response::body_text))]
+fn send_body<'a, W: Sink>(
+    mime: &'a [u8],
+    count: &'a [u8],
+    body: &'a [u8],
+    writer: &mut W,
+) -> Result<(), WriteFault>
+    ensures ok { OnOk result (Appends (W.held writer.old) (W.held writer.new) (body_text mime.now count.now body.now)) }
+    ensures part { IfErr result (λ e. Appends (W.held writer.old) (W.held writer.new) (take e.written (body_text mime.now count.now body.now))) }
+    ensures short { IfErr result (λ e. e.written < length (body_text mime.now count.now body.now)) }
+    ensures flag { MatchResult result (λ _. W.put_failed writer.new ≡ W.put_failed writer.old) (λ _. W.put_failed writer.new ≡ true) }
+{
+    put_pieces(
+        writer,
+        &[
+            b"HTTP/1.1 200 OK\r\nContent-Type: ",
+            mime,
+            b"\r\nContent-Length: ",
+            count,
+            b"\r\nConnection: close\r\n\r\n",
+            body,
+        ],
+    )
+}
+
+// Writes an answer.
+fn send_answer<W: Sink>(answer: &Answer, writer: &mut W) -> Result<(), WriteFault>
+    ensures ok { OnOk result (Appends (W.held writer.old) (W.held writer.new) (answer_text answer.now)) }
+    ensures part { IfErr result (λ e. Appends (W.held writer.old) (W.held writer.new) (take e.written (answer_text answer.now))) }
+    ensures short { IfErr result (λ e. e.written < length (answer_text answer.now)) }
+    ensures flag { MatchResult result (λ _. W.put_failed writer.new ≡ W.put_failed writer.old) (λ _. W.put_failed writer.new ≡ true) }
+{
+    let mut digits = Buffer::new();
+    let count = digits.format(answer.body.len() as u64).as_bytes();
+    send_body(
+        mime_text(answer.mime),
+        count,
+        answer.body.as_slice(),
+        writer,
+    )
+}
+
+/// Writes an outcome. The error is that the writer failed: exactly the first `written` bytes of the
+/// response went out, and not all of them.
+///
+/// It takes no memory.
+pub fn respond<W: Sink>(outcome: &Outcome, writer: &mut W) -> Result<(), WriteFault>
+    ensures ok { OnOk result (Appends (W.held writer.old) (W.held writer.new) (response outcome.now)) }
+    ensures part { IfErr result (λ e. Appends (W.held writer.old) (W.held writer.new) (take e.written (response outcome.now))) }
+    ensures short { IfErr result (λ e. e.written < length (response outcome.now)) }
+    ensures flag { MatchResult result (λ _. W.put_failed writer.new ≡ W.put_failed writer.old) (λ _. W.put_failed writer.new ≡ true) }
+{
+    match outcome {
+        Outcome::Answered(answer) => send_answer(answer, writer),
+        Outcome::Refused(refusal) => put_all(writer, refusal_text(*refusal)),
+        Outcome::Busy => put_all(writer, busy_text()),
+    }
+}
