@@ -1,8 +1,8 @@
 -- What a subcommand's name and matches say of the rows.
-use Rattle.std.proofs.Common.{◌≡◌, List, Option, Some, None, option_map}
+use Rattle.std.proofs.Common.{◌≡◌, ◌∙◌, sym, refl, subst, Bool, true, false, ℕ, List, Option, Some, None, Result, Ok, option_map}
 use Rattle.std.specs.Prelude.{Box}
 use Rattle.std.specs.Box.{box_value}
-use Rattle.clap.specs.Words.{Row, Text, subcommand_rows}
+use Rattle.clap.specs.Words.{App, ReadsOne, Row, Text, subcommand_rows, takes}
 use Rattle.clap.specs.declared.parser.matches.SubCommand.{SubCommand}
 use Rattle.clap.specs.declared.parser.matches.ArgMatches.TheViews.{out-SubCommand}
 
@@ -10,3 +10,20 @@ pub named : {Z : Type 0} (o : Option (Box SubCommand Z)) (n : Text) (rows : List
     → Some rows ≡ option_map (λ p. p.1) (subcommand_rows o) → subcommand_rows o ≡ Some (n, rows)
 named None n rows a b = absurd (cc a)
 named (Some s) n rows a b = cc (a, b)
+
+-- what a getter read is what the entry's text gives
+pub one-read : {E : Type 0} (gives : Text → Result ℕ E → Type 0) (o : Option Text) (r : Option ℕ) (n : ℕ) → r ≡ Some n → (o ≡ None → r ≡ None)
+    → ((t : Text) → o ≡ Some t → ReadsOne gives t r) → (t : Text) × (o ≡ Some t) × gives t (Ok n)
+one-read gives None r n is none some = absurd (let bad : Some n ≡ None = sym is ∙ none refl in cc bad)
+one-read gives (Some t) r n is none some = (t, refl, rw is at some t refl)
+
+-- words whose fault isn't want of memory are not taken
+so-not : (b : Bool) → ¬ (b ≡ true) → b ≡ false
+so-not true none = absurd (none refl)
+so-not false none = refl
+
+pub not-taken : (forms line : App) (words : List Text) (refusal : Bool) (K : Type 0) → forms ≡ line → (takes forms words ≡ true → K) → (refusal ≡ true → ¬ K) →
+    refusal ≡ true → takes line words ≡ false
+not-taken forms line words refusal K same passes none is =
+    let P : App → Type 0 = λ a. takes a words ≡ true → K in
+    so-not (takes line words) (λ t. none is (subst P same passes t))

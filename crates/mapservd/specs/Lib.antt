@@ -1,3 +1,4 @@
+pub mod Connections
 pub mod Forms
 pub mod Lines
 pub mod Parts

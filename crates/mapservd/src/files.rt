@@ -37,8 +37,8 @@ fn read_file<I: Source, E: Sink>(
     }
 }
 
-// The map of a mapfile, or how the program ends without it.
-fn read_map<I: Source, E: Sink>(
+/// The map of a mapfile, or how the program ends without it. A fault is told.
+pub fn read_map<I: Source, E: Sink>(
     alloc: Global,
     name: &str,
     file: &mut I,

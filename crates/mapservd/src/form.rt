@@ -15,4 +15,13 @@ pub enum Command<'a> {
         /// The name of the script.
         script: &'a str,
     },
+    /// To answer connections on a port, on the map of a mapfile.
+    Serve {
+        /// The name of the mapfile.
+        file: &'a str,
+        /// The port, 0 for one that is free.
+        port: u16,
+        /// How many connections are answered, 0 without an end.
+        connections: u32,
+    },
 }

@@ -1,6 +1,7 @@
 //! The program. Without words on its command line it plays a session from standard input: a mapfile,
 //! a line of two percent signs, and a script, whose transcript it writes. `check FILE` reads a mapfile
-//! and says how much its map has, `run FILE SCRIPT` plays a script on the map of a mapfile.
+//! and says how much its map has, `run FILE SCRIPT` plays a script on the map of a mapfile, `serve FILE`
+//! answers connections on a port.
 //!
 //! Proved: `command` finds the form of the words as `clap`'s matches have it (`command`), where the
 //! command line takes them (`taken`, `refused`; `laws` has words written out). `serve_session` reads its input up to the end and tells
@@ -14,6 +15,7 @@
 //! machine. The *transcript* is what is written of the replies.
 #![tactic(auto)]
 
+mod connection;
 mod files;
 mod form;
 #[cfg(test)]
@@ -21,6 +23,7 @@ mod form_tests;
 mod input;
 mod laws;
 mod line;
+mod listening;
 mod named_file;
 mod outcome;
 mod parts;
@@ -35,13 +38,14 @@ mod summary;
 mod tests;
 mod words;
 
-use crate::files::{check_file, run_files};
+use crate::files::{check_file, read_map, run_files};
 use crate::form::Command;
+use crate::listening::listen;
 use crate::named_file::NamedFile;
 use crate::outcome::Outcome;
 use crate::session::{serve_session, tell};
 use crate::words::{WordsFault, command};
-use mapmachine::{Flagged, Sink};
+use mapmachine::{Flagged, Machine, Sink};
 use std::env;
 use std::io::{self, BufWriter};
 use std::process::ExitCode;
@@ -81,6 +85,22 @@ fn perform<O: Sink, E: Sink>(
             output,
             errors,
         ),
+        Command::Serve {
+            file,
+            port,
+            connections,
+        } => match read_map(
+            rt.alloc(),
+            file,
+            &mut Flagged::new(NamedFile::new(rt, file)),
+            errors,
+        ) {
+            Ok(map) => {
+                let mut machine = Machine::open(rt.alloc(), map);
+                listen(rt, &mut machine, port, connections, output)
+            }
+            Err(outcome) => outcome,
+        },
     }
 }
 

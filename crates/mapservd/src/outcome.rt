@@ -7,6 +7,8 @@ pub enum Outcome {
     Played,
     /// The mapfile has no fault, and the line of its map was written.
     Checked,
+    /// So many connections as were asked for were answered, or given up for a fault of their own.
+    Served,
     /// The mapfile has a fault, which was told.
     MapfileFault,
     /// A mapfile or a script could not be read, and was told by its name.
@@ -17,6 +19,8 @@ pub enum Outcome {
     InputFailed,
     /// The writer of the transcript, or of the map's line, failed.
     OutputFailed,
+    /// The port could not be listened on, or gave no connection.
+    SocketFailed,
     /// Memory was refused for the words, for bytes that were read or for the map.
     NoMemory,
 }
@@ -26,18 +30,20 @@ impl Outcome {
     pub fn status(self) -> u8
         ensures played { self ≡ Outcome.Played → result ≡ 0 }
         ensures checked { self ≡ Outcome.Checked → result ≡ 0 }
+        ensures served { self ≡ Outcome.Served → result ≡ 0 }
         ensures mapfile_fault { self ≡ Outcome.MapfileFault → result ≡ 1 }
         ensures file_failed { self ≡ Outcome.FileFailed → result ≡ 1 }
         ensures words_refused { self ≡ Outcome.WordsRefused → result ≡ 2 }
         ensures input_failed { self ≡ Outcome.InputFailed → result ≡ 3 }
         ensures output_failed { self ≡ Outcome.OutputFailed → result ≡ 3 }
+        ensures socket_failed { self ≡ Outcome.SocketFailed → result ≡ 3 }
         ensures no_memory { self ≡ Outcome.NoMemory → result ≡ 4 }
     {
         match self {
-            Outcome::Played | Outcome::Checked => 0,
+            Outcome::Played | Outcome::Checked | Outcome::Served => 0,
             Outcome::MapfileFault | Outcome::FileFailed => 1,
             Outcome::WordsRefused => 2,
-            Outcome::InputFailed | Outcome::OutputFailed => 3,
+            Outcome::InputFailed | Outcome::OutputFailed | Outcome::SocketFailed => 3,
             Outcome::NoMemory => 4,
         }
     }

@@ -2,11 +2,11 @@ ghost use Rattle.std.specs.Prelude.{◌≡◌, ◌≢◌, IfOk, IfErr, IfSome, O
 ghost use Rattle.clap.specs.Words.{app_of, fault_of, kind_of, subcommand_of, subcommand_rows_of, takes};
 ghost use Rattle.clap.specs.declared.error.kind.ErrorKind.TheVariants.{OutOfMemory};
 ghost use Rattle.clap.specs.declared.builder.command.Command.TheViews.{out-Command};
-ghost use Rattle.mapservd.specs.Words.{app, check_app, run_app, IsCommand, is_refusal};
+ghost use Rattle.mapservd.specs.Words.{app, check_app, run_app, port_app, serve_app, IsCommand, is_refusal};
 
 use crate::form::Command;
 use clap::error::ErrorKind;
-use clap::{Arg, ArgMatches};
+use clap::{Arg, ArgMatches, value_parser};
 use std::alloc::{AllocError, Global};
 use thiserror::Error;
 
@@ -48,6 +48,34 @@ fn run_form<'a>(alloc: Global) -> Result<clap::Command<'a>, AllocError>
         .arg(script)
 }
 
+// The form `serve FILE --port PORT`, to which an option is still to come.
+fn port_form<'a>(alloc: Global) -> Result<clap::Command<'a>, AllocError>
+    ensures app { IfOk result (λ c. app_of c ≡ port_app) }
+    ensures local { IfOk result (λ c. (out-Command c).has_globals ≡ false) }
+{
+    let file = Arg::new(alloc, "FILE").required(true);
+    let port = Arg::new(alloc, "port")
+        .long("port")
+        .value_parser(value_parser!(u16))
+        .default_value("8080");
+    clap::Command::new(alloc, "serve")
+        .about("Answers connections on a port of this machine")
+        .arg(file)?
+        .arg(port)
+}
+
+// The form `serve FILE --port PORT --connections N`.
+fn serve_form<'a>(alloc: Global) -> Result<clap::Command<'a>, AllocError>
+    ensures app { IfOk result (λ c. app_of c ≡ serve_app) }
+    ensures local { IfOk result (λ c. (out-Command c).has_globals ≡ false) }
+{
+    let connections = Arg::new(alloc, "connections")
+        .long("connections")
+        .value_parser(value_parser!(u32))
+        .default_value("0");
+    port_form(alloc)?.arg(connections)
+}
+
 // All forms.
 fn forms<'a>(alloc: Global) -> Result<clap::Command<'a>, AllocError>
     ensures { IfOk result (λ c. app_of c ≡ app) }
@@ -57,7 +85,8 @@ fn forms<'a>(alloc: Global) -> Result<clap::Command<'a>, AllocError>
         .about("Plays map requests")
         .no_binary_name(true)
         .subcommand(check_form(alloc)?)?
-        .subcommand(run_form(alloc)?)
+        .subcommand(run_form(alloc)?)?
+        .subcommand(serve_form(alloc)?)
 }
 
 // The command of matches.
@@ -73,6 +102,11 @@ fn command_of<'a>(matches: &ArgMatches<'a>) -> Option<Command<'a>>
         "run" => Some(Command::Run {
             file,
             script: inner.get_str("SCRIPT")?,
+        }),
+        "serve" => Some(Command::Serve {
+            file,
+            port: inner.get_one::<u16>("port")?,
+            connections: inner.get_one::<u32>("connections")?,
         }),
         _ => None,
     }

@@ -8,6 +8,7 @@ returns c = record {
   none = refl;
   check = (refl, refl);
   run = (refl, refl, refl);
+  serve = (refl, refl, refl, refl);
   taken = (refl, refl, refl);
-  refused = (refl, refl, refl);
+  refused = (refl, refl, refl, refl);
 }
