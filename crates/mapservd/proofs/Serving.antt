@@ -9,7 +9,7 @@ use Rattle.mapservd.specs.Forms.{HasReadFile, HasReadMap, RunsTo}
 use Rattle.mapservd.specs.Sent.{IsSent}
 use Rattle.mapservd.specs.Session.{Streams, HasRead, Ends, IsTold, Tells, opened}
 use Rattle.mapservd.specs.declared.outcome.Outcome.{Outcome}
-use Rattle.mapservd.specs.declared.outcome.Outcome.TheVariants.{Played, Checked, MapfileFault, FileFailed, WordsRefused, InputFailed, OutputFailed, NoMemory}
+use Rattle.mapservd.specs.declared.outcome.Outcome.TheVariants.{Played, Checked, MapfileFault, FileFailed, WordsRefused, InputFailed, OutputFailed, NoMemory, Served, SocketFailed}
 
 -- a line that went out whole and was flushed was told
 pub told-whole : (a b c : Option (List ℕ)) (line : List ℕ) (before after : ℕ) (failed : Bool) → IsSent a b line before after → Keeps b c → IsTold a c line failed
@@ -26,6 +26,8 @@ pub served : (outcome : Outcome) (old new : Streams) (failed : Bool) (mapfile sc
 served Played old new failed mapfile script map state read is_map ends kept =
     record { mapfile = mapfile; script = script; read = read; map = map; is_map = is_map; state = state; ends = ends; errors = kept }
 served Checked old new failed mapfile script map state read is_map ends kept = absurd ends
+served Served old new failed mapfile script map state read is_map ends kept = absurd ends
+served SocketFailed old new failed mapfile script map state read is_map ends kept = absurd ends
 served FileFailed old new failed mapfile script map state read is_map ends kept = absurd ends
 served WordsRefused old new failed mapfile script map state read is_map ends kept = absurd ends
 served MapfileFault old new failed mapfile script map state read is_map ends kept = absurd ends
@@ -43,6 +45,8 @@ ran Played file script before after old new failed map bytes state read read_scr
 ran OutputFailed file script before after old new failed map bytes state read read_script ends kept =
     record { map = map; read = read; script = bytes; read_script = read_script; state = state; ends = ends; errors = kept }
 ran Checked file script before after old new failed map bytes state read read_script ends kept = absurd ends
+ran Served file script before after old new failed map bytes state read read_script ends kept = absurd ends
+ran SocketFailed file script before after old new failed map bytes state read read_script ends kept = absurd ends
 ran MapfileFault file script before after old new failed map bytes state read read_script ends kept = absurd ends
 ran FileFailed file script before after old new failed map bytes state read read_script ends kept = absurd ends
 ran WordsRefused file script before after old new failed map bytes state read read_script ends kept = absurd ends
