@@ -30,7 +30,7 @@ For more information, try '--help'.
 NOT_UTF8 = b"error: a word is not UTF-8\n"
 FILES = {
     "good.map": MAP.removesuffix(b"%%\n"),
-    "bad.map": b"MAP\n\nWEB END\n",
+    "bad.map": b"MAP\n\nFOO END\n",
     "large.map": LARGE.removesuffix(b"%%\n"),
     "good.script": QUERY,
     "bad.script": b"QUERY a\nx\n",
@@ -57,7 +57,7 @@ def main():
         rows = [
             ("played", run(MAP + QUERY), (0, answer, b"")),
             ("faulty script", run(MAP + b"x\n"), (0, b"fault script 1\n", b"")),
-            ("faulty mapfile", run(b"MAP\nWEB END\n"), (1, b"", b"fault line 2 kind 2\n")),
+            ("faulty mapfile", run(b"MAP\nFOO END\n"), (1, b"", b"fault line 2 kind 2\n")),
             ("full output", run(MAP + QUERY, stdout=full), (3, None, b"")),
             ("no memory", run(LARGE, limit=16_000_000), (4, b"", b"")),
             ("check", run(b"", "check", "good.map"), (0, b"ok 1 layers 0 features\n", b"")),

@@ -139,7 +139,7 @@ const FORMS: &str = "\
 check|MAP END||0|ok 0 layers 0 features~|
 check|*||0|ok 2 layers 3 features~|
 check|*|!|0|ok 2 layers 3 features~|
-check|MAP~~WEB END||1||fault line 3 kind 2~
+check|MAP~~FOO END||1||fault line 3 kind 2~
 check|(||1||fault line 1 kind 1~
 check|||1||fault line 1 kind 4~
 check|!||1||fault file m.map~

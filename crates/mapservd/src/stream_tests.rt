@@ -96,7 +96,7 @@ const SESSIONS: &str = "\
 MAP END~%%~QUERY a~|0|x|\n\
 MAP END|0||\n\
 MAP END~%%~QUERY a~QUERY b~QUIT~|0|fault script 3~|\n\
-MAP~~~~WEB END~%%~QUERY a~|1||fault line 5 kind 2~\n\
+MAP~~~~FOO END~%%~QUERY a~|1||fault line 5 kind 2~\n\
 MAP~ LAYER~ TYPE BLOB~%%~|1||fault line 3 kind 3~\n\
 MAP~%%~QUIT~|1||fault line 2 kind 4~";
 
@@ -245,7 +245,7 @@ fn large_sessions_are_played(rt: HostRuntime) -> Result<(), Fail> {
 fn faults_have_their_line_in_large_mapfiles(rt: HostRuntime) -> Result<(), Fail> {
     let alloc = rt.alloc();
     let mut session = large_mapfile(alloc)?;
-    session.extend_from_slice(b"MAP\nWEB END\n")?;
+    session.extend_from_slice(b"MAP\nFOO END\n")?;
     let ending = served(alloc, &session, 1_000_000, [None; 3]);
     assert_eq!(rt; ending.outcome, Outcome::MapfileFault);
     assert_eq!(rt;
