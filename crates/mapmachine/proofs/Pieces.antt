@@ -19,13 +19,23 @@ pub front-next : {X : Type 0} (f : X → List ℕ) (xs : List X) (i : ℕ) (d : 
     text ≡ f (get_or xs i d) → n < length text → count ≡ length (flat_map f (take i xs)) + n →
     Appends a b (flat_map f (take i xs)) → Appends b c (take n text) → Appends a c (take count (flat_map f xs))
 front-next f xs i d text a b c n count h is short e first next =
-    rw (e, texts-at f xs i d h, ← is, take-append-add (flat_map f (take i xs)) (text ++ flat_map f (drop (i + 1) xs)) n,
-        take-append-le n text (flat_map f (drop (i + 1) xs)) (omega arith))
+    rw (
+      e,
+      texts-at f xs i d h,
+      ← is,
+      take-append-add (flat_map f (take i xs)) (text ++ flat_map f (drop (i + 1) xs)) n,
+      take-append-le n text (flat_map f (drop (i + 1) xs)) (omega arith),
+    )
     (Appends-trans a b c (flat_map f (take i xs)) (take n text) first next)
 
 -- and not all did
 pub front-short : {X : Type 0} (f : X → List ℕ) (xs : List X) (i : ℕ) (d : X) (text : List ℕ) (n count : ℕ) → i < length xs →
     text ≡ f (get_or xs i d) → n < length text → count ≡ length (flat_map f (take i xs)) + n → count < length (flat_map f xs)
 front-short f xs i d text n count h is short e =
-    rw (e, texts-at f xs i d h, ← is, length-append (flat_map f (take i xs)) (text ++ flat_map f (drop (i + 1) xs)),
-        length-append text (flat_map f (drop (i + 1) xs))) (omega arith)
+    rw (
+      e,
+      texts-at f xs i d h,
+      ← is,
+      length-append (flat_map f (take i xs)) (text ++ flat_map f (drop (i + 1) xs)),
+      length-append text (flat_map f (drop (i + 1) xs)),
+    ) (omega arith)

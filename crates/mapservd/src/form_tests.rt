@@ -16,11 +16,13 @@ fn told(alloc: Global, words: &[&str]) -> Result<String, AllocError> {
         Ok(Command::Session) => String::from_str(alloc, "a session"),
         Ok(Command::Check { file }) => format!(in alloc; "check {file}"),
         Ok(Command::Run { file, script }) => format!(in alloc; "run {file} and then {script}"),
-        Ok(Command::Serve {
-            file,
-            port,
-            connections,
-        }) => format!(in alloc; "serve {file} on {port} for {connections}"),
+        Ok(
+            Command::Serve {
+                file,
+                port,
+                connections,
+            },
+        ) => format!(in alloc; "serve {file} on {port} for {connections}"),
         Err(WordsFault::Refused { text }) => Ok(text),
         Err(WordsFault::NoMemory) => Err(AllocError),
     }

@@ -32,8 +32,12 @@ returns-in_ok-get_one-in-serve-2 c =
     let name : c.in-Some.name.now ≡ codes "serve" = search rules in
     let file = sym (first_value-rows inner (codes "FILE")) ∙ sym c.in_ok-file.ensures in
     let (p, port, reads-port) = one-read (λ bs r. ParsesUnsigned 16 10 bs r × ExplainsUnsignedError 10 bs r × HasUnsignedDigitsIfOk bs r) (one_text inner (codes "port"))
-        c.get_one.result c.in_ok-get_one-in-serve.field-0 c.in_ok-get_one-in-serve.was c.get_one.ensures.none c.get_one.ensures.value in
+    c.get_one.result c.in_ok-get_one-in-serve.field-0 c.in_ok-get_one-in-serve.was c.get_one.ensures.none c.get_one.ensures.value in
     let (n, connections, reads-connections) = one-read (λ bs r. ParsesUnsigned 32 10 bs r × ExplainsUnsignedError 10 bs r × HasUnsignedDigitsIfOk bs r) (one_text inner (codes "connections"))
-        c.get_one-in-serve.result c.in_ok-get_one-in-serve-2.field-0 c.in_ok-get_one-in-serve-2.was c.get_one-in-serve.ensures.none c.get_one-in-serve.ensures.value in
-    rw at (name, file, (p, sym (one_text-rows inner (codes "port")) ∙ port, reads-port.0),
-        (n, sym (one_text-rows inner (codes "connections")) ∙ connections, reads-connections.0))
+    c.get_one-in-serve.result c.in_ok-get_one-in-serve-2.field-0 c.in_ok-get_one-in-serve-2.was c.get_one-in-serve.ensures.none c.get_one-in-serve.ensures.value in
+    rw at (
+      name,
+      file,
+      (p, sym (one_text-rows inner (codes "port")) ∙ port, reads-port.0),
+      (n, sym (one_text-rows inner (codes "connections")) ∙ connections, reads-connections.0),
+    )
