@@ -8,7 +8,7 @@ use lib.Signed.{◌<ℤ◌, ◌≤ℤ◌}
 use Rattle.geom.specs.Device.{DevicePoint}
 use Rattle.geom.specs.Edge.{EdgeEnds, high_end, low_end, rise, run}
 use Rattle.geom.proofs.Products.{add-mul, is_not_le, le_of, mul-add, mul-comm, product_nonneg, product_nonpos, sub-mul}
-use Rattle.scanfill.proofs.Quotients.{mul-left_comm}
+use Rattle.geom.proofs.Products.{mul-left_comm}
 use Rattle.strokes.specs.Segment.{are_left_of, are_right_of, covers_by_rows, is_between, is_beyond, is_near, right_of}
 
 -- how far right of the line a point lies, from how far it lies right of both ends: u sixteenths below the upper end, v above the other

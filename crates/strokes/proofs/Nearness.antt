@@ -10,7 +10,7 @@ use Rattle.geom.specs.Device.{centre, pixel_centre}
 use Rattle.geom.specs.Edge.{EdgeEnds, low_end, rise, run}
 use Rattle.geom.specs.Range.{IsBelow}
 use Rattle.geom.proofs.Products.{add-mul, is_le, le_of, mul-comm, mul-neg, same_order, same_test}
-use Rattle.scanfill.proofs.Quotients.{mul-left_comm}
+use Rattle.geom.proofs.Products.{mul-left_comm}
 use Rattle.scanfill.proofs.Words.{wide}
 use Rattle.strokes.specs.Columns.{is_kept}
 use Rattle.strokes.specs.Segment.{right_of, turned}

@@ -4,7 +4,7 @@ use Rattle.std.specs.List.{zip}
 use Rattle.geom.specs.Device.{DevicePoint}
 use Rattle.geom.specs.Edge.{EdgeEnds}
 use Rattle.geom.specs.EvenOdd.{edge_between}
-use Rattle.scanfill.proofs.Rings.{closing_edges, ring_edges-closing}
+use Rattle.geom.proofs.Rings.{closing_edges, ring_edges-closing}
 use Rattle.strokes.specs.Line.{segments_of}
 
 -- the segments from a vertex over those that follow, and where the line is closed back to the first one

@@ -11,7 +11,7 @@ use Rattle.geom.specs.Device.{DevicePoint, centre, pixel_centre}
 use Rattle.geom.specs.Edge.{EdgeEnds, high_end, low_end, rise, run}
 use Rattle.geom.proofs.Products.{is_le, le_of, mul-comm, not_le_of, sub-mul}
 use Rattle.geom.proofs.Quotients.{least_from}
-use Rattle.scanfill.proofs.Quotients.{mul-left_comm}
+use Rattle.geom.proofs.Products.{mul-left_comm}
 use Rattle.strokes.specs.Law.{AreColumnsWide, AreInSequence, AreRowsWide, IsNothing, IsSameBack, LiesBetween, across, down}
 use Rattle.strokes.specs.Segment.{covers_by_rows, covers_segment, is_between, is_steep, right_of, turned, turned_edge}
 use Rattle.strokes.proofs.Beyond.{level-far}
