@@ -9,7 +9,7 @@ use Rattle.clip.specs.declared.rows.Rows.{Rows}
 use Rattle.clip.proofs.Rowed.{rows_of-all}
 
 -- rows that end before they begin are none
-no-rows : (a b j : ℕ) → b ≤ a → (nat_le a j && nat_lt j b) ≡ false
+pub no-rows : (a b j : ℕ) → b ≤ a → (nat_le a j && nat_lt j b) ≡ false
 no-rows a b j h = grind arith
 
 -- an edge whose rows are none crosses no row of the view

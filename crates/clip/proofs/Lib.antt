@@ -1,3 +1,4 @@
 pub mod Cases
+pub mod Joining
 pub mod Rowed
 pub mod Sides

@@ -1,5 +1,5 @@
 -- Which rows of a picture an edge crosses, and on which side of it (docs/PROFILE.md, "When a pixel belongs to a polygon").
-use Rattle.std.specs.Prelude.{◌≡◌, ℕ, min, ◌<◌, ◌⊎◌, Bool, true, false, ◌&&◌, ◌||◌, nat_le, nat_lt, if◌then◌else◌, ℤ, pos, negsuc, ◌+ℤ◌, ◌-ℤ◌, int_le, int_lt}
+use Rattle.std.specs.Prelude.{◌≡◌, ℕ, min, max, ◌<◌, ◌⊎◌, Bool, true, false, ◌&&◌, ◌||◌, nat_le, nat_lt, if◌then◌else◌, ℤ, pos, negsuc, ◌+ℤ◌, ◌-ℤ◌, int_le, int_lt}
 use Rattle.std.specs.Int.{int_div_euclid}
 use Rattle.geom.specs.Device.{centre}
 use Rattle.geom.specs.Edge.{EdgeEnds, low_end, high_end, crosses_height}
@@ -14,6 +14,13 @@ crosses_row e j = crosses_height e (centre (pos j))
 -- the row is one of the rows
 abbrev pub has_row : Rows → ℕ → Bool
 has_row rows j = nat_le rows.from j && nat_lt j rows.to
+
+-- the rows from the first one to the last one of two groups
+abbrev pub joined : Rows → Rows → Rows
+joined a b =
+    if nat_le b.to b.from
+    then a
+    else (if nat_le a.to a.from then b else record { from = min a.from b.from; to = max a.to b.to })
 
 -- both ends lie right of the pixel centres of the last of w columns
 abbrev pub is_right_of_view : EdgeEnds → ℕ → Bool

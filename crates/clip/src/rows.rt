@@ -1,5 +1,5 @@
 ghost use Rattle.std.specs.Prelude.{◌≡◌, ◌^◌, ◌≤◌, nat_le};
-ghost use Rattle.clip.specs.Class.{first_row, has_row, rows_of};
+ghost use Rattle.clip.specs.Class.{first_row, has_row, joined, rows_of};
 ghost use Rattle.geom.specs.Range.{IsBelow};
 
 use geom::{Edge, PictureSide};
@@ -19,6 +19,22 @@ impl Rows {
         ensures { result ≡ has_row self row }
     {
         self.from <= row && row < self.to
+    }
+
+    /// The rows from the first one to the last one of both.
+    pub fn joined(self, other: Rows) -> Rows
+        ensures { result ≡ joined self other }
+    {
+        if other.is_empty() {
+            self
+        } else if self.is_empty() {
+            other
+        } else {
+            Rows {
+                from: self.from.min(other.from),
+                to: self.to.max(other.to),
+            }
+        }
     }
 
     // Whether there is none.
@@ -53,5 +69,24 @@ fn first_row(y: i64, height: PictureSide) -> u16
         row as u16
     } else {
         height.pixels()
+    }
+}
+
+#[cfg(test)]
+mod tests {
+    use super::*;
+
+    fn rows(from: u16, to: u16) -> Rows {
+        Rows { from, to }
+    }
+
+    #[test]
+    fn joined_rows_go_from_the_first_to_the_last(rt: HostRuntime) {
+        assert_eq!(rt; rows(2, 4).joined(rows(7, 9)), rows(2, 9));
+        assert_eq!(rt; rows(7, 9).joined(rows(2, 4)), rows(2, 9));
+        assert_eq!(rt; rows(1, 8).joined(rows(3, 5)), rows(1, 8));
+        // No rows add none, wherever they stand.
+        assert_eq!(rt; rows(3, 5).joined(rows(0, 0)), rows(3, 5));
+        assert_eq!(rt; rows(9, 6).joined(rows(3, 5)), rows(3, 5));
     }
 }

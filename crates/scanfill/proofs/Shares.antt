@@ -9,11 +9,12 @@ use lib.IntN.{pos, ◌-ℤ◌}
 use Rattle.geom.specs.Device.{centre, pixel_centre}
 use Rattle.geom.specs.Edge.{EdgeEnds, low_end, high_end, crosses_at_or_left, meets_at_or_left}
 use Rattle.geom.specs.EvenOdd.{edges, is_odd}
-use Rattle.clip.specs.Class.{AreRowsOf, IsClass, class_of, crosses_row, has_row, is_left_of_view, is_right_of_view}
+use Rattle.clip.specs.Class.{AreRowsOf, IsClass, class_of, crosses_row, has_row, is_left_of_view, is_right_of_view, rows_of}
 use Rattle.clip.specs.declared.class.Class.{Class}
 use Rattle.clip.specs.declared.class.Class.TheVariants as class
 use Rattle.clip.specs.declared.rows.Rows.{Rows}
 use Rattle.clip.proofs.Cases.{IsClass-class_of}
+use Rattle.clip.proofs.Rowed.{rows_of-all}
 use Rattle.clip.proofs.Sides.{left-crosses, right-crosses}
 use Rattle.scanfill.specs.Column.{column_of}
 use Rattle.scanfill.specs.Law.{AreRunsInside, counts_left, counts_walked, is_left_in_row, is_walked_in_row}
@@ -22,6 +23,11 @@ use Rattle.scanfill.proofs.Columns.{crosses-from}
 -- the rows of an edge in the view are those that it crosses
 pub row-crossed : (e : EdgeEnds) (h j : ℕ) (rows : Rows) → AreRowsOf e h rows → j < h → has_row rows j ≡ crosses_row e j
 row-crossed e h j rows r below = rw (lt-ltb j h below) at (r.all j)
+
+-- an edge counts for no pixel of the other rows
+pub row-missed : (e : EdgeEnds) (h i j : ℕ) → j < h → has_row (rows_of e h) j ≡ false → crosses_at_or_left (pixel_centre (pos i) (pos j)) e ≡ false
+row-missed e h i j below out =
+    and_left (crosses_row e j) (meets_at_or_left (pixel_centre (pos i) (pos j)) e) (rw (lt-ltb j h below) at (sym (rows_of-all e h j) ∙ out))
 
 -- a dropped edge counts for no pixel
 pub drop-share : (e : EdgeEnds) (w h i j : ℕ) → IsClass e w h class.Drop → i < w → j < h → crosses_at_or_left (pixel_centre (pos i) (pos j)) e ≡ false

@@ -1,8 +1,10 @@
-ghost use Rattle.std.specs.Prelude.{◌≡◌, ℕ, ◌<◌, Bool, [], OnOk, OnErr};
+ghost use Rattle.std.specs.Prelude.{◌≡◌, ℕ, ◌<◌, ◌≤◌, Bool, false, [], OnOk, OnErr};
+ghost use Rattle.clip.specs.Class.{has_row};
 ghost use Rattle.geom.specs.declared.side.TheConstants.{MAX_PICTURE_SIDE};
 ghost use Rattle.scanfill.specs.Runs.{AreRunsFrom};
 
 use crate::span::Spans;
+use clip::Rows;
 use geom::PictureSide;
 use std::alloc::AllocError;
 
@@ -16,6 +18,11 @@ pub trait Cover {
         requires column { i < MAX_PICTURE_SIDE }
         requires row { j < MAX_PICTURE_SIDE }
         ensures { result ≡ covered self.now i j };
+
+    /// The rows of a picture of that width and height outside of which it covers no pixel.
+    fn rows(&self, width: PictureSide, height: PictureSide) -> Rows
+        ensures within { result.to ≤ height }
+        ensures none { (i j : ℕ) → i < width → j < height → has_row result j ≡ false → covered self.now i j ≡ false };
 
     /// Leaves in `out` the longest runs of covered pixels of a row below 2,048, on that many columns, from
     /// left to right. What `out` had before is gone. Where memory is refused `out` is empty.

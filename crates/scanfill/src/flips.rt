@@ -1,10 +1,10 @@
-ghost use Rattle.std.specs.Prelude.{◌≡◌, false, [], length, min, replicate, IfOk, OnOk};
-ghost use Rattle.clip.specs.Class.{at_least_zero};
+ghost use Rattle.std.specs.Prelude.{◌≡◌, false, [], length, replicate, IfOk, OnOk};
 ghost use Rattle.scanfill.specs.Flips.{AreFlippedFrom, AreWithin, is_flipped};
 ghost use Rattle.scanfill.specs.Runs.{AreRunsFrom};
 
 use crate::reading::Reading;
 use crate::span::Spans;
+use clip::clamped;
 use geom::PictureSide;
 use std::alloc::{AllocError, Global};
 use std::marker::Model;
@@ -47,7 +47,7 @@ impl Flips {
         ensures { AreFlippedFrom column self.old self.new }
     {
         let width = self.flips.len() as u16;
-        let at = cut(column, width);
+        let at = clamped(i128::from(column), width);
         if at < width {
             self.flips[usize::from(at)] = !self.flips[usize::from(at)];
             self.first = self.first.min(at);
@@ -71,19 +71,6 @@ impl Flips {
         clear_flips(&mut self.flips, self.first, self.past);
         self.first = self.flips.len() as u16;
         self.past = 0;
-    }
-}
-
-// The column, or 0 for one below it and the width for one past the end.
-fn cut(column: i64, width: u16) -> u16
-    ensures { result ≡ min (at_least_zero column) width }
-{
-    if column <= 0 {
-        0
-    } else if column < i64::from(width) {
-        column as u16
-    } else {
-        width
     }
 }
 

@@ -1,4 +1,5 @@
-ghost use Rattle.std.specs.Prelude.{◌≡◌, ℕ, ◌<◌, ◌+◌, ◌*◌, ◌-◌, ◌^◌, [], ◌++◌, length, map, min, pos, All, IfOk, OnOk, OnErr, vec_items};
+ghost use Rattle.std.specs.Prelude.{◌≡◌, ℕ, ◌<◌, ◌≤◌, ◌+◌, ◌*◌, ◌-◌, ◌^◌, false, [], ◌++◌, length, map, min, pos, All, IfOk, OnOk, OnErr, vec_items};
+ghost use Rattle.clip.specs.Class.{has_row};
 ghost use Rattle.geom.specs.Device.{pixel_centre};
 ghost use Rattle.geom.specs.Edge.{crosses_at_or_left};
 ghost use Rattle.geom.specs.EvenOdd.{edges, is_covered, ring_edges};
@@ -13,7 +14,7 @@ use crate::span::Spans;
 use crate::sweep::Sweep;
 use crate::walk::EdgeWalk;
 use crate::work::Work;
-use clip::{Class, Rows, classify};
+use clip::{Class, Rows, classify, rows_of};
 use geom::{Device, Edge, PictureSide};
 use std::alloc::{AllocError, Global};
 use std::marker::Model;
@@ -85,6 +86,10 @@ impl Cover for Polygon {
         crossings % 2 == 1
     }
 
+    fn rows(&self, _width: PictureSide, height: PictureSide) -> Rows {
+        crossed_rows(&self.edges, height)
+    }
+
     fn row(&self, j: u16, width: PictureSide, out: &mut Spans) -> Result<(), AllocError> {
         out.clear();
         match read_row(&self.edges, j, width, out) {
@@ -95,6 +100,18 @@ impl Cover for Polygon {
             }
         }
     }
+}
+
+// The rows from the first one to the last one that the edges cross.
+fn crossed_rows(edges: &[Edge], height: PictureSide) -> Rows
+    ensures within { result.to ≤ height }
+    ensures none { (i j : ℕ) → j < height → has_row result j ≡ false → is_covered edges.now (pixel_centre (pos i) (pos j)) ≡ false }
+{
+    let mut rows = Rows { from: 0, to: 0 };
+    for edge in edges {
+        rows = rows.joined(rows_of(*edge, height));
+    }
+    rows
 }
 
 // Adds to the empty `out` the runs of a row.

@@ -1,4 +1,4 @@
-use crate::{Cover, Polygon, Reading, Span, Spans, Work};
+use crate::{Cover, Polygon, Reading, Rows, Span, Spans, Work};
 use geom::{Device, Edge, PictureSide};
 use std::alloc::{AllocError, Global};
 use std::process::Abort;
@@ -77,6 +77,55 @@ fn sweeps_have_worked_rows(rt: HostRuntime) -> Result<(), Fail> {
         assert!(rt; !sweep.next(&mut spans)?, "{line}");
         assert!(rt; spans.as_slice().is_empty(), "{line}");
         assert_eq!(rt; work.divisions, divisions.parse::<u64>()?, "{line}");
+    }
+    Ok(())
+}
+
+// Rings, the sides of a picture, and the rows outside of which no pixel is covered, `-` for none, worked by
+// hand: on the picture, partly above it and below it, wholly above, below and on its left, two rings apart
+// in both orders, thin ones about a pixel centre, one point and none.
+const ROWS: &str = "\
+16,48 48,48 48,16 16,16|4 5|1-3
+0,-40 40,-40 40,25 0,25|5 4|0-2
+0,40 40,40 40,90 0,90|4 3|2-3
+0,-40 40,-40 40,-8 0,-8|4 6|-
+0,48 40,48 40,90 0,90|4 3|-
+-48,16 -16,16 -16,64 -48,64|3 6|1-4
+0,0 32,0 32,16 0,16/0,64 32,64 32,80 0,80|5 7|0-5
+0,64 32,64 32,80 0,80/0,16 32,16 32,32 0,32|5 7|1-5
+8,24 8,25 9,25|4 5|1-2
+8,25 8,40 9,40|4 5|-
+24,24|4 4|-
+|4 4|-";
+
+// Rows as `1-3`, or `-` where there are none.
+fn drawn_rows(alloc: Global, rows: Rows) -> Result<String, AllocError> {
+    if rows.from < rows.to {
+        format!(in alloc; "{}-{}", rows.from, rows.to)
+    } else {
+        format!(in alloc; "-")
+    }
+}
+
+#[test]
+fn polygons_have_worked_rows(rt: HostRuntime) -> Result<(), Fail> {
+    for line in ROWS.lines() {
+        let parts: Vec<&str> = line.split('|').collect(rt.alloc())?;
+        let [rings, sides, rows] = *parts.as_slice() else {
+            return Err("not three parts".into());
+        };
+        let (width, height) = sides.split_once(' ').ok_or("not two sides")?;
+        let (width, height) = (side(width.parse()?), side(height.parse()?));
+        let polygon = polygon(rt.alloc(), rings)?;
+        let found = polygon.rows(width, height);
+        assert_eq!(rt; drawn_rows(rt.alloc(), found)?.as_str(), rows, "{line}");
+        let mut spans = Spans::new(rt.alloc());
+        for row in 0..height.pixels() {
+            if !found.has(row) {
+                polygon.row(row, width, &mut spans)?;
+                assert!(rt; spans.as_slice().is_empty(), "{line}");
+            }
+        }
     }
     Ok(())
 }
