@@ -4,3 +4,4 @@ pub mod Sequences
 pub mod Marking
 pub mod Nearness
 pub mod Parts
+pub mod Reaching

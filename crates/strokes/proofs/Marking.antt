@@ -56,6 +56,16 @@ marked-more f xs k x old now new bound is e before =
     swap false true v = refl
     swap false false v = refl
 
+-- one element more that doesn't pass
+pub none-more : {X : Type 0} (f : X → Bool) (xs : List X) (k : ℕ) (x : X) → k < length xs → x ≡ get_or xs k x →
+    list_any f (take k xs) ≡ false → f x ≡ false → list_any f (take (k + 1) xs) ≡ false
+none-more f xs k x bound is before h =
+    list_any_more f xs k x bound ∙ (ap (λ t. t || f (get_or xs k x)) before ∙ (ap f (sym is) ∙ h))
+
+-- one of two that don't pass
+pub or-none : (t u : Bool) → t ≡ false → u ≡ false → (t || u) ≡ false
+or-none t u p q = ap (λ x. x || u) p ∙ q
+
 -- a column of the first so many is one of them
 pub in-first : (end i : ℕ) → i < end → has_column (record { from = 0; to = end }) i ≡ true
 in-first end i h = rw (le-leb 0 i (omega arith), lt-ltb i end h)

@@ -65,15 +65,18 @@ after-low i y = same_order (pos 0) (pos i *ℤ pos 16 +ℤ (pos 8 -ℤ y)) y (po
 pub before-high : (i : ℕ) (y : ℤ) → is_kept (negsuc 15) (y -ℤ pos 8) i ≡ int_le (pos (16 * i + 8)) y
 before-high i y = same_order (pos 0) (pos i *ℤ negsuc 15 +ℤ (y -ℤ pos 8)) (pos (16 * i + 8)) y (λ h. omega (arith, ints)) (λ h. omega (arith, ints))
 
--- how far the centre of column i lies right of a line, by that of column 0
-pub right-steep : (e : EdgeEnds) (i j : ℤ) → i *ℤ (pos 16 *ℤ rise e) +ℤ right_of e (pixel_centre (pos 0) j) ≡ right_of e (pixel_centre i j)
-right-steep e i j = go i (low_end e).x (rise e) ((centre j -ℤ (low_end e).y) *ℤ run e)
+-- how far the centres of column i lie right of a line at some height, by those of column 0
+pub right-across : (e : EdgeEnds) (i y : ℤ) → i *ℤ (pos 16 *ℤ rise e) +ℤ right_of e (record { x = centre (pos 0); y = y }) ≡ right_of e (record { x = centre i; y = y })
+right-across e i y = go i (low_end e).x (rise e) ((y -ℤ (low_end e).y) *ℤ run e)
   where
     go : (i x r d : ℤ) → i *ℤ (pos 16 *ℤ r) +ℤ ((pos 8 -ℤ x) *ℤ r -ℤ d) ≡ (pos 16 *ℤ i +ℤ pos 8 -ℤ x) *ℤ r -ℤ d
     go i x r d =
         let apart : pos 16 *ℤ i +ℤ pos 8 -ℤ x ≡ pos 16 *ℤ i +ℤ (pos 8 -ℤ x) = omega (arith, ints) in
         let sixteen : (pos 16 *ℤ i) *ℤ r ≡ i *ℤ (pos 16 *ℤ r) = mul-comm (pos 16 *ℤ i) r ∙ (mul-left_comm r (pos 16) i ∙ (ap (λ z. pos 16 *ℤ z) (mul-comm r i) ∙ mul-left_comm (pos 16) i r)) in
         rw (apart, add-mul (pos 16 *ℤ i) (pos 8 -ℤ x) r, sixteen) (omega (arith, ints))
+
+pub right-steep : (e : EdgeEnds) (i j : ℤ) → i *ℤ (pos 16 *ℤ rise e) +ℤ right_of e (pixel_centre (pos 0) j) ≡ right_of e (pixel_centre i j)
+right-steep e i j = right-across e i (centre j)
 
 -- the same of a turned segment
 pub right-flat : (e : EdgeEnds) (i j : ℕ) →

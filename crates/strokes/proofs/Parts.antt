@@ -5,7 +5,7 @@ use Rattle.geom.specs.Device.{DevicePoint}
 use Rattle.geom.specs.Edge.{EdgeEnds}
 use Rattle.geom.specs.EvenOdd.{edge_between}
 use Rattle.geom.proofs.Rings.{closing_edges, ring_edges-closing}
-use Rattle.strokes.specs.Line.{segments_of}
+use Rattle.strokes.specs.Line.{edges_of}
 
 -- the segments from a vertex over those that follow, and where the line is closed back to the first one
 abbrev pub following : Bool → DevicePoint → DevicePoint → List DevicePoint → List EdgeEnds
@@ -21,7 +21,7 @@ zip-following first from [] = refl
 zip-following first from (to ∷ rest) = ap (λ more. record { from = from; to = to } ∷ more) (zip-following first to rest)
 
 -- the segments of a part are those from its first vertex on
-pub segments_of-following : (closed : Bool) (part : List DevicePoint) (first : DevicePoint) (rest : List DevicePoint) → part ≡ first ∷ rest →
-    segments_of closed part ≡ following closed first first rest
-segments_of-following true part first rest e = ring_edges-closing part first rest e ∙ closing-following first first rest
-segments_of-following false part first rest e = rw e (zip-following first first rest)
+pub edges_of-following : (closed : Bool) (part : List DevicePoint) (first : DevicePoint) (rest : List DevicePoint) → part ≡ first ∷ rest →
+    edges_of closed part ≡ following closed first first rest
+edges_of-following true part first rest e = ring_edges-closing part first rest e ∙ closing-following first first rest
+edges_of-following false part first rest e = rw e (zip-following first first rest)

@@ -68,7 +68,7 @@ rows-wide w e j some between =
         rw same (mul-comm (pos 16 *ℤ pos w) r ∙ (mul-left_comm r (pos 16) (pos w) ∙ (ap (λ z. pos 16 *ℤ z) (mul-comm r (pos w)) ∙ mul-left_comm (pos 16) (pos w) r)))
 
 -- a rise is never below 0, and above it where the segment is steep
-rise-least : (e : EdgeEnds) → pos 0 ≤ℤ rise e
+pub rise-least : (e : EdgeEnds) → pos 0 ≤ℤ rise e
 rise-least e = go (int_le e.from.y e.to.y) refl
   where
     go : (t : Bool) → int_le e.from.y e.to.y ≡ t → pos 0 ≤ℤ ((if t then e.to else e.from).y -ℤ (if t then e.from else e.to).y)

@@ -1,8 +1,19 @@
 -- The pixels of a segment of a line (docs/PROFILE.md, "When a pixel belongs to a line").
-use Rattle.std.specs.Prelude.{ℕ, ◌*◌, Bool, ◌&&◌, ◌||◌, if◌then◌else◌, nat_lt, ℤ, pos, neg_ℤ, ◌+ℤ◌, ◌-ℤ◌, ◌*ℤ◌, int_le, int_lt}
+use Rattle.std.specs.Prelude.{ℕ, ◌≤◌, ◌*◌, Bool, ◌&&◌, ◌||◌, if◌then◌else◌, nat_lt, ℤ, pos, neg_ℤ, ◌+ℤ◌, ◌-ℤ◌, ◌*ℤ◌, int_le, int_lt}
 use Rattle.std.specs.Int.RustNames.{unsigned_abs}
 use Rattle.geom.specs.Device.{DevicePoint}
 use Rattle.geom.specs.Edge.{EdgeEnds, low_end, high_end, rise, run}
+use Rattle.mapdefs.specs.declared.limits.TheConstants.{MAX_LINE_WIDTH}
+
+-- a segment: its edge, and its width
+pub record SegmentValue : Type 0 where
+  pub edge : EdgeEnds
+  pub width : ℕ
+
+-- the width of a segment is within its limits
+pub record IsSegment (s : SegmentValue) : Type 0 where
+  pub some : 1 ≤ s.width
+  pub most : s.width ≤ MAX_LINE_WIDTH
 
 -- across and down exchanged, of a point, and of a segment from its upper end to the other
 abbrev pub turned : DevicePoint → DevicePoint

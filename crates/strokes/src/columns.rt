@@ -1,25 +1,13 @@
-ghost use Rattle.std.specs.Prelude.{◌≡◌, ℕ, ◌<◌, ◌≤◌, ◌^◌, ◌&&◌, min, pos, ◌+ℤ◌, ◌*ℤ◌, neg_ℤ, int_lt, int_le, ◌<ℤ◌};
+ghost use Rattle.std.specs.Prelude.{◌≡◌, ℕ, ◌<◌, ◌≤◌, ◌^◌, ◌&&◌, pos, ◌+ℤ◌, ◌*ℤ◌, neg_ℤ, int_lt, int_le, ◌<ℤ◌};
 ghost use Rattle.std.specs.Int.{int_div_euclid};
-ghost use Rattle.clip.specs.Class.{at_least_zero};
 ghost use Rattle.geom.specs.Range.{IsBelow};
 ghost use Rattle.strokes.specs.Columns.{has_column, is_kept};
 
+use clip::clamped;
 use scanfill::Span;
 
-/// The number, or 0 for one below it and `end` for one past that.
-pub fn clamped(number: i128, end: u16) -> u16
-    ensures { result ≡ min (at_least_zero number) end }
-{
-    if number <= 0 {
-        0
-    } else if number < i128::from(end) {
-        number as u16
-    } else {
-        end
-    }
-}
-
-/// The columns of the span in which so many times the column, and an offset, are no less than 0.
+/// The columns of the span in which so many times the column, and an offset, are no less than 0. They may
+/// be rows, too.
 pub fn kept(span: Span, scale: i64, offset: i128) -> Span
     requires scale { IsBelow (2 ^ 54) scale }
     requires offset { IsBelow (2 ^ 100) offset }

@@ -1,10 +1,10 @@
 //! Lines of a width, and squares: which pixels they cover, and the spans of their rows.
 //!
-//! Proved: `Line` and `Square` are covers. What `Cover::covers` and `Cover::row` say of a line is the union
-//! of what its segments and the squares round its vertices cover (`covers_pixel`), by comparisons of
-//! products (`covers_segment`); of a square it is `covers_square`. `laws::steep` and `laws::flat` state that
-//! a segment is as many pixels thick as the line is wide, `laws::back` that it covers the same there and
-//! back, `laws::nothing` that it covers nothing where it has no length.
+//! Proved: `Line`, `Segment` and `Square` are covers. What `Cover::covers` and `Cover::row` say of a segment
+//! is `covers_segment`, by comparisons of products; of a square it is `covers_square`. A line covers what
+//! its segments and the squares round its vertices cover (`covers_pixel`). `laws::steep` and `laws::flat`
+//! state that a segment is as many pixels thick as the line is wide, `laws::back` that it covers the same
+//! there and back, `laws::nothing` that it covers nothing where it has no length.
 //!
 //! Words: a *segment* joins two vertices of a line. It is *steep* where it goes further down than across.
 //! To *turn* a point or a segment is to exchange across and down: what a steep segment covers row by row, a
@@ -22,4 +22,5 @@ mod square;
 mod tests;
 
 pub use line::Line;
+pub use segment::Segment;
 pub use square::Square;

@@ -6,7 +6,7 @@ ghost use Rattle.scanfill.specs.Runs.{AreRunsFrom};
 ghost use Rattle.strokes.specs.Columns.{has_column};
 ghost use Rattle.strokes.specs.Square.{covers_square, is_beside};
 
-use crate::columns::clamped;
+use clip::{Rows, clamped};
 use geom::{PictureSide, Pixel};
 use scanfill::{Cover, Span, Spans};
 use std::alloc::AllocError;
@@ -62,6 +62,19 @@ impl Cover for Square {
         is_beside(self.size, self.pixel.i(), i) && is_beside(self.size, self.pixel.j(), j)
     }
 
+    #[tactic(auto, unfolding(crate::specs::Square::covers_square))]
+    fn rows(&self, width: PictureSide, height: PictureSide) -> Rows {
+        let columns = columns_beside(self.size, self.pixel.i(), width.pixels());
+        if columns.from >= columns.to {
+            return Rows { from: 0, to: 0 };
+        }
+        let rows = columns_beside(self.size, self.pixel.j(), height.pixels());
+        Rows {
+            from: rows.from,
+            to: rows.to,
+        }
+    }
+
     fn row(&self, j: u16, width: PictureSide, out: &mut Spans) -> Result<(), AllocError> {
         out.clear();
         let span = self.columns(j, width.pixels());
@@ -82,7 +95,7 @@ fn is_beside(size: u16, at: i64, index: u16) -> bool
     at - i64::from((size - 1) / 2) <= index && index <= at + i64::from(size / 2)
 }
 
-// The columns of a square of that size round another, of so many.
+// The columns, or the rows, of a square of that size round another, of so many.
 fn columns_beside(size: u16, at: i64, end: u16) -> Span
     requires some { 1 ≤ size }
     requires at { IsBelow (2 ^ 44) at }

@@ -1,6 +1,6 @@
-use crate::{Line, Square};
-use geom::{Device, PictureSide, Pixel};
-use scanfill::{Cover, Span, Spans};
+use crate::{Line, Segment, Square};
+use geom::{Device, Edge, PictureSide, Pixel};
+use scanfill::{Cover, Rows, Span, Spans};
 use std::alloc::{AllocError, Global};
 use std::process::Abort;
 use std::test::Fail;
@@ -98,7 +98,26 @@ fn by_pixels<C: Cover>(
     Ok(text)
 }
 
-// Whether a cover has these pixels, both ways.
+// The rows from the first one with a covered pixel to the last one, of rows as `... .#.`.
+fn rows_drawn(rows: &str) -> Rows {
+    let mut found = Rows { from: 0, to: 0 };
+    let mut j: u16 = 0;
+    for row in rows.split(' ') {
+        let next = j.saturating_add(1);
+        if row.contains('#') {
+            found = found.joined(Rows { from: j, to: next });
+        }
+        j = next;
+    }
+    found
+}
+
+// Whether both are the same rows, or none.
+fn are_same(one: Rows, other: Rows) -> bool {
+    one == other || (one.from >= one.to && other.from >= other.to)
+}
+
+// Whether a cover has these pixels, both ways, and just their rows.
 fn is_drawn<C: Cover>(
     alloc: Global,
     cover: &C,
@@ -108,7 +127,8 @@ fn is_drawn<C: Cover>(
 ) -> Result<bool, AllocError> {
     Ok(
         by_rows(alloc, cover, width, height)?.as_str() == rows
-            && by_pixels(alloc, cover, width, height)?.as_str() == rows,
+            && by_pixels(alloc, cover, width, height)?.as_str() == rows
+            && are_same(cover.rows(width, height), rows_drawn(rows)),
     )
 }
 
@@ -173,6 +193,89 @@ fn is_line(alloc: Global, row: &str) -> Result<bool, Fail> {
 fn lines_have_worked_pixels(rt: HostRuntime) -> Result<(), Fail> {
     for row in LINES.lines() {
         assert!(rt; is_line(rt.alloc(), row)?, "{row}");
+    }
+    Ok(())
+}
+
+// The ends of a segment, its width, the sides of a picture, and its first row and the one after its last,
+// worked by hand: upright ones on the picture, past it above and below, and beside it by just as much as
+// they are wide and by more; level ones likewise; and long slanted ones that cross the picture, cut off a
+// corner or pass by one.
+const SEGMENTS: &str = "\
+24,8 24,72|1|3 6|0 5
+24,-40 24,40|1|3 6|0 3
+24,56 24,300|1|3 5|3 5
+24,-90 24,-10|2|3 5|0 0
+24,100 24,300|2|3 5|0 0
+-8,8 -8,72|2|3 6|0 5
+-9,8 -9,72|2|3 6|0 0
+55,8 55,72|2|3 6|0 5
+56,8 56,72|2|3 6|0 0
+24,9 24,23|5|3 3|0 0
+8,24 72,24|1|5 4|1 2
+8,24 72,24|3|5 4|0 3
+-72,24 40,24|1|5 4|1 2
+-72,24 -8,24|3|5 4|0 0
+88,24 200,24|3|5 4|0 0
+24,24 24,24|3|3 3|0 0
+-100,-400 100,400|1|1 30|0 4
+120,-80 -80,720|1|3 30|13 25
+-40,-400 160,400|1|3 30|0 0
+-400,-60 400,140|1|4 8|2 4
+-400,140 400,-60|1|4 8|1 3
+-400,-60 400,340|3|4 8|0 0
+-400,-60 400,340|4|4 8|7 8
+-140737488355327,-140737488355327 140737488355327,140737488355327|1|4 9|0 4";
+
+// The segment between two points.
+fn segment(ends: &str, width: u8) -> Result<Segment, Fail> {
+    let (from, to) = ends.split_once(' ').ok_or("not two points")?;
+    let (from, to) = (two(from, ',')?, two(to, ',')?);
+    let edge = Edge::new(point(from.0, from.1), point(to.0, to.1));
+    Ok(Segment::new(edge, width.clamp(1, 32)))
+}
+
+// Whether the rows have covered pixels, and no other rows of the picture have any.
+fn are_those_covered<C: Cover>(
+    alloc: Global,
+    cover: &C,
+    width: PictureSide,
+    height: PictureSide,
+    rows: Rows,
+) -> Result<bool, AllocError> {
+    let mut spans = Spans::new(alloc);
+    for j in 0..height.pixels() {
+        cover.row(j, width, &mut spans)?;
+        if spans.as_slice().is_empty() == rows.has(j) {
+            return Ok(false);
+        }
+    }
+    Ok(true)
+}
+
+// Whether a row of the table holds.
+fn is_segment(alloc: Global, row: &str) -> Result<bool, Fail> {
+    let words: Vec<&str> = row.split('|').collect(alloc)?;
+    let [ends, line_width, size, rows] = *words.as_slice() else {
+        return Err("not four parts".into());
+    };
+    let (width, height) = sides(size)?;
+    let segment = segment(ends, line_width.parse()?)?;
+    let (from, to) = rows.split_once(' ').ok_or("not two rows")?;
+    let rows = Rows {
+        from: from.parse()?,
+        to: to.parse()?,
+    };
+    Ok(
+        are_same(segment.rows(width, height), rows)
+            && are_those_covered(alloc, &segment, width, height, rows)?,
+    )
+}
+
+#[test]
+fn segments_have_worked_rows(rt: HostRuntime) -> Result<(), Fail> {
+    for row in SEGMENTS.lines() {
+        assert!(rt; is_segment(rt.alloc(), row)?, "{row}");
     }
     Ok(())
 }
@@ -257,6 +360,30 @@ fn rows_forget_the_row_before(rt: HostRuntime) -> Result<(), Fail> {
     assert_eq!(rt; spans.as_slice(), [Span { from: 5, to: 7 }].as_slice());
     square.row(5, side(9), &mut spans)?;
     assert!(rt; spans.as_slice().is_empty());
+    Ok(())
+}
+
+// What a line is made of, in the order of its vertices: an open one and a closed one.
+#[test]
+fn lines_are_made_of_segments_and_squares(rt: HostRuntime) -> Result<(), Fail> {
+    let open = line(rt.alloc(), "8,24 40,56/72,88", false, 3)?;
+    let there = segment("8,24 40,56", 3)?;
+    assert_eq!(rt; open.segments(), [there].as_slice());
+    let squares = [(0, 1), (2, 3), (4, 5)].map(|(i, j)| Square::new(pixel(i, j), 3));
+    assert_eq!(rt; open.squares(), squares.as_slice());
+    let closed = line(rt.alloc(), "8,24 40,56", true, 2)?;
+    let back = [segment("8,24 40,56", 2)?, segment("40,56 8,24", 2)?];
+    assert_eq!(rt; closed.segments(), back.as_slice());
+    Ok(())
+}
+
+// Segments that differ in one field are two.
+#[test]
+fn segments_differ_where_one_field_does(rt: HostRuntime) -> Result<(), Fail> {
+    let one = segment("8,24 40,56", 3)?;
+    assert_eq!(rt; one, segment("8,24 40,56", 3)?);
+    assert_ne!(rt; one, segment("8,24 40,57", 3)?);
+    assert_ne!(rt; one, segment("8,24 40,56", 4)?);
     Ok(())
 }
 

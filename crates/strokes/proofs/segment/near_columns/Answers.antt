@@ -13,14 +13,16 @@ pub returns-clause-all : goal.returns-clause-all
 returns-clause-all c = λ i.
     let s = c.args.step in
     let b = c.args.reach in
-    let r = c.args.right in
-    let right : c.twice-right.result ≡ pos 2 *ℤ r = rw (wide (2 ^ 97) r (omega arith) c.requires.right) at c.twice-right.ensures.value in
+    let most : c.twice.result ≡ pos 2 *ℤ c.args.most = rw (wide (2 ^ 97) c.args.most (omega arith) c.requires.most) at c.twice.ensures.value in
+    let least : c.twice-2.result ≡ pos 2 *ℤ c.args.least = rw (wide (2 ^ 97) c.args.least (omega arith) c.requires.least) at c.twice-2.ensures.value in
     let reach : c.from-reach.result ≡ b = omega (arith, ints, c.from-reach.ensures, c.requires.reach) in
     let below : IsBelow (2 ^ 57) c.from-reach.result = rw reach c.requires.reach in
-    let first : has_column c.kept.result i ≡ (has_column c.args.span i && int_lt (neg_ℤ b) (pos 2 *ℤ (pos i *ℤ s +ℤ r))) =
-    rw (scale-is s c.requires.step, offset_left-is c.twice-right.result c.from-reach.result c.twice-right.ensures.range below, right, reach, near-left (pos i) s r b)
+    let over = int_lt (neg_ℤ b) (pos 2 *ℤ (pos i *ℤ s +ℤ c.args.most)) in
+    let under = int_le (pos 2 *ℤ (pos i *ℤ s +ℤ c.args.least)) b in
+    let first : has_column c.kept.result i ≡ (has_column c.args.span i && over) =
+    rw (scale-is s c.requires.step, offset_left-is c.twice.result c.from-reach.result c.twice.ensures.range below, most, reach, near-left (pos i) s c.args.most b)
     at (c.kept.ensures.all i) in
-    let second : has_column c.kept-2.result i ≡ (has_column c.kept.result i && int_le (pos 2 *ℤ (pos i *ℤ s +ℤ r)) b) =
-    rw (fall-is s c.requires.step, offset_right-is c.twice-right.result c.from-reach.result c.twice-right.ensures.range below, right, reach, near-right (pos i) s r b)
+    let second : has_column c.kept-2.result i ≡ (has_column c.kept.result i && under) =
+    rw (fall-is s c.requires.step, offset_right-is c.twice-2.result c.from-reach.result c.twice-2.ensures.range below, least, reach, near-right (pos i) s c.args.least b)
     at (c.kept-2.ensures.all i) in
-    second ∙ (ap (λ t. t && int_le (pos 2 *ℤ (pos i *ℤ s +ℤ r)) b) first ∙ sym (and-swap (has_column c.args.span i) (int_lt (neg_ℤ b) (pos 2 *ℤ (pos i *ℤ s +ℤ r))) (int_le (pos 2 *ℤ (pos i *ℤ s +ℤ r)) b)))
+    second ∙ (ap (λ t. t && under) first ∙ sym (and-swap (has_column c.args.span i) over under))
