@@ -1,10 +1,11 @@
-ghost use Rattle.std.specs.Prelude.{◌≡◌, ℕ, ◌<◌, ◌≤◌, ◌^◌, ◌&&◌, [], true, false, min, pos, ◌-ℤ◌, ◌/◌, Some, slice_get, OnOk};
-ghost use Rattle.clip.specs.Class.{at_least_zero};
+ghost use Rattle.std.specs.Prelude.{◌≡◌, ℕ, ◌<◌, ◌≤◌, ◌^◌, ◌&&◌, [], true, false, pos, ◌-ℤ◌, ◌/◌, None, Some, slice_get, OnOk};
+ghost use Rattle.clip.specs.Class.{has_row};
 ghost use Rattle.geom.specs.Range.{IsBelow};
 ghost use Rattle.geom.specs.declared.side.TheConstants.{MAX_PICTURE_SIDE};
 ghost use Rattle.scanfill.specs.Runs.{AreRunsFrom};
 ghost use Rattle.symbols.specs.Stamp.{covers_pixel, is_transparent, pixel_at, position_on};
 
+use clip::{Rows, clamped};
 use geom::{PictureSide, Pixel};
 use mapdefs::{Pixmap, Rgb};
 use scanfill::{Cover, Reading, Span, Spans};
@@ -86,6 +87,18 @@ impl Cover for Stamp<'_> {
         }
     }
 
+    fn rows(&self, width: PictureSide, height: PictureSide) -> Rows {
+        let columns = self.columns(width.pixels());
+        if columns.from >= columns.to {
+            return Rows { from: 0, to: 0 };
+        }
+        let rows = span_on(self.pixmap.get().height, self.pixel.j(), height.pixels());
+        Rows {
+            from: rows.from,
+            to: rows.to,
+        }
+    }
+
     fn row(&self, j: u16, width: PictureSide, out: &mut Spans) -> Result<(), AllocError> {
         out.clear();
         match self.read_row(j, width, out) {
@@ -122,12 +135,22 @@ impl Stamp<'_> {
         ensures before { (i j : ℕ) → i < result.from → covers_pixel self.now (pos i) (pos j) ≡ false }
         ensures after { (i j : ℕ) → result.to ≤ i → i < end → covers_pixel self.now (pos i) (pos j) ≡ false }
     {
-        let width = self.pixmap.get().width;
-        let first = self.pixel.i() - i64::from(width / 2);
-        Span {
-            from: clamped(first, end),
-            to: clamped(first + i64::from(width), end),
-        }
+        span_on(self.pixmap.get().width, self.pixel.i(), end)
+    }
+}
+
+// The columns, or the rows, of so many, that lie on a side of the pixmap.
+fn span_on(side: u16, at: i64, end: u16) -> Span
+    requires { IsBelow (2 ^ 44) at }
+    ensures rising { result.from ≤ result.to }
+    ensures within { result.to ≤ end }
+    ensures before { (i : ℕ) → i < result.from → position_on side at (pos i) ≡ None }
+    ensures after { (i : ℕ) → result.to ≤ i → i < end → position_on side at (pos i) ≡ None }
+{
+    let first = at - i64::from(side / 2);
+    Span {
+        from: clamped(i128::from(first), end),
+        to: clamped(i128::from(first + i64::from(side)), end),
     }
 }
 
@@ -136,17 +159,4 @@ fn is_transparent(colour: Rgb) -> bool
     ensures { result ≡ is_transparent colour }
 {
     colour.red == 255 && colour.green == 0 && colour.blue == 255
-}
-
-// The number, or 0 for one below it and `end` for one past that.
-fn clamped(number: i64, end: u16) -> u16
-    ensures { result ≡ min (at_least_zero number) end }
-{
-    if number <= 0 {
-        0
-    } else if number < i64::from(end) {
-        number as u16
-    } else {
-        end
-    }
 }

@@ -158,32 +158,35 @@ fn drawn(
     Ok(text)
 }
 
-// The rows of a pixmap, the pixel that it is stamped at, the sides of a picture and its rows, worked by hand.
+// The rows of a pixmap, the pixel that it is stamped at, the sides of a picture and its rows, and the first
+// row of the pixmap on the picture and the one after its last, worked by hand.
 const STAMPS: &str = "\
-.#|2,2|4 4|.... .... ..#. ....
-###/#.#/###|1,1|4 4|###. #.#. ###. ....
-###/#.#/###|0,0|3 3|.#. ##. ...
-##/.#|1,1|3 3|##. .#. ...
-##/#.|0,1|3 3|#.. ... ...
-#.#.#|0,1|4 3|.... #.#. ....
-#.#.#|4,1|4 3|.... ..#. ....
-#.#.#|5,1|4 3|.... ...# ....
-#.#.#|6,1|4 3|.... .... ....
-#/./#|1,-1|3 3|.#. ... ...
-#/./#|1,3|3 4|... ... .#. ...
-#/./#|1,4|3 4|... ... ... .#.
-../..|1,1|3 3|... ... ...
-#|-1,0|2 2|.. ..
-#|2,0|2 2|.. ..
-#..#|1,0|4 1|..#.
-#|17592186044415,0|2 2|.. ..
-#|0,-17592186044415|2 2|.. ..";
+.#|2,2|4 4|.... .... ..#. ....|2 3
+###/#.#/###|1,1|4 4|###. #.#. ###. ....|0 3
+###/#.#/###|0,0|3 3|.#. ##. ...|0 2
+##/.#|1,1|3 3|##. .#. ...|0 2
+##/#.|0,1|3 3|#.. ... ...|0 2
+#.#.#|0,1|4 3|.... #.#. ....|1 2
+#.#.#|4,1|4 3|.... ..#. ....|1 2
+#.#.#|5,1|4 3|.... ...# ....|1 2
+#.#.#|6,1|4 3|.... .... ....|0 0
+##/##|-1,1|3 3|... ... ...|0 0
+#/./#|1,-1|3 3|.#. ... ...|0 1
+#/./#|1,3|3 4|... ... .#. ...|2 4
+#/./#|1,4|3 4|... ... ... .#.|3 4
+#/#|1,5|3 4|... ... ... ...|0 0
+../..|1,1|3 3|... ... ...|0 2
+#|-1,0|2 2|.. ..|0 0
+#|2,0|2 2|.. ..|0 0
+#..#|1,0|4 1|..#.|0 1
+#|17592186044415,0|2 2|.. ..|0 0
+#|0,-17592186044415|2 2|.. ..|0 0";
 
 // Whether a row of the table holds.
 fn is_stamp(alloc: Global, row: &str) -> Result<bool, Fail> {
     let words: Vec<&str> = row.split('|').collect(alloc)?;
-    let [pixels, at, size, rows] = *words.as_slice() else {
-        return Err("not four parts".into());
+    let [pixels, at, size, rows, some] = *words.as_slice() else {
+        return Err("not five parts".into());
     };
     let pixmap = pixmap(alloc, pixels)?;
     let (i, j) = two(at, ',')?;
@@ -191,7 +194,14 @@ fn is_stamp(alloc: Global, row: &str) -> Result<bool, Fail> {
     let width = side(width.clamp(1, 99) as u16);
     let height = side(height.clamp(1, 99) as u16);
     let stamp = Stamp::new(&pixmap, pixel(i, j));
-    Ok(drawn(alloc, &stamp, width, height)?.as_str() == rows)
+    let found = stamp.rows(width, height);
+    let (from, to) = two(some, ' ')?;
+    let are_rows = if from < to {
+        i64::from(found.from) == from && i64::from(found.to) == to
+    } else {
+        found.from >= found.to
+    };
+    Ok(are_rows && drawn(alloc, &stamp, width, height)?.as_str() == rows)
 }
 
 #[test]

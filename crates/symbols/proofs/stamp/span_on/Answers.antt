@@ -1,0 +1,17 @@
+use Rattle.std.proofs.Common.{◌≡◌, ◌/◌, arith}
+use Rattle.std.proofs.lemmas.Int.{ints}
+use lib.IntN.{pos, ◌+ℤ◌, ◌-ℤ◌}
+use mir.Syntax.{w128}
+use mir.Val.{to_z, of_z}
+use Rattle.symbols.proofs.Stamping.{after-side, before-side}
+use Rattle.symbols.proofs.stamp.span_on.Goals as goal
+
+pub returns-clause-before : goal.returns-clause-before
+returns-clause-before c = λ i h.
+    let first : to_z w128 (of_z w128 c.from-2.result) ≡ c.args.at -ℤ pos (c.args.side / 2) = omega (arith, ints, c.from-2.ensures, c.from.ensures, c.requires) in
+    before-side c.args.side c.args.at c.args.end i (rw (c.clamped.ensures, first) at h)
+
+pub returns-clause-after : goal.returns-clause-after
+returns-clause-after c = λ i h past.
+    let last : to_z w128 (of_z w128 c.from-4.result) ≡ c.args.at -ℤ pos (c.args.side / 2) +ℤ pos c.args.side = omega (arith, ints, c.from-4.ensures, c.from-3.ensures, c.from.ensures, c.requires) in
+    after-side c.args.side c.args.at c.args.end i past (rw (c.clamped-2.ensures, last) at h)
