@@ -1,20 +1,22 @@
 -- Filling the rows of a polygon.
-use Rattle.std.proofs.Common.{◌≡◌, ◌∙◌, ℕ, zero, suc, ◌+◌, ◌-◌, ◌*◌, ◌/◌, ◌%◌, ◌<◌, ◌≤◌, min, true, false, All, nat_lt, if◌then◌else◌, List, ◌++◌, length, take, drop, refl, sym, ap, arith, ⊎_elim}
-use Rattle.std.proofs.lemmas.Bool.{cases_lt, ltb-false, ltb-true}
-use Rattle.std.proofs.lemmas.List.{get_or-append_right, get_or-drop, get_or-take, get_or_append_left, length-drop, length-take, length-take-le}
+use Rattle.std.proofs.Common.{◌≡◌, ◌∙◌, ℕ, zero, suc, ◌+◌, ◌-◌, ◌*◌, ◌/◌, ◌%◌, ◌<◌, ◌≤◌, Bool, true, false, ◌||◌, All, if◌then◌else◌, cond, List, [], ◌∷◌, ◌++◌, length, take, drop, get_or, refl, sym, ap, arith, inl, inr, ⊎_elim}
+use Rattle.std.specs.List.{list_any}
+use Rattle.std.proofs.Math.Bool.{or-false}
+use Rattle.std.proofs.lemmas.Bool.{and_left, and_parts, and_right, cases_Bool, cases_lt, false≢true, le-ltb, leb-true, lt-leb, ltb-true, or_left}
+use Rattle.std.specs.Prelude.{nat_le, nat_lt}
+use Rattle.std.proofs.lemmas.List.Folds.{list_any-append}
+use Rattle.std.proofs.lemmas.List.{get_or-append_right, get_or-drop, get_or-take, get_or_append_left, length-drop, length-take, length-take-le, take_more}
 use Rattle.std.proofs.lemmas.Nat.{div-add-mod', div_below, mod_below, row_fits}
 use Rattle.std.proofs.Math.Nat.{mul-le-mul_right}
 use borrow.Rule.Slice.PartMut.{mid_of, post_of, put_mid}
-use lib.IntN.{pos}
-use Rattle.geom.specs.Device.{pixel_centre}
-use Rattle.geom.specs.Edge.{EdgeEnds}
-use Rattle.geom.specs.EvenOdd.{is_covered}
+use Rattle.clip.specs.Class.{has_row}
+use Rattle.clip.specs.declared.rows.Rows.{Rows}
 use Rattle.mapdefs.specs.declared.colour.Rgb.{Rgb}
+use Rattle.mapdefs.specs.declared.picture.PictureFields.{PictureFields}
 use Rattle.scanfill.proofs.Covering.{spans-test, spans-within}
-use Rattle.scanfill.specs.Runs.{AreRunsFrom, is_in_spans}
-use Rattle.scanfill.specs.Sweep.{AreEmptyRows, SweepValue, covers_next}
+use Rattle.scanfill.specs.Runs.{AreRunsFrom, has_column, is_in_spans}
 use Rattle.scanfill.specs.declared.span.Span.{Span}
-use Rattle.compose.specs.Painted.{AreFilled, AreRowsFilled, colour_of, covers_pixel}
+use Rattle.compose.specs.Painted.{AreFilled, AreRowsFilled, IsFilled, colour_of}
 
 -- what a list of pixels holds where a part of it was put back
 put-before : (a k : ℕ) (xs ys : List Rgb) (at : ℕ) → a ≤ length xs → at < a → colour_of (put_mid a k xs ys) at ≡ colour_of xs at
@@ -35,116 +37,167 @@ put-after a k xs ys j h width =
     ∙ (get_or-append_right ys (post_of a k xs) k (k + j) _ width (omega arith)
     ∙ (ap (λ n. colour_of (post_of a k xs) n) further ∙ (get_or-drop k (drop a xs) j _ ∙ get_or-drop a xs (k + j) _))))
 
+-- one of the first elements passes, or the next one does
+any-next : {X : Type 0} (test : X → Bool) (xs : List X) (i : ℕ) (x : X) → i < length xs → x ≡ get_or xs i x →
+    list_any test (take (i + 1) xs) ≡ (list_any test (take i xs) || test x)
+any-next test xs i x h e =
+    rw (take_more xs i x h, ← e, list_any-append test (take i xs) (x ∷ []), or-false (test x)) refl
+
 -- rows that have no covered pixel stay as they are
-pub filled-none : (sweep : SweepValue) (colour : Rgb) (past : ℕ) (pixels : List Rgb) → 0 < sweep.width → AreEmptyRows sweep sweep.row past →
-    AreRowsFilled sweep.edges colour sweep.width sweep.row past pixels pixels
-filled-none sweep colour past pixels some empty = record {
-  filled = λ at h from before. rw (empty (at % sweep.width) (at / sweep.width) (mod_below at sweep.width some) from before) refl;
-  before = λ at h from. refl;
-  after = λ at h past. refl;
+pub filled-none : (test : ℕ → ℕ → Bool) (colour : ℕ → ℕ → Rgb) (width from past : ℕ) (pixels : List Rgb) → 0 < width →
+    ((i j : ℕ) → i < width → from ≤ j → j < past → test i j ≡ false) → AreRowsFilled test colour width from past pixels pixels
+filled-none test colour width from past pixels some empty = record {
+  filled = λ at h low high. rw (empty (at % width) (at / width) (mod_below at width some) low high) refl;
+  before = λ at h low. refl;
+  after = λ at h high. refl;
 }
 
 -- rows after rows
-pub filled-more : (polygon : List EdgeEnds) (colour : Rgb) (width from at past : ℕ) (a b c : List Rgb) → from ≤ at → at ≤ past → length b ≡ length a →
-    AreRowsFilled polygon colour width from at a b → AreRowsFilled polygon colour width at past b c → AreRowsFilled polygon colour width from past a c
-filled-more polygon colour width from at past a b c first last area p q = record {
+pub filled-more : (test : ℕ → ℕ → Bool) (colour : ℕ → ℕ → Rgb) (width from at past : ℕ) (a b c : List Rgb) → from ≤ at → at ≤ past → length b ≡ length a →
+    AreRowsFilled test colour width from at a b → AreRowsFilled test colour width at past b c → AreRowsFilled test colour width from past a c
+filled-more test colour width from at past a b c first last area p q = record {
   filled = λ k h low high. ⊎_elim
       (λ (lt : k / width < at). q.before k (omega (arith, area)) lt ∙ p.filled k h low lt)
       (λ (ge : at ≤ k / width).
-      q.filled k (omega (arith, area)) ge high ∙ ap (λ x. if covers_pixel polygon width k then colour else x) (p.after k h ge))
+      q.filled k (omega (arith, area)) ge high ∙ ap (λ x. if test (k % width) (k / width) then colour (k % width) (k / width) else x) (p.after k h ge))
       (cases_lt (k / width) at);
   before = λ k h low. q.before k (omega (arith, area)) (omega arith) ∙ p.before k h low;
   after = λ k h high. q.after k (omega (arith, area)) high ∙ p.after k h (omega arith);
 }
 
 -- one row is filled by its spans
-pub filled-row : (sweep : SweepValue) (colour : Rgb) (spans : List Span) (a k : ℕ) (pixels row : List Rgb) → 0 < sweep.width → a ≡ sweep.row * sweep.width → k ≡ sweep.width →
-    a + k ≤ length pixels → length row ≡ k → AreRunsFrom (covers_next sweep) 0 sweep.width spans →
-    ((i : ℕ) → colour_of row i ≡ (if is_in_spans spans i then colour else colour_of (mid_of a k pixels) i)) →
-    AreRowsFilled sweep.edges colour sweep.width sweep.row (sweep.row + 1) pixels (put_mid a k pixels row)
-filled-row sweep colour spans a k pixels row some start width within wide runs filled = record {
+pub filled-row : (test : ℕ → ℕ → Bool) (colour : ℕ → ℕ → Rgb) (spans : List Span) (width r a k : ℕ) (pixels row : List Rgb) → 0 < width → a ≡ r * width → k ≡ width →
+    a + k ≤ length pixels → length row ≡ k → AreRunsFrom (λ i. test i r) 0 width spans →
+    ((i : ℕ) → colour_of row i ≡ (if is_in_spans spans i then colour i r else colour_of (mid_of a k pixels) i)) →
+    AreRowsFilled test colour width r (r + 1) pixels (put_mid a k pixels row)
+filled-row test colour spans width r a k pixels row some start is within wide runs filled = record {
   filled = λ at h low high.
-      let j : ℕ = at % sweep.width in
-      let below : j < sweep.width = mod_below at sweep.width some in
-      let here : at / sweep.width ≡ sweep.row = omega arith in
-      let is : at ≡ a + j = sym (div-add-mod' at sweep.width) ∙ rw (here, start) refl in
-      let tests : is_in_spans spans j ≡ covers_pixel sweep.edges sweep.width at =
-      spans-test (covers_next sweep) 0 sweep.width j spans runs (omega arith) below
-      ∙ ap (λ r. is_covered sweep.edges (pixel_centre (pos j) (pos r))) (sym here) in
+      let j : ℕ = at % width in
+      let below : j < width = mod_below at width some in
+      let here : at / width ≡ r = omega arith in
+      let place : at ≡ a + j = sym (div-add-mod' at width) ∙ rw (here, start) refl in
+      let tests : is_in_spans spans j ≡ test j (at / width) = spans-test (λ i. test i r) 0 width j spans runs (omega arith) below ∙ ap (λ n. test j n) (sym here) in
+      let shown : colour j r ≡ colour j (at / width) = ap (λ n. colour j n) (sym here) in
       let old : colour_of (mid_of a k pixels) j ≡ colour_of pixels at =
-      get_or-take k (drop a pixels) j _ (omega arith) ∙ (get_or-drop a pixels j _ ∙ ap (λ n. colour_of pixels n) (sym is)) in
-      ap (λ n. colour_of (put_mid a k pixels row) n) is
+      get_or-take k (drop a pixels) j _ (omega arith) ∙ (get_or-drop a pixels j _ ∙ ap (λ n. colour_of pixels n) (sym place)) in
+      ap (λ n. colour_of (put_mid a k pixels row) n) place
       ∙ (put-within a k pixels row j (omega arith) wide (omega arith)
-      ∙ (filled j ∙ rw (tests, old) refl));
+      ∙ (filled j ∙ rw (tests, old, shown) refl));
   before = λ at h low.
-      let less : (at / sweep.width + 1) * sweep.width ≤ sweep.row * sweep.width = mul-le-mul_right sweep.width (omega arith) in
-      put-before a k pixels row at (omega arith) (omega (arith, less, start, div-add-mod' at sweep.width, mod_below at sweep.width some));
+      let less : (at / width + 1) * width ≤ r * width = mul-le-mul_right width (omega arith) in
+      put-before a k pixels row at (omega arith) (omega (arith, less, start, div-add-mod' at width, mod_below at width some));
   after = λ at h high.
-      let more : (sweep.row + 1) * sweep.width ≤ at / sweep.width * sweep.width = mul-le-mul_right sweep.width high in
-      let past : a + k ≤ at = omega (arith, more, start, width, div-add-mod' at sweep.width) in
-      let is : at ≡ a + (k + (at - a - k)) = omega arith in
-      ap (λ n. colour_of (put_mid a k pixels row) n) is
-      ∙ (put-after a k pixels row (at - a - k) (omega arith) wide ∙ ap (λ n. colour_of pixels n) (sym is));
+      let more : (r + 1) * width ≤ at / width * width = mul-le-mul_right width high in
+      let past : a + k ≤ at = omega (arith, more, start, is, div-add-mod' at width) in
+      let place : at ≡ a + (k + (at - a - k)) = omega arith in
+      ap (λ n. colour_of (put_mid a k pixels row) n) place
+      ∙ (put-after a k pixels row (at - a - k) (omega arith) wide ∙ ap (λ n. colour_of pixels n) (sym place));
 }
 
 -- the spans of a row lie within it
-pub spans-fit : (old skipped : SweepValue) (runs spans : List Span) (width a k : ℕ) (pixels : List Rgb) → old.width ≡ width → length pixels ≡ width * old.height →
-    skipped ≡ record old { row = skipped.row } → true ≡ nat_lt skipped.row skipped.height → a ≡ skipped.row * width → k ≡ width → spans ≡ runs →
-    AreRunsFrom (covers_next skipped) 0 skipped.width runs → All (λ (span : Span). (span.from ≤ span.to) × (span.to ≤ length (mid_of a k pixels))) spans
-spans-fit old skipped runs spans width a k pixels wide area skip more start is read all = λ j d h.
-    let w : skipped.width ≡ width = ap (λ (s : SweepValue). s.width) skip ∙ wide in
-    let below : skipped.row < old.height = omega (arith, ltb-true skipped.row skipped.height (sym more), ap (λ (s : SweepValue). s.height) skip) in
-    let inside : a + k ≤ length pixels = omega (arith, row_fits skipped.row width old.height width below (omega arith), start, is, area) in
-    let within = spans-within (covers_next skipped) 0 skipped.width j runs d all (omega (arith, ap length read)) in
-    rw read (within.0, omega (arith, within.1, w, is, inside, length-take k (drop a pixels), length-drop a pixels))
+pub spans-fit : (test : ℕ → Bool) (spans runs : List Span) (width a k : ℕ) (pixels : List Rgb) → a + k ≤ length pixels → k ≡ width → spans ≡ runs →
+    AreRunsFrom test 0 width runs → All (λ (span : Span). (span.from ≤ span.to) × (span.to ≤ length (mid_of a k pixels))) spans
+spans-fit test spans runs width a k pixels inside is read all = λ j d h.
+    let within = spans-within test 0 width j runs d all (omega (arith, ap length read)) in
+    rw read (within.0, omega (arith, within.1, is, inside, length-take k (drop a pixels), length-drop a pixels))
+
+-- a pixel that lies in one of the runs passes
+pub spans-inside : (test : ℕ → Bool) (from end i : ℕ) (spans : List Span) → AreRunsFrom test from end spans → is_in_spans spans i ≡ true → test i ≡ true
+spans-inside test from end i [] runs h = absurd (false≢true h)
+spans-inside test from end i (span ∷ spans) runs h = elim (cases_Bool (has_column i span)) [
+  | inl here ↦ let both = and_parts (nat_le span.from i) (nat_lt i span.to) here in runs.0.inside i (leb-true span.from i both.0) (ltb-true i span.to both.1)
+  | inr later ↦ spans-inside test span.to end i spans runs.1 (rw later at h)
+]
+
+-- each pixel that lies in the spans is covered
+pub spans-covered : (test : ℕ → Bool) (width : ℕ) (spans runs : List Span) → spans ≡ runs → AreRunsFrom test 0 width runs →
+    (i : ℕ) → is_in_spans spans i ≡ true → test i ≡ true
+spans-covered test width spans runs read all i h = spans-inside test 0 width i runs all (rw read at h)
 
 -- a part of as many pixels as a row has
 pub part-wide : (a width k : ℕ) (pixels row : List Rgb) → k ≡ width → a + k ≤ length pixels → length row ≡ length (mid_of a k pixels) → length row ≡ width
 part-wide a width k pixels row is within same =
     omega (arith, is, same, length-take k (drop a pixels), length-drop a pixels)
 
--- a sweep that has come past the last row
-pub filled-last : (old skipped : SweepValue) (colour : Rgb) (width past : ℕ) (pixels : List Rgb) → old.width ≡ width → 0 < width → AreEmptyRows old old.row skipped.row →
-    skipped ≡ record old { row = skipped.row } → skipped.row ≤ old.height → past ≡ min (skipped.row + 1) skipped.height → false ≡ nat_lt skipped.row skipped.height →
-    AreRowsFilled old.edges colour width old.row past pixels pixels
-filled-last old skipped colour width past pixels wide some empty skip most next last =
-    let ended = ltb-false skipped.row skipped.height (sym last) in
-    let is : past ≡ skipped.row = omega (arith, next, ended, most, ap (λ (s : SweepValue). s.height) skip) in
-    rw (← wide, is) (filled-none old colour skipped.row pixels (omega (arith, wide)) empty)
-
--- a sweep that has come past a row which its spans filled
-pub filled-next : (old skipped : SweepValue) (colour : Rgb) (spans runs : List Span) (width past a k : ℕ) (pixels row : List Rgb) → old.width ≡ width → 0 < width →
-    length pixels ≡ width * old.height → AreEmptyRows old old.row skipped.row → skipped ≡ record old { row = skipped.row } → old.row ≤ skipped.row →
-    past ≡ min (skipped.row + 1) skipped.height → true ≡ nat_lt skipped.row skipped.height → a ≡ skipped.row * width → k ≡ width →
-    length row ≡ length (mid_of a k pixels) → spans ≡ runs → AreRunsFrom (covers_next skipped) 0 skipped.width runs →
-    ((i : ℕ) → colour_of row i ≡ (if is_in_spans spans i then colour else colour_of (mid_of a k pixels) i)) →
-    AreRowsFilled old.edges colour width old.row past pixels (put_mid a k pixels row)
-filled-next old skipped colour spans runs width past a k pixels row wide some area empty skip from next more start is same read all filled =
-    let w : skipped.width ≡ width = ap (λ (s : SweepValue). s.width) skip ∙ wide in
-    let h : skipped.height ≡ old.height = ap (λ (s : SweepValue). s.height) skip in
-    let edges : skipped.edges ≡ old.edges = ap (λ (s : SweepValue). s.edges) skip in
-    let below : skipped.row < old.height = omega (arith, ltb-true skipped.row skipped.height (sym more), h) in
-    let last : past ≡ skipped.row + 1 = omega (arith, next, below, h) in
-    let within : a + k ≤ length pixels = omega (arith, row_fits skipped.row width old.height width below (omega arith), start, is, area) in
-    let runs_read : AreRunsFrom (covers_next skipped) 0 skipped.width spans = rw read all in
-    let one = filled-row skipped colour spans a k pixels row (omega (arith, w)) (start ∙ ap (λ n. skipped.row * n) (sym w)) (is ∙ sym w) within
-    (part-wide a width k pixels row is within same ∙ sym is) runs_read filled in
-    let none = rw wide at (filled-none old colour skipped.row pixels (omega (arith, wide)) empty) in
-    rw last (filled-more old.edges colour width old.row skipped.row (skipped.row + 1) pixels pixels (put_mid a k pixels row) from (omega arith) refl none
-    (rw (w, edges) at one))
-
 -- a picture that has a pixel has a column
-some-columns : (at width height : ℕ) → at < width * height → 0 < width
+pub some-columns : (at width height : ℕ) → at < width * height → 0 < width
 some-columns at zero height h = absurd (omega arith)
 some-columns at (suc width) height h = omega arith
 
--- the sweep has come past the last row: all rows are filled
-pub filled-all : (polygon : List EdgeEnds) (colour : Rgb) (width height past : ℕ) (sweep : SweepValue) (a b c : List Rgb) → length a ≡ width * height → length b ≡ length a →
-    sweep ≡ record { edges = polygon; width = width; height = height; row = sweep.row } → sweep.row ≤ past → past ≡ sweep.height →
-    AreRowsFilled polygon colour width 0 sweep.row a b → AreRowsFilled sweep.edges colour width sweep.row past b c → AreFilled polygon colour width a c
-filled-all polygon colour width height past sweep a b c area same is rising last before after = λ at h.
-    let below : at < width * height = omega (arith, area) in
-    let rest = rw (ap (λ (s : SweepValue). s.edges) is) at after in
-    let all = filled-more polygon colour width 0 sweep.row past a b c (omega arith) rising same before rest in
-    all.filled at h (omega arith)
-    (omega (arith, div_below at width height (some-columns at width height below) (omega arith), last, ap (λ (s : SweepValue). s.height) is))
+-- a row above some rows, or below them, is none of them
+rows-before : (rows : Rows) (j : ℕ) → j < rows.from → has_row rows j ≡ false
+rows-before rows j h = and_left (nat_le rows.from j) (nat_lt j rows.to) (lt-leb rows.from j h)
+
+rows-after : (rows : Rows) (j : ℕ) → rows.to ≤ j → has_row rows j ≡ false
+rows-after rows j h = and_right (nat_le rows.from j) (nat_lt j rows.to) (le-ltb j rows.to h)
+
+-- all rows of a cover are filled, and it covers no pixel of the others
+pub filled-rows : (test : ℕ → ℕ → Bool) (colour : ℕ → ℕ → Rgb) (width height : ℕ) (rows : Rows) (past : ℕ) (a b : List Rgb) → length a ≡ width * height → rows.to ≤ past →
+    ((i j : ℕ) → i < width → j < height → has_row rows j ≡ false → test i j ≡ false) →
+    AreRowsFilled test colour width rows.from past a b → AreFilled test colour width a b
+filled-rows test colour width height rows past a b area last none filled = λ k h.
+    let some = some-columns k width height (omega (arith, area)) in
+    let column : k % width < width = mod_below k width some in
+    let row : k / width < height = div_below k width height some (omega (arith, area)) in
+    ⊎_elim
+    (λ (before : k / width < rows.from). filled.before k h before ∙ rw (none (k % width) (k / width) column row (rows-before rows (k / width) before)) refl)
+    (λ (from : rows.from ≤ k / width). ⊎_elim
+    (λ (within : k / width < past). filled.filled k h from within)
+    (λ (after : past ≤ k / width). filled.after k h after ∙ rw (none (k % width) (k / width) column row (rows-after rows (k / width) (omega arith))) refl)
+    (cases_lt (k / width) past))
+    (cases_lt (k / width) rows.from)
+
+-- no row is filled yet
+pub filled-start : (test : ℕ → ℕ → Bool) (colour : ℕ → ℕ → Rgb) (width from : ℕ) (a : List Rgb) → AreRowsFilled test colour width from from a a
+filled-start test colour width from a = record {
+  filled = λ at h low high. absurd (omega arith);
+  before = λ at h low. refl;
+  after = λ at h high. refl;
+}
+
+-- where two tests agree, what one fills the other does
+pub filled-same : (s t : ℕ → ℕ → Bool) (colour : ℕ → ℕ → Rgb) (a b : PictureFields) → ((i j : ℕ) → s i j ≡ t i j) → IsFilled s colour a b → IsFilled t colour a b
+filled-same s t colour a b same f = record {
+  width = f.width;
+  height = f.height;
+  area = f.area;
+  filled = λ at h. f.filled at h ∙ rw (same (at % a.width) (at / a.width)) refl;
+}
+
+-- nothing is filled where nothing passes
+pub filled-nothing : (colour : ℕ → ℕ → Rgb) (a : PictureFields) → IsFilled (λ i j. false) colour a a
+filled-nothing colour a = record {
+  width = refl;
+  height = refl;
+  area = refl;
+  filled = λ at h. refl;
+}
+
+-- the same colour once more, or on what it didn't cover before
+cond-either : {X : Type 0} (s t : Bool) (x y : X) → cond t x (cond s x y) ≡ cond (s || t) x y
+cond-either true true x y = refl
+cond-either true false x y = refl
+cond-either false true x y = refl
+cond-either false false x y = refl
+
+-- what passes one test is filled, and then what passes another
+pub filled-either : (s t : ℕ → ℕ → Bool) (colour : ℕ → ℕ → Rgb) (a b d : PictureFields) → IsFilled s colour a b → IsFilled t colour b d →
+    IsFilled (λ i j. s i j || t i j) colour a d
+filled-either s t colour a b d p q = record {
+  width = q.width ∙ p.width;
+  height = q.height ∙ p.height;
+  area = q.area ∙ p.area;
+  filled = λ at h.
+      let inside : at < length b.pixels = omega (arith, p.area) in
+      q.filled at inside
+      ∙ rw (p.width, p.filled at h) (cond-either (s (at % a.width) (at / a.width)) (t (at % a.width) (at / a.width)) (colour (at % a.width) (at / a.width)) (colour_of a.pixels at));
+}
+
+-- a loop that fills what its elements cover: one element more
+pub filled_next : {X : Type 0} (test : X → ℕ → ℕ → Bool) (xs : List X) (i : ℕ) (x : X) (colour : ℕ → ℕ → Rgb) (a b d : PictureFields) → i < length xs → x ≡ get_or xs i x →
+    IsFilled (λ k j. list_any (λ y. test y k j) (take i xs)) colour a b → IsFilled (test x) colour b d →
+    IsFilled (λ k j. list_any (λ y. test y k j) (take (i + 1) xs)) colour a d
+filled_next test xs i x colour a b d h e p q = filled-same
+    (λ k j. list_any (λ y. test y k j) (take i xs) || test x k j) (λ k j. list_any (λ y. test y k j) (take (i + 1) xs)) colour a d
+    (λ k j. sym (any-next (λ y. test y k j) xs i x h e))
+    (filled-either (λ k j. list_any (λ y. test y k j) (take i xs)) (test x) colour a b d p q)

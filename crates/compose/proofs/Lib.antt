@@ -1,4 +1,4 @@
 pub mod Filling
 pub mod Finding
 pub mod Painting
-pub mod Rings
+pub mod Sweeping

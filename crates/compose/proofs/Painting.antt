@@ -5,20 +5,16 @@ use Rattle.std.proofs.lemmas.List.{reverse-append, append-nil, take_more, get_or
 use Rattle.std.proofs.lemmas.List.Folds.{find-append}
 use Rattle.std.proofs.lemmas.Nat.{mod-mul-add, div-mul-add, mul-add-lt}
 use Rattle.std.proofs.lemmas.Option.{slice_get-get_or}
-use Rattle.std.specs.List.{flat_map, find, fold}
+use Rattle.std.specs.List.{flat_map, find}
 use Rattle.std.specs.Option.{option_map_or, option_or}
-use Rattle.geom.specs.Device.{DevicePoint}
-use Rattle.geom.specs.Edge.{EdgeEnds}
 use Rattle.geom.specs.Scale.{PictureScale}
-use Rattle.geom.specs.EvenOdd.{edges}
 use Rattle.mapdefs.specs.declared.colour.Rgb.{Rgb}
 use Rattle.mapdefs.specs.declared.layer.LayerFields.{LayerFields}
 use Rattle.mapdefs.specs.declared.map.MapFields.{MapFields}
 use Rattle.mapdefs.specs.declared.picture.PictureFields.{PictureFields}
-use Rattle.mapdefs.specs.declared.style.StyleFields.{StyleFields}
 use Rattle.viewport.specs.View.{ViewValue}
-use Rattle.compose.specs.Paint.{Thing, Fill, covers, colour_in, fills, layer_things, chosen_things, paint_list}
-use Rattle.compose.specs.Painted.{IsPainted, AreFilled, black, colour_of, last_colour}
+use Rattle.compose.specs.Paint.{Thing, black, covers, colour_in, layer_things, chosen_things, paint_list}
+use Rattle.compose.specs.Painted.{IsFilled, IsPainted, colour_of}
 use Rattle.compose.specs.Picture.{colour_at, IsPictureOf}
 
 -- a default after two options, one after the other
@@ -100,63 +96,18 @@ pub painted-picture : (m : MapFields) (view : ViewValue) (scale : PictureScale) 
 painted-picture m view scale chosen background a b e p =
     painted-canvas m view scale chosen background b (subst (λ (x : PictureFields). IsPainted x b (paint_list view scale m chosen)) e p)
 
--- pixels that have a colour where rings cover them, and else are as they were, are painted over with the rings
-pub painted-fill : (rings : List (List DevicePoint)) (polygon : List EdgeEnds) (colour : Rgb) (a : PictureFields) (pixels : List Rgb) → edges rings ≡ polygon →
-    length pixels ≡ length a.pixels →
-    AreFilled polygon colour a.width a.pixels pixels →
-    IsPainted a (record a { pixels = pixels }) (Fill rings colour ∷ [])
-painted-fill rings polygon colour a pixels e area filled = record {
-  width = refl;
-  height = refl;
-  area = area;
-  pixels = λ at h. filled at h ∙ rw (← e) (sym (colour_at-one (colour_of a.pixels at) (Fill rings colour) (at % a.width) (at / a.width)));
+-- pixels that have their colours where a thing covers them, and else are as they were, are painted over with the thing
+pub painted-thing : (thing : Thing) (test : ℕ → ℕ → Bool) (colour : ℕ → ℕ → Rgb) (a b : PictureFields) → ((i j : ℕ) → covers thing i j ≡ test i j) →
+    ((i j : ℕ) → colour_in thing i j ≡ colour i j) → IsFilled test colour a b → IsPainted a b (thing ∷ [])
+painted-thing thing test colour a b same shown f = record {
+  width = f.width;
+  height = f.height;
+  area = f.area;
+  pixels = λ at h. f.filled at h
+      ∙ sym (colour_at-one (colour_of a.pixels at) thing (at % a.width) (at / a.width) ∙ rw (same (at % a.width) (at / a.width), shown (at % a.width) (at / a.width)) refl);
 }
-
--- where no element gives anything, nothing is painted
-pub painted-nothing : {X : Type 0} (f : X → List Thing) (xs : List X) (a : PictureFields) → ((x : X) → f x ≡ []) → IsPainted a a (flat_map f xs)
-painted-nothing f [] a h = painted-none a
-painted-nothing f (x ∷ xs) a h = rw (h x) (painted-nothing f xs a h)
 
 -- what a layer paints is what its index in the map does
 pub painted-chosen : (view : ViewValue) (scale : PictureScale) (m : MapFields) (index : ℕ) (layer : LayerFields) (a b : PictureFields) → index < length m.layers →
-    layer ≡ get_or m.layers index layer → IsPainted a b (layer_things view scale layer) → IsPainted a b (chosen_things view scale m index)
+    layer ≡ get_or m.layers index layer → IsPainted a b (layer_things view scale m.symbols layer) → IsPainted a b (chosen_things view scale m index)
 painted-chosen view scale m index layer a b h e p = rw (slice_get-get_or m.layers index layer h, ← e) p
-
--- what a test picks over what it picked before is what it picks
-cond-same : {X : Type 0} (b : Bool) (x y z : X) → cond b x (cond b y z) ≡ cond b x z
-cond-same true x y z = refl
-cond-same false x y z = refl
-
--- the same rings filled once more, where there is a further colour: the further colour shows, else the one before
-colour_at-fills : (background : Rgb) (rings : List (List DevicePoint)) (before further : Option Rgb) (i j : ℕ) →
-    colour_at (colour_at background (fills rings before) i j) (fills rings further) i j ≡ colour_at background (fills rings (option_or further before)) i j
-colour_at-fills background rings before None i j = colour_at-none (colour_at background (fills rings before) i j) i j
-colour_at-fills background rings None (Some colour) i j = rw (colour_at-none background i j) refl
-colour_at-fills background rings (Some old) (Some colour) i j =
-    rw (
-      colour_at-one background (Fill rings old) i j,
-      colour_at-one (cond (covers (Fill rings old) i j) old background) (Fill rings colour) i j,
-      colour_at-one background (Fill rings colour) i j,
-    )
-    (cond-same (covers (Fill rings colour) i j) colour old background)
-
--- where styles fill the same rings, the last colour shows, or the one before them
-fills-last : (background : Rgb) (rings : List (List DevicePoint)) (before : Option Rgb) (styles : List StyleFields) (i j : ℕ) →
-    colour_at (colour_at background (fills rings before) i j) (flat_map (λ (style : StyleFields). fills rings style.colour) styles) i j
-    ≡ colour_at background (fills rings (fold (λ last (style : StyleFields). option_or style.colour last) before styles)) i j
-fills-last background rings before [] i j = colour_at-none (colour_at background (fills rings before) i j) i j
-fills-last background rings before (style ∷ styles) i j =
-    colour_at-append (colour_at background (fills rings before) i j) (fills rings style.colour) (flat_map (λ (s : StyleFields). fills rings s.colour) styles) i j
-    ∙ rw (colour_at-fills background rings before style.colour i j) (fills-last background rings (option_or style.colour before) styles i j)
-
--- rings that are filled with the last colour of styles are painted as by all of them
-pub painted-last : (rings : List (List DevicePoint)) (styles : List StyleFields) (a b : PictureFields) → IsPainted a b (fills rings (last_colour styles)) →
-    IsPainted a b (flat_map (λ (style : StyleFields). fills rings style.colour) styles)
-painted-last rings styles a b p = record {
-  width = p.width;
-  height = p.height;
-  area = p.area;
-  pixels = λ at h. p.pixels at h
-      ∙ sym (fills-last (colour_of a.pixels at) rings None styles (at % a.width) (at / a.width))
-      ∙ rw (colour_at-none (colour_of a.pixels at) (at % a.width) (at / a.width)) refl;
-}

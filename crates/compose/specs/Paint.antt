@@ -1,10 +1,11 @@
 -- What is painted, and in which order (docs/PROFILE.md, "How features are painted").
-use Rattle.std.specs.Prelude.{ℕ, Bool, if◌then◌else◌, pos, List, [], ◌∷◌, map, Option, None, Some, slice_get}
+use Rattle.std.specs.Prelude.{ℕ, Bool, true, false, if◌then◌else◌, pos, List, [], ◌∷◌, ◌++◌, map, Option, None, Some, slice_get}
 use Rattle.std.specs.List.{flat_map}
 use Rattle.std.specs.Option.{option_map_or}
-use Rattle.geom.specs.Device.{DevicePoint, pixel_centre}
+use Rattle.geom.specs.Device.{DevicePoint, PixelPlace, pixel_centre, pixel_of}
 use Rattle.geom.specs.EvenOdd.{is_inside}
 use Rattle.geom.specs.Scale.{PictureScale}
+use Rattle.geom.specs.World.{Place}
 use Rattle.mapdefs.specs.Class.{class_of, is_visible_layer}
 use Rattle.mapdefs.specs.declared.class.ClassFields.{ClassFields}
 use Rattle.mapdefs.specs.declared.colour.Rgb.{Rgb}
@@ -14,51 +15,104 @@ use Rattle.mapdefs.specs.declared.layer.Kind.TheVariants as kind
 use Rattle.mapdefs.specs.declared.layer.LayerFields.{LayerFields}
 use Rattle.mapdefs.specs.declared.map.MapFields.{MapFields}
 use Rattle.mapdefs.specs.declared.style.StyleFields.{StyleFields}
+use Rattle.mapdefs.specs.declared.symbol.Symbol.{Symbol}
+use Rattle.strokes.specs.Line.{LineValue, line_of}
+use Rattle.strokes.specs.Line as line
+use Rattle.strokes.specs.Square.{SquareValue, covers_square}
+use Rattle.symbols.specs.Stamp.{StampValue, pixel_at}
+use Rattle.symbols.specs.Stamp as stamp
 use Rattle.viewport.specs.View.{ViewValue, device_point}
 
--- what is painted: rings that are filled with a colour
+-- what is painted: rings that are filled with a colour, a line of a colour, a square of a colour, or a pixmap
 pub data Thing : Type 0 where
   Fill : List (List DevicePoint) → Rgb → Thing
+  Stroke : LineValue → Rgb → Thing
+  Mark : SquareValue → Rgb → Thing
+  Stamped : StampValue → Thing
 
 -- whether it covers the pixel in a column and a row: rings cover a pixel whose centre lies inside of them
 abbrev pub covers : Thing → ℕ → ℕ → Bool
 covers (Fill rings colour) i j = is_inside rings (pixel_centre (pos i) (pos j))
+covers (Stroke stroke colour) i j = line.covers_pixel stroke (pos i) (pos j)
+covers (Mark square colour) i j = covers_square square (pos i) (pos j)
+covers (Stamped pixmap) i j = stamp.covers_pixel pixmap (pos i) (pos j)
+
+-- what stands for the colour of no pixel, where nothing asks for it
+abbrev pub black : Rgb
+black = record { red = 0; green = 0; blue = 0 }
+
+-- the colour that a pixmap gives to a pixel that it covers
+abbrev pub stamp_colour : StampValue → ℕ → ℕ → Rgb
+stamp_colour pixmap i j = option_map_or (λ (colour : Rgb). colour) (pixel_at pixmap (pos i) (pos j)) black
 
 -- the colour of a pixel that it covers
 abbrev pub colour_in : Thing → ℕ → ℕ → Rgb
 colour_in (Fill rings colour) i j = colour
+colour_in (Stroke stroke colour) i j = colour
+colour_in (Mark square colour) i j = colour
+colour_in (Stamped pixmap) i j = stamp_colour pixmap i j
 
--- the rings of a polygon on the picture
-abbrev pub rings_of : ViewValue → FeatureFields → List (List DevicePoint)
-rings_of view feature = map (map (device_point view)) feature.parts
+-- the parts of a feature on the picture: the rings of a polygon, or lines
+abbrev pub parts_of : ViewValue → FeatureFields → List (List DevicePoint)
+parts_of view feature = map (map (device_point view)) feature.parts
 
--- rings are filled where there is a colour
+-- rings are filled, and a line or a square painted, where there is a colour
 abbrev pub fills : List (List DevicePoint) → Option Rgb → List Thing
 fills rings None = []
 fills rings (Some colour) = Fill rings colour ∷ []
 
--- what a style paints of a feature of that kind
-abbrev pub style_things : ViewValue → Kind → FeatureFields → StyleFields → List Thing
-style_things view kind.Polygon feature style = fills (rings_of view feature) style.colour
-style_things view _ feature style = []
+abbrev pub strokes : LineValue → Option Rgb → List Thing
+strokes stroke None = []
+strokes stroke (Some colour) = Stroke stroke colour ∷ []
+
+abbrev pub marks : SquareValue → Option Rgb → List Thing
+marks square None = []
+marks square (Some colour) = Mark square colour ∷ []
+
+-- the pixmap of a symbol round a pixel
+abbrev pub stamps : PixelPlace → Symbol → List Thing
+stamps pixel symbol = Stamped (record { pixmap = symbol.pixmap; pixel = pixel }) ∷ []
+
+-- what a style paints of a polygon: its rings, and then the closed line along them in the colour of the outline
+abbrev pub polygon_things : List (List DevicePoint) → StyleFields → List Thing
+polygon_things rings style = fills rings style.colour ++ strokes (line_of rings true style.width) style.outline
+
+-- what it paints of lines: the line along them
+abbrev pub line_things : List (List DevicePoint) → StyleFields → List Thing
+line_things parts style = strokes (line_of parts false style.width) style.colour
+
+-- what it paints of a point: the pixmap of its symbol round the point's pixel, or without a symbol a square round it
+abbrev pub point_things : ViewValue → List Symbol → StyleFields → Place → List Thing
+point_things view symbols style place =
+    let pixel = pixel_of (device_point view place) in
+    elim style.symbol [
+      | Some index ↦ option_map_or (stamps pixel) (slice_get symbols index) []
+      | None ↦ marks (record { pixel = pixel; size = style.size }) style.colour
+    ]
+
+-- what a style paints of a feature of that kind, of which the points are painted one after another
+abbrev pub style_things : ViewValue → List Symbol → Kind → FeatureFields → StyleFields → List Thing
+style_things view symbols kind.Polygon feature style = polygon_things (parts_of view feature) style
+style_things view symbols kind.Line feature style = line_things (parts_of view feature) style
+style_things view symbols kind.Point feature style = flat_map (λ part. flat_map (point_things view symbols style) part) feature.parts
 
 -- what a class paints of it: its styles, in order
-abbrev pub class_things : ViewValue → Kind → FeatureFields → ClassFields → List Thing
-class_things view kind feature class = flat_map (style_things view kind feature) class.styles
+abbrev pub class_things : ViewValue → List Symbol → Kind → FeatureFields → ClassFields → List Thing
+class_things view symbols kind feature class = flat_map (style_things view symbols kind feature) class.styles
 
 -- what is painted of a feature at a scale: what its class paints, if it has one
-abbrev pub feature_things : ViewValue → PictureScale → LayerFields → FeatureFields → List Thing
-feature_things view scale layer feature =
-    option_map_or (class_things view layer.kind feature) (class_of scale layer feature) []
+abbrev pub feature_things : ViewValue → PictureScale → List Symbol → LayerFields → FeatureFields → List Thing
+feature_things view scale symbols layer feature =
+    option_map_or (class_things view symbols layer.kind feature) (class_of scale layer feature) []
 
 -- what is painted of a layer: its features, in order, where it is visible at the scale
-abbrev pub layer_things : ViewValue → PictureScale → LayerFields → List Thing
-layer_things view scale layer =
-    if is_visible_layer scale layer then flat_map (feature_things view scale layer) layer.features else []
+abbrev pub layer_things : ViewValue → PictureScale → List Symbol → LayerFields → List Thing
+layer_things view scale symbols layer =
+    if is_visible_layer scale layer then flat_map (feature_things view scale symbols layer) layer.features else []
 
 -- what is painted of the layer of that index in the map
 abbrev pub chosen_things : ViewValue → PictureScale → MapFields → ℕ → List Thing
-chosen_things view scale m index = option_map_or (layer_things view scale) (slice_get m.layers index) []
+chosen_things view scale m index = option_map_or (layer_things view scale m.symbols) (slice_get m.layers index) []
 
 -- all that is painted, from the first to the last: the chosen layers, in order
 abbrev pub paint_list : ViewValue → PictureScale → MapFields → List ℕ → List Thing

@@ -1,11 +1,14 @@
-ghost use Rattle.std.specs.Prelude.{◌≡◌, ℕ, ◌≤◌, ◌<◌, ◌*◌, true, false, if◌then◌else◌, [], ◌∷◌, length, replicate, All, IfOk, OnOk};
-ghost use Rattle.scanfill.specs.Runs.{has_column, is_in_spans};
-ghost use Rattle.compose.specs.Paint.{Fill};
-ghost use Rattle.compose.specs.Painted.{AreFilled, AreRowsFilled, IsPaintedWithin, colour_of};
+ghost use Rattle.std.specs.Prelude.{◌≡◌, ℕ, ◌*◌, true, pos, replicate, IfOk, OnOk};
+ghost use Rattle.geom.specs.Device.{pixel_centre};
+ghost use Rattle.geom.specs.EvenOdd.{is_covered};
+ghost use Rattle.compose.specs.Painted.{IsFilled};
 
+use crate::colouring::Colouring;
+use crate::rows::fill_cover;
+use crate::sweep::fill_polygon;
 use geom::PictureSide;
 use mapdefs::{Items, Picture, PictureFields, Rgb};
-use scanfill::{Polygon, Span, Spans, Sweep, Work};
+use scanfill::{Cover, Polygon};
 use std::alloc::{AllocError, Global};
 use std::marker::Model;
 
@@ -51,10 +54,25 @@ impl Canvas {
     /// Fills the polygon with the colour. It takes memory for the edges that cross the picture, and for a
     /// row. Where that is refused some rows may be filled already.
     pub fn fill(&mut self, alloc: Global, polygon: &Polygon, colour: Rgb) -> Result<(), AllocError>
-        ensures { OnOk result (IsPaintedWithin polygon.now self.old self.new (λ rings. Fill rings colour ∷ [])) }
+        ensures { OnOk result (IsFilled (λ i j. is_covered polygon.now (pixel_centre (pos i) (pos j))) (λ i j. colour) self.old self.new) }
     {
         let (width, height) = (self.width, self.height);
-        fill_rows(alloc, &mut self.pixels, width, height, polygon, colour)
+        fill_polygon(alloc, &mut self.pixels, width, height, polygon, colour)
+    }
+
+    /// Gives their colours to the pixels that the cover covers. It takes memory for a row. Where that is
+    /// refused some rows may have theirs already.
+    pub fn paint<C: Cover, K: Colouring>(
+        &mut self,
+        alloc: Global,
+        cover: &C,
+        colouring: &K,
+    ) -> Result<(), AllocError>
+        requires { (i j : ℕ) → C.covered cover.now i j ≡ true → K.has colouring.now i j ≡ true }
+        ensures { OnOk result (IsFilled (C.covered cover.now) (K.colour colouring.now) self.old self.new) }
+    {
+        let (width, height) = (self.width, self.height);
+        fill_cover(alloc, &mut self.pixels, width, height, cover, colouring)
     }
 
     /// The picture as it has been painted.
@@ -72,67 +90,4 @@ impl Canvas {
             pixels: Items::of(pixels),
         })
     }
-}
-
-// Gives the colour to each pixel that the polygon covers. The pixels stand row by row.
-fn fill_rows(
-    alloc: Global,
-    pixels: &mut [Rgb],
-    width: PictureSide,
-    height: PictureSide,
-    polygon: &Polygon,
-    colour: Rgb,
-) -> Result<(), AllocError>
-    requires { length pixels.old ≡ width * height }
-    ensures { OnOk result (AreFilled polygon.now colour width pixels.old pixels.new) }
-{
-    let mut sweep = polygon.sweep(width, height, &mut Work::new())?;
-    let mut spans = Spans::new(alloc);
-    while fill_next(pixels, width, &mut sweep, &mut spans, colour)? {}
-    Ok(())
-}
-
-// Goes over the rows that no edge crosses, and fills the one after them. It answers whether there is one.
-fn fill_next(
-    pixels: &mut [Rgb],
-    width: PictureSide,
-    sweep: &mut Sweep<'_>,
-    spans: &mut Spans,
-    colour: Rgb,
-) -> Result<bool, AllocError>
-    requires width { sweep.old.width ≡ width }
-    requires area { length pixels.old ≡ width * sweep.old.height }
-    ensures sweep { OnOk result (sweep.new ≡ record sweep.old { row = sweep.new.row }) }
-    ensures rows { OnOk result ((sweep.old.row ≤ sweep.new.row) × (sweep.new.row ≤ sweep.old.height)) }
-    ensures more { IfOk result (λ more. more ≡ true → sweep.old.row < sweep.new.row) }
-    ensures last { IfOk result (λ more. more ≡ false → sweep.new.row ≡ sweep.old.height) }
-    ensures filled { OnOk result (AreRowsFilled sweep.old.edges colour width sweep.old.row sweep.new.row pixels.old pixels.new) }
-{
-    let width = usize::from(width.pixels());
-    sweep.skip();
-    let start = usize::from(sweep.row()) * width;
-    if !sweep.next(spans)? {
-        return Ok(false);
-    }
-    fill_spans(&mut pixels[start..start + width], spans.as_slice(), colour);
-    Ok(true)
-}
-
-// Gives the colour to the pixels of a row that lie in the spans.
-fn fill_spans(row: &mut [Rgb], spans: &[Span], colour: Rgb)
-    requires { All (λ span. (span.from ≤ span.to) × (span.to ≤ length row.old)) spans.now }
-    ensures { (i : ℕ) → colour_of row.new i ≡ (if is_in_spans spans.now i then colour else colour_of row.old i) }
-{
-    for span in spans {
-        fill_span(row, *span, colour);
-    }
-}
-
-// Gives the colour to the pixels of a span.
-fn fill_span(row: &mut [Rgb], span: Span, colour: Rgb)
-    requires some { span.from ≤ span.to }
-    requires within { span.to ≤ length row.old }
-    ensures { (i : ℕ) → colour_of row.new i ≡ (if has_column i span then colour else colour_of row.old i) }
-{
-    row[usize::from(span.from)..usize::from(span.to)].fill(colour);
 }

@@ -3,17 +3,24 @@
 //! Proved: `picture` gives the picture of the chosen layers in a view. Each pixel has the colour of
 //! the last thing of the paint list that covers it, else the background (`IsPictureOf`).
 //!
-//! Words: a *thing* is what is painted at once, as the rings of a polygon in one colour. The *paint
-//! list* has the things of the chosen layers in order: a layer's features, a feature's styles. A
-//! *canvas* is the picture while it is painted.
+//! Words: a *thing* is what is painted at once: the rings of a polygon, a line or a square in one colour,
+//! or a pixmap. The *paint list* has the things of the chosen layers in order: a layer's features, a
+//! feature's styles, the points of a feature. A *canvas* is the picture while it is painted. A *colouring*
+//! gives the pixels of a cover their colours.
 #![tactic(auto)]
 
 mod canvas;
 mod classes;
+mod colouring;
+mod lines;
 mod paint;
-mod polygon;
+mod parts;
+mod points;
+mod polygons;
 #[cfg(test)]
 mod ring_tests;
+mod rows;
+mod sweep;
 #[cfg(test)]
 mod tests;
 

@@ -1,16 +1,15 @@
 ghost use Rattle.std.specs.Prelude.{◌≡◌, ◌<◌, All, IfOk, OnOk, length};
-ghost use Rattle.std.specs.List.{flat_map};
-ghost use Rattle.mapdefs.specs.declared.style.StyleFields.{StyleFields as StyleValue};
-ghost use Rattle.compose.specs.Paint.{fills, class_things, feature_things, layer_things};
-ghost use Rattle.compose.specs.Painted.{IsPainted, IsPaintedWithin, last_colour};
+ghost use Rattle.compose.specs.Paint.{class_things, feature_things, layer_things};
+ghost use Rattle.compose.specs.Painted.{IsPainted};
 ghost use Rattle.compose.specs.Picture.{IsPictureOf};
 
 use crate::canvas::Canvas;
 use crate::classes::class_of;
-use crate::polygon::polygon_of;
-use mapdefs::{ClassFields, Feature, Kind, LayerFields, Map, Picture, Rgb, Style};
+use crate::lines::paint_lines;
+use crate::points::paint_points;
+use crate::polygons::paint_polygon;
+use mapdefs::{ClassFields, Feature, Kind, LayerFields, Map, Picture, Rgb, Symbol};
 use scaledenom::Scale;
-use scanfill::Polygon;
 use std::alloc::{AllocError, Global};
 use viewport::View;
 
@@ -18,8 +17,9 @@ use viewport::View;
 /// in that order, one that is chosen twice also twice, and whether they are switched on or not. Layers
 /// and classes that aren't visible at the scale are left out.
 ///
-/// It takes memory for the picture, and for one feature at a time: for its edges, for those that cross the
-/// picture as its rows are swept, and for a row. `AllocError` comes only where that is refused.
+/// It takes memory for the picture, and for one feature at a time: for its vertices and edges, for those
+/// that cross the picture as its rows are swept, and for a row. `AllocError` comes only where that is
+/// refused.
 pub fn picture(
     alloc: Global,
     map: &Map,
@@ -31,10 +31,18 @@ pub fn picture(
     requires { All (λ index. index < length map.now.layers) chosen.now }
     ensures { IfOk result (IsPictureOf map.now view scale chosen.now background) }
 {
-    let layers = map.get().layers.as_slice();
+    let fields = map.get();
+    let (symbols, layers) = (fields.symbols.as_slice(), fields.layers.as_slice());
     let mut canvas = Canvas::new(alloc, view.width(), view.height(), background)?;
     for index in chosen {
-        paint_layer(alloc, &mut canvas, view, scale, layers[*index].get())?;
+        paint_layer(
+            alloc,
+            &mut canvas,
+            view,
+            scale,
+            symbols,
+            layers[*index].get(),
+        )?;
     }
     Ok(canvas.into_picture())
 }
@@ -45,15 +53,16 @@ fn paint_layer(
     canvas: &mut Canvas,
     view: View,
     scale: Scale,
+    symbols: &[Symbol],
     layer: &LayerFields,
 ) -> Result<(), AllocError>
-    ensures { OnOk result (IsPainted canvas.old canvas.new (layer_things view scale layer.now)) }
+    ensures { OnOk result (IsPainted canvas.old canvas.new (layer_things view scale symbols.now layer.now)) }
 {
     if !scale.within(layer.min, layer.max) {
         return Ok(());
     }
     for feature in layer.features.as_slice() {
-        paint_feature(alloc, canvas, view, scale, layer, feature)?;
+        paint_feature(alloc, canvas, view, scale, symbols, layer, feature)?;
     }
     Ok(())
 }
@@ -64,61 +73,35 @@ fn paint_feature(
     canvas: &mut Canvas,
     view: View,
     scale: Scale,
+    symbols: &[Symbol],
     layer: &LayerFields,
     feature: &Feature,
 ) -> Result<(), AllocError>
-    ensures { OnOk result (IsPainted canvas.old canvas.new (feature_things view scale layer.now feature.now)) }
+    ensures { OnOk result (IsPainted canvas.old canvas.new (feature_things view scale symbols.now layer.now feature.now)) }
 {
     match class_of(scale, layer, feature.get()) {
-        Some(class) => paint_class(alloc, canvas, view, layer.kind, feature, class),
+        Some(class) => paint_class(alloc, canvas, view, symbols, layer.kind, feature, class),
         None => Ok(()),
     }
 }
 
-// Paints what the class paints of a feature of that kind. Only polygons are painted yet.
+// Paints what the class paints of a feature of that kind.
 fn paint_class(
     alloc: Global,
     canvas: &mut Canvas,
     view: View,
+    symbols: &[Symbol],
     kind: Kind,
     feature: &Feature,
     class: &ClassFields,
 ) -> Result<(), AllocError>
-    ensures { OnOk result (IsPainted canvas.old canvas.new (class_things view kind feature.now class.now)) }
+    ensures { OnOk result (IsPainted canvas.old canvas.new (class_things view symbols.now kind feature.now class.now)) }
 {
+    let parts = feature.get().parts.as_slice();
+    let styles = class.styles.as_slice();
     match kind {
-        Kind::Polygon => {
-            let rings = feature.get().parts.as_slice();
-            let polygon = polygon_of(alloc, view, rings)?;
-            fill_by_styles(alloc, canvas, &polygon, class.styles.as_slice())
-        }
-        Kind::Point | Kind::Line => Ok(()),
-    }
-}
-
-// The last colour of some styles.
-fn last_colour(styles: &[Style]) -> Option<Rgb>
-    ensures { result ≡ last_colour styles.now }
-{
-    let mut last = None;
-    for style in styles {
-        last = style.get().colour.or(last);
-    }
-    last
-}
-
-// Fills the polygon by each style, in order: where it covers, the last colour shows.
-fn fill_by_styles(
-    alloc: Global,
-    canvas: &mut Canvas,
-    polygon: &Polygon,
-    styles: &[Style],
-) -> Result<(), AllocError>
-    ensures { OnOk result (IsPaintedWithin polygon.now canvas.old canvas.new (λ rings.
-        flat_map (λ (style : StyleValue). fills rings style.colour) styles.now)) }
-{
-    match last_colour(styles) {
-        Some(colour) => canvas.fill(alloc, polygon, colour),
-        None => Ok(()),
+        Kind::Polygon => paint_polygon(alloc, canvas, view, parts, styles),
+        Kind::Line => paint_lines(alloc, canvas, view, parts, styles),
+        Kind::Point => paint_points(alloc, canvas, view, symbols, parts, styles),
     }
 }

@@ -39,8 +39,8 @@ fn map_of_long_ring(alloc: Global) -> Result<Map, Fail>
     let mut parts = Items::new(alloc);
     parts.push(long_ring(alloc)?)?;
     let mut layers = Items::new(alloc);
-    layers.push(layer(alloc, "polygon o- none", feature_of(alloc, parts))?)?;
-    Ok(map_of(alloc, layers))
+    layers.push(layer(alloc, "polygon o/- none", feature_of(alloc, parts))?)?;
+    map_of(alloc, layers)
 }
 
 // The index of the first layer, 64 times.

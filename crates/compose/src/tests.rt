@@ -1,4 +1,4 @@
-ghost use Rattle.std.specs.Prelude.{◌≡◌, ◌<◌, ◌≤◌, [], length, sum_by, All, IfOk};
+ghost use Rattle.std.specs.Prelude.{◌≡◌, ◌<◌, ◌≤◌, [], length, sum_by, All, IfOk, IfSome};
 ghost use Rattle.mapdefs.specs.MapLimits.{ClassNamesSymbolsOf, LayerNamesSymbolsOf, NamesSymbolOf};
 ghost use Rattle.mapdefs.specs.declared.limits.TheConstants.{MAX_LAYERS};
 
@@ -6,7 +6,7 @@ use crate::picture;
 use geom::{Coordinate, Micro, NUMBER_LIMIT, PictureSide, World, WorldBox};
 use mapdefs::{
     Class, ClassFields, Feature, FeatureFields, Items, Kind, Layer, LayerFields, MAX_VERTICES, Map,
-    MapFields, Picture, Rgb, Rule, Style, StyleFields, Text,
+    MapFields, Picture, Rgb, Rule, Style, StyleFields, Symbol, Text,
 };
 use scaledenom::Scale;
 use std::alloc::{AllocError, Global};
@@ -35,15 +35,41 @@ fn letter(colour: Rgb) -> char {
     }
 }
 
-fn style(colour: Option<Rgb>) -> Style
-    ensures { NamesSymbolOf 0 result }
+// The digit of a letter, or 1 for any other one.
+fn digit(letter: u8) -> u8
+    ensures some { 1 ≤ result }
+    ensures most { result ≤ 9 }
 {
+    if (b'1'..=b'9').contains(&letter) {
+        letter - b'0'
+    } else {
+        1
+    }
+}
+
+// The index of a symbol, `0` or `1`.
+fn symbol_of(letter: u8) -> Option<usize>
+    ensures { IfSome result (λ index. index < 2) }
+{
+    match letter {
+        b'0' => Some(0),
+        b'1' => Some(1),
+        _ => None,
+    }
+}
+
+// A style. Its letters are the colour and the colour of the outline, the digits of width and size, and the
+// index of a symbol. What is left out is `-`: no colour, no symbol, and 1.
+fn style(letters: &str) -> Style
+    ensures { NamesSymbolOf 2 result }
+{
+    let letter = |at: usize| letters.as_bytes().get(at).copied().unwrap_or(b'-');
     Style::new(StyleFields {
-        colour,
-        outline: None,
-        width: 1,
-        size: 1,
-        symbol: None,
+        colour: colour_of(letter(0)),
+        outline: colour_of(letter(1)),
+        width: digit(letter(2)),
+        size: u16::from(digit(letter(3))),
+        symbol: symbol_of(letter(4)),
     })
 }
 
@@ -64,17 +90,15 @@ fn bounds(text: &str) -> Result<Bounds, Fail> {
     Ok((bound(min)?, bound(max)?))
 }
 
-// A class of two styles with the colours of these two letters.
+// A class of these two styles, which `/` parts.
 fn class(alloc: Global, letters: &str, bounds: Bounds) -> Result<Class, Fail>
-    ensures { IfOk result (ClassNamesSymbolsOf 0) }
+    ensures { IfOk result (ClassNamesSymbolsOf 2) }
 {
     let (min, max) = bounds;
-    let [first, second] = *letters.as_bytes() else {
-        return Err("not two letters".into());
-    };
+    let (first, second) = letters.split_once('/').ok_or("not two styles")?;
     let mut styles = Items::new(alloc);
-    styles.push(style(colour_of(first)))?;
-    styles.push(style(colour_of(second)))?;
+    styles.push(style(first))?;
+    styles.push(style(second))?;
     Ok(Class::new(ClassFields {
         rule: Rule::Always,
         min,
@@ -150,11 +174,11 @@ fn kind_of(word: &str) -> Result<Kind, Fail> {
     }
 }
 
-/// A layer of this feature with one class. Its kind, the letters of the class's colours, and the bounds on
+/// A layer of this feature with one class. Its kind, the letters of the class's styles, and the bounds on
 /// the scale of the class and of the layer with a comma between them, or `none`.
 pub(crate) fn layer(alloc: Global, words: &str, feature: Feature) -> Result<Layer, Fail>
     requires { feature.values ≡ [] }
-    ensures { IfOk result (LayerNamesSymbolsOf 0) }
+    ensures { IfOk result (LayerNamesSymbolsOf 2) }
 {
     let (kind, words) = words.split_once(' ').ok_or("no colours")?;
     let (letters, bounded) = words.split_once(' ').ok_or("no bounds")?;
@@ -185,22 +209,40 @@ pub(crate) fn layer(alloc: Global, words: &str, feature: Feature) -> Result<Laye
     }))
 }
 
-/// A map of four degrees by four, with these layers.
-pub(crate) fn map_of(alloc: Global, layers: Items<Layer>) -> Map
-    requires count { length layers ≤ MAX_LAYERS }
-    requires symbols { All (LayerNamesSymbolsOf 0) layers }
-    ensures { result.layers ≡ layers }
+// Two symbols: `#` and `o` above nothing and `#`; and three pixels one below another, `o`, nothing and `#`.
+fn two_symbols(alloc: Global) -> Result<Items<Symbol>, Fail>
+    ensures { IfOk result (λ symbols. length symbols ≡ 2) }
 {
+    let first = symbols::read(
+        alloc,
+        b"P6 2 2 255\n\x64\x3c\x14\x0a\x14\x1e\xff\x00\xff\x64\x3c\x14",
+    )?;
+    let second = symbols::read(alloc, b"P6 1 3 255\n\x0a\x14\x1e\xff\x00\xff\x64\x3c\x14")?;
+    let mut symbols = Items::new(alloc);
+    for pixmap in [first, second] {
+        let name = Text::of(String::new(alloc));
+        symbols.push(Symbol { name, pixmap })?;
+    }
+    Ok(symbols)
+}
+
+/// A map of four degrees by four, with these layers and two symbols.
+pub(crate) fn map_of(alloc: Global, layers: Items<Layer>) -> Result<Map, Fail>
+    requires count { length layers ≤ MAX_LAYERS }
+    requires symbols { All (LayerNamesSymbolsOf 2) layers }
+    ensures { IfOk result (λ map. map.layers ≡ layers) }
+{
+    let symbols = two_symbols(alloc)?;
     let low = Micro::new(0);
     let high = Micro::new(4_000_000);
-    Map::new(MapFields {
+    Ok(Map::new(MapFields {
         title: Text::of(String::new(alloc)),
         url: Text::of(String::new(alloc)),
         extent: WorldBox::new(low, low, high, high),
         font: None,
-        symbols: Items::new(alloc),
+        symbols,
         layers,
-    })
+    }))
 }
 
 // A map of two layers. The first has these words and rings, the second paints the inner square dark.
@@ -210,8 +252,8 @@ fn map_of_two(alloc: Global, words: &str, rings: &str) -> Result<Map, Fail>
     let mut layers = Items::new(alloc);
     layers.push(layer(alloc, words, feature(alloc, rings)?)?)?;
     let square = feature(alloc, "10,10 30,10 30,30 10,30")?;
-    layers.push(layer(alloc, "polygon o- none", square)?)?;
-    Ok(map_of(alloc, layers))
+    layers.push(layer(alloc, "polygon o/- none", square)?)?;
+    map_of(alloc, layers)
 }
 
 // The indices of the layers that are chosen.
@@ -243,18 +285,21 @@ fn letters_of(alloc: Global, picture: &Picture) -> Result<String, AllocError> {
     Ok(text)
 }
 
-// The picture of four degrees by four in four pixels by four: the pixel centres are at half degrees. The
-// scale that is given is that of 0.28 degrees in a pixel.
+// The picture of four degrees by four in four pixels by four, or of eight by eight in eight by eight where
+// the background is written twice: the pixel centres are at half degrees. The scale that is given is that
+// of 0.28 degrees in a pixel.
 fn drawn(alloc: Global, map: &Map, chosen: &[usize], background: &str) -> Result<String, Fail>
     requires { All (λ index. index < length map.now.layers) chosen.now }
 {
-    let [letter] = *background.as_bytes() else {
-        return Err("not one letter".into());
+    let (letter, degrees) = match *background.as_bytes() {
+        [letter] => (letter, 4_u8),
+        [letter, _] => (letter, 8),
+        _ => return Err("not one letter or two".into()),
     };
     let background = colour_of(letter).ok_or("no colour")?;
     let low = Micro::new(0);
-    let high = Micro::new(4_000_000);
-    let side = PictureSide::new(4).unwrap();
+    let high = Micro::new(i64::from(degrees) * 1_000_000);
+    let side = PictureSide::new(u16::from(degrees)).unwrap();
     let view = View::new(WorldBox::new(low, low, high, high), side, side);
     let scale = Scale::of(280_000, PictureSide::new(1).unwrap());
     let picture = picture(alloc, map, view, scale, chosen, background)?;
@@ -296,33 +341,33 @@ fn assert_drawn(rt: &impl Abort, alloc: Global, rows: &str, count: usize) -> Res
 
 // Polygons, and the pixels that they cover.
 const POLYGONS: &str = "\
-.... .##. .##. ....;.;0;polygon #- none;10,10 30,10 30,30 10,30
+.... .##. .##. ....;.;0;polygon #/- none;10,10 30,10 30,30 10,30
 # edges through the pixel centres of a column: one on the left covers them, one on the right doesn't
-.... .##. .##. ....;.;0;polygon #- none;15,10 30,10 30,30 15,30
-.... #... #... ....;.;0;polygon #- none;0,10 15,10 15,30 0,30
+.... .##. .##. ....;.;0;polygon #/- none;15,10 30,10 30,30 15,30
+.... #... #... ....;.;0;polygon #/- none;0,10 15,10 15,30 0,30
 # a hole
-#### #..# #..# ####;.;0;polygon #- none;0,0 40,0 40,40 0,40/10,10 30,10 30,30 10,30
+#### #..# #..# ####;.;0;polygon #/- none;0,0 40,0 40,40 0,40/10,10 30,10 30,30 10,30
 # a ring that crosses itself
-.... ..#. ..#. ....;.;0;polygon #- none;10,10 30,30 30,10 10,30
+.... ..#. ..#. ....;.;0;polygon #/- none;10,10 30,30 30,10 10,30
 # far larger than the picture, and left of it
-#### #### #### ####;.;0;polygon #- none;-2000,-2000 2000,-2000 2000,2000 -2000,2000
-.... .... .... ....;.;0;polygon #- none;-30,10 -10,10 -10,30 -30,30
+#### #### #### ####;.;0;polygon #/- none;-2000,-2000 2000,-2000 2000,2000 -2000,2000
+.... .... .... ....;.;0;polygon #/- none;-30,10 -10,10 -10,30 -30,30
 # from pixel centre to pixel centre: the edges at the top and on the left cover, the others don't
-.... ##.. ##.. ....;.;0;polygon #- none;5,5 25,5 25,25 5,25
+.... ##.. ##.. ....;.;0;polygon #/- none;5,5 25,5 25,25 5,25
 # The left and the right corner are at the height of the second row's pixel centres. The third row is crossed at 12.8 and 51.2 sixteenths, the last at 25.6 and 38.4, between two pixel centres.
-.##. #### .##. ....;.;0;polygon #- none;0,25 20,0 40,25 20,40
+.##. #### .##. ....;.;0;polygon #/- none;0,25 20,0 40,25 20,40
 # a tip at a pixel centre covers nothing, nor does a base at the height of one
-.... .... .#.. ....;.;0;polygon #- none;15,25 5,5 25,5
+.... .... .#.. ....;.;0;polygon #/- none;15,25 5,5 25,5
 # a step whose horizontal edge is at the height of the second row's pixel centres
-##.. #### #### ####;.;0;polygon #- none;0,40 20,40 20,25 40,25 40,0 0,0
+##.. #### #### ####;.;0;polygon #/- none;0,40 20,40 20,25 40,25 40,0 0,0
 # two rings that share an edge through the pixel centres of the second column
-.... #### #### ....;.;0;polygon #- none;0,10 15,10 15,30 0,30/15,10 40,10 40,30 15,30
+.... #### #### ....;.;0;polygon #/- none;0,10 15,10 15,30 0,30/15,10 40,10 40,30 15,30
 # a ring in each corner
-#..# .... .... #..#;.;0;polygon #- none;0,0 10,0 10,10 0,10/30,0 40,0 40,10 30,10/0,30 10,30 10,40 0,40/30,30 40,30 40,40 30,40
+#..# .... .... #..#;.;0;polygon #/- none;0,0 10,0 10,10 0,10/30,0 40,0 40,10 30,10/0,30 10,30 10,40 0,40/30,30 40,30 40,40 30,40
 # a ring of one vertex, one of two, and one of none
-.... .... .... ....;.;0;polygon #- none;15,15/0,0 40,40/
+.... .... .... ....;.;0;polygon #/- none;15,15/0,0 40,40/
 # no ring
-.... .... .... ....;.;0;polygon #- none;-";
+.... .... .... ....;.;0;polygon #/- none;-";
 
 #[test]
 fn polygons_cover_worked_pixels(rt: HostRuntime) -> Result<(), Fail> {
@@ -331,9 +376,9 @@ fn polygons_cover_worked_pixels(rt: HostRuntime) -> Result<(), Fail> {
 
 // All of the picture, and the square within it.
 const LAYERS: &str = "\
-#### #oo# #oo# ####;.;0 1;polygon #- none;0,0 40,0 40,40 0,40
-#### #### #### ####;.;1 0;polygon #- none;0,0 40,0 40,40 0,40
-#### #oo# #oo# ####;.;1 0 1;polygon #- none;0,0 40,0 40,40 0,40";
+#### #oo# #oo# ####;.;0 1;polygon #/- none;0,0 40,0 40,40 0,40
+#### #### #### ####;.;1 0;polygon #/- none;0,0 40,0 40,40 0,40
+#### #oo# #oo# ####;.;1 0 1;polygon #/- none;0,0 40,0 40,40 0,40";
 
 #[test]
 fn later_layers_lie_over_earlier_ones(rt: HostRuntime) -> Result<(), Fail> {
@@ -341,8 +386,8 @@ fn later_layers_lie_over_earlier_ones(rt: HostRuntime) -> Result<(), Fail> {
 }
 
 const BACKGROUNDS: &str = "\
-#### #### #### ####;#;none;polygon #- none;-
-#### #oo# #oo# ####;#;1;polygon #- none;-";
+#### #### #### ####;#;none;polygon #/- none;-
+#### #oo# #oo# ####;#;1;polygon #/- none;-";
 
 #[test]
 fn background_is_seen_where_nothing_is_painted(rt: HostRuntime) -> Result<(), Fail> {
@@ -351,38 +396,88 @@ fn background_is_seen_where_nothing_is_painted(rt: HostRuntime) -> Result<(), Fa
 
 // The inner square in some styles.
 const STYLES: &str = "\
-.... .oo. .oo. ....;.;0;polygon #o none;10,10 30,10 30,30 10,30
-.... .##. .##. ....;.;0;polygon -# none;10,10 30,10 30,30 10,30
-.... .... .... ....;.;0;polygon -- none;10,10 30,10 30,30 10,30
-# Not painted yet.
-.... .... .... ....;.;0;line #- none;10,10 30,10 30,30 10,30
-.... .... .... ....;.;0;point #- none;10,10 30,10 30,30 10,30";
+.... .oo. .oo. ....;.;0;polygon #/o none;10,10 30,10 30,30 10,30
+.... .##. .##. ....;.;0;polygon -/# none;10,10 30,10 30,30 10,30
+.... .... .... ....;.;0;polygon -/- none;10,10 30,10 30,30 10,30
+# a fill without an outline, an outline without a fill, and an outline above its fill
+.... .##. .##. ....;.;0;polygon #-/- none;10,10 30,10 30,30 10,30
+.... .ooo .o.o .ooo;.;0;polygon -o/- none;10,10 30,10 30,30 10,30
+.... .ooo .o#o .ooo;.;0;polygon #o/- none;10,10 30,10 30,30 10,30
+# a second style above the outline of the first
+.... .##o .##o .ooo;.;0;polygon #o/# none;10,10 30,10 30,30 10,30
+# the outlines of a ring of two vertices and of one of a single vertex
+###. .... .... ...#;.;0;polygon -#/- none;5,35 25,35/35,5
+# the size and the symbol are those of points
+.... .##. .##. ....;.;0;polygon #-140/- none;10,10 30,10 30,30 10,30";
 
 #[test]
 fn styles_paint_in_order(rt: HostRuntime) -> Result<(), Fail> {
-    assert_drawn(&rt, rt.alloc(), STYLES, 5)
+    assert_drawn(&rt, rt.alloc(), STYLES, 9)
+}
+
+// Lines along the parts, which stay open.
+const LINES: &str = "\
+.... .### ...# .###;.;0;line #/- none;10,10 30,10 30,30 10,30
+# in the colour, whatever the outline's
+.... .### ...# .###;.;0;line #o/- none;10,10 30,10 30,30 10,30
+.... .... .... ....;.;0;line -o/- none;10,10 30,10 30,30 10,30
+# a width of 3
+###..... ###..... ####.... ..###... ...####. ....###. ....###. ........;..;0;line #-3/- none;15,65 55,25
+# one vertex twice, in a width of 4
+........ .####... .####... .####... .####... ........ ........ ........;..;0;line #-4/- none;25,55 25,55
+# a second style above the first, and two parts of one vertex each
+o#o# #### .... ....;.;0;line #-3/o none;5,35/25,35
+# two parts, which nothing joins
+##.. .... .... ##..;.;0;line #/- none;5,35 15,35/5,5 15,5";
+
+#[test]
+fn lines_cover_worked_pixels(rt: HostRuntime) -> Result<(), Fail> {
+    assert_drawn(&rt, rt.alloc(), LINES, 7)
+}
+
+// Points: squares of a size, and pixmaps.
+const POINTS: &str = "\
+.... .#.# .... .#.#;.;0;point #/- none;10,10 30,10 30,30 10,30
+.... .... .... ....;.;0;point -o/- none;10,10 30,10 30,30 10,30
+# odd and even sizes
+###. #oo. #oo. ....;.;0;point #--3/o--2 none;15,25
+# the second style above the first at all points
+#### #oo# #### ....;.;0;point #--3/o none;15,25 25,25
+#### #oo# #### ....;.;0;point #--3/o none;15,25/25,25
+# partly off the picture
+.... #... #... #...;.;0;point #--3/- none;-5,20
+# the pixmaps of two symbols, whatever the colour and the size
+#o.. .#.. .... ....;.;0;point ----0/- none;15,25
+.o.. .... .#.. ....;.;0;point #--31/- none;15,25
+#... .... .... ....;.;0;point ----0/- none;5,35
+# what lies below is seen through a pixel of 255 0 255
+#o.. .#.. .#.. ....;.;0;point ----0/----1 none;15,25";
+
+#[test]
+fn points_cover_worked_pixels(rt: HostRuntime) -> Result<(), Fail> {
+    assert_drawn(&rt, rt.alloc(), POINTS, 10)
 }
 
 // Bounds on the scale denominator, which is 111,319,491, of the class and of the layer.
 const SCALES: &str = "\
 # a thing is visible from its first bound on, and before its second
-.... .##. .##. ....;.;0;polygon #- -..-,111319491..-;10,10 30,10 30,30 10,30
-.... .... .... ....;.;0;polygon #- -..-,111319491.000001..-;10,10 30,10 30,30 10,30
-.... .... .... ....;.;0;polygon #- -..-,-..111319491;10,10 30,10 30,30 10,30
-.... .##. .##. ....;.;0;polygon #- -..-,-..111319491.000001;10,10 30,10 30,30 10,30
-.... .##. .##. ....;.;0;polygon #- 111319491..-,-..-;10,10 30,10 30,30 10,30
-.... .... .... ....;.;0;polygon #- 111319491.000001..-,-..-;10,10 30,10 30,30 10,30
-.... .... .... ....;.;0;polygon #- -..111319491,-..-;10,10 30,10 30,30 10,30
-.... .##. .##. ....;.;0;polygon #- -..111319491.000001,-..-;10,10 30,10 30,30 10,30
+.... .##. .##. ....;.;0;polygon #/- -..-,111319491..-;10,10 30,10 30,30 10,30
+.... .... .... ....;.;0;polygon #/- -..-,111319491.000001..-;10,10 30,10 30,30 10,30
+.... .... .... ....;.;0;polygon #/- -..-,-..111319491;10,10 30,10 30,30 10,30
+.... .##. .##. ....;.;0;polygon #/- -..-,-..111319491.000001;10,10 30,10 30,30 10,30
+.... .##. .##. ....;.;0;polygon #/- 111319491..-,-..-;10,10 30,10 30,30 10,30
+.... .... .... ....;.;0;polygon #/- 111319491.000001..-,-..-;10,10 30,10 30,30 10,30
+.... .... .... ....;.;0;polygon #/- -..111319491,-..-;10,10 30,10 30,30 10,30
+.... .##. .##. ....;.;0;polygon #/- -..111319491.000001,-..-;10,10 30,10 30,30 10,30
 # both bounds
-.... .##. .##. ....;.;0;polygon #- 111319490..111319492,111319489..111319493;10,10 30,10 30,30 10,30
-.... .... .... ....;.;0;polygon #- -..-,111319492..111319490;10,10 30,10 30,30 10,30
+.... .##. .##. ....;.;0;polygon #/- 111319490..111319492,111319489..111319493;10,10 30,10 30,30 10,30
+.... .... .... ....;.;0;polygon #/- -..-,111319492..111319490;10,10 30,10 30,30 10,30
 # a second bound of 0 or less is none, and a first one below 0 is reached
-.... .##. .##. ....;.;0;polygon #- -..0,-..-0.000007;10,10 30,10 30,30 10,30
-.... .##. .##. ....;.;0;polygon #- -1000000000000..-,-5..-;10,10 30,10 30,30 10,30
-.... .... .... ....;.;0;polygon #- -..-,1000000000000..-;10,10 30,10 30,30 10,30
+.... .##. .##. ....;.;0;polygon #/- -..0,-..-0.000007;10,10 30,10 30,30 10,30
+.... .##. .##. ....;.;0;polygon #/- -1000000000000..-,-5..-;10,10 30,10 30,30 10,30
+.... .... .... ....;.;0;polygon #/- -..-,1000000000000..-;10,10 30,10 30,30 10,30
 # the smallest second bound that counts
-.... .... .... ....;.;0;polygon #- -..-,-..0.000001;10,10 30,10 30,30 10,30";
+.... .... .... ....;.;0;polygon #/- -..-,-..0.000001;10,10 30,10 30,30 10,30";
 
 #[test]
 fn things_are_visible_between_their_bounds(rt: HostRuntime) -> Result<(), Fail> {

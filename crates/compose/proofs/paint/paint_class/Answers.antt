@@ -1,9 +1,7 @@
-use Rattle.std.proofs.Common.{refl, inl, inr}
-use Rattle.compose.proofs.Painting.{painted-nothing}
 use Rattle.compose.proofs.paint.paint_class.Goals as goal
 
-pub returns-in-Point : goal.returns-in-Point
-returns-in-Point c = elim c.in-Point.is [
-  | inl point ↦ rw point (painted-nothing _ c.args.class.now.styles c.args.canvas.now (λ style. refl))
-  | inr line ↦ rw line (painted-nothing _ c.args.class.now.styles c.args.canvas.now (λ style. refl))
-]
+pub returns-in-Polygon : goal.returns-in-Polygon
+returns-in-Polygon c = rw c.in-Polygon.is (rw (c.as_slice-parts.ensures, c.get.ensures.value, c.as_slice-styles.ensures) at c.paint_polygon.ensures)
+
+pub returns-in-Line : goal.returns-in-Line
+returns-in-Line c = rw c.in-Line.is (rw (c.as_slice-parts.ensures, c.get.ensures.value, c.as_slice-styles.ensures) at c.paint_lines.ensures)

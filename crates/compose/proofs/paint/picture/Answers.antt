@@ -11,10 +11,11 @@ loop-index-init c = painted-none _
 pub loop-index-preserved : goal.loop-index-preserved
 loop-index-preserved c =
     let index : ℕ = get_or c.args.chosen.now c.loop-index.index-index 0 in
-    let layers : c.as_slice-layers.result.now ≡ c.args.map.now.layers = c.as_slice-layers.ensures ∙ ap (λ m. m.layers) c.get.ensures.value in
+    let layers : c.as_slice-layers.result.now ≡ c.args.map.now.layers = c.as_slice-layers.ensures ∙ ap (λ m. m.layers) c.get-fields.ensures.value in
     let there : index < length c.args.map.now.layers = All-get_or (λ (k : ℕ). k < length c.args.map.now.layers) c.args.chosen.now c.loop-index.index-index 0 c.loop-index-test.true c.requires in
     let is = rw layers at c.index-layers-index.is in
-    let painted = rw c.get-in-loop-index.ensures.value at c.in_ok-paint_layer.ensures in
+    let symbols : c.as_slice-symbols.result.now ≡ c.args.map.now.symbols = c.as_slice-symbols.ensures ∙ ap (λ m. m.symbols) c.get-fields.ensures.value in
+    let painted = rw (c.get.ensures.value, symbols) at c.in_ok-paint_layer.ensures in
     painted_next (chosen_things c.args.view c.args.scale c.args.map.now) c.args.chosen.now c.loop-index.index-index index _ c.loop-index.canvas _
     c.loop-index-test.true (sym (get_or_default_zero c.args.chosen.now c.loop-index.index-index index c.loop-index-test.true)) c.loop-index.invariant
     (painted-chosen c.args.view c.args.scale c.args.map.now index c.index-layers-index.result _ _ there is painted)

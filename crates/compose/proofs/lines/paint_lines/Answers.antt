@@ -1,0 +1,19 @@
+use Rattle.std.proofs.Common.{map, arith}
+use Rattle.viewport.specs.View.{device_point}
+use Rattle.compose.specs.Paint.{line_things}
+use Rattle.compose.proofs.Painting.{painted-none, painted_end, painted_next}
+use Rattle.compose.proofs.lines.paint_lines.Goals as goal
+
+pub loop-style-init : goal.loop-style-init
+loop-style-init c = painted-none c.args.canvas.now
+
+pub loop-style-preserved : goal.loop-style-preserved
+loop-style-preserved c =
+    let painted = rw (c.get-style.ensures.value, c.deref.ensures.value, c.in_ok-parts.ensures) at c.in_ok-paint_line.ensures in
+    painted_next (line_things (map (map (device_point c.args.view)) c.args.parts.now)) c.args.styles.now c.loop-style.style-index c.style-item.result _ c.loop-style.canvas _
+    c.loop-style-test.true c.style-item.is c.loop-style.invariant painted
+
+pub returns : goal.returns
+returns c =
+    painted_end (line_things (map (map (device_point c.args.view)) c.args.parts.now)) c.args.styles.now c.loop-style.style-index c.args.canvas.now c.loop-style.canvas
+    (omega arith) c.loop-style.invariant

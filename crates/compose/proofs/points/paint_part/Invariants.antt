@@ -1,0 +1,8 @@
+use Rattle.std.proofs.Common.{take}
+use Rattle.std.specs.List.{flat_map}
+use Rattle.compose.specs.Paint.{point_things}
+use Rattle.compose.specs.Painted.{IsPainted}
+use Rattle.compose.proofs.points.paint_part.Given as goal
+
+abbrev pub invariant-loop-place : goal.invariant-loop-place
+invariant-loop-place l = IsPainted l.fn.canvas l.canvas (flat_map (point_things l.view l.symbols l.style) (take l.place-index l.part))
