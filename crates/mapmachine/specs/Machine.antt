@@ -7,8 +7,8 @@ use Rattle.wmsquery.specs.Meaning.{IsMeaning}
 use Rattle.wmsquery.specs.Report.{report}
 use Rattle.wmsquery.specs.declared.fault.WmsFault.{WmsFault}
 use Rattle.wmsquery.specs.declared.request.MapRequest.{MapRequest}
+use Rattle.symbols.specs.Netpbm.{ppm}
 use Rattle.compose.specs.Picture.{IsPictureOf}
-use Rattle.mapmachine.specs.Netpbm.{ppm}
 use Rattle.mapmachine.specs.declared.reply.Answer.{Answer}
 use Rattle.mapmachine.specs.declared.reply.Event.{Event}
 use Rattle.mapmachine.specs.declared.reply.Event.TheVariants.{Query}

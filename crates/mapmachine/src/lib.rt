@@ -12,7 +12,6 @@
 
 mod bytes;
 mod machine;
-mod netpbm;
 mod reply;
 mod stream;
 #[cfg(test)]

@@ -1,7 +1,6 @@
 ghost use Rattle.std.specs.Prelude.{◌≡◌, ◌<◌, ◌-ℤ◌, unsigned_abs, All, length, Ok, Err, IfOk, OnErr};
 ghost use Rattle.geom.specs.World.{IsExtent};
 
-use crate::netpbm::ppm;
 use crate::reply::{Answer, Event, Mime, Reply};
 use compose::picture as picture_of;
 use geom::{PictureSide, WorldBox};
@@ -9,6 +8,7 @@ use mapdefs::{Items, Map};
 use scaledenom::Scale;
 use std::alloc::{AllocError, Global};
 use std::marker::Model;
+use symbols::write_ppm;
 use viewport::View;
 use wmsquery::{MapRequest, QueryError, WmsFault, read as read_query, report};
 
@@ -81,7 +81,7 @@ impl Machine {
         )?;
         Ok(Answer {
             mime: Mime::Pixmap,
-            body: ppm(self.alloc, &picture)?,
+            body: write_ppm(self.alloc, &picture)?,
         })
     }
 
