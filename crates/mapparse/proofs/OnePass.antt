@@ -20,7 +20,7 @@ use Rattle.mapparse.specs.declared.context.Block.{Block}
 use Rattle.mapparse.specs.declared.context.Block.TheVariants as block
 use Rattle.mapparse.specs.declared.context.TextKeyword.TheVariants.{MapName, LayerName, ClassItem, LabelItem, Template, CsvX, CsvY, ServiceWmsTitle, ServiceOwsTitle, ServiceWmsUrl, ServiceOwsUrl, LayerWmsTitle, LayerOwsTitle, FeatureText, FeatureItems}
 use Rattle.mapparse.specs.declared.context.ColourKeyword.{ColourKeyword}
-use Rattle.mapparse.specs.declared.context.ColourKeyword.TheVariants.{StyleColour, LabelColour, LabelOutline, ImageColour}
+use Rattle.mapparse.specs.declared.context.ColourKeyword.TheVariants.{StyleColour, StyleOutline, LabelColour, LabelOutline, ImageColour}
 use Rattle.mapparse.specs.declared.context.FlagKeyword.{FlagKeyword}
 use Rattle.mapparse.specs.declared.context.FlagKeyword.TheVariants.{Partials, Force}
 use Rattle.mapparse.specs.declared.context.ScaleKeyword.{ScaleKeyword}
@@ -144,6 +144,7 @@ rule-stays (Some r) = λ line own o. refl
 
 colour-noted : (w : ColourKeyword) (b : Block) → Suits (expected.Colour w) b → (colour : Option Rgb) → IsNotedIn b (value.Colour w colour)
 colour-noted StyleColour b p colour = rw p (λ line own o. refl)
+colour-noted StyleOutline b p colour = rw p (λ line own o. refl)
 colour-noted LabelColour b p colour = rw p (λ line own o. refl)
 colour-noted LabelOutline b p colour = rw p (λ line own o. refl)
 colour-noted ImageColour b p colour = image-noted b colour
@@ -151,24 +152,28 @@ colour-noted ImageColour b p colour = image-noted b colour
 -- the counts of a colour are of one keyword
 green-suits : (w : ColourKeyword) (b : Block) (red : Component) → Suits (expected.Colour w) b → Suits (expected.Green w red) b
 green-suits StyleColour b red p = p
+green-suits StyleOutline b red p = p
 green-suits LabelColour b red p = p
 green-suits LabelOutline b red p = p
 green-suits ImageColour b red p = tt
 
 from-green : (w : ColourKeyword) (b : Block) (red : Component) → Suits (expected.Green w red) b → Suits (expected.Colour w) b
 from-green StyleColour b red p = p
+from-green StyleOutline b red p = p
 from-green LabelColour b red p = p
 from-green LabelOutline b red p = p
 from-green ImageColour b red p = tt
 
 blue-suits : (w : ColourKeyword) (b : Block) (red green : Component) → Suits (expected.Colour w) b → Suits (expected.Blue w red green) b
 blue-suits StyleColour b red green p = p
+blue-suits StyleOutline b red green p = p
 blue-suits LabelColour b red green p = p
 blue-suits LabelOutline b red green p = p
 blue-suits ImageColour b red green p = tt
 
 from-blue : (w : ColourKeyword) (b : Block) (red green : Component) → Suits (expected.Blue w red green) b → Suits (expected.Colour w) b
 from-blue StyleColour b red green p = p
+from-blue StyleOutline b red green p = p
 from-blue LabelColour b red green p = p
 from-blue LabelOutline b red green p = p
 from-blue ImageColour b red green p = tt
@@ -390,6 +395,9 @@ suited expected.Kind = (block.Layer, refl)
 suited (expected.Colour StyleColour) = (block.Style, refl)
 suited (expected.Green StyleColour r) = (block.Style, refl)
 suited (expected.Blue StyleColour r g) = (block.Style, refl)
+suited (expected.Colour StyleOutline) = (block.Style, refl)
+suited (expected.Green StyleOutline r) = (block.Style, refl)
+suited (expected.Blue StyleOutline r g) = (block.Style, refl)
 suited (expected.Colour LabelColour) = (block.Label, refl)
 suited (expected.Green LabelColour r) = (block.Label, refl)
 suited (expected.Blue LabelColour r g) = (block.Label, refl)

@@ -10,7 +10,7 @@ use Rattle.mapdefs.specs.declared.limits.TheConstants.{MAX_LAYERS, MAX_CLASSES, 
 use Rattle.mapparse.specs.declared.context.Block.{Block}
 use Rattle.mapparse.specs.declared.context.Block.TheVariants as block
 use Rattle.mapparse.specs.declared.context.TextKeyword.TheVariants.{MapName, LayerName, ClassItem, LabelItem, Template, CsvX, CsvY, ServiceWmsTitle, ServiceOwsTitle, ServiceWmsUrl, ServiceOwsUrl, LayerWmsTitle, LayerOwsTitle, FeatureText, FeatureItems}
-use Rattle.mapparse.specs.declared.context.ColourKeyword.TheVariants.{StyleColour, LabelColour, LabelOutline}
+use Rattle.mapparse.specs.declared.context.ColourKeyword.TheVariants.{StyleColour, StyleOutline, LabelColour, LabelOutline}
 use Rattle.mapparse.specs.declared.context.ScaleKeyword.TheVariants.{LayerMin, LayerMax, ClassMin, ClassMax}
 use Rattle.mapparse.specs.declared.context.Expected.{Expected}
 use Rattle.mapparse.specs.declared.context.Expected.TheVariants as expected
@@ -193,6 +193,9 @@ Suits expected.Kind b = b ≡ block.Layer
 Suits (expected.Colour StyleColour) b = b ≡ block.Style
 Suits (expected.Green StyleColour r) b = b ≡ block.Style
 Suits (expected.Blue StyleColour r g) b = b ≡ block.Style
+Suits (expected.Colour StyleOutline) b = b ≡ block.Style
+Suits (expected.Green StyleOutline r) b = b ≡ block.Style
+Suits (expected.Blue StyleOutline r g) b = b ≡ block.Style
 Suits (expected.Colour LabelColour) b = b ≡ block.Label
 Suits (expected.Green LabelColour r) b = b ≡ block.Label
 Suits (expected.Blue LabelColour r g) b = b ≡ block.Label
@@ -256,6 +259,7 @@ fits-class _ = tt
 
 fits-style : (k : Keyword) → Fits block.Style (style_role k)
 fits-style keyword.Color = refl
+fits-style keyword.OutlineColor = refl
 fits-style keyword.Width = refl
 fits-style keyword.Size = refl
 fits-style _ = tt

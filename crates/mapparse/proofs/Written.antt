@@ -20,9 +20,10 @@ use Rattle.maplex.specs.declared.fault.Tail.{Tail}
 use Rattle.maplex.specs.declared.fault.Tail.TheVariants as tails
 use Rattle.maplex.specs.Token.{TokenValue}
 use Rattle.mapdefs.specs.declared.limits.TheConstants.{MAX_VERTICES, MAX_LINE_WIDTH, MAX_SQUARE, MAX_TOLERANCE, MAX_PRIORITY, MAX_BUFFER, MAX_DISTANCE, MAX_ITEMS}
+use Rattle.mapdefs.specs.declared.layer.Kind.TheVariants.{Point, Line, Polygon}
 use Rattle.mapdefs.specs.declared.label.Position.{Position}
 use Rattle.mapdefs.specs.declared.label.Position.TheVariants.{UpperLeft, UpperCentre, UpperRight, CentreLeft, Centre, CentreRight, LowerLeft, LowerCentre, LowerRight, Automatic}
-use Rattle.mapparse.specs.declared.context.ColourKeyword.TheVariants.{StyleColour, LabelColour, LabelOutline}
+use Rattle.mapparse.specs.declared.context.ColourKeyword.TheVariants.{StyleColour, StyleOutline, LabelColour, LabelOutline}
 use Rattle.mapparse.specs.Rule.{is_comma}
 use Rattle.mapparse.specs.Setting.{setting_in}
 use Rattle.mapparse.specs.Label.{position_of, flag_of, distance_of}
@@ -38,7 +39,7 @@ use Rattle.mapparse.specs.Fault.{and_then}
 use Rattle.mapparse.specs.Keyword.{spelling, is_spelt}
 use Rattle.mapparse.specs.Meaning.{value_in, block_in, alone}
 use Rattle.mapparse.specs.Says.{closing_fault, is_full}
-use Rattle.mapparse.specs.Written.{bare, written_value, block_text, written_out, position_text, flag_text, HasNoComma, IsValueIn, map_name, map_extent, service_wms_title, service_ows_title, service_wms_url, service_ows_url, layer_wms_title, layer_ows_title, layer_name, class_item, label_item, template, csv_x, csv_y, layer_items, layer_min, layer_max, class_min, class_max, class_equals, class_one_of, label_priority, label_buffer, label_distance, label_position, label_partials, label_force, no_label_colour, label_colour, no_label_outline, label_outline, feature_text, feature_items, style_width, style_size, layer_tolerance, layer_kind, no_colour, style_colour, IsBlockIn, layer, class, feature, style, points, label, web, web_metadata, layer_metadata, MaySay, nothing, said, vertex, inside, WrittenIsRead}
+use Rattle.mapparse.specs.Written.{bare, written_value, block_text, written_out, position_text, flag_text, HasNoComma, IsValueIn, map_name, map_extent, service_wms_title, service_ows_title, service_wms_url, service_ows_url, layer_wms_title, layer_ows_title, layer_name, class_item, label_item, template, csv_x, csv_y, layer_items, layer_min, layer_max, class_min, class_max, class_equals, class_one_of, label_priority, label_buffer, label_distance, label_position, label_partials, label_force, no_label_colour, label_colour, no_label_outline, label_outline, feature_text, feature_items, style_width, style_size, layer_tolerance, layer_kind, no_colour, style_colour, no_outline, style_outline, IsBlockIn, layer, class, feature, style, points, label, web, web_metadata, layer_metadata, MaySay, nothing, said, vertex, inside, WrittenIsRead}
 use Rattle.mapparse.proofs.Blocks.{block-enough}
 use Rattle.mapparse.proofs.Colours.{counts_of}
 
@@ -164,7 +165,9 @@ module _ (tail : Tail) (k : ℕ) where
   value-read b above before v line rest (class_item text) p = on b above (Said v line before) rest (omega arith)
   value-read b above before v line rest (label_item text) p = on b above (Said v line before) rest (omega arith)
   value-read b above before v line rest (template text) p = on b above (Said v line before) rest (omega arith)
-  value-read b above before v line rest layer_kind p = on b above (Said v line before) rest (omega arith)
+  value-read b above before v line rest (layer_kind Point) p = on b above (Said v line before) rest (omega arith)
+  value-read b above before v line rest (layer_kind Line) p = on b above (Said v line before) rest (omega arith)
+  value-read b above before v line rest (layer_kind Polygon) p = on b above (Said v line before) rest (omega arith)
   value-read b above before v line rest (feature_text text) p = on b above (Said v line before) rest (omega arith)
   value-read b above before v line rest (csv_x text) p = rw (csv_x-cut text) (on b above (Said v line before) rest (omega arith))
   value-read b above before v line rest (csv_y text) p = rw (csv_y-cut text) (on b above (Said v line before) rest (omega arith))
@@ -243,6 +246,10 @@ module _ (tail : Tail) (k : ℕ) where
       rw (count-not_end n (omega arith), bounded-read 0 MAX_TOLERANCE n (omega arith) most (omega arith))
       (on b above (Said v line before) rest (omega arith))
   value-read b above before v line rest no_colour p = on b above (Said v line before) rest (omega arith)
+  value-read b above before v line rest no_outline p = on b above (Said v line before) rest (omega arith)
+  value-read b above before v line rest (style_outline colour is) p =
+      rw (counts_of StyleOutline colour.red colour.green colour.blue is.red is.green is.blue tail (bare line (decimal colour.red)) (bare line (decimal colour.green)) (bare line (decimal colour.blue)) rest refl refl refl refl refl refl)
+      (on b above (Said v line before) rest (omega arith))
   value-read b above before v line rest (style_colour colour is) p =
       rw (counts_of StyleColour colour.red colour.green colour.blue is.red is.green is.blue tail (bare line (decimal colour.red)) (bare line (decimal colour.green)) (bare line (decimal colour.blue)) rest refl refl refl refl refl refl)
       (on b above (Said v line before) rest (omega arith))
@@ -334,8 +341,12 @@ value-here tail zero b above before v line rest (label_outline colour is) p = ab
 value-here tail zero b above before v line rest (style_width n least most) p = absurd (omega arith)
 value-here tail zero b above before v line rest (style_size n least most) p = absurd (omega arith)
 value-here tail zero b above before v line rest (layer_tolerance n most) p = absurd (omega arith)
-value-here tail zero b above before v line rest layer_kind p = absurd (omega arith)
+value-here tail zero b above before v line rest (layer_kind Point) p = absurd (omega arith)
+value-here tail zero b above before v line rest (layer_kind Line) p = absurd (omega arith)
+value-here tail zero b above before v line rest (layer_kind Polygon) p = absurd (omega arith)
 value-here tail zero b above before v line rest no_colour p = absurd (omega arith)
+value-here tail zero b above before v line rest no_outline p = absurd (omega arith)
+value-here tail zero b above before v line rest (style_outline colour is) p = absurd (omega arith)
 value-here tail zero b above before v line rest (style_colour colour is) p = absurd (omega arith)
 
 vertex-here : (tail : Tail) (n : ℕ) (above before : Entries) (place : Place) (rest : List TokenValue) → IsCoordinate place.x → IsCoordinate place.y → vertex_count above before < MAX_VERTICES → length rest + 2 ≤ n →

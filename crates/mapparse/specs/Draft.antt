@@ -6,7 +6,7 @@ use Rattle.mapparse.specs.declared.context.Block.TheVariants as block
 use Rattle.mapparse.specs.declared.context.TextKeyword.{TextKeyword}
 use Rattle.mapparse.specs.declared.context.TextKeyword.TheVariants.{MapName, LayerName, ClassItem, LabelItem, Template, CsvX, CsvY, ServiceWmsTitle, ServiceOwsTitle, ServiceWmsUrl, ServiceOwsUrl, LayerWmsTitle, LayerOwsTitle, FeatureText, FeatureItems}
 use Rattle.mapparse.specs.declared.context.ColourKeyword.{ColourKeyword}
-use Rattle.mapparse.specs.declared.context.ColourKeyword.TheVariants.{StyleColour, LabelColour, LabelOutline, ImageColour}
+use Rattle.mapparse.specs.declared.context.ColourKeyword.TheVariants.{StyleColour, StyleOutline, LabelColour, LabelOutline, ImageColour}
 use Rattle.mapparse.specs.declared.context.FlagKeyword.{FlagKeyword}
 use Rattle.mapparse.specs.declared.context.FlagKeyword.TheVariants.{Partials, Force}
 use Rattle.mapparse.specs.declared.context.ScaleKeyword.{ScaleKeyword}
@@ -37,7 +37,7 @@ new_class = record { rule = None; min = None; max = None; styles = []; label = N
 
 -- a STYLE of which nothing was read
 abbrev pub new_style : StyleTree
-new_style = record { colour = None; width = None; size = None }
+new_style = record { colour = None; outline = None; width = None; size = None }
 
 -- a LABEL of which nothing was read
 abbrev pub new_label : LabelTree
@@ -92,6 +92,7 @@ with_scale ClassMax scale d = record d { class = record d.class { max = Some sca
 -- a colour is noted
 abbrev pub with_colour : ColourKeyword → Option Rgb → Drafts → Drafts
 with_colour StyleColour colour d = record d { style = record d.style { colour = colour } }
+with_colour StyleOutline colour d = record d { style = record d.style { outline = colour } }
 with_colour LabelColour colour d = record d { label = record d.label { colour = Some colour } }
 with_colour LabelOutline colour d = record d { label = record d.label { outline = colour } }
 with_colour ImageColour colour d = d

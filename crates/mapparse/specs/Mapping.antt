@@ -21,11 +21,11 @@ use Rattle.mapparse.specs.declared.tree.FeatureTree.{FeatureTree}
 use Rattle.mapparse.specs.declared.tree.LayerTree.{LayerTree}
 use Rattle.mapparse.specs.declared.tree.MapTree.{MapTree}
 
--- a style has its colour, its width and its size, each one pixel where it isn't given, and no outline and no symbol
+-- a style has its colours, its width and its size, each one pixel where it isn't given, and no symbol
 abbrev pub style_of : StyleTree → StyleFields
 style_of style = record {
   colour = style.colour;
-  outline = None;
+  outline = style.outline;
   width = unwrap_or style.width 1;
   size = unwrap_or style.size 1;
   symbol = None;

@@ -3,7 +3,7 @@ use Rattle.std.specs.Prelude.{Option, None, Some}
 use Rattle.mapparse.specs.declared.context.Block.{Block}
 use Rattle.mapparse.specs.declared.context.Block.TheVariants as block
 use Rattle.mapparse.specs.declared.context.TextKeyword.TheVariants.{MapName, LayerName, ClassItem, LabelItem, Template, FeatureText, FeatureItems}
-use Rattle.mapparse.specs.declared.context.ColourKeyword.TheVariants.{StyleColour, LabelColour, LabelOutline, ImageColour}
+use Rattle.mapparse.specs.declared.context.ColourKeyword.TheVariants.{StyleColour, StyleOutline, LabelColour, LabelOutline, ImageColour}
 use Rattle.mapparse.specs.declared.context.FlagKeyword.TheVariants.{Partials, Force}
 use Rattle.mapparse.specs.declared.context.ScaleKeyword.TheVariants.{LayerMin, LayerMax, ClassMin, ClassMax}
 use Rattle.mapparse.specs.declared.context.OnlyWord.TheVariants.{Pixels, On}
@@ -106,6 +106,7 @@ class_role _ = None
 -- the keywords of STYLE
 abbrev pub style_role : Keyword → Option Role
 style_role keyword.Color = Some (Takes (expected.Colour StyleColour))
+style_role keyword.OutlineColor = Some (Takes (expected.Colour StyleOutline))
 style_role keyword.Width = Some (Takes expected.Width)
 style_role keyword.Size = Some (Takes expected.Size)
 style_role keyword.Antialias = Some (Takes (expected.Unused 0))

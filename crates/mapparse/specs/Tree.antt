@@ -7,7 +7,7 @@ use Rattle.mapdefs.specs.declared.layer.Kind.{Kind}
 use Rattle.mapdefs.specs.declared.layer.Kind.TheVariants.{Polygon}
 use Rattle.mapparse.specs.declared.context.Block.TheVariants as block
 use Rattle.mapparse.specs.declared.context.TextKeyword.TheVariants.{MapName, LayerName, ClassItem, LabelItem, Template, CsvX, CsvY, ServiceWmsTitle, ServiceOwsTitle, ServiceWmsUrl, ServiceOwsUrl, LayerWmsTitle, LayerOwsTitle, FeatureText, FeatureItems}
-use Rattle.mapparse.specs.declared.context.ColourKeyword.TheVariants.{StyleColour, LabelColour, LabelOutline}
+use Rattle.mapparse.specs.declared.context.ColourKeyword.TheVariants.{StyleColour, StyleOutline, LabelColour, LabelOutline}
 use Rattle.mapparse.specs.declared.context.FlagKeyword.TheVariants.{Partials, Force}
 use Rattle.mapparse.specs.declared.context.ScaleKeyword.TheVariants.{LayerMin, LayerMax, ClassMin, ClassMax}
 use Rattle.geom.specs.World.{Area}
@@ -24,10 +24,14 @@ use Rattle.mapparse.specs.declared.tree.LayerTree.{LayerTree}
 use Rattle.mapparse.specs.declared.tree.MapTree.{MapTree}
 use Rattle.mapparse.specs.Entries.{Entries, last, blocks, last_block, last_within, vertices}
 
--- the colour that a COLOR gives a style, which may be none
+-- the colours that COLOR and OUTLINECOLOR give a style, which may be none
 abbrev pub style_colour : Value → ℕ → Option (Option Rgb)
 style_colour (value.Colour StyleColour colour) line = Some colour
 style_colour _ line = None
+
+abbrev pub style_outline : Value → ℕ → Option (Option Rgb)
+style_outline (value.Colour StyleOutline colour) line = Some colour
+style_outline _ line = None
 
 -- the counts that WIDTH and SIZE give a style, and TOLERANCE a layer
 abbrev pub style_width : Value → ℕ → Option ℕ
@@ -42,10 +46,11 @@ abbrev pub layer_tolerance : Value → ℕ → Option ℕ
 layer_tolerance (value.Tolerance tolerance) line = Some tolerance
 layer_tolerance _ line = None
 
--- a STYLE has the colour of its last COLOR, its last WIDTH and its last SIZE
+-- a STYLE has the colours of its last COLOR and its last OUTLINECOLOR, its last WIDTH and its last SIZE
 abbrev pub style_tree : Entries → StyleTree
 style_tree own = record {
   colour = option_flatten (last style_colour own);
+  outline = option_flatten (last style_outline own);
   width = last style_width own;
   size = last style_size own;
 }

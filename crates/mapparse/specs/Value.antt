@@ -8,7 +8,7 @@ use Rattle.maplex.specs.Token.{TokenValue}
 use Rattle.geom.specs.Number.{coordinate_of}
 use Rattle.mapdefs.specs.declared.colour.Rgb.{Rgb}
 use Rattle.mapdefs.specs.declared.layer.Kind.{Kind}
-use Rattle.mapdefs.specs.declared.layer.Kind.TheVariants.{Polygon}
+use Rattle.mapdefs.specs.declared.layer.Kind.TheVariants.{Point, Line, Polygon}
 use Rattle.mapparse.specs.declared.colour.Component.{Component}
 use Rattle.mapparse.specs.declared.context.ColourKeyword.{ColourKeyword}
 use Rattle.mapparse.specs.declared.context.OnlyWord.{OnlyWord}
@@ -32,7 +32,11 @@ use Rattle.mapparse.specs.Colour.{component_of, rgb_of, hex_colour}
 
 -- the kind of a layer's features that a text is
 abbrev pub kind_of : List ℕ → Option Kind
-kind_of text = if str_eq_ignore_ascii_case text (codes "POLYGON") then Some Polygon else None
+kind_of text =
+    if str_eq_ignore_ascii_case text (codes "POINT") then Some Point
+    else if str_eq_ignore_ascii_case text (codes "LINE") then Some Line
+    else if str_eq_ignore_ascii_case text (codes "POLYGON") then Some Polygon
+    else None
 
 -- a value is a bare word or a quoted text
 abbrev pub is_value : Shape → Bool

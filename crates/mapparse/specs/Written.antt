@@ -6,6 +6,7 @@ use Rattle.geom.specs.declared.micro.TheConstants.{NUMBER_LIMIT}
 use Rattle.geom.specs.World.{Place, Area, IsCoordinate, IsExtent}
 use Rattle.geom.specs.Written.{written}
 use Rattle.mapdefs.specs.declared.colour.Rgb.{Rgb}
+use Rattle.mapdefs.specs.declared.layer.Kind.{Kind}
 use Rattle.mapdefs.specs.declared.layer.Kind.TheVariants.{Point, Line, Polygon}
 use Rattle.mapdefs.specs.declared.limits.TheConstants.{MAX_VERTICES, MAX_LINE_WIDTH, MAX_SQUARE, MAX_TOLERANCE, MAX_PRIORITY, MAX_BUFFER, MAX_DISTANCE, MAX_ITEMS}
 use Rattle.mapdefs.specs.declared.class.Rule.TheVariants.{Always, Equals, OneOf, Logic}
@@ -19,7 +20,7 @@ use Rattle.mapparse.specs.declared.context.Block.TheVariants as block
 use Rattle.mapparse.specs.declared.context.TextKeyword.{TextKeyword}
 use Rattle.mapparse.specs.declared.context.TextKeyword.TheVariants.{MapName, LayerName, ClassItem, LabelItem, Template, CsvX, CsvY, ServiceWmsTitle, ServiceOwsTitle, ServiceWmsUrl, ServiceOwsUrl, LayerWmsTitle, LayerOwsTitle, FeatureText, FeatureItems}
 use Rattle.mapparse.specs.declared.context.ColourKeyword.{ColourKeyword}
-use Rattle.mapparse.specs.declared.context.ColourKeyword.TheVariants.{StyleColour, LabelColour, LabelOutline, ImageColour}
+use Rattle.mapparse.specs.declared.context.ColourKeyword.TheVariants.{StyleColour, StyleOutline, LabelColour, LabelOutline, ImageColour}
 use Rattle.mapparse.specs.declared.context.FlagKeyword.{FlagKeyword}
 use Rattle.mapparse.specs.declared.context.FlagKeyword.TheVariants.{Partials, Force}
 use Rattle.mapparse.specs.declared.context.ScaleKeyword.{ScaleKeyword}
@@ -71,6 +72,7 @@ written_text LayerOwsTitle text line = quoted line (codes "ows_title") ∷ quote
 -- how a keyword that takes a colour is written
 abbrev pub colour_keyword : ColourKeyword → List ℕ
 colour_keyword StyleColour = codes "COLOR"
+colour_keyword StyleOutline = codes "OUTLINECOLOR"
 colour_keyword LabelColour = codes "COLOR"
 colour_keyword LabelOutline = codes "OUTLINECOLOR"
 colour_keyword ImageColour = codes "IMAGECOLOR"
@@ -171,7 +173,7 @@ pub data IsValueIn : Block → Value → Type 0 where
   class_item : (text : List ℕ) → IsValueIn block.Layer (value.Text ClassItem text)
   label_item : (text : List ℕ) → IsValueIn block.Layer (value.Text LabelItem text)
   template : (text : List ℕ) → IsValueIn block.Layer (value.Text Template text)
-  layer_kind : IsValueIn block.Layer (value.Kind Polygon)
+  layer_kind : (kind : Kind) → IsValueIn block.Layer (value.Kind kind)
   csv_x : (text : List ℕ) → IsValueIn block.Layer (value.Text CsvX text)
   csv_y : (text : List ℕ) → IsValueIn block.Layer (value.Text CsvY text)
   feature_text : (text : List ℕ) → IsValueIn block.Feature (value.Text FeatureText text)
@@ -206,6 +208,8 @@ pub data IsValueIn : Block → Value → Type 0 where
   layer_tolerance : (n : ℕ) → n ≤ MAX_TOLERANCE → IsValueIn block.Layer (value.Tolerance n)
   no_colour : IsValueIn block.Style (value.Colour StyleColour None)
   style_colour : (colour : Rgb) → IsColour colour → IsValueIn block.Style (value.Colour StyleColour (Some colour))
+  no_outline : IsValueIn block.Style (value.Colour StyleOutline None)
+  style_outline : (colour : Rgb) → IsColour colour → IsValueIn block.Style (value.Colour StyleOutline (Some colour))
 
 -- the blocks that a block may have
 pub data IsBlockIn : Block → Block → Type 0 where

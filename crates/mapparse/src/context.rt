@@ -53,6 +53,7 @@ pub enum TextKeyword {
 #[derive(Clone, Copy)]
 pub enum ColourKeyword {
     StyleColour,
+    StyleOutline,
     LabelColour,
     LabelOutline,
     /// A MAP's IMAGECOLOR, which has no effect.

@@ -121,6 +121,7 @@ impl StyleTree {
     {
         StyleTree {
             colour: None,
+            outline: None,
             width: None,
             size: None,
         }
@@ -231,6 +232,7 @@ impl Drafts {
     {
         match keyword {
             ColourKeyword::StyleColour => self.style.colour = colour,
+            ColourKeyword::StyleOutline => self.style.outline = colour,
             ColourKeyword::LabelColour => self.label.colour = Some(colour),
             ColourKeyword::LabelOutline => self.label.outline = colour,
             ColourKeyword::ImageColour => {}

@@ -72,7 +72,7 @@ impl Build for StyleTree {
     fn build(self, _alloc: Global) -> Result<Style, AllocError> {
         Ok(Style::new(StyleFields {
             colour: self.colour,
-            outline: None,
+            outline: self.outline,
             width: count_or(self.width, 1) as u8,
             size: count_or(self.size, 1),
             symbol: None,

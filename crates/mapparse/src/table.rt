@@ -119,6 +119,7 @@ fn style_role(keyword: Keyword) -> Option<Role>
 {
     match keyword {
         Keyword::Color => Some(Role::Takes(Expected::Colour(ColourKeyword::StyleColour))),
+        Keyword::OutlineColor => Some(Role::Takes(Expected::Colour(ColourKeyword::StyleOutline))),
         Keyword::Width => Some(Role::Takes(Expected::Width)),
         Keyword::Size => Some(Role::Takes(Expected::Size)),
         Keyword::Antialias

@@ -2,6 +2,8 @@ mod faults;
 mod limits;
 mod map;
 mod messages;
+mod said;
+mod styles;
 mod told;
 mod unused;
 mod words;

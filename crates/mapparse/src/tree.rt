@@ -74,6 +74,8 @@ pub struct LabelTree {
 pub struct StyleTree {
     /// Its colour. It is none where no COLOR is given, and where a component of COLOR is -1.
     pub colour: Option<Rgb>,
+    /// The colour of its outline, which OUTLINECOLOR gives in the same way.
+    pub outline: Option<Rgb>,
     pub width: Option<Bounded<1, 32>>,
     pub size: Option<Bounded<1, 256>>,
 }

@@ -66,7 +66,11 @@ pub fn is_value(token: &Token) -> bool
 fn kind_of(text: &str) -> Option<Kind>
     ensures { result ≡ kind_of text.now }
 {
-    if text.eq_ignore_ascii_case("POLYGON") {
+    if text.eq_ignore_ascii_case("POINT") {
+        Some(Kind::Point)
+    } else if text.eq_ignore_ascii_case("LINE") {
+        Some(Kind::Line)
+    } else if text.eq_ignore_ascii_case("POLYGON") {
         Some(Kind::Polygon)
     } else {
         None

@@ -38,6 +38,7 @@ const FAULTS: &str = "\
 3 MissingValue:MAP|LAYER|NAME END
 4 MissingValue:MAP|LAYER|NAME \"END\"|TYPE eNd
 3 MissingValue:MAP LAYER CLASS STYLE COLOR|1 2|end
+2 MissingValue:MAP LAYER CLASS STYLE OUTLINECOLOR|END
 2 MissingValue:MAP LAYER FEATURE POINTS 1|END
 2 MissingValue:MAP LAYER FEATURE POINTS|END
 2 MissingValue:MAP LAYER TOLERANCE|END
@@ -49,7 +50,9 @@ const FAULTS: &str = "\
 3 MissingValue:MAP LAYER FEATURE|TEXT a|END
 2 MissingValue:MAP LAYER NAME a TYPE POLYGON END LAYER NAME a|END
 # Values that their keyword doesn't take.
-3 WrongValue:MAP|LAYER|TYPE LINE|END|END
+3 WrongValue:MAP|LAYER|TYPE RASTER|END|END
+2 WrongValue:MAP LAYER|TYPE POINTS
+3 WrongValue:MAP LAYER|TYPE|''
 2 WrongValue:MAP LAYER CLASS STYLE|COLOR 0 0 256
 3 WrongValue:MAP LAYER CLASS STYLE|COLOR 0|-2 x
 3 WrongValue:MAP LAYER CLASS STYLE|COLOR -1|red
@@ -59,6 +62,9 @@ const FAULTS: &str = "\
 2 WrongValue:MAP LAYER CLASS STYLE|COLOR 255.5 0 0
 2 WrongValue:MAP LAYER CLASS STYLE|COLOR -1.5 0 0
 2 WrongValue:MAP LAYER CLASS STYLE|COLOR 9999999999999 0 0
+2 WrongValue:MAP LAYER CLASS STYLE|OUTLINECOLOR 0 256 0
+3 WrongValue:MAP LAYER CLASS STYLE|OUTLINECOLOR|red
+4 WrongValue:MAP LAYER CLASS STYLE|OUTLINECOLOR|-1|'#000000' 0
 2 WrongValue:MAP LAYER CLASS STYLE|WIDTH 0
 2 WrongValue:MAP LAYER CLASS STYLE|WIDTH 33
 3 WrongValue:MAP LAYER CLASS STYLE|WIDTH|32.5
@@ -85,7 +91,7 @@ const FAULTS: &str = "\
 
 #[test]
 fn faults_have_their_lines_and_kinds(rt: HostRuntime) -> Result<(), Fail> {
-    assert_rows(&rt, rt.alloc(), FAULTS, 69)
+    assert_rows(&rt, rt.alloc(), FAULTS, 75)
 }
 
 // Sources with a list, which is no keyword and no value. `|` stands for the end of a line.

@@ -1,8 +1,5 @@
-use crate::parse;
+use crate::tests::said::said;
 use crate::tests::told::assert_told;
-use geom::Micro;
-use mapdefs::{Class, Feature, Label, Layer, Map, Rgb, Rule, Style, Text};
-use std::alloc::{AllocError, Global};
 use std::test::Fail;
 
 // Two layers, and two of each block in the first, with values that are all different. Keywords and keys
@@ -66,7 +63,9 @@ const WHOLE: &str = "MAP
       END
       STYLE
         COLOR 1 2 3
+        OUTLINECOLOR 4 5 6
         COLOR 10 20 30
+        OUTLINECOLOR 13 23 33
         WIDTH 4
         SIZE 6
         WIDTH 3
@@ -79,8 +78,8 @@ const WHOLE: &str = "MAP
       EXPRESSION '/deep/'
       LABEL MINDISTANCE -1 FORCE TRUE COLOR -1 2 3 END
       STYLE COLOR 4 5 6 COLOR '#0b2c4d' END
-      STYLE COLOR 7 8 9 COLOR 40 -1 60 END
-      STYLE COLOR 70 80 90 END
+      STYLE COLOR 7 8 9 COLOR 40 -1 60 OUTLINECOLOR '#010a64' END
+      STYLE OUTLINECOLOR 7 8 9 COLOR 70 80 90 OUTLINECOLOR 41 51 -1 END
     END
     FEATURE
       TEXT 'one'
@@ -96,236 +95,43 @@ const WHOLE: &str = "MAP
     END
   END
   layer
-    type 'polygon'
+    type 'point'
+    type 'line'
     name lakes
     class label end end
     feature points 15 16 17 18 end items a;b end
   end
 END";
 
-// What the map of WHOLE says, in the form of `write_map`.
+// What the map of WHOLE says.
 const SAID: &str = "\
 map Waters http://b.example/map? -10000000 20500000 30000000 40000000 None 0
 layer Lakes Inland waters Polygon true kind label [kind] [ label] [depth] lon lat=y true 5 1000500000 2000000000000
 class in [shallow] [deep water] [ ] 3000000 4000000
 label Some(Rgb { red: 12, green: 34, blue: 56 }) Some(Rgb { red: 1, green: 2, blue: 3 }) 9 LowerCentre 5 60 true false
-style 10 20 30, None 3 7 None
-style none, None 1 1 None
+style 10 20 30, 13 23 33, 3 7 None
+style none, none, 1 1 None
 class is /deep/ - -
 label None None 1 Centre 0 0 false true
-style 11 44 77, None 1 1 None
-style none, None 1 1 None
-style 70 80 90, None 1 1 None
+style 11 44 77, none, 1 1 None
+style none, 1 10 100, 1 1 None
+style 70 80 90, none, 1 1 None
 feature Deep water [mud] [] [1.5]
 part 1000000 2000000, 3000000 4000000, 5000000 6000000,
 part 7000000 8000000, 9500000 -10000000, -11000000 125000,
 feature - [sand] [] []
 part 13000000 14000000,
-layer lakes lakes Polygon true - - x y false 0 - -
+layer lakes lakes Line true - - x y false 3 - -
 class all - -
 label Some(Rgb { red: 0, green: 0, blue: 0 }) None 1 Centre 0 0 false false
 feature -
 part 15000000 16000000, 17000000 18000000,
 ";
 
-fn write_style(text: &mut String, style: &Style) -> Result<(), AllocError> {
-    let style = style.get();
-    match style.colour {
-        Some(Rgb { red, green, blue }) => write!(text, "style {red} {green} {blue},")?,
-        None => text.push_str("style none,")?,
-    }
-    let (outline, width, size, symbol) = (style.outline, style.width, style.size, style.symbol);
-    write!(text, " {outline:?} {width} {size} {symbol:?}\n")
-}
-
-fn write_texts(text: &mut String, texts: &[Text]) -> Result<(), AllocError> {
-    for one in texts {
-        write!(text, " [{}]", one.as_str())?;
-    }
-    Ok(())
-}
-
-fn write_rule(text: &mut String, rule: &Rule) -> Result<(), AllocError> {
-    match rule {
-        Rule::Always => text.push_str("class all"),
-        Rule::Equals(value) => write!(text, "class is {}", value.as_str()),
-        Rule::OneOf(values) => {
-            text.push_str("class in")?;
-            write_texts(text, values.as_slice())
-        }
-        Rule::Logic(expr) => write!(text, "class {expr:?}"),
-    }
-}
-
-// Bounds on the scale in millionths.
-fn write_bounds(
-    text: &mut String,
-    min: Option<Micro>,
-    max: Option<Micro>,
-) -> Result<(), AllocError> {
-    for bound in [min, max] {
-        match bound {
-            Some(bound) => write!(text, " {}", bound.millionths())?,
-            None => text.push_str(" -")?,
-        }
-    }
-    text.push('\n')
-}
-
-fn write_label(text: &mut String, label: &Label) -> Result<(), AllocError> {
-    let label = label.get();
-    let (colour, outline, position) = (label.colour, label.outline, label.position);
-    let (priority, buffer, distance) = (label.priority, label.buffer, label.mindistance);
-    write!(
-        text,
-        "label {colour:?} {outline:?} {priority} {position:?} {buffer} {distance}"
-    )?;
-    write!(text, " {} {}\n", label.partials, label.force)
-}
-
-fn write_class(text: &mut String, class: &Class) -> Result<(), AllocError> {
-    let class = class.get();
-    write_rule(text, &class.rule)?;
-    write_bounds(text, class.min, class.max)?;
-    if let Some(label) = &class.label {
-        write_label(text, label)?;
-    }
-    for style in class.styles.as_slice() {
-        write_style(text, style)?;
-    }
-    Ok(())
-}
-
-// A part is its vertices in millionths of a degree.
-fn write_feature(text: &mut String, feature: &Feature) -> Result<(), AllocError> {
-    let feature = feature.get();
-    write!(text, "feature {}", text_or_dash(&feature.text))?;
-    write_texts(text, feature.values.as_slice())?;
-    text.push('\n')?;
-    for part in feature.parts.as_slice() {
-        text.push_str("part")?;
-        for vertex in part.as_slice() {
-            let (x, y) = (vertex.x().get().millionths(), vertex.y().get().millionths());
-            write!(text, " {x} {y},")?;
-        }
-        text.push('\n')?;
-    }
-    Ok(())
-}
-
-fn text_or_dash(text: &Option<Text>) -> &str {
-    match text {
-        Some(text) => text.as_str(),
-        None => "-",
-    }
-}
-
-fn write_layer(text: &mut String, layer: &Layer) -> Result<(), AllocError> {
-    let layer = layer.get();
-    let (name, title, kind, on) = (
-        layer.name.as_str(),
-        layer.title.as_str(),
-        layer.kind,
-        layer.on,
-    );
-    write!(text, "layer {name} {title} {kind:?} {on}")?;
-    write!(
-        text,
-        " {} {}",
-        text_or_dash(&layer.classitem),
-        text_or_dash(&layer.labelitem)
-    )?;
-    write_texts(text, layer.items.as_slice())?;
-    let (x, y, queryable) = (layer.csv_x.as_str(), layer.csv_y.as_str(), layer.queryable);
-    write!(text, " {x} {y} {queryable} {}", layer.tolerance)?;
-    write_bounds(text, layer.min, layer.max)?;
-    for class in layer.classes.as_slice() {
-        write_class(text, class)?;
-    }
-    for feature in layer.features.as_slice() {
-        write_feature(text, feature)?;
-    }
-    Ok(())
-}
-
-// Writes all that a map says, a line for the map and for each layer, class, style, feature and part.
-fn write_map(text: &mut String, map: &Map) -> Result<(), AllocError> {
-    let map = map.get();
-    let sides = [
-        map.extent.minx(),
-        map.extent.miny(),
-        map.extent.maxx(),
-        map.extent.maxy(),
-    ];
-    write!(text, "map {} {}", map.title.as_str(), map.url.as_str())?;
-    for side in sides {
-        write!(text, " {}", side.millionths())?;
-    }
-    write!(text, " {:?} {}\n", map.font, map.symbols.len())?;
-    for layer in map.layers.as_slice() {
-        write_layer(text, layer)?;
-    }
-    Ok(())
-}
-
-// What the map of a source says.
-fn said(alloc: Global, source: &str) -> Result<String, Fail> {
-    let map = parse(alloc, source.as_bytes())?;
-    let mut text = String::new(alloc);
-    write_map(&mut text, &map)?;
-    Ok(text)
-}
-
 #[test]
 fn a_mapfile_gives_its_map(rt: HostRuntime) -> Result<(), Fail> {
     let text = said(rt.alloc(), WHOLE)?;
     assert_eq!(rt; text.as_str(), SAID);
-    Ok(())
-}
-
-// The colour of a style, a colon and what stands in the STYLE. A line that begins with `# ` is a heading.
-const COLOURS: &str = "\
-none:
-10 20 30:COLOR 10 20 30
-10 20 30:color '10' \"20\" 30
-0 255 254:COLOR 0 255 254
-11 44 77:COLOR \"#0b2c4d\"
-161 240 233:COLOR '#A1f0E9'
-# A half goes away from zero.
-0 2 3:COLOR 0.4 1.5 2.6
-0 255 7:COLOR -0.4 254.6 +7
-none:COLOR -1 20 30
-none:COLOR 10 -1 30
-none:COLOR 10 20 -1.4
-# The last one counts.
-40 50 60:COLOR 1 2 3 COLOR 40 50 60
-11 44 77:COLOR 1 2 3 COLOR '#0B2C4D'
-none:COLOR '#010203' COLOR 4 5 -1
-1 2 3:COLOR 4 5 -1 COLOR '#010203'";
-
-#[test]
-fn styles_have_their_colours(rt: HostRuntime) -> Result<(), Fail> {
-    let alloc = rt.alloc();
-    let mut asserted = 0_usize;
-    for row in COLOURS.lines() {
-        if !row.starts_with("# ") {
-            let (colour, style) = row.split_once(':').ok_or("a row without a colon")?;
-            let source = format!(in alloc;
-                "MAP LAYER NAME a TYPE POLYGON CLASS STYLE {style} END STYLE END END END END"
-            )?;
-            let expected = format!(in alloc;
-                "map WMS http://localhost/wms? -180000000 -90000000 180000000 90000000 None 0\n\
-                 layer a a Polygon true - - x y false 0 - -\n\
-                 class all - -\n\
-                 style {colour}, None 1 1 None\n\
-                 style none, None 1 1 None\n"
-            )?;
-            let text = said(alloc, source.as_str())?;
-            assert_eq!(rt; text.as_str(), expected.as_str(), "{style}");
-            asserted = asserted.saturating_add(1);
-        }
-    }
-    assert_eq!(rt; asserted, 15);
     Ok(())
 }
 

@@ -1,0 +1,96 @@
+use crate::tests::said::said;
+use std::alloc::Global;
+use std::process::Abort;
+use std::test::Fail;
+
+// The map of a class with this STYLE and an empty one has these colours for the first: its colour and that
+// of its outline.
+fn assert_style(rt: &impl Abort, alloc: Global, style: &str, colours: &str) -> Result<(), Fail> {
+    let source = format!(in alloc;
+        "MAP LAYER NAME a TYPE POLYGON CLASS STYLE {style} END STYLE END END END END"
+    )?;
+    let expected = format!(in alloc;
+        "map WMS http://localhost/wms? -180000000 -90000000 180000000 90000000 None 0\n\
+         layer a a Polygon true - - x y false 0 - -\n\
+         class all - -\n\
+         style {colours}, 1 1 None\n\
+         style none, none, 1 1 None\n"
+    )?;
+    let text = said(alloc, source.as_str())?;
+    assert_eq!(rt; text.as_str(), expected.as_str(), "{style}");
+    Ok(())
+}
+
+// The colours of a style, a colon and what stands in the STYLE. A line that begins with `# ` is a heading.
+const COLOURS: &str = "\
+none, none:
+10 20 30, none:COLOR 10 20 30
+10 20 30, none:color '10' \"20\" 30
+0 255 254, none:COLOR 0 255 254
+11 44 77, none:COLOR \"#0b2c4d\"
+161 240 233, none:COLOR '#A1f0E9'
+none, 10 20 30:OUTLINECOLOR 10 20 30
+none, 11 44 77:outlinecolor '#0B2c4d'
+40 50 60, 70 80 90:OUTLINECOLOR 70 80 90 COLOR 40 50 60
+# A half goes away from zero.
+0 2 3, none:COLOR 0.4 1.5 2.6
+0 255 7, none:COLOR -0.4 254.6 +7
+none, 1 3 255:OUTLINECOLOR 0.5 '2.6' 255.4
+none, none:COLOR -1 20 30
+none, none:COLOR 10 -1 30
+none, none:COLOR 10 20 -1.4
+none, none:OUTLINECOLOR -1 20 30
+none, none:OUTLINECOLOR 10 -1.4 30
+none, none:OUTLINECOLOR 10 20 -0.5
+# The last one counts.
+40 50 60, none:COLOR 1 2 3 COLOR 40 50 60
+11 44 77, none:COLOR 1 2 3 COLOR '#0B2C4D'
+none, none:COLOR '#010203' COLOR 4 5 -1
+1 2 3, none:COLOR 4 5 -1 COLOR '#010203'
+4 5 6, 40 50 60:OUTLINECOLOR 1 2 3 COLOR 4 5 6 OUTLINECOLOR 40 50 60
+4 5 6, none:COLOR 4 5 6 OUTLINECOLOR '#010203' OUTLINECOLOR 7 8 -1
+none, 1 2 3:COLOR 4 5 -1 OUTLINECOLOR 7 8 -1 OUTLINECOLOR '#010203'";
+
+#[test]
+fn styles_have_their_colours(rt: HostRuntime) -> Result<(), Fail> {
+    let alloc = rt.alloc();
+    let mut asserted = 0_usize;
+    for row in COLOURS.lines() {
+        if !row.starts_with("# ") {
+            let (colours, style) = row.split_once(':').ok_or("a row without a colon")?;
+            assert_style(&rt, alloc, style, colours)?;
+            asserted = asserted.saturating_add(1);
+        }
+    }
+    assert_eq!(rt; asserted, 25);
+    Ok(())
+}
+
+// The kind of a layer and its tolerance, a colon and what stands in the LAYER.
+const KINDS: &str = "\
+Point 3:TYPE POINT
+Line 3:TYPE line
+Polygon 0:TYPE Polygon
+Point 3:TYPE 'Point'
+Line 3:TYPE POLYGON TYPE LINE
+Point 9:TOLERANCE 9 TYPE POINT
+Line 0:TYPE LINE TOLERANCE 0
+Polygon 8:TYPE POINT TOLERANCE 8 TYPE POLYGON";
+
+#[test]
+fn layers_have_their_kinds_and_tolerances(rt: HostRuntime) -> Result<(), Fail> {
+    let alloc = rt.alloc();
+    assert_eq!(rt; KINDS.lines().count(), 8);
+    for row in KINDS.lines() {
+        let (layer, words) = row.split_once(':').ok_or("a row without a colon")?;
+        let (kind, tolerance) = layer.split_once(' ').ok_or("a row without a tolerance")?;
+        let source = format!(in alloc; "MAP LAYER NAME a {words} END END")?;
+        let expected = format!(in alloc;
+            "map WMS http://localhost/wms? -180000000 -90000000 180000000 90000000 None 0\n\
+             layer a a {kind} true - - x y false {tolerance} - -\n"
+        )?;
+        let text = said(alloc, source.as_str())?;
+        assert_eq!(rt; text.as_str(), expected.as_str(), "{row}");
+    }
+    Ok(())
+}
