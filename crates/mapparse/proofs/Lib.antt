@@ -2,6 +2,7 @@ mod Blocks
 mod Colours
 mod FirstFault
 mod Joining
+mod Lookup
 mod OnePass
 mod OpenBlocks
 mod Padding

@@ -1,5 +1,5 @@
 -- Keywords, and how they are written (docs/MAPFILE.md, "Blocks and words").
-use Rattle.std.specs.Prelude.{ℕ, Bool, false, List, [], ◌∷◌, Option, None, codes, find}
+use Rattle.std.specs.Prelude.{ℕ, Bool, false, List, [], ◌∷◌, length, ◌==◌, Option, None, codes, find}
 use Rattle.std.specs.Str.{str_eq_ignore_ascii_case}
 use Rattle.maplex.specs.declared.token.Shape.{Shape}
 use Rattle.maplex.specs.declared.token.Shape.TheVariants.{Word}
@@ -96,6 +96,10 @@ keywords =
     OutputFormat ∷ Partials ∷ Position ∷ Priority ∷ Processing ∷ Projection ∷ QueryMap ∷ Reference ∷ RepeatDistance
     ∷ Resolution ∷ ScaleBar ∷ ShapePath ∷ Size ∷ Status ∷ Template ∷ Text ∷ Title ∷ Tolerance ∷ ToleranceUnits ∷
     Units ∷ Validation ∷ Web ∷ Width ∷ End ∷ []
+
+-- the spelling of a keyword has this length
+abbrev pub has_length : ℕ → Keyword → Bool
+has_length n keyword = length (spelling keyword) == n
 
 -- a text is a keyword, in letters of either case
 abbrev pub is_spelt : List ℕ → Keyword → Bool

@@ -1,5 +1,5 @@
-ghost use Rattle.std.specs.Prelude.{◌≡◌};
-ghost use Rattle.mapparse.specs.Keyword.{spelling, is_spelt, keyword_of, keyword_at, is_at, is_end};
+ghost use Rattle.std.specs.Prelude.{◌≡◌, filter, find};
+ghost use Rattle.mapparse.specs.Keyword.{spelling, keywords, has_length, is_spelt, keyword_of, keyword_at, is_at, is_end};
 
 use maplex::{Shape, Token};
 
@@ -83,83 +83,185 @@ pub enum Keyword {
     End,
 }
 
-// All of them.
-const KEYWORDS: [Keyword; 75] = [
-    Keyword::Map,
-    Keyword::Layer,
+// The keywords by the length of their spelling.
+const THREE: [Keyword; 4] = [Keyword::Map, Keyword::Log, Keyword::Web, Keyword::End];
+
+const FOUR: [Keyword; 6] = [
     Keyword::Name,
     Keyword::Kind,
+    Keyword::Dump,
+    Keyword::Font,
+    Keyword::Size,
+    Keyword::Text,
+];
+
+const FIVE: [Keyword; 15] = [
+    Keyword::Layer,
     Keyword::Class,
     Keyword::Style,
     Keyword::Color,
-    Keyword::Feature,
-    Keyword::Points,
     Keyword::Angle,
-    Keyword::Antialias,
-    Keyword::Buffer,
-    Keyword::ClassItem,
-    Keyword::Config,
     Keyword::Debug,
-    Keyword::Dump,
     Keyword::Empty,
-    Keyword::Encoding,
     Keyword::Error,
-    Keyword::Expression,
-    Keyword::Extent,
-    Keyword::Font,
-    Keyword::FontSet,
-    Keyword::Footer,
     Keyword::Force,
     Keyword::Group,
-    Keyword::Header,
-    Keyword::ImageColor,
-    Keyword::ImagePath,
-    Keyword::ImageType,
-    Keyword::ImageUrl,
     Keyword::Items,
     Keyword::Label,
-    Keyword::LabelCache,
-    Keyword::LabelItem,
-    Keyword::LabelMaxScaleDenom,
-    Keyword::LabelMinScaleDenom,
+    Keyword::Title,
+    Keyword::Units,
+    Keyword::Width,
+];
+
+const SIX: [Keyword; 9] = [
+    Keyword::Points,
+    Keyword::Buffer,
+    Keyword::Config,
+    Keyword::Extent,
+    Keyword::Footer,
+    Keyword::Header,
     Keyword::Legend,
-    Keyword::Log,
-    Keyword::MaxScaleDenom,
+    Keyword::Offset,
+    Keyword::Status,
+];
+
+const SEVEN: [Keyword; 4] = [
+    Keyword::Feature,
+    Keyword::FontSet,
     Keyword::MaxSize,
+    Keyword::MinSize,
+];
+
+const EIGHT: [Keyword; 11] = [
+    Keyword::Encoding,
+    Keyword::ImageUrl,
     Keyword::MaxWidth,
     Keyword::Metadata,
-    Keyword::MinDistance,
-    Keyword::MinFeatureSize,
-    Keyword::MinScaleDenom,
-    Keyword::MinSize,
     Keyword::MinWidth,
-    Keyword::Offset,
-    Keyword::OutlineColor,
-    Keyword::OutlineWidth,
-    Keyword::OutputFormat,
     Keyword::Partials,
     Keyword::Position,
     Keyword::Priority,
+    Keyword::QueryMap,
+    Keyword::ScaleBar,
+    Keyword::Template,
+];
+
+const NINE: [Keyword; 8] = [
+    Keyword::Antialias,
+    Keyword::ClassItem,
+    Keyword::ImagePath,
+    Keyword::ImageType,
+    Keyword::LabelItem,
+    Keyword::Reference,
+    Keyword::ShapePath,
+    Keyword::Tolerance,
+];
+
+const TEN: [Keyword; 7] = [
+    Keyword::Expression,
+    Keyword::ImageColor,
+    Keyword::LabelCache,
     Keyword::Processing,
     Keyword::Projection,
-    Keyword::QueryMap,
-    Keyword::Reference,
-    Keyword::RepeatDistance,
     Keyword::Resolution,
-    Keyword::ScaleBar,
-    Keyword::ShapePath,
-    Keyword::Size,
-    Keyword::Status,
-    Keyword::Template,
-    Keyword::Text,
-    Keyword::Title,
-    Keyword::Tolerance,
-    Keyword::ToleranceUnits,
-    Keyword::Units,
     Keyword::Validation,
-    Keyword::Web,
-    Keyword::Width,
-    Keyword::End,
+];
+
+const ELEVEN: [Keyword; 1] = [Keyword::MinDistance];
+
+const TWELVE: [Keyword; 3] = [
+    Keyword::OutlineColor,
+    Keyword::OutlineWidth,
+    Keyword::OutputFormat,
+];
+
+const THIRTEEN: [Keyword; 2] = [Keyword::MaxScaleDenom, Keyword::MinScaleDenom];
+
+const FOURTEEN: [Keyword; 3] = [
+    Keyword::MinFeatureSize,
+    Keyword::RepeatDistance,
+    Keyword::ToleranceUnits,
+];
+
+const EIGHTEEN: [Keyword; 2] = [Keyword::LabelMaxScaleDenom, Keyword::LabelMinScaleDenom];
+
+// The spelling of each keyword, in their order.
+const SPELLINGS: [&str; 75] = [
+    "MAP",
+    "LAYER",
+    "NAME",
+    "TYPE",
+    "CLASS",
+    "STYLE",
+    "COLOR",
+    "FEATURE",
+    "POINTS",
+    "ANGLE",
+    "ANTIALIAS",
+    "BUFFER",
+    "CLASSITEM",
+    "CONFIG",
+    "DEBUG",
+    "DUMP",
+    "EMPTY",
+    "ENCODING",
+    "ERROR",
+    "EXPRESSION",
+    "EXTENT",
+    "FONT",
+    "FONTSET",
+    "FOOTER",
+    "FORCE",
+    "GROUP",
+    "HEADER",
+    "IMAGECOLOR",
+    "IMAGEPATH",
+    "IMAGETYPE",
+    "IMAGEURL",
+    "ITEMS",
+    "LABEL",
+    "LABELCACHE",
+    "LABELITEM",
+    "LABELMAXSCALEDENOM",
+    "LABELMINSCALEDENOM",
+    "LEGEND",
+    "LOG",
+    "MAXSCALEDENOM",
+    "MAXSIZE",
+    "MAXWIDTH",
+    "METADATA",
+    "MINDISTANCE",
+    "MINFEATURESIZE",
+    "MINSCALEDENOM",
+    "MINSIZE",
+    "MINWIDTH",
+    "OFFSET",
+    "OUTLINECOLOR",
+    "OUTLINEWIDTH",
+    "OUTPUTFORMAT",
+    "PARTIALS",
+    "POSITION",
+    "PRIORITY",
+    "PROCESSING",
+    "PROJECTION",
+    "QUERYMAP",
+    "REFERENCE",
+    "REPEATDISTANCE",
+    "RESOLUTION",
+    "SCALEBAR",
+    "SHAPEPATH",
+    "SIZE",
+    "STATUS",
+    "TEMPLATE",
+    "TEXT",
+    "TITLE",
+    "TOLERANCE",
+    "TOLERANCEUNITS",
+    "UNITS",
+    "VALIDATION",
+    "WEB",
+    "WIDTH",
+    "END",
 ];
 
 impl Keyword {
@@ -168,83 +270,7 @@ impl Keyword {
     fn spelling(self) -> &'static str
         ensures { result.now ≡ spelling self }
     {
-        match self {
-            Keyword::Map => "MAP",
-            Keyword::Layer => "LAYER",
-            Keyword::Name => "NAME",
-            Keyword::Kind => "TYPE",
-            Keyword::Class => "CLASS",
-            Keyword::Style => "STYLE",
-            Keyword::Color => "COLOR",
-            Keyword::Feature => "FEATURE",
-            Keyword::Points => "POINTS",
-            Keyword::Angle => "ANGLE",
-            Keyword::Antialias => "ANTIALIAS",
-            Keyword::Buffer => "BUFFER",
-            Keyword::ClassItem => "CLASSITEM",
-            Keyword::Config => "CONFIG",
-            Keyword::Debug => "DEBUG",
-            Keyword::Dump => "DUMP",
-            Keyword::Empty => "EMPTY",
-            Keyword::Encoding => "ENCODING",
-            Keyword::Error => "ERROR",
-            Keyword::Expression => "EXPRESSION",
-            Keyword::Extent => "EXTENT",
-            Keyword::Font => "FONT",
-            Keyword::FontSet => "FONTSET",
-            Keyword::Footer => "FOOTER",
-            Keyword::Force => "FORCE",
-            Keyword::Group => "GROUP",
-            Keyword::Header => "HEADER",
-            Keyword::ImageColor => "IMAGECOLOR",
-            Keyword::ImagePath => "IMAGEPATH",
-            Keyword::ImageType => "IMAGETYPE",
-            Keyword::ImageUrl => "IMAGEURL",
-            Keyword::Items => "ITEMS",
-            Keyword::Label => "LABEL",
-            Keyword::LabelCache => "LABELCACHE",
-            Keyword::LabelItem => "LABELITEM",
-            Keyword::LabelMaxScaleDenom => "LABELMAXSCALEDENOM",
-            Keyword::LabelMinScaleDenom => "LABELMINSCALEDENOM",
-            Keyword::Legend => "LEGEND",
-            Keyword::Log => "LOG",
-            Keyword::MaxScaleDenom => "MAXSCALEDENOM",
-            Keyword::MaxSize => "MAXSIZE",
-            Keyword::MaxWidth => "MAXWIDTH",
-            Keyword::Metadata => "METADATA",
-            Keyword::MinDistance => "MINDISTANCE",
-            Keyword::MinFeatureSize => "MINFEATURESIZE",
-            Keyword::MinScaleDenom => "MINSCALEDENOM",
-            Keyword::MinSize => "MINSIZE",
-            Keyword::MinWidth => "MINWIDTH",
-            Keyword::Offset => "OFFSET",
-            Keyword::OutlineColor => "OUTLINECOLOR",
-            Keyword::OutlineWidth => "OUTLINEWIDTH",
-            Keyword::OutputFormat => "OUTPUTFORMAT",
-            Keyword::Partials => "PARTIALS",
-            Keyword::Position => "POSITION",
-            Keyword::Priority => "PRIORITY",
-            Keyword::Processing => "PROCESSING",
-            Keyword::Projection => "PROJECTION",
-            Keyword::QueryMap => "QUERYMAP",
-            Keyword::Reference => "REFERENCE",
-            Keyword::RepeatDistance => "REPEATDISTANCE",
-            Keyword::Resolution => "RESOLUTION",
-            Keyword::ScaleBar => "SCALEBAR",
-            Keyword::ShapePath => "SHAPEPATH",
-            Keyword::Size => "SIZE",
-            Keyword::Status => "STATUS",
-            Keyword::Template => "TEMPLATE",
-            Keyword::Text => "TEXT",
-            Keyword::Title => "TITLE",
-            Keyword::Tolerance => "TOLERANCE",
-            Keyword::ToleranceUnits => "TOLERANCEUNITS",
-            Keyword::Units => "UNITS",
-            Keyword::Validation => "VALIDATION",
-            Keyword::Web => "WEB",
-            Keyword::Width => "WIDTH",
-            Keyword::End => "END",
-        }
+        SPELLINGS[self as usize]
     }
 
     // Whether the text is the keyword, in letters of either case.
@@ -254,14 +280,44 @@ impl Keyword {
         text.eq_ignore_ascii_case(self.spelling())
     }
 
-    // The keyword that the text is.
-    fn of(text: &str) -> Option<Keyword>
-        ensures { result ≡ keyword_of text.now }
+    // The keywords whose spelling has this length.
+    #[tactic(auto, unfolding(crate::specs::Keyword::spelling))]
+    fn of_length(length: usize) -> &'static [Keyword]
+        ensures { result.now ≡ filter (has_length length) keywords }
     {
-        KEYWORDS
+        match length {
+            3 => &THREE,
+            4 => &FOUR,
+            5 => &FIVE,
+            6 => &SIX,
+            7 => &SEVEN,
+            8 => &EIGHT,
+            9 => &NINE,
+            10 => &TEN,
+            11 => &ELEVEN,
+            12 => &TWELVE,
+            13 => &THIRTEEN,
+            14 => &FOURTEEN,
+            18 => &EIGHTEEN,
+            _ => &[],
+        }
+    }
+
+    // The first of these keywords that the text is.
+    fn first_of(keywords: &[Keyword], text: &str) -> Option<Keyword>
+        ensures { result ≡ find (is_spelt text.now) keywords.now }
+    {
+        keywords
             .iter()
             .copied()
             .find(|keyword| keyword.is_spelt(text))
+    }
+
+    // The keyword that the text is. Only those of its length are compared with it.
+    fn of(text: &str) -> Option<Keyword>
+        ensures { result ≡ keyword_of text.now }
+    {
+        Keyword::first_of(Keyword::of_length(text.len()), text)
     }
 
     /// The keyword that the token is. Only a bare word is a keyword.
