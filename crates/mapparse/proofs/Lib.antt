@@ -1,11 +1,2 @@
-mod Blocks
-mod Colours
-mod FirstFault
-mod Joining
-mod Lookup
-mod OnePass
-mod OpenBlocks
 mod Padding
-mod Reading
 mod Within
-mod Written

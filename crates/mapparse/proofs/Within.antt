@@ -4,10 +4,10 @@ use Rattle.std.specs.List.{All}
 use Rattle.std.proofs.lemmas.List.Elements.{All-map}
 use Rattle.mapdefs.specs.LayerLimits.{HasValues}
 use Rattle.mapdefs.specs.MapLimits.{NamesSymbolOf, ClassNamesSymbolsOf, LayerNamesSymbolsOf}
-use Rattle.mapparse.specs.declared.tree.StyleTree.{StyleTree}
-use Rattle.mapparse.specs.declared.tree.ClassTree.{ClassTree}
-use Rattle.mapparse.specs.declared.tree.FeatureTree.{FeatureTree}
-use Rattle.mapparse.specs.declared.tree.LayerTree.{LayerTree}
+use Rattle.maptree.specs.declared.tree.StyleTree.{StyleTree}
+use Rattle.maptree.specs.declared.tree.ClassTree.{ClassTree}
+use Rattle.maptree.specs.declared.tree.FeatureTree.{FeatureTree}
+use Rattle.maptree.specs.declared.tree.LayerTree.{LayerTree}
 use Rattle.mapparse.specs.Mapping.{style_of, class_of, feature_of, layer_of}
 use Rattle.mapparse.proofs.Padding.{length-values}
 

@@ -14,12 +14,12 @@ use Rattle.mapdefs.specs.declared.layer.Kind.TheVariants.{Polygon}
 use Rattle.mapdefs.specs.declared.layer.LayerFields.{LayerFields}
 use Rattle.mapdefs.specs.declared.map.MapFields.{MapFields}
 use Rattle.mapdefs.specs.declared.style.StyleFields.{StyleFields}
-use Rattle.mapparse.specs.declared.tree.StyleTree.{StyleTree}
-use Rattle.mapparse.specs.declared.tree.ClassTree.{ClassTree}
-use Rattle.mapparse.specs.declared.tree.LabelTree.{LabelTree}
-use Rattle.mapparse.specs.declared.tree.FeatureTree.{FeatureTree}
-use Rattle.mapparse.specs.declared.tree.LayerTree.{LayerTree}
-use Rattle.mapparse.specs.declared.tree.MapTree.{MapTree}
+use Rattle.maptree.specs.declared.tree.StyleTree.{StyleTree}
+use Rattle.maptree.specs.declared.tree.ClassTree.{ClassTree}
+use Rattle.maptree.specs.declared.tree.LabelTree.{LabelTree}
+use Rattle.maptree.specs.declared.tree.FeatureTree.{FeatureTree}
+use Rattle.maptree.specs.declared.tree.LayerTree.{LayerTree}
+use Rattle.maptree.specs.declared.tree.MapTree.{MapTree}
 
 -- a style has its colours, its width and its size, each one pixel where it isn't given, and no symbol
 abbrev pub style_of : StyleTree → StyleFields

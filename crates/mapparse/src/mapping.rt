@@ -7,17 +7,16 @@ ghost use Rattle.mapdefs.specs.declared.class.Rule.TheVariants.{Always};
 ghost use Rattle.mapdefs.specs.declared.limits.TheConstants.{MAX_ITEMS};
 ghost use Rattle.mapparse.specs.Mapping.{is_semicolon, label_of, padded, values_of, feature_of, tolerance_of, whole_world, map_of};
 
-use crate::bounded::Bounded;
-use crate::capped::Capped;
-use crate::extent::Extent;
-use crate::rule::ClassRule;
-use crate::texts::{semicolon_parts, texts_of};
-use crate::tree::{ClassTree, FeatureTree, LabelTree, LayerTree, MapTree, StyleTree};
+use crate::texts::semicolon_parts;
 use geom::{Micro, WorldBox};
 use mapdefs::{
     Class, ClassFields, Feature, FeatureFields, Items, Kind, Label, LabelFields, Layer,
     LayerFields, MAX_FEATURES, MAX_ITEMS, Map, MapFields, Position, Rgb, Rule, Style, StyleFields,
     Text,
+};
+use maptree::{
+    Bounded, Capped, ClassRule, ClassTree, Extent, FeatureTree, LabelTree, LayerTree, MapTree,
+    StyleTree, texts_of,
 };
 use std::alloc::{AllocError, Global};
 

@@ -1,0 +1,9 @@
+mod Blocks
+mod Colours
+mod FirstFault
+mod Joining
+mod Lookup
+mod OnePass
+mod OpenBlocks
+mod Reading
+mod Written

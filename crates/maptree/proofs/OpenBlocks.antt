@@ -1,0 +1,425 @@
+-- What the open blocks say, and the drafts that keep it.
+use Rattle.std.proofs.Common.{◌≡◌, List, [], ◌∷◌, length, map, refl, sym, ap, ◌++◌, Bool, true, false, ◌∙◌}
+use Rattle.std.specs.Prelude.{ℕ, if◌then◌else◌, nat_le, ◌==◌, Option, None, Some, option_map, option_and_then, is_some, unwrap_or, Result, Ok, Err}
+use Rattle.std.specs.Option.{option_map_or, option_or}
+use Rattle.std.proofs.lemmas.List.{map-append, length-map}
+use Rattle.maplex.specs.Token.{TokenValue}
+use Rattle.mapdefs.specs.declared.layer.Kind.{Kind}
+use Rattle.mapdefs.specs.declared.layer.Kind.TheVariants.{Polygon}
+use Rattle.mapdefs.specs.declared.limits.TheConstants.{MAX_LAYERS, MAX_CLASSES, MAX_STYLES, MAX_FEATURES}
+use Rattle.maptree.specs.declared.context.Block.{Block}
+use Rattle.maptree.specs.declared.context.Block.TheVariants as block
+use Rattle.maptree.specs.declared.context.TextKeyword.TheVariants.{MapName, LayerName, ClassItem, LabelItem, Template, CsvX, CsvY, ServiceWmsTitle, ServiceOwsTitle, ServiceWmsUrl, ServiceOwsUrl, LayerWmsTitle, LayerOwsTitle, FeatureText, FeatureItems}
+use Rattle.maptree.specs.declared.context.ColourKeyword.TheVariants.{StyleColour, StyleOutline, LabelColour, LabelOutline}
+use Rattle.maptree.specs.declared.context.ScaleKeyword.TheVariants.{LayerMin, LayerMax, ClassMin, ClassMax}
+use Rattle.maptree.specs.declared.context.Expected.{Expected}
+use Rattle.maptree.specs.declared.context.Expected.TheVariants as expected
+use Rattle.maptree.specs.declared.context.Role.{Role}
+use Rattle.maptree.specs.declared.context.Role.TheVariants as role
+use Rattle.maptree.specs.declared.draft.Drafts.{Drafts}
+use Rattle.maptree.specs.declared.draft.LayerDraft.{LayerDraft}
+use Rattle.maptree.specs.declared.draft.Named.{Named}
+use Rattle.maptree.specs.declared.fault.Fault.{Fault}
+use Rattle.maptree.specs.declared.fault.ParseKind.TheVariants.{DuplicateName}
+use Rattle.maptree.specs.declared.keyword.Keyword.{Keyword}
+use Rattle.maptree.specs.declared.keyword.Keyword.TheVariants as keyword
+use Rattle.maptree.specs.declared.tree.LayerTree.{LayerTree}
+use Rattle.maptree.specs.Draft as draft
+use Rattle.maptree.specs.End.{layer_with, finished_layer, ends}
+use Rattle.maptree.specs.Entries.{Entries, Nothing, Inside, with_block, last, blocks, last_block, last_within, vertices}
+use Rattle.maptree.specs.Fault.{and_then}
+use Rattle.maptree.specs.Name.{is_taken}
+use Rattle.maptree.specs.Says.{layer_fault, closing_fault, is_full}
+use Rattle.maptree.specs.Table.{map_role, web_role, layer_role, class_role, style_role, label_role, feature_role, passed_role, passed_label_role, end_role, role_of}
+use Rattle.maptree.specs.Tree.{style_tree, label_tree, class_tree, feature_tree, layer_name, layer_kind, class_item, label_item, template, layer_tolerance, layer_min, layer_max, layer_items, layer_csv_x, layer_csv_y, layer_wms_title, layer_ows_title, feature_text, feature_items, layer_tree, service_wms_title, service_ows_title, service_wms_url, service_ows_url, web_text, service_text, map_tree}
+use Rattle.maptree.specs.declared.value.Value.{Value}
+
+-- what the open blocks say so far; a block that isn't open says nothing
+pub record OpenBlocks : Type 0 where
+  pub map : Entries
+  pub web : Entries
+  pub web_metadata : Entries
+  pub layer : Entries
+  pub layer_metadata : Entries
+  pub class : Entries
+  pub style : Entries
+  pub label : Entries
+  pub feature : Entries
+  pub points : Entries
+
+-- the last of a service's texts, of the open METADATA first, and then of the open WEB
+abbrev open_text : (Value → ℕ → Option (List ℕ)) → OpenBlocks → Option (List ℕ)
+open_text wanted o = option_or (last wanted o.web_metadata) (option_or (web_text wanted o.web) (service_text wanted o.map))
+
+-- the last of a layer's texts, of the open METADATA first
+abbrev layer_text : (Value → ℕ → Option (List ℕ)) → OpenBlocks → Option (List ℕ)
+layer_text wanted o = option_or (last wanted o.layer_metadata) (last_within block.LayerMetadata (last wanted) o.layer)
+
+-- the drafts that keep it
+abbrev pub drafts_of : OpenBlocks → Drafts
+drafts_of o = record {
+  map = record (map_tree o.map) {
+    wms_title = open_text service_wms_title o;
+    ows_title = open_text service_ows_title o;
+    wms_url = open_text service_wms_url o;
+    ows_url = open_text service_ows_url o;
+  };
+  layer = record {
+    name = last layer_name o.layer;
+    kind = last layer_kind o.layer;
+    classitem = last class_item o.layer;
+    labelitem = last label_item o.layer;
+    queryable = is_some (last template o.layer);
+    tolerance = last layer_tolerance o.layer;
+    min = last layer_min o.layer;
+    max = last layer_max o.layer;
+    items = last layer_items o.layer;
+    csv_x = last layer_csv_x o.layer;
+    csv_y = last layer_csv_y o.layer;
+    wms_title = layer_text layer_wms_title o;
+    ows_title = layer_text layer_ows_title o;
+    classes = map class_tree (blocks block.Class o.layer);
+    features = map feature_tree (blocks block.Feature o.layer);
+  };
+  class = class_tree o.class;
+  style = style_tree o.style;
+  label = label_tree o.label;
+  feature = record {
+    parts = record { whole = map vertices (blocks block.Points o.feature); next = vertices o.points };
+    text = last feature_text o.feature;
+    items = last feature_items o.feature;
+  };
+}
+
+-- a block says this, and none is open inside it
+abbrev pub only_map : Entries → OpenBlocks
+only_map own = record {
+  map = own;
+  web = Nothing;
+  web_metadata = Nothing;
+  layer = Nothing;
+  layer_metadata = Nothing;
+  class = Nothing;
+  style = Nothing;
+  label = Nothing;
+  feature = Nothing;
+  points = Nothing;
+}
+
+-- a block says this, within the blocks round it, and none is open inside it
+abbrev pub in_block : Block → Entries → OpenBlocks → OpenBlocks
+in_block block.Map own o = only_map own
+in_block block.Web own o = record (only_map o.map) { web = own }
+in_block block.WebMetadata own o = record (only_map o.map) { web = o.web; web_metadata = own }
+in_block block.Layer own o = record (only_map o.map) { layer = own }
+in_block block.LayerMetadata own o = record (only_map o.map) { layer = o.layer; layer_metadata = own }
+in_block block.Class own o = record (only_map o.map) { layer = o.layer; class = own }
+in_block block.Style own o = record (only_map o.map) { layer = o.layer; class = o.class; style = own }
+in_block block.Label own o = record (only_map o.map) { layer = o.layer; class = o.class; label = own }
+in_block block.Feature own o = record (only_map o.map) { layer = o.layer; feature = own }
+in_block block.Points own o = record (only_map o.map) { layer = o.layer; feature = o.feature; points = own }
+in_block _ own o = o
+
+-- what the parent of a block says; of a block that isn't kept it is `up`
+abbrev pub above : Block → Entries → OpenBlocks → Entries
+above block.Map up o = Nothing
+above block.Layer up o = o.map
+above block.Class up o = o.layer
+above block.Style up o = o.class
+above block.Feature up o = o.layer
+above block.Points up o = o.feature
+above block.Web up o = o.map
+above block.WebMetadata up o = o.web
+above block.LayerMetadata up o = o.layer
+above block.Label up o = o.class
+above _ up o = up
+
+-- after the END of a block its parent has it
+abbrev pub after_end : Block → Entries → OpenBlocks → OpenBlocks
+after_end block.Map own o = in_block block.Map own o
+after_end block.Layer own o = in_block block.Map (Inside block.Layer own o.map) o
+after_end block.Class own o = in_block block.Layer (Inside block.Class own o.layer) o
+after_end block.Style own o = in_block block.Class (Inside block.Style own o.class) o
+after_end block.Feature own o = in_block block.Layer (Inside block.Feature own o.layer) o
+after_end block.Points own o = in_block block.Feature (Inside block.Points own o.feature) o
+after_end block.Web own o = in_block block.Map (Inside block.Web own o.map) o
+after_end block.WebMetadata own o = in_block block.Web (Inside block.WebMetadata own o.web) o
+after_end block.LayerMetadata own o = in_block block.Layer (Inside block.LayerMetadata own o.layer) o
+after_end block.Label own o = in_block block.Class (Inside block.Label own o.class) o
+after_end _ own o = o
+
+-- a block that opens in another is inside of it, and says nothing yet
+pub record Nests (c b : Block) : Type 0 where
+  pub opened : (own : Entries) (o : OpenBlocks) → in_block c Nothing (in_block b own o) ≡ in_block b own o
+  pub parent : (own : Entries) (o : OpenBlocks) → above c own (in_block b own o) ≡ own
+  pub ended : (inner own : Entries) (o : OpenBlocks) → after_end c inner (in_block b own o) ≡ in_block b (with_block c inner own) o
+
+-- the keyword of a value is one of the block; a value without effect may stand in each
+abbrev pub Suits : Expected → Block → Type 0
+Suits (expected.Text MapName) b = b ≡ block.Map
+Suits (expected.Text LayerName) b = b ≡ block.Layer
+Suits (expected.Text ClassItem) b = b ≡ block.Layer
+Suits (expected.Text LabelItem) b = b ≡ block.Layer
+Suits (expected.Text Template) b = b ≡ block.Layer
+Suits (expected.Text CsvX) b = b ≡ block.Layer
+Suits (expected.Text CsvY) b = b ≡ block.Layer
+Suits (expected.Text ServiceWmsTitle) b = b ≡ block.WebMetadata
+Suits (expected.Text ServiceOwsTitle) b = b ≡ block.WebMetadata
+Suits (expected.Text ServiceWmsUrl) b = b ≡ block.WebMetadata
+Suits (expected.Text ServiceOwsUrl) b = b ≡ block.WebMetadata
+Suits (expected.Text LayerWmsTitle) b = b ≡ block.LayerMetadata
+Suits (expected.Text LayerOwsTitle) b = b ≡ block.LayerMetadata
+Suits (expected.Text FeatureText) b = b ≡ block.Feature
+Suits (expected.Text FeatureItems) b = b ≡ block.Feature
+Suits expected.Priority b = b ≡ block.Label
+Suits expected.Buffer b = b ≡ block.Label
+Suits expected.Distance b = b ≡ block.Label
+Suits expected.Position b = b ≡ block.Label
+Suits (expected.Flag keyword) b = b ≡ block.Label
+Suits (expected.Scale LayerMin) b = b ≡ block.Layer
+Suits (expected.Scale LayerMax) b = b ≡ block.Layer
+Suits (expected.Scale ClassMin) b = b ≡ block.Class
+Suits (expected.Scale ClassMax) b = b ≡ block.Class
+Suits expected.Rule b = b ≡ block.Class
+Suits expected.Setting b = b ≡ block.Layer
+Suits expected.West b = b ≡ block.Map
+Suits (expected.South x) b = b ≡ block.Map
+Suits (expected.East x y) b = b ≡ block.Map
+Suits (expected.North x y east) b = b ≡ block.Map
+Suits expected.Width b = b ≡ block.Style
+Suits expected.Size b = b ≡ block.Style
+Suits expected.Tolerance b = b ≡ block.Layer
+Suits expected.Kind b = b ≡ block.Layer
+Suits (expected.Colour StyleColour) b = b ≡ block.Style
+Suits (expected.Green StyleColour r) b = b ≡ block.Style
+Suits (expected.Blue StyleColour r g) b = b ≡ block.Style
+Suits (expected.Colour StyleOutline) b = b ≡ block.Style
+Suits (expected.Green StyleOutline r) b = b ≡ block.Style
+Suits (expected.Blue StyleOutline r g) b = b ≡ block.Style
+Suits (expected.Colour LabelColour) b = b ≡ block.Label
+Suits (expected.Green LabelColour r) b = b ≡ block.Label
+Suits (expected.Blue LabelColour r g) b = b ≡ block.Label
+Suits (expected.Colour LabelOutline) b = b ≡ block.Label
+Suits (expected.Green LabelOutline r) b = b ≡ block.Label
+Suits (expected.Blue LabelOutline r g) b = b ≡ block.Label
+Suits _ b = Unit {0}
+
+-- a keyword of a block opens a block inside of it, or takes a value of it
+abbrev pub Fits : Block → Option Role → Type 0
+Fits b None = Unit {0}
+Fits b (Some role.Closes) = Unit {0}
+Fits b (Some (role.Opens c)) = Nests c b
+Fits b (Some (role.Takes e)) = Suits e b
+
+nests : {c b : Block} → ((own : Entries) (o : OpenBlocks) → in_block c Nothing (in_block b own o) ≡ in_block b own o) → ((own : Entries) (o : OpenBlocks) → above c own (in_block b own o) ≡ own) → ((inner own : Entries) (o : OpenBlocks) → after_end c inner (in_block b own o) ≡ in_block b (with_block c inner own) o) → Nests c b
+nests p q r = record { opened = p; parent = q; ended = r }
+
+fits-map : (k : Keyword) → Fits block.Map (map_role k)
+fits-map keyword.Name = refl
+fits-map keyword.Extent = refl
+fits-map keyword.Web = nests (λ own o. refl) (λ own o. refl) (λ inner own o. refl)
+fits-map keyword.Layer = nests (λ own o. refl) (λ own o. refl) (λ inner own o. refl)
+fits-map keyword.Legend = nests (λ own o. refl) (λ own o. refl) (λ inner own o. refl)
+fits-map keyword.OutputFormat = nests (λ own o. refl) (λ own o. refl) (λ inner own o. refl)
+fits-map keyword.QueryMap = nests (λ own o. refl) (λ own o. refl) (λ inner own o. refl)
+fits-map keyword.Reference = nests (λ own o. refl) (λ own o. refl) (λ inner own o. refl)
+fits-map keyword.ScaleBar = nests (λ own o. refl) (λ own o. refl) (λ inner own o. refl)
+fits-map keyword.Projection = nests (λ own o. refl) (λ own o. refl) (λ inner own o. refl)
+fits-map _ = tt
+
+fits-web : (k : Keyword) → Fits block.Web (web_role k)
+fits-web keyword.Metadata = nests (λ own o. refl) (λ own o. refl) (λ inner own o. refl)
+fits-web keyword.Validation = nests (λ own o. refl) (λ own o. refl) (λ inner own o. refl)
+fits-web _ = tt
+
+fits-layer : (k : Keyword) → Fits block.Layer (layer_role k)
+fits-layer keyword.Name = refl
+fits-layer keyword.Kind = refl
+fits-layer keyword.ClassItem = refl
+fits-layer keyword.LabelItem = refl
+fits-layer keyword.Template = refl
+fits-layer keyword.Tolerance = refl
+fits-layer keyword.MinScaleDenom = refl
+fits-layer keyword.MaxScaleDenom = refl
+fits-layer keyword.Processing = refl
+fits-layer keyword.Metadata = nests (λ own o. refl) (λ own o. refl) (λ inner own o. refl)
+fits-layer keyword.Class = nests (λ own o. refl) (λ own o. refl) (λ inner own o. refl)
+fits-layer keyword.Feature = nests (λ own o. refl) (λ own o. refl) (λ inner own o. refl)
+fits-layer keyword.Projection = nests (λ own o. refl) (λ own o. refl) (λ inner own o. refl)
+fits-layer keyword.Validation = nests (λ own o. refl) (λ own o. refl) (λ inner own o. refl)
+fits-layer _ = tt
+
+fits-class : (k : Keyword) → Fits block.Class (class_role k)
+fits-class keyword.Style = nests (λ own o. refl) (λ own o. refl) (λ inner own o. refl)
+fits-class keyword.Label = nests (λ own o. refl) (λ own o. refl) (λ inner own o. refl)
+fits-class keyword.Expression = refl
+fits-class keyword.MinScaleDenom = refl
+fits-class keyword.MaxScaleDenom = refl
+fits-class _ = tt
+
+fits-style : (k : Keyword) → Fits block.Style (style_role k)
+fits-style keyword.Color = refl
+fits-style keyword.OutlineColor = refl
+fits-style keyword.Width = refl
+fits-style keyword.Size = refl
+fits-style _ = tt
+
+fits-label : (k : Keyword) → Fits block.Label (label_role k)
+fits-label keyword.Color = refl
+fits-label keyword.OutlineColor = refl
+fits-label keyword.Priority = refl
+fits-label keyword.Position = refl
+fits-label keyword.Buffer = refl
+fits-label keyword.MinDistance = refl
+fits-label keyword.Partials = refl
+fits-label keyword.Force = refl
+fits-label keyword.Style = nests (λ own o. refl) (λ own o. refl) (λ inner own o. refl)
+fits-label _ = tt
+
+fits-feature : (k : Keyword) → Fits block.Feature (feature_role k)
+fits-feature keyword.Text = refl
+fits-feature keyword.Items = refl
+fits-feature keyword.Points = nests (λ own o. refl) (λ own o. refl) (λ inner own o. refl)
+fits-feature _ = tt
+
+fits-passed : (k : Keyword) → Fits block.Passed (passed_role k)
+fits-passed keyword.Label = nests (λ own o. refl) (λ own o. refl) (λ inner own o. refl)
+fits-passed keyword.Metadata = nests (λ own o. refl) (λ own o. refl) (λ inner own o. refl)
+fits-passed keyword.Validation = nests (λ own o. refl) (λ own o. refl) (λ inner own o. refl)
+fits-passed _ = tt
+
+fits-passed_label : (k : Keyword) → Fits block.PassedLabel (passed_label_role k)
+fits-passed_label keyword.Label = nests (λ own o. refl) (λ own o. refl) (λ inner own o. refl)
+fits-passed_label keyword.Metadata = nests (λ own o. refl) (λ own o. refl) (λ inner own o. refl)
+fits-passed_label keyword.Validation = nests (λ own o. refl) (λ own o. refl) (λ inner own o. refl)
+fits-passed_label keyword.Style = nests (λ own o. refl) (λ own o. refl) (λ inner own o. refl)
+fits-passed_label _ = tt
+
+fits-end : (b : Block) (k : Keyword) → Fits b (end_role k)
+fits-end b keyword.End = tt
+fits-end b _ = tt
+
+fits : (b : Block) (k : Keyword) → Fits b (role_of b k)
+fits block.Map k = fits-map k
+fits block.Layer k = fits-layer k
+fits block.Class k = fits-class k
+fits block.Style k = fits-style k
+fits block.Web k = fits-web k
+fits block.Label k = fits-label k
+fits block.Feature k = fits-feature k
+fits block.Passed k = fits-passed k
+fits block.PassedLabel k = fits-passed_label k
+fits block.Points k = fits-end block.Points k
+fits block.Validation k = fits-end block.Validation k
+fits block.WebMetadata k = fits-end block.WebMetadata k
+fits block.LayerMetadata k = fits-end block.LayerMetadata k
+fits block.Projection k = fits-end block.Projection k
+
+pub fits-option : (b : Block) (k : Option Keyword) → Fits b (option_and_then (role_of b) k)
+fits-option b None = tt
+fits-option b (Some k) = fits b k
+
+-- a block that may open inside one that is read over has no limit
+abbrev pub Frees : Option Role → Type 0
+Frees (Some (role.Opens c)) = (own : Entries) → is_full c own ≡ false
+Frees _ = Unit {0}
+
+frees-passed : (k : Keyword) → Frees (passed_role k)
+frees-passed keyword.Label = λ own. refl
+frees-passed keyword.Metadata = λ own. refl
+frees-passed keyword.Validation = λ own. refl
+frees-passed _ = tt
+
+frees-passed_label : (k : Keyword) → Frees (passed_label_role k)
+frees-passed_label keyword.Label = λ own. refl
+frees-passed_label keyword.Metadata = λ own. refl
+frees-passed_label keyword.Validation = λ own. refl
+frees-passed_label keyword.Style = λ own. refl
+frees-passed_label _ = tt
+
+frees-end : (k : Keyword) → Frees (end_role k)
+frees-end keyword.End = tt
+frees-end _ = tt
+
+-- in each of these blocks
+pub projection-frees : (k : Option Keyword) → Frees (option_and_then end_role k)
+projection-frees None = tt
+projection-frees (Some k) = frees-end k
+
+pub passed-frees : (k : Option Keyword) → Frees (option_and_then passed_role k)
+passed-frees None = tt
+passed-frees (Some k) = frees-passed k
+
+pub label-frees : (k : Option Keyword) → Frees (option_and_then passed_label_role k)
+label-frees None = tt
+label-frees (Some k) = frees-passed_label k
+
+is_some-map : (label : Option Entries) → is_some (option_map label_tree label) ≡ is_some label
+is_some-map (Some own) = refl
+is_some-map None = refl
+
+-- there is as much room for a further block as its parent says
+pub same-room : (b : Block) (up own : Entries) (o : OpenBlocks) → draft.is_full b (drafts_of (in_block b own o)) ≡ is_full b (above b up o)
+same-room block.Layer up own o = ap (nat_le MAX_LAYERS) (length-map (blocks block.Layer o.map) layer_tree)
+same-room block.Class up own o = ap (nat_le MAX_CLASSES) (length-map (blocks block.Class o.layer) class_tree)
+same-room block.Style up own o = ap (nat_le MAX_STYLES) (length-map (blocks block.Style o.class) style_tree)
+same-room block.Feature up own o = ap (nat_le MAX_FEATURES) (length-map (blocks block.Feature o.layer) feature_tree)
+same-room block.Label up own o = is_some-map (last_block block.Label o.class)
+same-room _ up own o = refl
+
+-- what is given where nothing is wrong
+abbrev pub unless_fault : {A : Type 0} → Option Fault → A → Result A Fault
+unless_fault None a = Ok a
+unless_fault (Some f) a = Err f
+
+module _ (earlier : List LayerTree) (t : TokenValue) (layer : LayerDraft) (with_layer : LayerTree → Drafts) where
+  taken-ends : (name : Named) (kind : Kind) (taken : Bool) →
+      and_then (if taken then Err (record { line = name.line; kind = DuplicateName }) else Ok (layer_with name.text kind layer)) (λ made. Ok (with_layer made))
+      ≡ unless_fault (if taken then Some (record { line = name.line; kind = DuplicateName }) else None) (with_layer (layer_with name.text kind layer))
+  taken-ends name kind true = refl
+  taken-ends name kind false = refl
+
+  layer-ends : (name : Option Named) (kind : Option Kind) →
+      and_then (finished_layer name kind layer earlier t) (λ made. Ok (with_layer made))
+      ≡ unless_fault (layer_fault name kind earlier t) (with_layer (layer_with (option_map_or (λ (n : Named). n.text) name []) (unwrap_or kind Polygon) layer))
+  layer-ends (Some name) (Some kind) = taken-ends name kind (is_taken name.text earlier)
+  layer-ends (Some name) None = refl
+  layer-ends None (Some kind) = refl
+  layer-ends None None = refl
+
+given-unless : {A : Type 0} (none : Bool) (f : Fault) (a b : A) → a ≡ b → (if none then Err f else Ok a) ≡ unless_fault (if none then Some f else None) b
+given-unless true f a b p = refl
+given-unless false f a b p = ap (λ x. Ok x) p
+
+or-assoc : {A : Type 0} (a b c : Option A) → option_or a (option_or b c) ≡ option_or (option_or a b) c
+or-assoc (Some x) b c = refl
+or-assoc None b c = refl
+
+-- the METADATA of a WEB is the last of those that the WEB has
+pub metadata-ends : (own : Entries) (o : OpenBlocks) → drafts_of (in_block block.WebMetadata own o) ≡ drafts_of (after_end block.WebMetadata own o)
+metadata-ends own o =
+    rw (
+      or-assoc (last service_wms_title own) (web_text service_wms_title o.web) (service_text service_wms_title o.map),
+      or-assoc (last service_ows_title own) (web_text service_ows_title o.web) (service_text service_ows_title o.map),
+      or-assoc (last service_wms_url own) (web_text service_wms_url o.web) (service_text service_wms_url o.map),
+      or-assoc (last service_ows_url own) (web_text service_ows_url o.web) (service_text service_ows_url o.map),
+    ) refl
+
+-- the END of a block, in drafts and by what it says
+pub same-end : (b : Block) (up own : Entries) (o : OpenBlocks) (t : TokenValue) → ends b (drafts_of (in_block b own o)) t ≡ unless_fault (closing_fault b (above b up o) own t) (drafts_of (after_end b own o))
+same-end block.Layer up own o t =
+    layer-ends (map_tree o.map).layers t (drafts_of (in_block block.Layer own o)).layer
+    (λ layer. record (drafts_of (in_block block.Map o.map o)) { map = record (map_tree o.map) { layers = (map_tree o.map).layers ++ layer ∷ [] } })
+    (last layer_name own) (last layer_kind own)
+    ∙ ap (λ (layers : List LayerTree). unless_fault (closing_fault block.Layer o.map own t) (record (drafts_of (in_block block.Map o.map o)) { map = record (map_tree o.map) { layers = layers } }))
+    (sym (map-append layer_tree (blocks block.Layer o.map) (own ∷ [])))
+same-end block.Class up own o t = rw (map-append class_tree (blocks block.Class o.layer) (own ∷ [])) refl
+same-end block.Style up own o t = rw (map-append style_tree (blocks block.Style o.class) (own ∷ [])) refl
+same-end block.Feature up own o t =
+    rw (map-append feature_tree (blocks block.Feature o.layer) (own ∷ []), length-map (blocks block.Points own) vertices)
+    (given-unless (length (blocks block.Points own) == 0) _ _ _ refl)
+same-end block.Points up own o t =
+    rw (map-append vertices (blocks block.Points o.feature) (own ∷ []))
+    (given-unless (length (vertices own) == 0) _ _ _ refl)
+same-end block.WebMetadata up own o t = ap (λ d. Ok d) (metadata-ends own o)
+same-end _ up own o t = refl

@@ -1,0 +1,89 @@
+-- What an END does, and what is checked at it (docs/MAPFILE.md, "Blocks and words").
+use Rattle.std.specs.Prelude.{ℕ, ◌==◌, if◌then◌else◌, List, [], ◌∷◌, ◌++◌, length, Option, Some, Result, Ok, Err}
+use Rattle.maplex.specs.Token.{TokenValue}
+use Rattle.mapdefs.specs.declared.layer.Kind.{Kind}
+use Rattle.maptree.specs.Name.{is_taken}
+use Rattle.maptree.specs.declared.context.Block.{Block}
+use Rattle.maptree.specs.declared.context.Block.TheVariants as block
+use Rattle.maptree.specs.declared.fault.Fault.{Fault}
+use Rattle.maptree.specs.declared.fault.ParseKind.TheVariants.{MissingValue, DuplicateName}
+use Rattle.maptree.specs.declared.tree.LayerTree.{LayerTree}
+use Rattle.maptree.specs.declared.draft.Named.{Named}
+use Rattle.maptree.specs.declared.draft.LayerDraft.{LayerDraft}
+use Rattle.maptree.specs.declared.draft.Drafts.{Drafts}
+use Rattle.maptree.specs.Fault.{refused, and_then}
+use Rattle.maptree.specs.Parts.{with_part}
+use Rattle.maptree.specs.Draft.{new_layer, new_class, new_style, new_label, new_feature}
+
+-- a layer with this name and this kind, and what else its draft has
+abbrev pub layer_with : List ℕ → Kind → LayerDraft → LayerTree
+layer_with name kind layer = record {
+  name = name;
+  kind = kind;
+  classitem = layer.classitem;
+  labelitem = layer.labelitem;
+  queryable = layer.queryable;
+  tolerance = layer.tolerance;
+  min = layer.min;
+  max = layer.max;
+  items = layer.items;
+  csv_x = layer.csv_x;
+  csv_y = layer.csv_y;
+  wms_title = layer.wms_title;
+  ows_title = layer.ows_title;
+  classes = layer.classes;
+  features = layer.features;
+}
+
+-- a layer with its name and its kind, unless an earlier layer has the name
+abbrev pub named_layer : Named → Kind → LayerDraft → List LayerTree → Result LayerTree Fault
+named_layer name kind layer earlier =
+    if is_taken name.text earlier then Err (record { line = name.line; kind = DuplicateName })
+    else Ok (layer_with name.text kind layer)
+
+-- a layer has a name and a kind
+abbrev pub finished_layer : Option Named → Option Kind → LayerDraft → List LayerTree → TokenValue → Result LayerTree Fault
+finished_layer (Some name) (Some kind) layer earlier t = named_layer name kind layer earlier
+finished_layer _ _ layer earlier t = refused MissingValue t
+
+-- at the END of a LAYER the map has it
+abbrev pub layer_end : Drafts → TokenValue → Result Drafts Fault
+layer_end d t = and_then (finished_layer d.layer.name d.layer.kind d.layer d.map.layers t) (λ layer.
+    Ok (record d { map = record d.map { layers = d.map.layers ++ layer ∷ [] }; layer = new_layer }))
+
+-- at the END of a CLASS the layer has it
+abbrev pub class_end : Drafts → Drafts
+class_end d = record d { layer = record d.layer { classes = d.layer.classes ++ d.class ∷ [] }; class = new_class }
+
+-- at the END of a STYLE the class has it
+abbrev pub style_end : Drafts → Drafts
+style_end d = record d { class = record d.class { styles = d.class.styles ++ d.style ∷ [] }; style = new_style }
+
+-- at the END of a LABEL the class has it
+abbrev pub label_end : Drafts → Drafts
+label_end d = record d { class = record d.class { label = Some d.label }; label = new_label }
+
+-- at the END of a FEATURE, which has parts, the layer has it
+abbrev pub feature_end : Drafts → TokenValue → Result Drafts Fault
+feature_end d t =
+    if length d.feature.parts.whole == 0 then refused MissingValue t
+    else Ok (record d {
+      layer = record d.layer { features = d.layer.features ++ record { parts = d.feature.parts.whole; text = d.feature.text; items = d.feature.items } ∷ [] };
+      feature = new_feature;
+    })
+
+-- at the END of POINTS, which have vertices, they are a part of the feature
+abbrev pub points_end : Drafts → TokenValue → Result Drafts Fault
+points_end d t =
+    if length d.feature.parts.next == 0 then refused MissingValue t
+    else Ok (record d { feature = record d.feature { parts = with_part d.feature.parts } })
+
+-- what the END of a block does: the parent has the block, and the next one of the kind begins anew
+abbrev pub ends : Block → Drafts → TokenValue → Result Drafts Fault
+ends block.Layer d t = layer_end d t
+ends block.Class d t = Ok (class_end d)
+ends block.Style d t = Ok (style_end d)
+ends block.Label d t = Ok (label_end d)
+ends block.Feature d t = feature_end d t
+ends block.Points d t = points_end d t
+ends _ d t = Ok d

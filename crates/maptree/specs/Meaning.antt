@@ -1,0 +1,93 @@
+-- What the tokens of a mapfile mean (docs/MAPFILE.md, "Blocks and words").
+use Rattle.std.specs.Prelude.{◌≡◌, ◌≢◌, ℕ, ℤ, zero, suc, ◌<◌, ◌≤◌, if◌then◌else◌, List, [], ◌∷◌, ◌++◌, length, IsTrue, Some, Result, Ok, Err}
+use Rattle.std.specs.Fmt.{decimal}
+use Rattle.std.specs.Option.{ok_or}
+use Rattle.maplex.specs.declared.fault.LexFault.{LexFault}
+use Rattle.maplex.specs.declared.fault.Tail.{Tail}
+use Rattle.maplex.specs.declared.fault.Tail.TheVariants as tails
+use Rattle.maplex.specs.Token.{TokenValue}
+use Rattle.maptree.specs.declared.context.Block.{Block}
+use Rattle.maptree.specs.declared.context.Block.TheVariants as block
+use Rattle.maptree.specs.declared.context.ColourKeyword.TheVariants.{StyleColour}
+use Rattle.maptree.specs.declared.context.Expected.{Expected}
+use Rattle.maptree.specs.declared.context.Expected.TheVariants as expected
+use Rattle.maptree.specs.declared.keyword.Keyword.TheVariants as keyword
+use Rattle.maptree.specs.declared.value.Value.{Value}
+use Rattle.maptree.specs.declared.value.Value.TheVariants as value
+use Rattle.maptree.specs.declared.value.ValueStep.TheVariants.{More, Whole}
+use Rattle.maptree.specs.declared.fault.Fault.{Fault}
+use Rattle.maptree.specs.declared.fault.ParseKind.TheVariants.{UnknownWord, WrongValue, MissingValue}
+use Rattle.maptree.specs.Entries.{Entries, Nothing, Vertex, with_said, with_block}
+use Rattle.maptree.specs.Fault.{fault_of, refused, lexical, missing, and_then}
+use Rattle.maptree.specs.Keyword.{is_at, is_end}
+use Rattle.maptree.specs.Says.{says, Ends, Opens, Takes, Longitude, Passes}
+use Rattle.maptree.specs.Value.{is_value, value_step, coordinate_in}
+
+-- a value that was given, the line of its last token, and the tokens after it
+pub record Given : Type 0 where
+  pub value : Value
+  pub line : ℕ
+  pub rest : List TokenValue
+
+-- the value that a keyword takes of the tokens after it
+unfoldable pub value_in : Tail → Expected → List TokenValue → Result Given Fault
+value_in tail expected [] = Err (missing tail)
+value_in tail expected (t ∷ ts) = if is_end t then refused MissingValue t else and_then (value_step expected t) (λ step. elim step [
+  | More next ↦ value_in tail next ts
+  | Whole value ↦ Ok (record { value = value; line = t.line; rest = ts })
+])
+
+-- the latitude of a vertex, and the tokens after it
+abbrev pub latitude_in : Tail → List TokenValue → Result (ℤ × List TokenValue) Fault
+latitude_in tail [] = Err (missing tail)
+latitude_in tail (t ∷ ts) =
+    if is_end t then refused MissingValue t
+    else and_then (ok_or (coordinate_in t) (fault_of WrongValue t)) (λ y. Ok (y, ts))
+
+-- The entries of a block up to its END, within so many tokens, and the tokens after it: `above` is what its parent says
+-- before it, and `own` what it says itself so far. No other block counts.
+unfoldable pub block_in : Tail → ℕ → Block → Entries → Entries → List TokenValue → Result (Entries × List TokenValue) Fault
+block_in tail n b above own [] = Err (missing tail)
+block_in tail zero b above own (t ∷ ts) = Err (missing tail)
+block_in tail (suc n) b above own (t ∷ ts) = and_then (says b above own t) (λ saying. elim saying [
+  | Ends ↦ Ok (own, ts)
+  | Opens c ↦ and_then (block_in tail n c own Nothing ts) (λ inner. block_in tail n b above (with_block c inner.0 own) inner.1)
+  | Takes expected ↦ and_then (value_in tail expected ts) (λ v. block_in tail n b above (with_said v.value v.line own) v.rest)
+  | Longitude x ↦ and_then (latitude_in tail ts) (λ y. block_in tail n b above (Vertex (record { x = x; y = y.0 }) own) y.1)
+  | Passes ↦ block_in tail n b above own ts
+])
+
+-- after the END of MAP stands nothing
+abbrev pub alone : Tail → Entries → List TokenValue → Result Entries Fault
+alone (tails.Ends line) own [] = Ok own
+alone (tails.Breaks f) own [] = Err (lexical f)
+alone tail own (t ∷ ts) = refused UnknownWord t
+
+-- the entries of MAP up to its END, and nothing more
+abbrev pub map_in : Tail → List TokenValue → Result Entries Fault
+map_in tail ts = and_then (block_in tail (length ts) block.Map Nothing Nothing ts) (λ own. alone tail own.0 own.1)
+
+-- what a list of tokens means, with what stands after them: the entries of one MAP, or the first fault in their order
+abbrev pub meaning : List TokenValue → Tail → Result Entries Fault
+meaning [] tail = Err (missing tail)
+meaning (t ∷ ts) tail = if is_at keyword.Map t then map_in tail ts else refused UnknownWord t
+
+-- the law that more tokens than there are change nothing
+abbrev pub CountIsEnough : Type 0
+CountIsEnough = (tail : Tail) (n m : ℕ) (b : Block) (above own : Entries) (ts : List TokenValue) →
+    length ts ≤ n → length ts ≤ m → block_in tail n b above own ts ≡ block_in tail m b above own ts
+
+-- the law that the first fault is told: where some tokens with a lexical fault after them have another fault, this is
+-- the fault of every mapfile that begins with them
+abbrev pub FirstFaultIsTold : Type 0
+FirstFaultIsTold = (front rest : List TokenValue) (f : LexFault) (g : Fault) (tail : Tail) →
+    meaning front (tails.Breaks f) ≡ Err g → g ≢ lexical f → meaning (front ++ rest) tail ≡ Err g
+
+-- the law that three counts after COLOR, bare or quoted and in decimals, are the red, the green and the blue of the style's colour
+abbrev pub CountsAreColour : Type 0
+CountsAreColour = (red green blue : ℕ) → red < 256 → green < 256 → blue < 256 →
+    (tail : Tail) (r g b : TokenValue) (ts : List TokenValue) →
+    IsTrue (is_value r.shape) → IsTrue (is_value g.shape) → IsTrue (is_value b.shape) →
+    r.text ≡ decimal red → g.text ≡ decimal green → b.text ≡ decimal blue →
+    value_in tail (expected.Colour StyleColour) (r ∷ g ∷ b ∷ ts)
+    ≡ Ok (record { value = value.Colour StyleColour (Some (record { red = red; green = green; blue = blue })); line = b.line; rest = ts })

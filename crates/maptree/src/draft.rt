@@ -1,0 +1,299 @@
+ghost use Rattle.std.specs.Prelude.{◌≡◌};
+ghost use Rattle.maptree.specs.Draft.{fresh, new_map, new_layer, new_class, new_style, new_label, new_feature, with_other_text, with_text, with_scale, with_colour, with_flag, with_value, is_full};
+
+use crate::bounded::Bounded;
+use crate::capped::Capped;
+use crate::context::{Block, ColourKeyword, FlagKeyword, ScaleKeyword, TextKeyword};
+use crate::parts::PartsDraft;
+use crate::tree::{ClassTree, FeatureTree, LabelTree, LayerTree, MapTree, StyleTree};
+use crate::value::Value;
+use geom::Micro;
+use mapdefs::{Kind, MAX_CLASSES, MAX_FEATURES, MAX_ITEMS, Rgb, Text};
+use std::alloc::Global;
+
+/// A name, and the line of its token.
+#[derive(Drop)]
+pub struct Named {
+    pub text: Text,
+    pub line: u64,
+}
+
+/// What was read of the open LAYER.
+#[derive(Drop)]
+pub struct LayerDraft {
+    pub name: Option<Named>,
+    pub kind: Option<Kind>,
+    pub classitem: Option<Text>,
+    pub labelitem: Option<Text>,
+    pub queryable: bool,
+    pub tolerance: Option<Bounded<0, 64>>,
+    pub min: Option<Micro>,
+    pub max: Option<Micro>,
+    pub items: Option<Capped<Text, MAX_ITEMS>>,
+    pub csv_x: Option<Text>,
+    pub csv_y: Option<Text>,
+    pub wms_title: Option<Text>,
+    pub ows_title: Option<Text>,
+    pub classes: Capped<ClassTree, MAX_CLASSES>,
+    pub features: Capped<FeatureTree, MAX_FEATURES>,
+}
+
+/// What was read of the open FEATURE.
+#[derive(Drop)]
+pub struct FeatureDraft {
+    pub parts: PartsDraft,
+    pub text: Option<Text>,
+    pub items: Option<Text>,
+}
+
+/// What was read of the open blocks. The draft of a block that isn't open is a new one.
+#[derive(Drop)]
+pub struct Drafts {
+    pub map: MapTree,
+    pub layer: LayerDraft,
+    pub class: ClassTree,
+    pub style: StyleTree,
+    pub label: LabelTree,
+    pub feature: FeatureDraft,
+}
+
+impl MapTree {
+    /// A MAP of which nothing was read.
+    pub fn new(alloc: Global) -> Self
+        ensures { result ≡ new_map }
+    {
+        MapTree {
+            name: None,
+            extent: None,
+            wms_title: None,
+            ows_title: None,
+            wms_url: None,
+            ows_url: None,
+            layers: Capped::new(alloc),
+        }
+    }
+}
+
+impl LayerDraft {
+    /// A LAYER of which nothing was read.
+    pub fn new(alloc: Global) -> Self
+        ensures { result ≡ new_layer }
+    {
+        LayerDraft {
+            name: None,
+            kind: None,
+            classitem: None,
+            labelitem: None,
+            queryable: false,
+            tolerance: None,
+            min: None,
+            max: None,
+            items: None,
+            csv_x: None,
+            csv_y: None,
+            wms_title: None,
+            ows_title: None,
+            classes: Capped::new(alloc),
+            features: Capped::new(alloc),
+        }
+    }
+}
+
+impl ClassTree {
+    /// A CLASS of which nothing was read.
+    pub fn new(alloc: Global) -> Self
+        ensures { result ≡ new_class }
+    {
+        ClassTree {
+            rule: None,
+            min: None,
+            max: None,
+            styles: Capped::new(alloc),
+            label: None,
+        }
+    }
+}
+
+impl StyleTree {
+    /// A STYLE of which nothing was read.
+    pub fn new() -> Self
+        ensures { result ≡ new_style }
+    {
+        StyleTree {
+            colour: None,
+            outline: None,
+            width: None,
+            size: None,
+        }
+    }
+}
+
+impl LabelTree {
+    /// A LABEL of which nothing was read.
+    pub fn new() -> Self
+        ensures { result ≡ new_label }
+    {
+        LabelTree {
+            colour: None,
+            outline: None,
+            priority: None,
+            position: None,
+            buffer: None,
+            distance: None,
+            partials: None,
+            force: None,
+        }
+    }
+}
+
+impl FeatureDraft {
+    /// A FEATURE of which nothing was read.
+    pub fn new(alloc: Global) -> Self
+        ensures { result ≡ new_feature }
+    {
+        FeatureDraft {
+            parts: PartsDraft::new(alloc),
+            text: None,
+            items: None,
+        }
+    }
+}
+
+impl Drafts {
+    /// No block was read.
+    pub fn new(alloc: Global) -> Self
+        ensures { result ≡ fresh }
+    {
+        Drafts {
+            map: MapTree::new(alloc),
+            layer: LayerDraft::new(alloc),
+            class: ClassTree::new(alloc),
+            style: StyleTree::new(),
+            label: LabelTree::new(),
+            feature: FeatureDraft::new(alloc),
+        }
+    }
+
+    /// The map.
+    pub fn into_map(self) -> MapTree
+        ensures { result ≡ self.map }
+    {
+        self.map
+    }
+
+    // Notes a text of a MAP or a FEATURE.
+    fn set_other_text(&mut self, keyword: TextKeyword, text: Text)
+        ensures { self.new ≡ with_other_text keyword text self.old }
+    {
+        match keyword {
+            TextKeyword::MapName => self.map.name = Some(text),
+            TextKeyword::ServiceWmsTitle => self.map.wms_title = Some(text),
+            TextKeyword::ServiceOwsTitle => self.map.ows_title = Some(text),
+            TextKeyword::ServiceWmsUrl => self.map.wms_url = Some(text),
+            TextKeyword::ServiceOwsUrl => self.map.ows_url = Some(text),
+            TextKeyword::FeatureText => self.feature.text = Some(text),
+            TextKeyword::FeatureItems => self.feature.items = Some(text),
+            _ => {}
+        }
+    }
+
+    // Notes a text of a line.
+    fn set_text(&mut self, keyword: TextKeyword, text: Text, line: u64)
+        ensures { self.new ≡ with_text keyword text line self.old }
+    {
+        match keyword {
+            TextKeyword::LayerName => self.layer.name = Some(Named { text, line }),
+            TextKeyword::ClassItem => self.layer.classitem = Some(text),
+            TextKeyword::LabelItem => self.layer.labelitem = Some(text),
+            TextKeyword::Template => self.layer.queryable = true,
+            TextKeyword::CsvX => self.layer.csv_x = Some(text),
+            TextKeyword::CsvY => self.layer.csv_y = Some(text),
+            TextKeyword::LayerWmsTitle => self.layer.wms_title = Some(text),
+            TextKeyword::LayerOwsTitle => self.layer.ows_title = Some(text),
+            _ => self.set_other_text(keyword, text),
+        }
+    }
+
+    // Notes a bound on the scale.
+    fn set_scale(&mut self, keyword: ScaleKeyword, scale: Micro)
+        ensures { self.new ≡ with_scale keyword scale self.old }
+    {
+        match keyword {
+            ScaleKeyword::LayerMin => self.layer.min = Some(scale),
+            ScaleKeyword::LayerMax => self.layer.max = Some(scale),
+            ScaleKeyword::ClassMin => self.class.min = Some(scale),
+            ScaleKeyword::ClassMax => self.class.max = Some(scale),
+        }
+    }
+
+    // Notes a colour.
+    fn set_colour(&mut self, keyword: ColourKeyword, colour: Option<Rgb>)
+        ensures { self.new ≡ with_colour keyword colour self.old }
+    {
+        match keyword {
+            ColourKeyword::StyleColour => self.style.colour = colour,
+            ColourKeyword::StyleOutline => self.style.outline = colour,
+            ColourKeyword::LabelColour => self.label.colour = Some(colour),
+            ColourKeyword::LabelOutline => self.label.outline = colour,
+            ColourKeyword::ImageColour => {}
+        }
+    }
+
+    // Notes what a LABEL says of its place, TRUE or FALSE.
+    fn set_flag(&mut self, keyword: FlagKeyword, flag: bool)
+        ensures { self.new ≡ with_flag keyword flag self.old }
+    {
+        match keyword {
+            FlagKeyword::Partials => self.label.partials = Some(flag),
+            FlagKeyword::Force => self.label.force = Some(flag),
+        }
+    }
+
+    /// Notes a value of a line, in place of an earlier value of its keyword.
+    pub fn set(&mut self, value: Value, line: u64)
+        ensures { self.new ≡ with_value value line self.old }
+    {
+        match value {
+            Value::Text(keyword, text) => self.set_text(keyword, text, line),
+            Value::Kind(kind) => self.layer.kind = Some(kind),
+            Value::Width(width) => self.style.width = Some(width),
+            Value::Size(size) => self.style.size = Some(size),
+            Value::Tolerance(tolerance) => self.layer.tolerance = Some(tolerance),
+            Value::Priority(priority) => self.label.priority = Some(priority),
+            Value::Buffer(buffer) => self.label.buffer = Some(buffer),
+            Value::Distance(distance) => self.label.distance = Some(distance),
+            Value::Position(position) => self.label.position = Some(position),
+            Value::Flag(keyword, flag) => self.set_flag(keyword, flag),
+            Value::Scale(keyword, scale) => self.set_scale(keyword, scale),
+            Value::Rule(rule) => self.class.rule = Some(rule),
+            Value::Items(items) => self.layer.items = Some(items),
+            Value::Extent(extent) => self.map.extent = Some(extent),
+            Value::Colour(keyword, colour) => self.set_colour(keyword, colour),
+            Value::Nothing => {}
+        }
+    }
+
+    /// Whether a further block of the kind is one more than a map may have.
+    pub fn is_full(&self, block: Block) -> bool
+        ensures { result ≡ is_full block self.now }
+    {
+        match block {
+            Block::Layer => self.map.layers.is_full(),
+            Block::Class => self.layer.classes.is_full(),
+            Block::Style => self.class.styles.is_full(),
+            Block::Label => self.class.label.is_some(),
+            Block::Feature => self.layer.features.is_full(),
+            // A mapfile has one MAP, POINTS are limited by their vertices, keys and values add up, and the
+            // others are not kept.
+            Block::Map
+            | Block::Points
+            | Block::Web
+            | Block::WebMetadata
+            | Block::LayerMetadata
+            | Block::Validation
+            | Block::Projection
+            | Block::Passed
+            | Block::PassedLabel => false,
+        }
+    }
+}

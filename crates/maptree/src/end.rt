@@ -1,0 +1,174 @@
+ghost use Rattle.std.specs.Prelude.{◌≡◌, ◌<◌, false, length, Ok, OnOk, MatchResult};
+ghost use Rattle.mapdefs.specs.declared.limits.TheConstants.{MAX_LAYERS, MAX_CLASSES, MAX_STYLES, MAX_FEATURES};
+ghost use Rattle.maptree.specs.Draft.{is_full};
+ghost use Rattle.maptree.specs.End.{finished_layer, layer_end, class_end, style_end, label_end, feature_end, points_end, ends};
+ghost use Rattle.maptree.specs.Fault.{IsErrorOf};
+ghost use Rattle.maptree.specs.Name.{is_taken};
+
+use crate::context::Block;
+use crate::draft::{Drafts, FeatureDraft, LayerDraft};
+use crate::fault::{Fault, ParseFault, ParseKind, fault_of};
+use crate::tree::{ClassTree, FeatureTree, LabelTree, LayerTree, StyleTree};
+use maplex::Token;
+use std::alloc::{AllocError, Global};
+use std::mem;
+
+// Whether one of the layers has the name.
+fn is_taken(name: &str, layers: &[LayerTree]) -> bool
+    ensures { result ≡ is_taken name.now layers.now }
+{
+    layers.iter().any(|layer| layer.name.as_str() == name)
+}
+
+// The layer of a draft at its END, after the earlier layers.
+fn finished_layer(draft: LayerDraft, earlier: &[LayerTree], end: &Token) -> Result<LayerTree, Fault>
+    ensures { result ≡ finished_layer draft.name draft.kind draft earlier.now end.now }
+{
+    let LayerDraft {
+        name,
+        kind,
+        classitem,
+        labelitem,
+        queryable,
+        tolerance,
+        min,
+        max,
+        items,
+        csv_x,
+        csv_y,
+        wms_title,
+        ows_title,
+        classes,
+        features,
+    } = draft;
+    let (Some(name), Some(kind)) = (name, kind) else {
+        return Err(fault_of(ParseKind::MissingValue, end));
+    };
+    if is_taken(name.text.as_str(), earlier) {
+        return Err(Fault {
+            line: name.line,
+            kind: ParseKind::DuplicateName,
+        });
+    }
+    Ok(LayerTree {
+        name: name.text,
+        kind,
+        classitem,
+        labelitem,
+        queryable,
+        tolerance,
+        min,
+        max,
+        items,
+        csv_x,
+        csv_y,
+        wms_title,
+        ows_title,
+        classes,
+        features,
+    })
+}
+
+// Ends a LAYER: the map gets it.
+fn end_layer(drafts: &mut Drafts, end: &Token, alloc: Global) -> Result<(), ParseFault>
+    requires { length drafts.old.map.layers < MAX_LAYERS }
+    ensures { MatchResult result
+        (λ _. layer_end drafts.old end.now ≡ Ok drafts.new)
+        (IsErrorOf (layer_end drafts.old end.now)) }
+{
+    let draft = mem::replace(&mut drafts.layer, LayerDraft::new(alloc));
+    let layer = finished_layer(draft, drafts.map.layers.as_slice(), end)?;
+    drafts.map.layers.push(layer)?;
+    Ok(())
+}
+
+// Ends a CLASS: the layer gets it.
+fn end_class(drafts: &mut Drafts, alloc: Global) -> Result<(), AllocError>
+    requires { length drafts.old.layer.classes < MAX_CLASSES }
+    ensures { OnOk result (drafts.new ≡ class_end drafts.old) }
+{
+    let class = mem::replace(&mut drafts.class, ClassTree::new(alloc));
+    drafts.layer.classes.push(class)
+}
+
+// Ends a STYLE: the class gets it.
+fn end_style(drafts: &mut Drafts) -> Result<(), AllocError>
+    requires { length drafts.old.class.styles < MAX_STYLES }
+    ensures { OnOk result (drafts.new ≡ style_end drafts.old) }
+{
+    let style = mem::replace(&mut drafts.style, StyleTree::new());
+    drafts.class.styles.push(style)
+}
+
+// Ends a LABEL: the class gets it.
+fn end_label(drafts: &mut Drafts)
+    ensures { drafts.new ≡ label_end drafts.old }
+{
+    let label = mem::replace(&mut drafts.label, LabelTree::new());
+    drafts.class.label = Some(label);
+}
+
+// Ends a FEATURE: the layer gets it.
+fn end_feature(drafts: &mut Drafts, end: &Token, alloc: Global) -> Result<(), ParseFault>
+    requires { length drafts.old.layer.features < MAX_FEATURES }
+    ensures { MatchResult result
+        (λ _. feature_end drafts.old end.now ≡ Ok drafts.new)
+        (IsErrorOf (feature_end drafts.old end.now)) }
+{
+    if drafts.feature.parts.is_empty() {
+        return Err(fault_of(ParseKind::MissingValue, end).into());
+    }
+    let feature = mem::replace(&mut drafts.feature, FeatureDraft::new(alloc));
+    let FeatureDraft { parts, text, items } = feature;
+    drafts.layer.features.push(FeatureTree {
+        parts: parts.into_parts(),
+        text,
+        items,
+    })?;
+    Ok(())
+}
+
+// Ends POINTS: the feature gets them as a part.
+fn end_points(drafts: &mut Drafts, end: &Token, alloc: Global) -> Result<(), ParseFault>
+    ensures { MatchResult result
+        (λ _. points_end drafts.old end.now ≡ Ok drafts.new)
+        (IsErrorOf (points_end drafts.old end.now)) }
+{
+    if drafts.feature.parts.is_next_empty() {
+        return Err(fault_of(ParseKind::MissingValue, end).into());
+    }
+    drafts.feature.parts.finish_part(alloc)?;
+    Ok(())
+}
+
+/// Ends a block: its parent gets it, and the next block of the kind begins anew.
+pub fn close(
+    block: Block,
+    drafts: &mut Drafts,
+    end: &Token,
+    alloc: Global,
+) -> Result<(), ParseFault>
+    requires { is_full block drafts.old ≡ false }
+    ensures { MatchResult result
+        (λ _. ends block drafts.old end.now ≡ Ok drafts.new)
+        (IsErrorOf (ends block drafts.old end.now)) }
+{
+    match block {
+        Block::Layer => end_layer(drafts, end, alloc)?,
+        Block::Class => end_class(drafts, alloc)?,
+        Block::Style => end_style(drafts)?,
+        Block::Label => end_label(drafts),
+        Block::Feature => end_feature(drafts, end, alloc)?,
+        Block::Points => end_points(drafts, end, alloc)?,
+        // There is nothing to check, and nothing to keep.
+        Block::Map
+        | Block::Web
+        | Block::WebMetadata
+        | Block::LayerMetadata
+        | Block::Validation
+        | Block::Projection
+        | Block::Passed
+        | Block::PassedLabel => {}
+    }
+    Ok(())
+}

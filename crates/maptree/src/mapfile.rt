@@ -1,0 +1,67 @@
+ghost use Rattle.std.specs.Prelude.{◌≡◌, Ok, Err, IfOk, IfErr, MatchResult};
+ghost use Rattle.maplex.specs.Lexed.{lexed, stopped, with_token};
+ghost use Rattle.maptree.specs.Fault.{IsFaultOf};
+ghost use Rattle.maptree.specs.Pass.{map_body, pass_of};
+ghost use Rattle.maptree.specs.Source.{tree_of};
+
+use crate::fault::{Fault, ParseFault, ParseKind, fault_of, missing};
+use crate::keyword::Keyword;
+use crate::reader::Reader;
+use crate::tree::MapTree;
+use maplex::{Tail, Token, Tokens};
+use std::alloc::Global;
+
+// The next token, or what comes after the last one.
+fn next<'a>(tokens: &mut Tokens<'a>) -> Result<Token<'a>, Tail>
+    ensures { MatchResult result
+        (λ token. tokens.old ≡ with_token token tokens.new)
+        (λ tail. tokens.old ≡ stopped tokens.old.line tail) }
+{
+    match tokens.next() {
+        Some(Ok(token)) => Ok(token),
+        Some(Err(fault)) => Err(Tail::Breaks(fault)),
+        None => Err(Tail::Ends(tokens.line())),
+    }
+}
+
+// Reads the keyword MAP.
+fn begin(tokens: &mut Tokens) -> Result<(), Fault>
+    ensures { MatchResult result
+        (λ _. pass_of tokens.old ≡ map_body tokens.new.tail tokens.new.tokens)
+        (λ fault. pass_of tokens.old ≡ Err fault) }
+{
+    match next(tokens) {
+        Ok(token) if Keyword::Map.is_at(&token) => Ok(()),
+        Ok(token) => Err(fault_of(ParseKind::UnknownWord, &token)),
+        Err(tail) => Err(missing(tail)),
+    }
+}
+
+// Reads the tokens of the source in one pass.
+fn pass(source: &[u8], alloc: Global) -> Result<MapTree, ParseFault>
+    ensures { MatchResult result
+        (λ tree. pass_of (lexed source.now) ≡ Ok tree)
+        (IsFaultOf (pass_of (lexed source.now))) }
+{
+    let mut tokens = Tokens::new(source);
+    begin(&mut tokens)?;
+    let mut reader = Reader::new(alloc)?;
+    loop {
+        match next(&mut tokens) {
+            Ok(token) => reader.take(&token, alloc)?,
+            Err(tail) => return Ok(reader.finish(tail)?),
+        }
+    }
+}
+
+/// Reads a mapfile in one pass: what its blocks say, or its first fault with its line.
+///
+/// `tree_of` is either a tree or a fault, so the two clauses say when each comes: unless memory is
+/// refused, which is `NoMemory`, the call gives the tree or the fault that `tree_of` is. A source that is
+/// refused leaves no memory behind.
+pub fn read(alloc: Global, source: &[u8]) -> Result<MapTree, ParseFault>
+    ensures tree { IfOk result (λ tree. tree_of (lexed source.now) ≡ Ok tree) }
+    ensures fault { IfErr result (IsFaultOf (tree_of (lexed source.now))) }
+{
+    pass(source, alloc)
+}
