@@ -209,20 +209,22 @@ pub(crate) fn layer(alloc: Global, words: &str, feature: Feature) -> Result<Laye
     }))
 }
 
+// The symbol of a pixmap's file.
+fn symbol(alloc: Global, file: &[u8]) -> Result<Symbol, Fail> {
+    let pixmap = symbols::read(alloc, file)?;
+    let name = Text::of(String::new(alloc));
+    Ok(Symbol { name, pixmap })
+}
+
 // Two symbols: `#` and `o` above nothing and `#`; and three pixels one below another, `o`, nothing and `#`.
 fn two_symbols(alloc: Global) -> Result<Items<Symbol>, Fail>
     ensures { IfOk result (λ symbols. length symbols ≡ 2) }
 {
-    let first = symbols::read(
-        alloc,
-        b"P6 2 2 255\n\x64\x3c\x14\x0a\x14\x1e\xff\x00\xff\x64\x3c\x14",
-    )?;
-    let second = symbols::read(alloc, b"P6 1 3 255\n\x0a\x14\x1e\xff\x00\xff\x64\x3c\x14")?;
+    let square = b"P6 2 2 255\n\x64\x3c\x14\x0a\x14\x1e\xff\x00\xff\x64\x3c\x14";
+    let column = b"P6 1 3 255\n\x0a\x14\x1e\xff\x00\xff\x64\x3c\x14";
     let mut symbols = Items::new(alloc);
-    for pixmap in [first, second] {
-        let name = Text::of(String::new(alloc));
-        symbols.push(Symbol { name, pixmap })?;
-    }
+    symbols.push(symbol(alloc, square)?)?;
+    symbols.push(symbol(alloc, column)?)?;
     Ok(symbols)
 }
 

@@ -1,5 +1,4 @@
 use Rattle.std.proofs.Common.{arith}
-use Rattle.std.specs.List.{flat_map}
 use Rattle.compose.specs.Paint.{point_things}
 use Rattle.compose.proofs.Painting.{painted-none, painted_end, painted_next}
 use Rattle.compose.proofs.points.paint_part.Goals as goal

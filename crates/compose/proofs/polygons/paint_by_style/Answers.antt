@@ -1,5 +1,4 @@
 use Rattle.std.proofs.lemmas.Result.{on_ok_weaker}
-use Rattle.compose.specs.Paint.{fills, strokes}
 use Rattle.compose.proofs.Painting.{painted-append}
 use Rattle.compose.proofs.polygons.paint_by_style.Goals as goal
 

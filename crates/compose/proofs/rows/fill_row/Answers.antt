@@ -1,4 +1,4 @@
-use Rattle.std.proofs.Common.{◌≡◌, ℕ, ◌*◌, refl, sym, ◌∙◌, arith}
+use Rattle.std.proofs.Common.{◌≡◌, ℕ, ◌*◌, refl, ◌∙◌, arith}
 use Rattle.compose.proofs.Filling.{filled-row, part-wide, spans-covered, spans-fit}
 use Rattle.compose.proofs.rows.fill_row.Goals as goal
 

@@ -1,4 +1,4 @@
-use Rattle.std.proofs.Common.{◌≡◌, ℕ, ◌≤◌, ◌&&◌, nat_le, nat_lt, if◌then◌else◌, length}
+use Rattle.std.proofs.Common.{◌≡◌, ℕ, ◌&&◌, nat_le, nat_lt, if◌then◌else◌, length}
 use Rattle.compose.specs.Paint.{stamp_colour}
 use Rattle.compose.specs.Painted.{colour_of}
 use Rattle.compose.proofs.colouring.StampColouring.fill.Given as goal
