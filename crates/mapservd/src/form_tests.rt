@@ -2,13 +2,13 @@ use crate::files::{check_file, run_files};
 use crate::form::Command;
 use crate::stream_tests::Memory;
 use crate::summary::summary;
-use crate::tests::{Narrow, exception};
+use crate::tests::{Narrow, columns, exception};
 use crate::words::{WordsFault, command};
+use mapdefs::Map;
 use mapmachine::{Flagged, WriteFault};
 use mapparse::parse;
 use std::alloc::{AllocError, Global};
 use std::str;
-use std::test::Fail;
 
 // What is told of some words: their form, or why they were refused.
 fn told(alloc: Global, words: &[&str]) -> Result<String, AllocError> {
@@ -52,46 +52,53 @@ CHECK a|error: unrecognized subcommand 'CHECK'~~Usage: mapservd [COMMAND]~~For m
 check --help|Reads a mapfile, and says how many layers and features it has~~Usage: mapservd check <FILE>~~Arguments:~  <FILE>  ~~Options:~  -h, --help  Print help~
 --help|Plays map requests~~Usage: mapservd [COMMAND]~~Commands:~  check  Reads a mapfile, and says how many layers and features it has~  run    Plays a script on the map of a mapfile~  serve  Answers connections on a port of this machine~  help   Print this message or the help of the given subcommand(s)~~Options:~  -h, --help  Print help~";
 
-#[test]
-fn words_have_their_forms(rt: HostRuntime) -> Result<(), Fail> {
-    let alloc = rt.alloc();
-    assert_eq!(rt; WORDS.lines().count(), 21);
-    for row in WORDS.lines() {
-        let (line, expected) = row.split_once('|').ok_or("a row without its form")?;
-        let expected = expected.replace(alloc, '~', "\n")?;
-        let words: Vec<&str> = line.split_whitespace().collect(alloc)?;
-        assert_eq!(rt; told(alloc, &words)?.as_str(), expected.as_str(), "{row}");
-    }
-    Ok(())
+// Whether words have the form of their row.
+fn is_form(alloc: Global, row: &str) -> Result<bool, AllocError> {
+    let (line, form, _) = columns(row);
+    let form = form.replace(alloc, '~', "\n")?;
+    let words: Vec<&str> = line.split_whitespace().collect(alloc)?;
+    Ok(told(alloc, &words)?.as_str() == form.as_str())
 }
 
-// A map without layers, and one of 2 layers and 3 features, two of them in its first layer.
-const NONE: &str = "MAP~END~";
+#[test]
+fn words_have_their_forms(rt: HostRuntime) {
+    assert_eq!(rt; WORDS.lines().count(), 21);
+    for row in WORDS.lines() {
+        assert_eq!(rt; is_form(rt.alloc(), row), Ok(true), "{row}");
+    }
+}
 
+// A map of 2 layers and 3 features, two of them in its first layer.
 const SOME: &str =
-    "MAP~LAYER NAME a TYPE POLYGON~FEATURE POINTS 1 2 END END~FEATURE POINTS 3 4 5 6 END END~END~LAYER NAME b TYPE POLYGON~FEATURE POINTS 7 8 END END~END~END~";
+    "MAP LAYER NAME a TYPE POLYGON FEATURE POINTS 1 2 END END FEATURE POINTS 3 4 5 6 END END END LAYER NAME b TYPE POLYGON FEATURE POINTS 7 8 END END END END";
+
+// The line of that map.
+const LINE: &[u8] = b"ok 2 layers 3 features\n";
+
+// Whether the line of a map is written up to so many bytes.
+fn is_summed(alloc: Global, map: &Map, room: usize) -> bool {
+    let mut sink = Flagged::new(Narrow {
+        held: Vec::new(alloc),
+        room,
+    });
+    let outcome = summary(map, &mut sink);
+    let held = sink.into_inner().held;
+    if room < LINE.len() {
+        let written = room as u128;
+        outcome == Err(WriteFault { written }) && Some(held.as_slice()) == LINE.get(..room)
+    } else {
+        outcome == Ok(()) && held.as_slice() == LINE
+    }
+}
 
 #[test]
-fn summaries_are_written_up_to_a_failure(rt: HostRuntime) -> Result<(), Fail> {
-    let alloc = rt.alloc();
-    let map = parse(alloc, SOME.replace(alloc, '~', "\n")?.as_bytes())?;
-    let line = b"ok 2 layers 3 features\n";
+fn summaries_are_written_up_to_a_failure(rt: HostRuntime) {
+    let Ok(map) = parse(rt.alloc(), SOME.as_bytes()) else {
+        panic!(rt; "the map is refused");
+    };
     for room in 0..30 {
-        let mut sink = Flagged::new(Narrow {
-            held: Vec::new(alloc),
-            room,
-        });
-        let expected = if room < 23 {
-            Err(WriteFault {
-                written: room as u128,
-            })
-        } else {
-            Ok(())
-        };
-        assert_eq!(rt; summary(&map, &mut sink), expected);
-        assert_eq!(rt; sink.into_inner().held.as_slice(), &line[..room.min(23)]);
+        assert!(rt; is_summed(rt.alloc(), &map, room), "{room}");
     }
-    Ok(())
 }
 
 // A file in memory, which can't be read if it is `!`.
@@ -162,19 +169,21 @@ fn spelt(alloc: Global, row: &str) -> Result<String, AllocError> {
     row.replace(alloc, '~', "\n")
 }
 
+// Whether a form ends as its row says.
+fn is_ended(alloc: Global, line: &str) -> Result<bool, AllocError> {
+    let row = spelt(alloc, line)?;
+    let (form, mapfile, rest) = columns(row.as_str());
+    let (script, expected) = rest.split_once('|').unwrap_or(("", "no row"));
+    let found = formed(alloc, form, (mapfile, script), None)?;
+    Ok(found.as_str() == expected)
+}
+
 #[test]
-fn forms_end_as_they_should(rt: HostRuntime) -> Result<(), Fail> {
-    let alloc = rt.alloc();
+fn forms_end_as_they_should(rt: HostRuntime) {
     assert_eq!(rt; FORMS.lines().count(), 15);
     for line in FORMS.lines() {
-        let row = spelt(alloc, line)?;
-        let (form, row) = row.split_once('|').ok_or("a row without a form")?;
-        let (mapfile, row) = row.split_once('|').ok_or("a row without a mapfile")?;
-        let (script, expected) = row.split_once('|').ok_or("a row without a script")?;
-        let found = formed(alloc, form, (mapfile, script), None)?;
-        assert_eq!(rt; found.as_str(), expected, "{line}");
+        assert_eq!(rt; is_ended(rt.alloc(), line), Ok(true), "{line}");
     }
-    Ok(())
 }
 
 // Forms, the number of their call that fails, of those that write 5 bytes at most and of the flush after
@@ -189,31 +198,39 @@ run|2|3|fault scri|
 run|5|3|fault script 1~|
 run|6|0|fault script 1~|";
 
-#[test]
-fn outputs_that_fail_end_a_form(rt: HostRuntime) -> Result<(), Fail> {
-    let alloc = rt.alloc();
-    assert_eq!(rt; FAILING.lines().count(), 8);
-    for line in FAILING.lines() {
-        let row = line.replace(alloc, '~', "\n")?;
-        let (form, row) = row.split_once('|').ok_or("a row without a form")?;
-        let (failing, expected) = row.split_once('|').ok_or("a row without a number")?;
-        let found = formed(alloc, form, ("MAP END", "x\n"), Some(failing.parse()?))?;
-        assert_eq!(rt; found.as_str(), expected, "{line}");
-    }
-    Ok(())
+// Whether a form whose output fails ends as its row says.
+fn is_failed(alloc: Global, line: &str) -> Result<bool, AllocError> {
+    let row = line.replace(alloc, '~', "\n")?;
+    let (form, failing, expected) = columns(row.as_str());
+    let failing: usize = failing.parse().unwrap_or(99);
+    let found = formed(alloc, form, ("MAP END", "x\n"), Some(failing))?;
+    Ok(found.as_str() == expected)
 }
 
 #[test]
-fn refusals_print_their_text(rt: HostRuntime) -> Result<(), Fail> {
-    let alloc = rt.alloc();
-    let text = String::from_str(alloc, "no such form\n")?;
-    let refused = WordsFault::Refused { text }.to_string(alloc)?;
-    assert_eq!(rt; refused.as_str(), "no such form\n");
-    assert_eq!(rt;
-        WordsFault::NoMemory.to_string(alloc)?.as_str(),
-        "out of memory"
-    );
-    Ok(())
+fn outputs_that_fail_end_a_form(rt: HostRuntime) {
+    assert_eq!(rt; FAILING.lines().count(), 8);
+    for line in FAILING.lines() {
+        assert_eq!(rt; is_failed(rt.alloc(), line), Ok(true), "{line}");
+    }
+}
+
+// What is told of words that were refused with a text, and of those for which there was no memory.
+fn refusals(alloc: Global) -> Result<String, AllocError> {
+    let text = String::from_str(alloc, "no such form")?;
+    format!(in alloc;
+        "{}, {}",
+        WordsFault::Refused { text },
+        WordsFault::NoMemory
+    )
+}
+
+#[test]
+fn refusals_print_their_text(rt: HostRuntime) {
+    let Ok(text) = refusals(rt.alloc()) else {
+        panic!(rt; "out of memory");
+    };
+    assert_eq!(rt; text.as_str(), "no such form, out of memory");
 }
 
 #[test]

@@ -28,6 +28,8 @@ mod named_file;
 mod outcome;
 mod parts;
 mod play;
+#[cfg(test)]
+mod play_tests;
 mod script;
 mod sending;
 mod session;

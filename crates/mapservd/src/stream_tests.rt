@@ -1,11 +1,10 @@
 use crate::input::ReadFault;
 use crate::outcome::Outcome;
 use crate::session::serve_session;
-use crate::tests::{QUERY, SQUARE, SQUARE_TEXT, exception, map_text};
+use crate::tests::{QUERY, SQUARE, SQUARE_TEXT, columns, exception, map_text};
 use mapmachine::Flagged;
 use std::alloc::{AllocError, Global};
 use std::io::{self, Read, Write};
-use std::test::Fail;
 
 /// A stream in memory: it gives and takes so many bytes at once, and one of its calls fails.
 #[derive(Drop)]
@@ -111,23 +110,22 @@ struct Row {
 
 impl Row {
     fn read(alloc: Global, row: &str) -> Result<Row, AllocError> {
-        let row = row.replace(alloc, "~", "\n")?;
-        let (session, rest) = row.split_once('|').unwrap_or(("", ""));
-        let (status, rest) = rest.split_once('|').unwrap_or(("", ""));
-        let (output, errors) = rest.split_once('|').unwrap_or(("", ""));
+        let document = exception(alloc, "MissingParameterValue", "REQUEST")?;
+        let (session, status, written) = columns(row);
+        let (output, errors, _) = columns(written);
+        let session = session.replace(alloc, "~", "\n")?;
+        let output = output.replace(alloc, "x", document.as_str())?;
+        let output = output.replace(alloc, "~", "\n")?;
+        let errors = errors.replace(alloc, "~", "\n")?;
         Ok(Row {
-            session: String::from_str(alloc, session)?,
+            session,
             outcome: if status == "1" {
                 Outcome::MapfileFault
             } else {
                 Outcome::Played
             },
-            output: if output == "x" {
-                exception(alloc, "MissingParameterValue", "REQUEST")?
-            } else {
-                String::from_str(alloc, output)?
-            },
-            errors: String::from_str(alloc, errors)?,
+            output,
+            errors,
         })
     }
 
@@ -137,33 +135,46 @@ impl Row {
     }
 }
 
-#[test]
-fn sessions_end_as_they_should(rt: HostRuntime) -> Result<(), Fail> {
-    let alloc = rt.alloc();
-    for line in SESSIONS.lines() {
-        let row = Row::read(alloc, line)?;
-        for at_once in [1, 7, 100_000] {
-            let ending = served(alloc, row.session.as_bytes(), at_once, [None; 3]);
-            assert_eq!(rt; ending.outcome, row.outcome, "{line}");
-            assert_eq!(rt; ending.output.as_slice(), row.output.as_bytes(), "{line}");
-            assert_eq!(rt; ending.errors.as_slice(), row.errors.as_bytes(), "{line}");
-        }
-    }
-    Ok(())
+// Whether a session ends as its row says, with streams that move so many bytes at once.
+fn is_served(alloc: Global, line: &str, at_once: usize) -> Result<bool, AllocError> {
+    let row = Row::read(alloc, line)?;
+    let ending = served(alloc, row.session.as_bytes(), at_once, [None; 3]);
+    Ok(
+        ending.outcome == row.outcome
+            && ending.output.as_slice() == row.output.as_bytes()
+            && ending.errors.as_slice() == row.errors.as_bytes(),
+    )
 }
 
 #[test]
-fn sessions_whose_input_fails_write_nothing(rt: HostRuntime) -> Result<(), Fail> {
-    let alloc = rt.alloc();
+fn sessions_end_as_they_should(rt: HostRuntime) {
     for line in SESSIONS.lines() {
-        let row = Row::read(alloc, line)?;
-        for failing in 0..row.served(alloc, [None; 3]).calls[0] {
-            let ending = row.served(alloc, [Some(failing), None, None]);
-            let found = (ending.outcome, ending.output.len(), ending.errors.len());
-            assert_eq!(rt; found, (Outcome::InputFailed, 0, 0), "{line}");
+        for at_once in [1, 7, 100_000] {
+            assert_eq!(rt; is_served(rt.alloc(), line, at_once), Ok(true), "{line}");
         }
     }
-    Ok(())
+}
+
+// Whether a session whose input fails at any of its calls writes nothing.
+fn is_silent(alloc: Global, line: &str) -> Result<bool, AllocError> {
+    let row = Row::read(alloc, line)?;
+    for failing in 0..row.served(alloc, [None; 3]).calls[0] {
+        let ending = row.served(alloc, [Some(failing), None, None]);
+        if ending.outcome != Outcome::InputFailed
+            || !ending.output.is_empty()
+            || !ending.errors.is_empty()
+        {
+            return Ok(false);
+        }
+    }
+    Ok(true)
+}
+
+#[test]
+fn sessions_whose_input_fails_write_nothing(rt: HostRuntime) {
+    for line in SESSIONS.lines() {
+        assert_eq!(rt; is_silent(rt.alloc(), line), Ok(true), "{line}");
+    }
 }
 
 // Whether some bytes are the front of a text, and not all of it before its last call.
@@ -171,36 +182,50 @@ fn is_front(bytes: &[u8], text: &str, is_last: bool) -> bool {
     text.as_bytes().starts_with(bytes) && (is_last || bytes.len() < text.len())
 }
 
-#[test]
-fn outputs_that_fail_hold_the_first_bytes(rt: HostRuntime) -> Result<(), Fail> {
-    let alloc = rt.alloc();
-    for line in SESSIONS.lines() {
-        let row = Row::read(alloc, line)?;
-        let calls = row.served(alloc, [None; 3]).calls[1];
-        for failing in 0..calls {
-            let ending = row.served(alloc, [None, Some(failing), None]);
-            let is_front = is_front(&ending.output, row.output.as_str(), failing == calls - 1);
-            let found = (ending.outcome, is_front, ending.errors.len());
-            assert_eq!(rt; found, (Outcome::OutputFailed, true, 0), "{line}");
+// Whether a session whose output fails at any of its calls holds the first bytes there.
+fn is_cut(alloc: Global, line: &str) -> Result<bool, AllocError> {
+    let row = Row::read(alloc, line)?;
+    let calls = row.served(alloc, [None; 3]).calls[1];
+    for failing in 0..calls {
+        let ending = row.served(alloc, [None, Some(failing), None]);
+        if ending.outcome != Outcome::OutputFailed
+            || !is_front(&ending.output, row.output.as_str(), failing == calls - 1)
+            || !ending.errors.is_empty()
+        {
+            return Ok(false);
         }
     }
-    Ok(())
+    Ok(true)
 }
 
 #[test]
-fn faults_that_cannot_be_told_are_faults(rt: HostRuntime) -> Result<(), Fail> {
-    let alloc = rt.alloc();
+fn outputs_that_fail_hold_the_first_bytes(rt: HostRuntime) {
     for line in SESSIONS.lines() {
-        let row = Row::read(alloc, line)?;
-        let calls = row.served(alloc, [None; 3]).calls[2];
-        for failing in 0..calls {
-            let ending = row.served(alloc, [None, None, Some(failing)]);
-            let is_front = is_front(&ending.errors, row.errors.as_str(), failing == calls - 1);
-            let found = (ending.outcome, is_front, ending.output.len());
-            assert_eq!(rt; found, (Outcome::MapfileFault, true, 0), "{line}");
+        assert_eq!(rt; is_cut(rt.alloc(), line), Ok(true), "{line}");
+    }
+}
+
+// Whether a session whose errors fail at any of their calls holds the first bytes there.
+fn is_untold(alloc: Global, line: &str) -> Result<bool, AllocError> {
+    let row = Row::read(alloc, line)?;
+    let calls = row.served(alloc, [None; 3]).calls[2];
+    for failing in 0..calls {
+        let ending = row.served(alloc, [None, None, Some(failing)]);
+        if ending.outcome != Outcome::MapfileFault
+            || !is_front(&ending.errors, row.errors.as_str(), failing == calls - 1)
+            || !ending.output.is_empty()
+        {
+            return Ok(false);
         }
     }
-    Ok(())
+    Ok(true)
+}
+
+#[test]
+fn faults_that_cannot_be_told_are_faults(rt: HostRuntime) {
+    for line in SESSIONS.lines() {
+        assert_eq!(rt; is_untold(rt.alloc(), line), Ok(true), "{line}");
+    }
 }
 
 #[test]
@@ -219,52 +244,42 @@ fn statuses_are_those_of_the_profile(rt: HostRuntime) {
 const TURN: &str =
     "# %%\n\n#%%\n  # a comment of some length, so that the mapfile has twenty megabytes #\n   \t           #\n";
 
-// A mapfile of 20,000,000 bytes and a million lines that describe nothing yet.
-fn large_mapfile(alloc: Global) -> Result<Vec<u8>, AllocError> {
-    let mut mapfile = Vec::new(alloc);
-    for _ in 0..200_000 {
-        mapfile.extend_from_slice(TURN.as_bytes())?;
-    }
-    Ok(mapfile)
+// What becomes of a session whose mapfile has 20,000,000 bytes and a million lines that describe nothing,
+// and then goes on so.
+fn large(alloc: Global, rest: &str) -> Result<Ending, AllocError> {
+    let mut session = TURN.repeat(alloc, 200_000)?;
+    session.push_str(rest)?;
+    Ok(served(alloc, session.as_bytes(), 1_000_000, [None; 3]))
+}
+
+// Whether a large session of the square is played.
+fn is_large_played(alloc: Global) -> Result<bool, AllocError> {
+    let map = map_text(alloc, SQUARE)?;
+    let rest = format!(in alloc; "{map}%%\nQUERY {QUERY}\n")?;
+    let ending = large(alloc, rest.as_str())?;
+    Ok(ending.outcome == Outcome::Played && ending.output.as_slice() == SQUARE_TEXT.as_bytes())
+}
+
+// Whether a fault behind a million lines has its line.
+fn is_large_faulty(alloc: Global) -> Result<bool, AllocError> {
+    let ending = large(alloc, "MAP\nFOO END\n")?;
+    Ok(
+        ending.outcome == Outcome::MapfileFault
+            && ending.errors.as_slice() == b"fault line 1000002 kind 2\n".as_slice(),
+    )
 }
 
 #[test]
-fn large_sessions_are_played(rt: HostRuntime) -> Result<(), Fail> {
-    let alloc = rt.alloc();
-    let mut session = large_mapfile(alloc)?;
-    assert_eq!(rt; session.len(), 20_000_000);
-    session.extend_from_slice(map_text(alloc, SQUARE)?.as_bytes())?;
-    session.extend_from_slice(format!(in alloc; "%%\nQUERY {QUERY}\n")?.as_bytes())?;
-    let ending = served(alloc, &session, 1_000_000, [None; 3]);
-    assert_eq!(rt; ending.outcome, Outcome::Played);
-    assert_eq!(rt; ending.output.as_slice(), SQUARE_TEXT.as_bytes());
-    Ok(())
+fn large_sessions_are_played(rt: HostRuntime) {
+    assert_eq!(rt; TURN.len(), 100);
+    assert_eq!(rt; is_large_played(rt.alloc()), Ok(true));
+    assert_eq!(rt; is_large_faulty(rt.alloc()), Ok(true));
 }
 
 #[test]
-fn faults_have_their_line_in_large_mapfiles(rt: HostRuntime) -> Result<(), Fail> {
-    let alloc = rt.alloc();
-    let mut session = large_mapfile(alloc)?;
-    session.extend_from_slice(b"MAP\nFOO END\n")?;
-    let ending = served(alloc, &session, 1_000_000, [None; 3]);
-    assert_eq!(rt; ending.outcome, Outcome::MapfileFault);
-    assert_eq!(rt;
-        ending.errors.as_slice(),
-        b"fault line 1000002 kind 2\n".as_slice()
-    );
-    Ok(())
-}
-
-#[test]
-fn messages_are_whole(rt: HostRuntime) -> Result<(), Fail> {
-    let alloc = rt.alloc();
-    assert_eq!(rt;
-        ReadFault::Input.to_string(alloc)?.as_str(),
-        "the reader failed"
-    );
-    assert_eq!(rt;
-        ReadFault::NoMemory.to_string(alloc)?.as_str(),
-        "out of memory"
-    );
-    Ok(())
+fn messages_are_whole(rt: HostRuntime) {
+    let Ok(text) = format!(in rt.alloc(); "{}, {}", ReadFault::Input, ReadFault::NoMemory) else {
+        panic!(rt; "out of memory");
+    };
+    assert_eq!(rt; text.as_str(), "the reader failed, out of memory");
 }
