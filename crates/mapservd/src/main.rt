@@ -24,6 +24,8 @@ mod input;
 mod laws;
 mod line;
 mod listening;
+#[cfg(test)]
+mod listening_tests;
 mod named_file;
 mod outcome;
 mod parts;
