@@ -3,10 +3,11 @@
 
 What is played or checked ends with 0, also a faulty script; a faulty mapfile with 1 and its line on standard
 error alone, a file that can't be read with 1 and its name; words that are no form with 2 and a text on standard
-error alone; a full standard output with 3; too little memory for the map with 4.
+error alone; a full standard output with 3, and a port that is taken; too little memory for the map with 4.
 """
 import os
 import resource
+import socket
 import subprocess
 import sys
 import tempfile
@@ -24,6 +25,17 @@ REFUSED = b"""error: the following required arguments were not provided:
   <SCRIPT>
 
 Usage: mapservd run <FILE> <SCRIPT>
+
+For more information, try '--help'.
+"""
+NO_FILE = b"""error: the following required arguments were not provided:
+  <FILE>
+
+Usage: mapservd serve <FILE>
+
+For more information, try '--help'.
+"""
+NO_PORT = b"""error: invalid value '65536' for '--port <port>': 65536 is not in 0..=65535
 
 For more information, try '--help'.
 """
@@ -49,7 +61,10 @@ def main():
     wrong = 0
     answer = b"ANSWER text/xml 215\n" + MISSING
     sys.argv[1] = os.path.abspath(sys.argv[1])
-    with tempfile.TemporaryDirectory() as folder, open("/dev/full", "wb") as full:
+    with tempfile.TemporaryDirectory() as folder, open("/dev/full", "wb") as full, socket.socket() as held:
+        held.bind(("127.0.0.1", 0))
+        held.listen()
+        taken = str(held.getsockname()[1])
         os.chdir(folder)
         for name, text in FILES.items():
             with open(name, "wb") as file:
@@ -73,6 +88,12 @@ def main():
             ("run no script", run(b"", "run", "good.map", "no.script"), (1, b"", b"fault file no.script\n")),
             ("run no mapfile", run(b"", "run", "no.map", "no.script"), (1, b"", b"fault file no.map\n")),
             ("run full output", run(b"", "run", "good.map", "good.script", stdout=full), (3, None, b"")),
+            ("serve taken port", run(b"", "serve", "good.map", "--port", taken), (3, b"", b"")),
+            ("serve full output", run(b"", "serve", "good.map", "--port", "0", stdout=full), (3, None, b"")),
+            ("serve faulty mapfile", run(b"", "serve", "bad.map", "--port", taken), (1, b"", b"fault line 3 kind 2\n")),
+            ("serve no mapfile", run(b"", "serve", "no.map", "--port", taken), (1, b"", b"fault file no.map\n")),
+            ("serve no words", run(b"", "serve"), (2, b"", NO_FILE)),
+            ("serve no such port", run(b"", "serve", "good.map", "--port", "65536"), (2, b"", NO_PORT)),
             ("words", run(MAP + QUERY, "run", "good.map"), (2, b"", REFUSED)),
             ("no text", run(MAP + QUERY, "check", b"\xff.map"), (2, b"", NOT_UTF8)),
         ]
