@@ -145,4 +145,5 @@ def main():
     measure("20,000 squares smaller than a pixel, 256 by 256", program, squares, "a", SQUARE, 256, 256, pictures)
 
 
-main()
+if __name__ == "__main__":
+    main()
