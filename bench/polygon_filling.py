@@ -3,7 +3,8 @@
 
 Usage: polygon_filling.py PROGRAM WORLD [PICTURES]
 
-WORLD is a mapfile with a layer "countries". Words of it that the program refuses are left out, and told.
+WORLD is a mapfile with a layer "countries", whose outlines are left out: line_drawing.py measures them. Words
+of it that the program refuses are left out too, and told.
 Of each workload the time of as many pictures of an empty layer in the same session is taken away, so that
 what is left is the painting alone: not the reading of the map, nor the hexadecimal.
 """
@@ -73,7 +74,7 @@ def accepted(program, path):
     if rivers:
         print("left out: the layer of rivers, which are no polygons")
         countries = countries.rsplit("LAYER", 1)[0] + "END\n"
-    lines = with_empty_layer(countries).splitlines(keepends=True)
+    lines = without(with_empty_layer(countries).splitlines(keepends=True), "OUTLINECOLOR")
     while True:
         with tempfile.NamedTemporaryFile("w", suffix=".map") as file:
             file.write("".join(lines))
