@@ -76,19 +76,30 @@ fn told(alloc: Global, text: &[u8]) -> Result<String, AllocError> {
     }
 }
 
-// Asserts of that many rows what is told of their texts. A row is what is told, `~` and the text, each of
-// whose letters is the byte of its number, and `%` a line feed. A line that begins with `# ` is a heading.
+// The bytes of letters, each the byte of its number, and `%` a line feed.
+fn bytes_of(alloc: Global, letters: &str) -> Result<Vec<u8>, Fail> {
+    let mut text = Vec::new(alloc);
+    for letter in letters.chars() {
+        let letter = if letter == '%' { '\n' } else { letter };
+        text.push(u8::try_from(u32::from(letter))?)?;
+    }
+    Ok(text)
+}
+
+// What is told of letters.
+fn told_letters(alloc: Global, letters: &str) -> Result<String, Fail> {
+    let text = bytes_of(alloc, letters)?;
+    Ok(told(alloc, &text)?)
+}
+
+// Asserts of that many rows what is told of their texts. A row is what is told, `~` and the letters of the
+// text. A line that begins with `# ` is a heading.
 fn assert_told(rt: &impl Abort, alloc: Global, rows: &str, count: usize) -> Result<(), Fail> {
     let mut asserted = 0_usize;
     for row in rows.lines() {
         if !row.starts_with("# ") {
             let (expected, letters) = row.split_once('~').ok_or("a row without a text")?;
-            let letters = letters.replace(alloc, '%', "\n")?;
-            let mut text = Vec::new(alloc);
-            for letter in letters.as_str().chars() {
-                text.push(u8::try_from(u32::from(letter))?)?;
-            }
-            let told = told(alloc, &text)?;
+            let told = told_letters(alloc, letters)?;
             assert_eq!(rt; told.as_str(), expected, "{row}");
             asserted = asserted.saturating_add(1);
         }
@@ -211,17 +222,32 @@ fn nested(alloc: Global, opens: &str, count: usize, closing: usize) -> Result<St
     format!(in alloc; "({opens}[a]=1{closing}")
 }
 
+// What is told of it.
+fn told_nested(
+    alloc: Global,
+    opens: &str,
+    count: usize,
+    closing: usize,
+) -> Result<String, AllocError> {
+    let text = nested(alloc, opens, count, closing)?;
+    told(alloc, text.as_str().as_bytes())
+}
+
+// An opening sign, how often it stands, how many brackets close, and what is told.
+const NESTED: [(&str, usize, usize, &str); 3] = [
+    ("(", 63, 64, "[a]=1:1000000"),
+    ("(", 64, 65, "fault 64"),
+    ("!", 64, 1, "fault 64"),
+];
+
 #[test]
 fn sixty_four_brackets_may_stand_within_one_another(rt: HostRuntime) -> Result<(), Fail> {
-    let alloc = rt.alloc();
-    let brackets = told(alloc, nested(alloc, "(", 63, 64)?.as_str().as_bytes())?;
-    assert_eq!(rt; brackets.as_str(), "[a]=1:1000000");
-    let deeper = told(alloc, nested(alloc, "(", 64, 65)?.as_str().as_bytes())?;
-    assert_eq!(rt; deeper.as_str(), "fault 64");
-    let deeper = told(alloc, nested(alloc, "!", 64, 1)?.as_str().as_bytes())?;
-    assert_eq!(rt; deeper.as_str(), "fault 64");
-    let nots = nested(alloc, "!", 63, 1)?;
-    assert!(rt; read(alloc, nots.as_str().as_bytes()).is_ok());
+    for (opens, count, closing, expected) in NESTED {
+        let told = told_nested(rt.alloc(), opens, count, closing)?;
+        assert_eq!(rt; told.as_str(), expected);
+    }
+    let nots = nested(rt.alloc(), "!", 63, 1)?;
+    assert!(rt; read(rt.alloc(), nots.as_str().as_bytes()).is_ok());
     Ok(())
 }
 
@@ -234,18 +260,21 @@ fault 3~'
 fault 65536~[
 fault 65536~[a]=1 OR\x20";
 
+// What is told of such a text.
+fn told_long(alloc: Global, repeated: &str) -> Result<String, Fail> {
+    let text = format!(in alloc; "({}", repeated.repeat(alloc, 65_536)?)?;
+    match text.as_str().as_bytes().get(..65_536) {
+        Some(text) => Ok(told(alloc, text)?),
+        None => Err("a short text".into()),
+    }
+}
+
 #[test]
 fn long_texts_are_read_to_their_fault(rt: HostRuntime) -> Result<(), Fail> {
-    let alloc = rt.alloc();
     for row in LONG.lines() {
         let (expected, repeated) = row.split_once('~').ok_or("a row without a text")?;
-        let text = format!(in alloc; "({}", repeated.repeat(alloc, 65_536)?)?;
-        let text = text
-            .as_str()
-            .as_bytes()
-            .get(..65_536)
-            .ok_or("a short text")?;
-        assert_eq!(rt; told(alloc, text)?.as_str(), expected, "{row}");
+        let told = told_long(rt.alloc(), repeated)?;
+        assert_eq!(rt; told.as_str(), expected, "{row}");
     }
     Ok(())
 }
@@ -265,16 +294,20 @@ fn items(alloc: Global) -> Result<(Items<Text>, Items<Text>), Fail> {
     Ok((names, values))
 }
 
+// Whether an expression is true of the items.
+fn truth(alloc: Global, text: &str) -> Result<bool, Fail> {
+    let (names, values) = items(alloc)?;
+    let rule = Rule::Logic(read(alloc, text.as_bytes())?);
+    Ok(holds(&rule, names.as_slice(), values.as_slice(), ""))
+}
+
 // Asserts of that many rows that their expressions are true or false of the items.
 fn assert_truths(rt: &impl Abort, alloc: Global, rows: &str, count: usize) -> Result<(), Fail> {
-    let (names, values) = items(alloc)?;
     let mut asserted = 0_usize;
     for row in rows.lines() {
         if !row.starts_with("# ") {
             let (expected, text) = row.split_once(' ').ok_or("a row without a text")?;
-            let rule = Rule::Logic(read(alloc, text.as_bytes())?);
-            let holds = holds(&rule, names.as_slice(), values.as_slice(), "");
-            assert_eq!(rt; holds, expected == "yes", "{row}");
+            assert_eq!(rt; truth(alloc, text)?, expected == "yes", "{row}");
             asserted = asserted.saturating_add(1);
         }
     }
@@ -370,36 +403,59 @@ fn expressions_are_true_of_worked_items(rt: HostRuntime) -> Result<(), Fail> {
     assert_truths(&rt, rt.alloc(), TRUTHS, 75)
 }
 
-#[test]
-fn rules_look_at_the_class_item(rt: HostRuntime) -> Result<(), Fail> {
-    let alloc = rt.alloc();
+// Whether one of `a` and `b` holds of a value.
+fn one_of_two(alloc: Global, value: &str) -> Result<bool, AllocError> {
     let mut texts = Items::new(alloc);
     texts.push(Text::from_str(alloc, "a")?)?;
     texts.push(Text::from_str(alloc, "b")?)?;
-    let one_of = Rule::OneOf(texts);
-    let equals = Rule::Equals(Text::from_str(alloc, "b")?);
+    Ok(holds(&Rule::OneOf(texts), &[], &[], value))
+}
+
+// Whether `b` itself holds of a value.
+fn equals(alloc: Global, value: &str) -> Result<bool, AllocError> {
+    let rule = Rule::Equals(Text::from_str(alloc, "b")?);
+    Ok(holds(&rule, &[], &[], value))
+}
+
+// Whether an item has that value.
+fn has_value(alloc: Global, name: &str, value: &str) -> Result<bool, Fail> {
+    let (names, values) = items(alloc)?;
+    Ok(item_value(names.as_slice(), values.as_slice(), name) == value)
+}
+
+#[test]
+fn rules_look_at_the_class_item(rt: HostRuntime) -> Result<(), Fail> {
+    let alloc = rt.alloc();
     let told = [
         holds(&Rule::Always, &[], &[], "c"),
-        holds(&one_of, &[], &[], "b"),
-        holds(&one_of, &[], &[], "c"),
-        holds(&equals, &[], &[], "b"),
-        holds(&equals, &[], &[], "B"),
+        one_of_two(alloc, "b")?,
+        one_of_two(alloc, "c")?,
+        equals(alloc, "b")?,
+        equals(alloc, "B")?,
+        has_value(alloc, "S", "abc")?,
+        has_value(alloc, "x", "")?,
     ];
-    assert_eq!(rt; told, [true, true, false, true, false]);
-    let (names, values) = items(alloc)?;
-    assert_eq!(rt; item_value(names.as_slice(), values.as_slice(), "S"), "abc");
-    assert_eq!(rt; item_value(names.as_slice(), values.as_slice(), "x"), "");
+    assert_eq!(rt; told, [true, true, false, true, false, true, true]);
     Ok(())
 }
 
 #[test]
 fn errors_are_told_in_words(rt: HostRuntime) -> Result<(), Fail> {
-    let alloc = rt.alloc();
-    let fault = format!(in alloc; "{}", ExprError::Fault(ExprFault { at: 7 }))?;
-    assert_eq!(rt; fault.as_str(), "no expression from byte 7 on");
-    let memory = format!(in alloc; "{}", ExprError::NoMemory)?;
-    assert_eq!(rt; memory.as_str(), "out of memory");
-    assert_ne!(rt; ExprFault { at: 7 }, ExprFault { at: 8 });
-    assert_ne!(rt; ExprError::Fault(ExprFault { at: 7 }), ExprError::NoMemory);
+    let (fault, memory) = (ExprError::Fault(ExprFault { at: 7 }), ExprError::NoMemory);
+    let told = format!(in rt.alloc(); "{fault}; {memory}")?;
+    assert_eq!(rt;
+        told.as_str(),
+        "no expression from byte 7 on; out of memory"
+    );
     Ok(())
+}
+
+#[test]
+fn errors_differ_where_one_field_does(rt: HostRuntime) {
+    let fault = ExprFault { at: 7 };
+    let are_equal = [
+        fault == ExprFault { at: 8 },
+        ExprError::Fault(fault) == ExprError::NoMemory,
+    ];
+    assert_eq!(rt; are_equal, [false, false]);
 }

@@ -24,11 +24,12 @@ fn class(alloc: Global) -> Result<Class, AllocError>
         size: 1,
         symbol: None,
     });
+    let styles = Items::of(vec![in alloc; style]?);
     Ok(Class::new(ClassFields {
         rule: Rule::Always,
         min: None,
         max: None,
-        styles: Items::of(vec![in alloc; style]?),
+        styles,
         label: None,
     }))
 }
@@ -49,8 +50,9 @@ fn square(alloc: Global) -> Result<Feature, AllocError>
     ring.push(place(1, -1))?;
     ring.push(place(1, 1))?;
     ring.push(place(-1, 1))?;
+    let parts = Items::of(vec![in alloc; ring]?);
     Ok(Feature::new(FeatureFields {
-        parts: Items::of(vec![in alloc; ring]?),
+        parts,
         text: None,
         values: Items::new(alloc),
     }))
@@ -60,12 +62,13 @@ fn square(alloc: Global) -> Result<Feature, AllocError>
 fn layer(alloc: Global, min: Option<Micro>, max: Option<Micro>) -> Result<Layer, AllocError>
     ensures { IfOk result (LayerNamesSymbolsOf 0) }
 {
+    let name = Text::from_str(alloc, "a")?;
     let mut classes = Items::new(alloc);
     classes.push(class(alloc)?)?;
     let mut features = Items::new(alloc);
     features.push(square(alloc)?)?;
     Ok(Layer::new(LayerFields {
-        name: Text::from_str(alloc, "a")?,
+        name,
         title: Text::of(String::new(alloc)),
         kind: Kind::Polygon,
         on: true,
@@ -126,25 +129,35 @@ const PICTURES: &str = "\
 111319491 111319491.000001 BBOX=0.1,0.2,0.66,0.3&WIDTH=2&HEIGHT=3 10
 222638982 222638982.000001 BBOX=0.1,0.2,0.66,0.3&WIDTH=1&HEIGHT=2 10";
 
+// The first pixel's red in the picture that answers a query.
+fn red_of(machine: &Machine, query: &[u8]) -> Result<Option<u8>, AllocError> {
+    let answer = machine.reply(query)?;
+    // the header has 11 bytes
+    Ok(answer.body.as_slice().get(11).copied())
+}
+
+// The same on the map of the layer with these bounds, where the query goes on so.
+fn red_at(
+    alloc: Global,
+    min: Option<Micro>,
+    max: Option<Micro>,
+    query: &str,
+) -> Result<Option<u8>, AllocError> {
+    let query = format!(in alloc;
+        "VERSION=1.3.0&REQUEST=GetMap&LAYERS=a&STYLES=&CRS=CRS:84&{query}&FORMAT=image/x-portable-pixmap"
+    )?;
+    let machine = machine(alloc, min, max)?;
+    red_of(&machine, query.as_str().as_bytes())
+}
+
 #[test]
 fn layers_are_seen_at_worked_scales(rt: HostRuntime) -> Result<(), Fail> {
-    let alloc = rt.alloc();
     for row in PICTURES.lines() {
-        let words: Vec<&str> = row.split(' ').collect(alloc)?;
-        let [min, max, query, red] = words.as_slice() else {
-            panic!(rt; "a row without four words: {row}");
-        };
-        let machine = machine(alloc, bound(min)?, bound(max)?)?;
-        let query = format!(in alloc;
-            "VERSION=1.3.0&REQUEST=GetMap&LAYERS=a&STYLES=&CRS=CRS:84&{query}&FORMAT=image/x-portable-pixmap"
-        )?;
-        let answer = machine.reply(query.as_str().as_bytes())?;
-        // the header has 11 bytes
-        assert_eq!(rt;
-            answer.body.as_slice().get(11),
-            Some(&red.parse::<u8>()?),
-            "{row}"
-        );
+        let (min, rest) = row.split_once(' ').ok_or("no second bound")?;
+        let (max, rest) = rest.split_once(' ').ok_or("no query")?;
+        let (query, red) = rest.split_once(' ').ok_or("no colour")?;
+        let told = red_at(rt.alloc(), bound(min)?, bound(max)?, query)?;
+        assert_eq!(rt; told, Some(red.parse::<u8>()?), "{row}");
     }
     Ok(())
 }

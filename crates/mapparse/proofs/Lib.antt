@@ -1,2 +1,4 @@
 mod Padding
+mod Replaced
+mod SymbolList
 mod Within

@@ -1,5 +1,11 @@
 -- What is made from a tree is within the limits.
-use Rattle.std.proofs.Common.{ℕ, List, map}
+use Rattle.std.proofs.Common.{ℕ, suc, ◌<◌, Bool, true, false, List, [], ◌∷◌, length, map, arith}
+use Rattle.std.specs.Prelude.{Option, None, Some, option_map, IfSome, if◌then◌else◌}
+use Rattle.std.specs.Option.{option_or}
+use Rattle.mapdefs.specs.Name.{is_same_name}
+use Rattle.mapdefs.specs.declared.symbol.Symbol.{Symbol}
+use Rattle.maptree.specs.declared.tree.Named.{Named}
+use Rattle.mapparse.specs.Symbols.{last_named, symbol_index}
 use Rattle.std.specs.List.{All}
 use Rattle.std.proofs.lemmas.List.Elements.{All-map}
 use Rattle.mapdefs.specs.LayerLimits.{HasValues}
@@ -15,15 +21,29 @@ use Rattle.mapparse.proofs.Padding.{length-values}
 pub feature_values : (count : ℕ) (features : List FeatureTree) → All (HasValues count) (map (feature_of count) features)
 feature_values count features = All-map (HasValues count) (feature_of count) features (λ k feature below. length-values count _)
 
--- no style names a symbol, whatever symbols there are
-module _ (count : ℕ) where
-  pub style_symbols : (styles : List StyleTree) → All (NamesSymbolOf count) (map style_of styles)
-  style_symbols styles = All-map (NamesSymbolOf count) style_of styles (λ k style below. tt)
+-- each style names a symbol that is there
+module _ (symbols : List Symbol) where
+  last-within : (name : List ℕ) (some : List Symbol) → IfSome (last_named name some) (λ index. index < length some)
+  last-within name [] = tt
+  last-within name (symbol ∷ after) = of (last_named name after) (is_same_name symbol.name name) (last-within name after)
+    where
+      of : (later : Option ℕ) (same : Bool) → IfSome later (λ index. index < length after) →
+          IfSome (option_or (option_map suc later) (if same then Some 0 else None)) (λ index. index < suc (length after))
+      of (Some index) same below = omega (arith, below)
+      of None true below = omega arith
+      of None false below = tt
 
-  pub class_symbols : (classes : List ClassTree) → All (ClassNamesSymbolsOf count) (map class_of classes)
+  named-within : (named : Option Named) → IfSome (symbol_index symbols named) (λ index. index < length symbols)
+  named-within None = tt
+  named-within (Some named) = last-within named.text symbols
+
+  pub style_symbols : (styles : List StyleTree) → All (NamesSymbolOf (length symbols)) (map (style_of symbols) styles)
+  style_symbols styles = All-map (NamesSymbolOf (length symbols)) (style_of symbols) styles (λ k style below. named-within _)
+
+  pub class_symbols : (classes : List ClassTree) → All (ClassNamesSymbolsOf (length symbols)) (map (class_of symbols) classes)
   class_symbols classes =
-      All-map (ClassNamesSymbolsOf count) class_of classes (λ k class below. style_symbols _)
+      All-map (ClassNamesSymbolsOf (length symbols)) (class_of symbols) classes (λ k class below. style_symbols _)
 
-  pub layer_symbols : (layers : List LayerTree) → All (LayerNamesSymbolsOf count) (map layer_of layers)
+  pub layer_symbols : (layers : List LayerTree) → All (LayerNamesSymbolsOf (length symbols)) (map (layer_of symbols) layers)
   layer_symbols layers =
-      All-map (LayerNamesSymbolsOf count) layer_of layers (λ k layer below. class_symbols _)
+      All-map (LayerNamesSymbolsOf (length symbols)) (layer_of symbols) layers (λ k layer below. class_symbols _)

@@ -1,2 +1,4 @@
+pub mod Files
 pub mod Mapping
 pub mod Parsed
+pub mod Symbols

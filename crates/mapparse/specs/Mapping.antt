@@ -1,6 +1,6 @@
 -- From a mapfile as it is written to the map that it describes (docs/MAPFILE.md, "From the file to the map"). What no
 -- keyword gives yet has the value that it will have where its keyword isn't given.
-use Rattle.std.specs.Prelude.{ℕ, Bool, true, false, ◌==◌, ◌-◌, List, [], ◌++◌, length, map, take, replicate, codes, pos, neg_ℤ, Option, None, Some, unwrap_or, option_map}
+use Rattle.std.specs.Prelude.{ℕ, Bool, true, false, ◌==◌, ◌-◌, List, [], ◌++◌, length, map, take, replicate, codes, pos, neg_ℤ, Option, None, Some, unwrap_or, option_map, Result, Ok}
 use Rattle.std.specs.Option.{option_or}
 use Rattle.std.specs.List.{slice_split}
 use Rattle.geom.specs.World.{Area}
@@ -14,21 +14,26 @@ use Rattle.mapdefs.specs.declared.layer.Kind.TheVariants.{Polygon}
 use Rattle.mapdefs.specs.declared.layer.LayerFields.{LayerFields}
 use Rattle.mapdefs.specs.declared.map.MapFields.{MapFields}
 use Rattle.mapdefs.specs.declared.style.StyleFields.{StyleFields}
+use Rattle.mapdefs.specs.declared.symbol.Symbol.{Symbol}
+use Rattle.maptree.specs.declared.fault.Fault.{Fault}
+use Rattle.maptree.specs.Fault.{and_then}
 use Rattle.maptree.specs.declared.tree.StyleTree.{StyleTree}
 use Rattle.maptree.specs.declared.tree.ClassTree.{ClassTree}
 use Rattle.maptree.specs.declared.tree.LabelTree.{LabelTree}
 use Rattle.maptree.specs.declared.tree.FeatureTree.{FeatureTree}
 use Rattle.maptree.specs.declared.tree.LayerTree.{LayerTree}
 use Rattle.maptree.specs.declared.tree.MapTree.{MapTree}
+use Rattle.mapparse.specs.declared.files.FileBytes.{FileBytes}
+use Rattle.mapparse.specs.Symbols.{symbol_index, symbols_of}
 
--- a style has its colours, its width and its size, each one pixel where it isn't given, and no symbol
-abbrev pub style_of : StyleTree → StyleFields
-style_of style = record {
+-- a style has its colours, its width and its size, each one pixel where it isn't given, and the symbol that it names
+abbrev pub style_of : List Symbol → StyleTree → StyleFields
+style_of symbols style = record {
   colour = style.colour;
   outline = style.outline;
   width = unwrap_or style.width 1;
   size = unwrap_or style.size 1;
-  symbol = None;
+  symbol = symbol_index symbols style.symbol;
 }
 
 -- a label is black without a COLOR, has the priority 1, stands centred on its anchor, keeps no distance, and is neither
@@ -46,12 +51,12 @@ label_of label = record {
 }
 
 -- a class has its rule, without which it holds all features, its bounds on the scale, its styles and its label
-abbrev pub class_of : ClassTree → ClassFields
-class_of class = record {
+abbrev pub class_of : List Symbol → ClassTree → ClassFields
+class_of symbols class = record {
   rule = unwrap_or class.rule Always;
   min = class.min;
   max = class.max;
-  styles = map style_of class.styles;
+  styles = map (style_of symbols) class.styles;
   label = option_map label_of class.label;
 }
 
@@ -81,8 +86,8 @@ either_text first second = option_or first second
 
 -- a layer is switched on, has its `wms_title` as its title, else its `ows_title`, else its name, and reads the columns x
 -- and y of tables where no others are given
-abbrev pub layer_of : LayerTree → LayerFields
-layer_of layer = record {
+abbrev pub layer_of : List Symbol → LayerTree → LayerFields
+layer_of symbols layer = record {
   name = layer.name;
   title = unwrap_or (either_text layer.wms_title layer.ows_title) layer.name;
   kind = layer.kind;
@@ -96,7 +101,7 @@ layer_of layer = record {
   tolerance = unwrap_or layer.tolerance (tolerance_of layer.kind);
   min = layer.min;
   max = layer.max;
-  classes = map class_of layer.classes;
+  classes = map (class_of symbols) layer.classes;
   features = map (feature_of (length (unwrap_or layer.items []))) layer.features;
 }
 
@@ -110,13 +115,17 @@ whole_world = record {
 }
 
 -- a map has the title of its service, `wms_title` before `ows_title` before its name, its address alike, its extent,
--- without which it shows the whole world, and its layers, and has neither a font nor symbols
-abbrev pub map_of : MapTree → MapFields
-map_of tree = record {
+-- without which it shows the whole world, its symbols and its layers, and has no font
+abbrev pub map_with : List Symbol → MapTree → MapFields
+map_with symbols tree = record {
   title = unwrap_or (either_text (either_text tree.wms_title tree.ows_title) tree.name) (codes "WMS");
   url = unwrap_or (either_text tree.wms_url tree.ows_url) (codes "http://localhost/wms?");
   extent = unwrap_or tree.extent whole_world;
   font = None;
-  symbols = [];
-  layers = map layer_of tree.layers;
+  symbols = symbols;
+  layers = map (layer_of symbols) tree.layers;
 }
+
+-- the map that a mapfile describes with its files, or the first fault of a file
+abbrev pub map_of : List FileBytes → MapTree → Result MapFields Fault
+map_of files tree = and_then (symbols_of files tree.symbols) (λ symbols. Ok (map_with symbols tree))

@@ -7,11 +7,14 @@
 //! Words: the *tree* is the whole mapfile as it is written.
 #![tactic(auto)]
 
+mod files;
 mod mapfile;
 mod mapping;
+mod symbol;
 #[cfg(test)]
 mod tests;
 mod texts;
 
-pub use mapfile::parse;
+pub use files::{FileBytes, Files};
+pub use mapfile::{parse, wanted};
 pub use maptree::{ParseFault, ParseKind};

@@ -1,4 +1,6 @@
-ghost use Rattle.std.specs.Prelude.{◌≡◌, ◌≤◌, [], map, take, length, unwrap_or, IfOk, OnOk};
+ghost use Rattle.std.specs.Prelude.{◌≡◌, ◌≤◌, List, [], map, take, length, unwrap_or, Ok, IfOk, IfErr, OnOk};
+ghost use Rattle.mapdefs.specs.declared.symbol.Symbol.{Symbol as SymbolValue};
+ghost use Rattle.maptree.specs.Fault.{IsFaultOf};
 ghost use Rattle.std.specs.List.{slice_split};
 ghost use Rattle.geom.specs.World.{IsExtent};
 ghost use Rattle.mapdefs.specs.declared.limits.TheConstants.{MAX_FEATURES, MAX_LINE_WIDTH, MAX_SQUARE, MAX_TOLERANCE};
@@ -7,16 +9,18 @@ ghost use Rattle.mapdefs.specs.declared.class.Rule.TheVariants.{Always};
 ghost use Rattle.mapdefs.specs.declared.limits.TheConstants.{MAX_ITEMS};
 ghost use Rattle.mapparse.specs.Mapping.{is_semicolon, label_of, padded, values_of, feature_of, tolerance_of, whole_world, map_of};
 
+use crate::files::Files;
+use crate::symbol::{symbol_index, symbols_of};
 use crate::texts::semicolon_parts;
 use geom::{Micro, WorldBox};
 use mapdefs::{
     Class, ClassFields, Feature, FeatureFields, Items, Kind, Label, LabelFields, Layer,
     LayerFields, MAX_FEATURES, MAX_ITEMS, Map, MapFields, Position, Rgb, Rule, Style, StyleFields,
-    Text,
+    Symbol, Text,
 };
 use maptree::{
     Bounded, Capped, ClassRule, ClassTree, Extent, FeatureTree, LabelTree, LayerTree, MapTree,
-    StyleTree, texts_of,
+    ParseFault, StyleTree, texts_of,
 };
 use std::alloc::{AllocError, Global};
 
@@ -25,21 +29,25 @@ trait Build: Drop + Sized {
     /// The part of the map.
     type Part: Drop;
 
-    /// The part that the tree describes.
-    ghost part: { Self → Self.Part };
+    /// The part that the tree describes, in a map with these symbols.
+    ghost part: { List SymbolValue → Self → Self.Part };
 
     /// Makes the part.
-    fn build(self, alloc: Global) -> Result<Self::Part, AllocError>
-        ensures { IfOk result (λ made. made ≡ part self) };
+    fn build(self, symbols: &[Symbol], alloc: Global) -> Result<Self::Part, AllocError>
+        ensures { IfOk result (λ made. made ≡ part symbols.now self) };
 }
 
 // Makes the part of each tree, in their order.
-fn build_all<T: Build>(trees: Vec<T>, alloc: Global) -> Result<Items<T::Part>, AllocError>
-    ensures { IfOk result (λ made. made ≡ map T.part trees.items) }
+fn build_all<T: Build>(
+    trees: Vec<T>,
+    symbols: &[Symbol],
+    alloc: Global,
+) -> Result<Items<T::Part>, AllocError>
+    ensures { IfOk result (λ made. made ≡ map (T.part symbols.now) trees.items) }
 {
     let mut parts = Vec::with_capacity(alloc, trees.len())?;
     for tree in trees {
-        parts.push(tree.build(alloc)?)?;
+        parts.push(tree.build(symbols, alloc)?)?;
     }
     Ok(Items::of(parts))
 }
@@ -68,13 +76,13 @@ impl Build for StyleTree {
 
     ghost part = { style_of };
 
-    fn build(self, _alloc: Global) -> Result<Style, AllocError> {
+    fn build(self, symbols: &[Symbol], _alloc: Global) -> Result<Style, AllocError> {
         Ok(Style::new(StyleFields {
             colour: self.colour,
             outline: self.outline,
             width: count_or(self.width, 1) as u8,
             size: count_or(self.size, 1),
-            symbol: None,
+            symbol: symbol_index(&self.symbol, symbols),
         }))
     }
 }
@@ -118,7 +126,7 @@ impl Build for ClassTree {
 
     ghost part = { class_of };
 
-    fn build(self, alloc: Global) -> Result<Class, AllocError> {
+    fn build(self, symbols: &[Symbol], alloc: Global) -> Result<Class, AllocError> {
         let ClassTree {
             rule,
             min,
@@ -130,7 +138,7 @@ impl Build for ClassTree {
             rule: rule_of(rule),
             min,
             max,
-            styles: build_all(styles.into_vec(), alloc)?,
+            styles: build_all(styles.into_vec(), symbols, alloc)?,
             label: label.map(label_of),
         }))
     }
@@ -250,7 +258,7 @@ impl Build for LayerTree {
 
     ghost part = { layer_of };
 
-    fn build(self, alloc: Global) -> Result<Layer, AllocError> {
+    fn build(self, symbols: &[Symbol], alloc: Global) -> Result<Layer, AllocError> {
         let LayerTree {
             name,
             kind,
@@ -272,7 +280,7 @@ impl Build for LayerTree {
         let title = text_or(wms_title.or(ows_title), name.as_str(), alloc)?;
         let csv_x = text_or(csv_x, "x", alloc)?;
         let csv_y = text_or(csv_y, "y", alloc)?;
-        let classes = build_all(classes.into_vec(), alloc)?;
+        let classes = build_all(classes.into_vec(), symbols, alloc)?;
         let tolerance = count_or(tolerance, tolerance_of(kind)) as u8;
         Ok(Layer::new(LayerFields {
             name,
@@ -318,9 +326,10 @@ fn area_of(extent: Option<Extent>) -> WorldBox
     }
 }
 
-/// The map that a mapfile describes. It takes the vertices over as they are.
-pub fn map_of(tree: MapTree, alloc: Global) -> Result<Map, AllocError>
-    ensures { IfOk result (λ made. made ≡ map_of tree) }
+/// The map that a mapfile describes, with the files that it uses. It takes the vertices over as they are.
+pub fn map_of(tree: MapTree, files: &Files, alloc: Global) -> Result<Map, ParseFault>
+    ensures map { IfOk result (λ made. map_of files.now tree ≡ Ok made) }
+    ensures fault { IfErr result (IsFaultOf (map_of files.now tree)) }
 {
     let MapTree {
         name,
@@ -329,16 +338,19 @@ pub fn map_of(tree: MapTree, alloc: Global) -> Result<Map, AllocError>
         ows_title,
         wms_url,
         ows_url,
+        symbols,
         layers,
     } = tree;
-    let title = wms_title.or(ows_title).or(name);
-    let url = wms_url.or(ows_url);
+    let symbols = symbols_of(symbols, files, alloc)?;
+    let title = text_or(wms_title.or(ows_title).or(name), "WMS", alloc)?;
+    let url = text_or(wms_url.or(ows_url), "http://localhost/wms?", alloc)?;
+    let layers = build_all(layers.into_vec(), symbols.as_slice(), alloc)?;
     Ok(Map::new(MapFields {
-        title: text_or(title, "WMS", alloc)?,
-        url: text_or(url, "http://localhost/wms?", alloc)?,
+        title,
+        url,
         extent: area_of(extent),
         font: None,
-        symbols: Items::new(alloc),
-        layers: build_all(layers.into_vec(), alloc)?,
+        symbols,
+        layers,
     }))
 }

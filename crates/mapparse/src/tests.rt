@@ -2,6 +2,7 @@ mod faults;
 mod limits;
 mod map;
 mod messages;
+mod pixmaps;
 mod said;
 mod styles;
 mod told;

@@ -4,7 +4,7 @@ use Rattle.std.specs.Io.KnownBytes.{Keeps}
 use Rattle.std.proofs.KnownBytes.{Appends-kept}
 use Rattle.mapdefs.specs.declared.map.MapFields.{MapFields}
 use Rattle.mapmachine.specs.Machine.{State}
-use Rattle.mapparse.specs.Parsed.{parsed}
+use Rattle.mapservd.specs.Folder.{Giving, ComesTo}
 use Rattle.mapservd.specs.Forms.{HasReadFile, HasReadMap, RunsTo}
 use Rattle.mapservd.specs.Sent.{IsSent}
 use Rattle.mapservd.specs.Session.{Streams, HasRead, Ends, IsTold, Tells, opened}
@@ -20,35 +20,35 @@ told-whole a b c line before after failed sent kept = record {
 }
 
 -- what is told of a script that was played, by the outcome
-pub served : (outcome : Outcome) (old new : Streams) (failed : Bool) (mapfile script : List ℕ) (map : MapFields) (state : State) →
-    HasRead old.input new.input mapfile script → parsed mapfile ≡ Ok map → Ends outcome (opened map) script state old.output new.output →
-    Keeps old.errors new.errors → Tells outcome old new failed
-served Played old new failed mapfile script map state read is_map ends kept =
+pub served : (gives : Giving) (outcome : Outcome) (old new : Streams) (failed : Bool) (mapfile script : List ℕ) (map : MapFields) (state : State) →
+    HasRead old.input new.input mapfile script → ComesTo gives mapfile (Ok map) → Ends outcome (opened map) script state old.output new.output →
+    Keeps old.errors new.errors → Tells gives outcome old new failed
+served gives Played old new failed mapfile script map state read is_map ends kept =
     record { mapfile = mapfile; script = script; read = read; map = map; is_map = is_map; state = state; ends = ends; errors = kept }
-served Checked old new failed mapfile script map state read is_map ends kept = absurd ends
-served Served old new failed mapfile script map state read is_map ends kept = absurd ends
-served SocketFailed old new failed mapfile script map state read is_map ends kept = absurd ends
-served FileFailed old new failed mapfile script map state read is_map ends kept = absurd ends
-served WordsRefused old new failed mapfile script map state read is_map ends kept = absurd ends
-served MapfileFault old new failed mapfile script map state read is_map ends kept = absurd ends
-served InputFailed old new failed mapfile script map state read is_map ends kept = absurd ends
-served OutputFailed old new failed mapfile script map state read is_map ends kept =
+served gives Checked old new failed mapfile script map state read is_map ends kept = absurd ends
+served gives Served old new failed mapfile script map state read is_map ends kept = absurd ends
+served gives SocketFailed old new failed mapfile script map state read is_map ends kept = absurd ends
+served gives FileFailed old new failed mapfile script map state read is_map ends kept = absurd ends
+served gives WordsRefused old new failed mapfile script map state read is_map ends kept = absurd ends
+served gives MapfileFault old new failed mapfile script map state read is_map ends kept = absurd ends
+served gives InputFailed old new failed mapfile script map state read is_map ends kept = absurd ends
+served gives OutputFailed old new failed mapfile script map state read is_map ends kept =
     record { mapfile = mapfile; script = script; read = read; map = map; is_map = is_map; state = state; ends = ends; errors = kept }
-served NoMemory old new failed mapfile script map state read is_map ends kept = absurd ends
+served gives NoMemory old new failed mapfile script map state read is_map ends kept = absurd ends
 
 -- what is told of a script that was read after its mapfile, by the outcome
-pub ran : (outcome : Outcome) (file script : List ℕ) (before after : Option (List ℕ)) (old new : Streams) (failed : Bool) (map : MapFields) (bytes : List ℕ) (state : State) →
-    HasReadMap before after map → HasReadFile old.input new.input bytes → Ends outcome (opened map) bytes state old.output new.output →
-    Keeps old.errors new.errors → RunsTo outcome file script before after old new failed
-ran Played file script before after old new failed map bytes state read read_script ends kept =
+pub ran : (gives : Giving) (outcome : Outcome) (file script : List ℕ) (before after : Option (List ℕ)) (old new : Streams) (failed : Bool) (map : MapFields) (bytes : List ℕ) (state : State) →
+    HasReadMap gives before after map → HasReadFile old.input new.input bytes → Ends outcome (opened map) bytes state old.output new.output →
+    Keeps old.errors new.errors → RunsTo gives outcome file script before after old new failed
+ran gives Played file script before after old new failed map bytes state read read_script ends kept =
     record { map = map; read = read; script = bytes; read_script = read_script; state = state; ends = ends; errors = kept }
-ran OutputFailed file script before after old new failed map bytes state read read_script ends kept =
+ran gives OutputFailed file script before after old new failed map bytes state read read_script ends kept =
     record { map = map; read = read; script = bytes; read_script = read_script; state = state; ends = ends; errors = kept }
-ran Checked file script before after old new failed map bytes state read read_script ends kept = absurd ends
-ran Served file script before after old new failed map bytes state read read_script ends kept = absurd ends
-ran SocketFailed file script before after old new failed map bytes state read read_script ends kept = absurd ends
-ran MapfileFault file script before after old new failed map bytes state read read_script ends kept = absurd ends
-ran FileFailed file script before after old new failed map bytes state read read_script ends kept = absurd ends
-ran WordsRefused file script before after old new failed map bytes state read read_script ends kept = absurd ends
-ran InputFailed file script before after old new failed map bytes state read read_script ends kept = absurd ends
-ran NoMemory file script before after old new failed map bytes state read read_script ends kept = absurd ends
+ran gives Checked file script before after old new failed map bytes state read read_script ends kept = absurd ends
+ran gives Served file script before after old new failed map bytes state read read_script ends kept = absurd ends
+ran gives SocketFailed file script before after old new failed map bytes state read read_script ends kept = absurd ends
+ran gives MapfileFault file script before after old new failed map bytes state read read_script ends kept = absurd ends
+ran gives FileFailed file script before after old new failed map bytes state read read_script ends kept = absurd ends
+ran gives WordsRefused file script before after old new failed map bytes state read read_script ends kept = absurd ends
+ran gives InputFailed file script before after old new failed map bytes state read read_script ends kept = absurd ends
+ran gives NoMemory file script before after old new failed map bytes state read read_script ends kept = absurd ends

@@ -3,7 +3,7 @@ use Rattle.std.specs.Prelude.{◌≡◌, ℕ, Bool, true, false, List, Option, O
 use Rattle.std.specs.Io.KnownBytes.{Keeps, Appends, Consumes, IsAtEnd}
 use Rattle.mapdefs.specs.declared.map.MapFields.{MapFields}
 use Rattle.mapmachine.specs.Machine.{State}
-use Rattle.mapparse.specs.Parsed.{parsed}
+use Rattle.mapservd.specs.Folder.{Giving, ComesTo}
 use Rattle.mapservd.specs.Session.{Streams, IsTold, HasToldFault, Ends, opened}
 use Rattle.mapservd.specs.Summary.{summary_line, HasPartlySummed}
 use Rattle.mapservd.specs.Transcript.{file_fault}
@@ -22,21 +22,21 @@ IsUnread NoMemory name errors_before errors_after failed = Keeps errors_before e
 IsUnread _ name errors_before errors_after failed = ⊥
 
 -- a mapfile was read, and it describes a map
-pub record HasReadMap (before after : Option (List ℕ)) (map : MapFields) : Type 0 where
+pub record HasReadMap (gives : Giving) (before after : Option (List ℕ)) (map : MapFields) : Type 0 where
   pub mapfile : List ℕ
   pub read : HasReadFile before after mapfile
-  pub is_map : parsed mapfile ≡ Ok map
+  pub is_map : ComesTo gives mapfile (Ok map)
 
 -- a mapfile was read, and its fault told
-pub record HasReadFault (before after errors_before errors_after : Option (List ℕ)) (failed : Bool) : Type 0 where
+pub record HasReadFault (gives : Giving) (before after errors_before errors_after : Option (List ℕ)) (failed : Bool) : Type 0 where
   pub mapfile : List ℕ
   pub read : HasReadFile before after mapfile
-  pub told : HasToldFault mapfile errors_before errors_after failed
+  pub told : HasToldFault gives mapfile errors_before errors_after failed
 
 -- a mapfile gave no map: it has a fault, or was not read
-abbrev pub GivesNoMap : Outcome → List ℕ → Option (List ℕ) → Option (List ℕ) → Option (List ℕ) → Option (List ℕ) → Bool → Type 0
-GivesNoMap MapfileFault name before after errors_before errors_after failed = HasReadFault before after errors_before errors_after failed
-GivesNoMap outcome name before after errors_before errors_after failed = IsUnread outcome name errors_before errors_after failed
+abbrev pub GivesNoMap : Giving → Outcome → List ℕ → Option (List ℕ) → Option (List ℕ) → Option (List ℕ) → Option (List ℕ) → Bool → Type 0
+GivesNoMap gives MapfileFault name before after errors_before errors_after failed = HasReadFault gives before after errors_before errors_after failed
+GivesNoMap gives outcome name before after errors_before errors_after failed = IsUnread outcome name errors_before errors_after failed
 
 -- what the output got of the line of a map, by the outcome: all of it; or exactly its first so many bytes, or all of them
 -- where the flush failed
@@ -47,25 +47,25 @@ SumsUp OutputFailed map before after =
 SumsUp _ map before after = ⊥
 
 -- a mapfile describes a map, whose line was written with this outcome
-pub record IsChecked (outcome : Outcome) (old new : Streams) : Type 0 where
+pub record IsChecked (gives : Giving) (outcome : Outcome) (old new : Streams) : Type 0 where
   pub map : MapFields
-  pub read : HasReadMap old.input new.input map
+  pub read : HasReadMap gives old.input new.input map
   pub sums : SumsUp outcome map old.output new.output
   pub errors : Keeps old.errors new.errors
 
 -- what checking a mapfile tells of the streams by its outcome, with the name of the mapfile, which is their input; `failed`
 -- says whether the writer of errors has failed
-abbrev pub ChecksTo : Outcome → List ℕ → Streams → Streams → Bool → Type 0
-ChecksTo Checked name old new failed = IsChecked Checked old new
-ChecksTo OutputFailed name old new failed = IsChecked OutputFailed old new
-ChecksTo outcome name old new failed =
-    Keeps old.output new.output × GivesNoMap outcome name old.input new.input old.errors new.errors failed
+abbrev pub ChecksTo : Giving → Outcome → List ℕ → Streams → Streams → Bool → Type 0
+ChecksTo gives Checked name old new failed = IsChecked gives Checked old new
+ChecksTo gives OutputFailed name old new failed = IsChecked gives OutputFailed old new
+ChecksTo gives outcome name old new failed =
+    Keeps old.output new.output × GivesNoMap gives outcome name old.input new.input old.errors new.errors failed
 
 -- a mapfile describes a map, on which a script was played with this outcome; the script is the input of the streams, and
 -- `before` and `after` are what is left of the mapfile
-pub record IsRun (outcome : Outcome) (before after : Option (List ℕ)) (old new : Streams) : Type 0 where
+pub record IsRun (gives : Giving) (outcome : Outcome) (before after : Option (List ℕ)) (old new : Streams) : Type 0 where
   pub map : MapFields
-  pub read : HasReadMap before after map
+  pub read : HasReadMap gives before after map
   pub script : List ℕ
   pub read_script : HasReadFile old.input new.input script
   pub state : State
@@ -73,19 +73,19 @@ pub record IsRun (outcome : Outcome) (before after : Option (List ℕ)) (old new
   pub errors : Keeps old.errors new.errors
 
 -- a mapfile describes a map, but the script was not read
-pub record IsWithoutScript (outcome : Outcome) (name : List ℕ) (before after errors_before errors_after : Option (List ℕ)) (failed : Bool) : Type 0 where
+pub record IsWithoutScript (gives : Giving) (outcome : Outcome) (name : List ℕ) (before after errors_before errors_after : Option (List ℕ)) (failed : Bool) : Type 0 where
   pub map : MapFields
-  pub read : HasReadMap before after map
+  pub read : HasReadMap gives before after map
   pub unread : IsUnread outcome name errors_before errors_after failed
 
 -- what running a script tells of the streams by its outcome, with the names of the mapfile and of the script
-abbrev pub RunsTo : Outcome → List ℕ → List ℕ → Option (List ℕ) → Option (List ℕ) → Streams → Streams → Bool → Type 0
-RunsTo Played file script before after old new failed = IsRun Played before after old new
-RunsTo OutputFailed file script before after old new failed = IsRun OutputFailed before after old new
-RunsTo outcome file script before after old new failed =
+abbrev pub RunsTo : Giving → Outcome → List ℕ → List ℕ → Option (List ℕ) → Option (List ℕ) → Streams → Streams → Bool → Type 0
+RunsTo gives Played file script before after old new failed = IsRun gives Played before after old new
+RunsTo gives OutputFailed file script before after old new failed = IsRun gives OutputFailed before after old new
+RunsTo gives outcome file script before after old new failed =
     Keeps old.output new.output
-    × (GivesNoMap outcome file before after old.errors new.errors failed
-    ⊎ IsWithoutScript outcome script before after old.errors new.errors failed)
+    × (GivesNoMap gives outcome file before after old.errors new.errors failed
+    ⊎ IsWithoutScript gives outcome script before after old.errors new.errors failed)
 
 -- something was told to the errors: a fault of a mapfile, or a file that was not read
 abbrev pub has_told : Outcome → Bool

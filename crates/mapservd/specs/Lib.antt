@@ -1,4 +1,5 @@
 pub mod Connections
+pub mod Folder
 pub mod Forms
 pub mod Lines
 pub mod Parts

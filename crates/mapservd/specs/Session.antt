@@ -5,7 +5,7 @@ use Rattle.mapdefs.specs.declared.map.MapFields.{MapFields}
 use Rattle.mapmachine.specs.Machine.{State}
 use Rattle.maptree.specs.declared.fault.Fault.{Fault}
 use Rattle.maptree.specs.Fault.{number_of}
-use Rattle.mapparse.specs.Parsed.{parsed}
+use Rattle.mapservd.specs.Folder.{Giving, ComesTo}
 use Rattle.mapservd.specs.Parts.{AreParts}
 use Rattle.mapservd.specs.Playing.{HasPlayed, HasPartlyPlayed}
 use Rattle.mapservd.specs.Transcript.{mapfile_fault}
@@ -43,12 +43,12 @@ Ends OutputFailed old script new before after =
 Ends _ old script new before after = ⊥
 
 -- the mapfile describes a map, and playing the script on it had this outcome
-pub record IsServed (outcome : Outcome) (old new : Streams) : Type 0 where
+pub record IsServed (gives : Giving) (outcome : Outcome) (old new : Streams) : Type 0 where
   pub mapfile : List ℕ
   pub script : List ℕ
   pub read : HasRead old.input new.input mapfile script
   pub map : MapFields
-  pub is_map : parsed mapfile ≡ Ok map
+  pub is_map : ComesTo gives mapfile (Ok map)
   pub state : State
   pub ends : Ends outcome (opened map) script state old.output new.output
   pub errors : Keeps old.errors new.errors
@@ -60,33 +60,33 @@ pub record IsTold (before after : Option (List ℕ)) (line : List ℕ) (failed :
   pub all : failed ≡ false → length line ≤ count
 
 -- the mapfile has a fault, which a writer was told
-pub record HasToldFault (mapfile : List ℕ) (before after : Option (List ℕ)) (failed : Bool) : Type 0 where
+pub record HasToldFault (gives : Giving) (mapfile : List ℕ) (before after : Option (List ℕ)) (failed : Bool) : Type 0 where
   pub fault : Fault
-  pub is_fault : parsed mapfile ≡ Err fault
+  pub is_fault : ComesTo gives mapfile (Err fault)
   pub told : IsTold before after (mapfile_fault fault.line (number_of fault.kind)) failed
 
 -- there is no map: the mapfile's fault was told, or memory was refused and nothing told
-abbrev pub IsWithoutMap : Outcome → List ℕ → Option (List ℕ) → Option (List ℕ) → Bool → Type 0
-IsWithoutMap MapfileFault mapfile before after failed = HasToldFault mapfile before after failed
-IsWithoutMap NoMemory mapfile before after failed = Keeps before after
-IsWithoutMap _ mapfile before after failed = ⊥
+abbrev pub IsWithoutMap : Giving → Outcome → List ℕ → Option (List ℕ) → Option (List ℕ) → Bool → Type 0
+IsWithoutMap gives MapfileFault mapfile before after failed = HasToldFault gives mapfile before after failed
+IsWithoutMap gives NoMemory mapfile before after failed = Keeps before after
+IsWithoutMap gives _ mapfile before after failed = ⊥
 
 -- the mapfile of a session has a fault, which was told to the errors alone
-pub record IsFaulty (old new : Streams) (failed : Bool) : Type 0 where
+pub record IsFaulty (gives : Giving) (old new : Streams) (failed : Bool) : Type 0 where
   pub mapfile : List ℕ
   pub script : List ℕ
   pub read : HasRead old.input new.input mapfile script
   pub output : Keeps old.output new.output
-  pub told : HasToldFault mapfile old.errors new.errors failed
+  pub told : HasToldFault gives mapfile old.errors new.errors failed
 
 -- what an outcome tells of the streams; `failed` says whether the writer of errors has failed
-abbrev pub Tells : Outcome → Streams → Streams → Bool → Type 0
-Tells Played old new failed = IsServed Played old new
-Tells MapfileFault old new failed = IsFaulty old new failed
-Tells InputFailed old new failed = IsSilent old new
-Tells OutputFailed old new failed = IsServed OutputFailed old new
-Tells NoMemory old new failed = IsSilent old new
-Tells _ old new failed = ⊥
+abbrev pub Tells : Giving → Outcome → Streams → Streams → Bool → Type 0
+Tells gives Played old new failed = IsServed gives Played old new
+Tells gives MapfileFault old new failed = IsFaulty gives old new failed
+Tells gives InputFailed old new failed = IsSilent old new
+Tells gives OutputFailed old new failed = IsServed gives OutputFailed old new
+Tells gives NoMemory old new failed = IsSilent old new
+Tells gives _ old new failed = ⊥
 
 -- the reader of a session failed
 abbrev pub is_input_failed : Outcome → Bool

@@ -3,6 +3,7 @@ ghost use Rattle.mapservd.specs.declared.outcome.Outcome.TheVariants.{Played, Ch
 ghost use Rattle.mapservd.specs.Session.{is_file_failed, is_input_failed, is_output_failed};
 ghost use Rattle.mapservd.specs.Forms.{HasReadFile, IsUnread, HasReadMap, GivesNoMap, SumsUp, ChecksTo, RunsTo, has_told};
 
+use crate::folder::Folder;
 use crate::input::{ReadFault, read_all};
 use crate::outcome::Outcome;
 use crate::session::{open_map, play_out, tell};
@@ -38,22 +39,23 @@ fn read_file<I: Source, E: Sink>(
 }
 
 /// The map of a mapfile, or how the program ends without it. A fault is told.
-pub fn read_map<I: Source, E: Sink>(
+pub fn read_map<F: Folder, I: Source, E: Sink>(
     alloc: Global,
+    folder: &F,
     name: &str,
     file: &mut I,
     errors: &mut E,
 ) -> Result<Map, Outcome>
-    ensures map { IfOk result (λ map. HasReadMap (I.left file.old) (I.left file.new) map) }
+    ensures map { IfOk result (λ map. HasReadMap (F.gives folder.now) (I.left file.old) (I.left file.new) map) }
     ensures same { OnOk result (errors.new ≡ errors.old) }
-    ensures without { IfErr result (λ outcome. GivesNoMap outcome name.now (I.left file.old) (I.left file.new) (E.held errors.old) (E.held errors.new) (E.put_failed errors.new)) }
+    ensures without { IfErr result (λ outcome. GivesNoMap (F.gives folder.now) outcome name.now (I.left file.old) (I.left file.new) (E.held errors.old) (E.held errors.new) (E.put_failed errors.new)) }
     ensures flushed { IfErr result (λ outcome. has_told outcome ≡ true → E.put_failed errors.new ≡ false → E.is_flushed errors.new ≡ true) }
     ensures flag { MatchResult result
         (λ _. I.take_failed file.new ≡ I.take_failed file.old)
         (λ outcome. I.take_failed file.new ≡ (is_file_failed outcome || I.take_failed file.old)) }
 {
     match read_file(alloc, name, file, errors) {
-        Ok(mapfile) => open_map(alloc, &mapfile, errors),
+        Ok(mapfile) => open_map(alloc, folder, &mapfile, errors),
         Err(outcome) => Err(outcome),
     }
 }
@@ -76,14 +78,15 @@ fn sum_up<O: Sink>(map: &Map, output: &mut O) -> Outcome
 
 /// Reads a mapfile up to its end, and writes the line of its map to the output, or tells the errors its
 /// fault, or its name if it can't be read.
-pub fn check_file<I: Source, O: Sink, E: Sink>(
+pub fn check_file<F: Folder, I: Source, O: Sink, E: Sink>(
     alloc: Global,
+    folder: &F,
     name: &str,
     file: &mut I,
     output: &mut O,
     errors: &mut E,
 ) -> Outcome
-    ensures tells { ChecksTo result name.now
+    ensures tells { ChecksTo (F.gives folder.now) result name.now
         (record { input = I.left file.old; output = O.held output.old; errors = E.held errors.old })
         (record { input = I.left file.new; output = O.held output.new; errors = E.held errors.new })
         (E.put_failed errors.new) }
@@ -92,7 +95,7 @@ pub fn check_file<I: Source, O: Sink, E: Sink>(
     ensures file_flag { I.take_failed file.new ≡ (is_file_failed result || I.take_failed file.old) }
     ensures output_flag { O.put_failed output.new ≡ (is_output_failed result || O.put_failed output.old) }
 {
-    match read_map(alloc, name, file, errors) {
+    match read_map(alloc, folder, name, file, errors) {
         Ok(map) => sum_up(&map, output),
         Err(outcome) => outcome,
     }
@@ -101,8 +104,9 @@ pub fn check_file<I: Source, O: Sink, E: Sink>(
 /// Reads a mapfile up to its end, and then a script, and plays it: the transcript goes to the output. Or
 /// it tells the errors the fault of the mapfile, or the name of the first file that can't be read. Where
 /// the mapfile gives no map, the script isn't read.
-pub fn run_files<I: Source, J: Source, O: Sink, E: Sink>(
+pub fn run_files<F: Folder, I: Source, J: Source, O: Sink, E: Sink>(
     alloc: Global,
+    folder: &F,
     name: &str,
     file: &mut I,
     script_name: &str,
@@ -110,7 +114,7 @@ pub fn run_files<I: Source, J: Source, O: Sink, E: Sink>(
     output: &mut O,
     errors: &mut E,
 ) -> Outcome
-    ensures tells { RunsTo result name.now script_name.now (I.left file.old) (I.left file.new)
+    ensures tells { RunsTo (F.gives folder.now) result name.now script_name.now (I.left file.old) (I.left file.new)
         (record { input = J.left script.old; output = O.held output.old; errors = E.held errors.old })
         (record { input = J.left script.new; output = O.held output.new; errors = E.held errors.new })
         (E.put_failed errors.new) }
@@ -119,7 +123,7 @@ pub fn run_files<I: Source, J: Source, O: Sink, E: Sink>(
     ensures file_flags { (I.take_failed file.new || J.take_failed script.new) ≡ (is_file_failed result || (I.take_failed file.old || J.take_failed script.old)) }
     ensures output_flag { O.put_failed output.new ≡ (is_output_failed result || O.put_failed output.old) }
 {
-    let map = match read_map(alloc, name, file, errors) {
+    let map = match read_map(alloc, folder, name, file, errors) {
         Ok(map) => map,
         Err(outcome) => return outcome,
     };

@@ -1,12 +1,13 @@
 use crate::files::{check_file, run_files};
 use crate::form::Command;
+use crate::folder_tests::NoFiles;
 use crate::stream_tests::Memory;
 use crate::summary::summary;
 use crate::tests::{Narrow, columns, exception};
 use crate::words::{WordsFault, command};
 use mapdefs::Map;
 use mapmachine::{Flagged, WriteFault};
-use mapparse::parse;
+use mapparse::{Files, parse};
 use std::alloc::{AllocError, Global};
 use std::str;
 
@@ -93,7 +94,7 @@ fn is_summed(alloc: Global, map: &Map, room: usize) -> bool {
 
 #[test]
 fn summaries_are_written_up_to_a_failure(rt: HostRuntime) {
-    let Ok(map) = parse(rt.alloc(), SOME.as_bytes()) else {
+    let Ok(map) = parse(rt.alloc(), SOME.as_bytes(), &Files::new(rt.alloc())) else {
         panic!(rt; "the map is refused");
     };
     for room in 0..30 {
@@ -120,10 +121,11 @@ fn formed(
     let mut output = Flagged::new(Memory::new(alloc, &[], 5, failing));
     let mut errors = Flagged::new(Memory::new(alloc, &[], 5, None));
     let outcome = if form == "check" {
-        check_file(alloc, "m.map", &mut file, &mut output, &mut errors)
+        check_file(alloc, &NoFiles, "m.map", &mut file, &mut output, &mut errors)
     } else {
         run_files(
             alloc,
+            &NoFiles,
             "m.map",
             &mut file,
             "s.txt",

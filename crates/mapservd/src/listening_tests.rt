@@ -1,7 +1,7 @@
 use crate::listening::listen;
 use crate::outcome::Outcome;
 use mapmachine::{Flagged, Machine};
-use mapparse::parse;
+use mapparse::{Files, parse};
 use std::io::{self, Read, Write};
 use std::net::TcpStream;
 use std::str;
@@ -57,7 +57,7 @@ impl Write for Clients<'_> {
 #[test]
 fn a_port_answers_its_connections_in_turn(rt: HostRuntime) -> Result<(), Fail> {
     let alloc = rt.alloc();
-    let mut machine = Machine::open(alloc, parse(alloc, b"MAP END")?);
+    let mut machine = Machine::open(alloc, parse(alloc, b"MAP END", &Files::new(alloc))?);
     let mut output = Flagged::new(Clients {
         rt: &rt,
         told: Vec::new(alloc),

@@ -17,9 +17,13 @@
 
 mod connection;
 mod files;
+mod folder;
+#[cfg(test)]
+mod folder_tests;
 mod form;
 #[cfg(test)]
 mod form_tests;
+mod host_folder;
 mod input;
 mod laws;
 mod line;
@@ -44,6 +48,7 @@ mod words;
 
 use crate::files::{check_file, read_map, run_files};
 use crate::form::Command;
+use crate::host_folder::HostFolder;
 use crate::listening::listen;
 use crate::named_file::NamedFile;
 use crate::outcome::Outcome;
@@ -69,12 +74,14 @@ fn perform<O: Sink, E: Sink>(
     match command {
         Command::Session => serve_session(
             rt.alloc(),
+            &HostFolder::current(rt),
             &mut Flagged::new(rt.reader()),
             output,
             errors,
         ),
         Command::Check { file } => check_file(
             rt.alloc(),
+            &HostFolder::of(rt, file),
             file,
             &mut Flagged::new(NamedFile::new(rt, file)),
             output,
@@ -82,6 +89,7 @@ fn perform<O: Sink, E: Sink>(
         ),
         Command::Run { file, script } => run_files(
             rt.alloc(),
+            &HostFolder::of(rt, file),
             file,
             &mut Flagged::new(NamedFile::new(rt, file)),
             script,
@@ -95,6 +103,7 @@ fn perform<O: Sink, E: Sink>(
             connections,
         } => match read_map(
             rt.alloc(),
+            &HostFolder::of(rt, file),
             file,
             &mut Flagged::new(NamedFile::new(rt, file)),
             errors,

@@ -1,10 +1,11 @@
 ghost use Rattle.std.specs.Prelude.{◌≡◌, ◌||◌, IfOk, IfErr, OnOk, Ok, true, false};
 ghost use Rattle.std.specs.List.{flat_map};
-ghost use Rattle.mapparse.specs.Parsed.{parsed};
+ghost use Rattle.mapservd.specs.Folder.{ComesTo, ComesToFault};
 ghost use Rattle.mapservd.specs.declared.outcome.Outcome.TheVariants.{Played, MapfileFault};
 ghost use Rattle.mapservd.specs.Session.{Tells, Ends, IsTold, IsWithoutMap, is_input_failed, is_output_failed};
 ghost use Rattle.mapservd.specs.Transcript.{mapfile_fault};
 
+use crate::folder::{Folder, files_of};
 use crate::input::{ReadFault, read_all};
 use crate::outcome::Outcome;
 use crate::parts::split_session;
@@ -17,13 +18,14 @@ use std::alloc::Global;
 
 /// Reads a session from the input up to its end, and plays it: the transcript goes to the output, or
 /// the fault of the mapfile to the errors. The outcome tells what the writers got.
-pub fn serve_session<I: Source, O: Sink, E: Sink>(
+pub fn serve_session<F: Folder, I: Source, O: Sink, E: Sink>(
     alloc: Global,
+    folder: &F,
     input: &mut I,
     output: &mut O,
     errors: &mut E,
 ) -> Outcome
-    ensures tells { Tells result
+    ensures tells { Tells (F.gives folder.now) result
         (record { input = I.left input.old; output = O.held output.old; errors = E.held errors.old })
         (record { input = I.left input.new; output = O.held output.new; errors = E.held errors.new })
         (E.put_failed errors.new) }
@@ -38,20 +40,34 @@ pub fn serve_session<I: Source, O: Sink, E: Sink>(
         Err(ReadFault::NoMemory) => return Outcome::NoMemory,
     };
     let (mapfile, script) = split_session(&session);
-    match open_map(alloc, mapfile, errors) {
+    match open_map(alloc, folder, mapfile, errors) {
         Ok(map) => play_out(&mut Machine::open(alloc, map), script, output),
         Err(outcome) => outcome,
     }
 }
 
+// The map of a mapfile with the files of its folder, or its first fault.
+fn read_map_of<F: Folder>(alloc: Global, folder: &F, mapfile: &[u8]) -> Result<Map, ParseFault>
+    ensures map { IfOk result (λ map. ComesTo (F.gives folder.now) mapfile.now (Ok map)) }
+    ensures fault { IfErr result (ComesToFault (F.gives folder.now) mapfile.now) }
+{
+    let files = files_of(alloc, folder, mapfile)?;
+    parse(alloc, mapfile, &files)
+}
+
 /// The map of a mapfile, or how the program ends without it. The mapfile's fault is told.
-pub fn open_map<E: Sink>(alloc: Global, mapfile: &[u8], errors: &mut E) -> Result<Map, Outcome>
-    ensures map { IfOk result (λ map. parsed mapfile.now ≡ Ok map) }
+pub fn open_map<F: Folder, E: Sink>(
+    alloc: Global,
+    folder: &F,
+    mapfile: &[u8],
+    errors: &mut E,
+) -> Result<Map, Outcome>
+    ensures map { IfOk result (λ map. ComesTo (F.gives folder.now) mapfile.now (Ok map)) }
     ensures same { OnOk result (errors.new ≡ errors.old) }
-    ensures without { IfErr result (λ outcome. IsWithoutMap outcome mapfile.now (E.held errors.old) (E.held errors.new) (E.put_failed errors.new)) }
+    ensures without { IfErr result (λ outcome. IsWithoutMap (F.gives folder.now) outcome mapfile.now (E.held errors.old) (E.held errors.new) (E.put_failed errors.new)) }
     ensures flushed { IfErr result (λ outcome. outcome ≡ MapfileFault → E.put_failed errors.new ≡ false → E.is_flushed errors.new ≡ true) }
 {
-    match parse(alloc, mapfile) {
+    match read_map_of(alloc, folder, mapfile) {
         Ok(map) => Ok(map),
         Err(ParseFault::At { line, kind }) => {
             tell_mapfile_fault(errors, line, kind.number());

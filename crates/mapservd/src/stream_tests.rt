@@ -1,3 +1,4 @@
+use crate::folder_tests::NoFiles;
 use crate::input::ReadFault;
 use crate::outcome::Outcome;
 use crate::session::serve_session;
@@ -79,7 +80,7 @@ fn served(alloc: Global, session: &[u8], at_once: usize, failing: [Option<usize>
     let mut input = Flagged::new(Memory::new(alloc, session, at_once, failing[0]));
     let mut output = Flagged::new(Memory::new(alloc, &[], at_once, failing[1]));
     let mut errors = Flagged::new(Memory::new(alloc, &[], at_once, failing[2]));
-    let outcome = serve_session(alloc, &mut input, &mut output, &mut errors);
+    let outcome = serve_session(alloc, &NoFiles, &mut input, &mut output, &mut errors);
     let (input, output, errors) = (input.into_inner(), output.into_inner(), errors.into_inner());
     Ending {
         outcome,

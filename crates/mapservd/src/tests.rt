@@ -1,6 +1,6 @@
 use crate::play::play_script;
 use mapmachine::{Flagged, Machine, WriteFault};
-use mapparse::parse;
+use mapparse::{Files, parse};
 use std::alloc::{AllocError, Global};
 use std::io::{self, Write};
 
@@ -104,7 +104,7 @@ impl Write for Narrow {
 
 /// The machine of a mapfile. Its error is out of memory, or a fault, which the tests don't expect.
 pub fn opened(alloc: Global, map: &str) -> Result<Machine, AllocError> {
-    match parse(alloc, map.as_bytes()) {
+    match parse(alloc, map.as_bytes(), &Files::new(alloc)) {
         Ok(map) => Ok(Machine::open(alloc, map)),
         Err(_) => Err(AllocError),
     }

@@ -18,7 +18,7 @@ use Rattle.mapdefs.specs.declared.layer.Kind.{Kind}
 use Rattle.maptree.specs.declared.colour.Component.{Component}
 use Rattle.maptree.specs.declared.context.Block.{Block}
 use Rattle.maptree.specs.declared.context.Block.TheVariants as block
-use Rattle.maptree.specs.declared.context.TextKeyword.TheVariants.{MapName, LayerName, ClassItem, LabelItem, Template, CsvX, CsvY, ServiceWmsTitle, ServiceOwsTitle, ServiceWmsUrl, ServiceOwsUrl, LayerWmsTitle, LayerOwsTitle, FeatureText, FeatureItems}
+use Rattle.maptree.specs.declared.context.TextKeyword.TheVariants.{MapName, LayerName, ClassItem, LabelItem, Template, CsvX, CsvY, ServiceWmsTitle, ServiceOwsTitle, ServiceWmsUrl, ServiceOwsUrl, LayerWmsTitle, LayerOwsTitle, SymbolName, SymbolImage, StyleSymbol, FeatureText, FeatureItems}
 use Rattle.maptree.specs.declared.context.ColourKeyword.{ColourKeyword}
 use Rattle.maptree.specs.declared.context.ColourKeyword.TheVariants.{StyleColour, StyleOutline, LabelColour, LabelOutline, ImageColour}
 use Rattle.maptree.specs.declared.context.FlagKeyword.{FlagKeyword}
@@ -97,6 +97,10 @@ image-noted b colour = λ line own o. refl
 kind-stays : (kind : Option Kind) → StaysIn block.Layer (option_map (λ k. Whole (value.Kind k)) kind)
 kind-stays None = tt
 kind-stays (Some k) = λ line own o. refl
+
+pixmap-stays : (same : Bool) → StaysIn block.Symbol (if same then Some (Whole value.Pixmap) else None)
+pixmap-stays true = λ line own o. refl
+pixmap-stays false = tt
 
 width-stays : (width : Option ℕ) → StaysIn block.Style (option_map (λ n. Whole (value.Width n)) width)
 width-stays None = tt
@@ -256,6 +260,9 @@ unused-stays b (suc fewer) = tt
 
 text-stays : (w : _) (b : Block) (text : List ℕ) → Suits (expected.Text w) b → StaysIn b (Some (Whole (value.Text w text)))
 text-stays MapName b text p = rw p (λ line own o. refl)
+text-stays SymbolName b text p = rw p (λ line own o. refl)
+text-stays SymbolImage b text p = rw p (λ line own o. refl)
+text-stays StyleSymbol b text p = rw p (λ line own o. refl)
 text-stays LayerName b text p = rw p (λ line own o. refl)
 text-stays ClassItem b text p = rw p (λ line own o. refl)
 text-stays LabelItem b text p = rw p (λ line own o. refl)
@@ -273,6 +280,7 @@ text-stays FeatureItems b text p = rw p (λ line own o. refl)
 
 plain-stays : (e : Expected) (b : Block) (t : TokenValue) → Suits e b → StaysIn b (plain_step e t)
 plain-stays expected.Kind b t p = rw p (kind-stays (kind_of t.text))
+plain-stays expected.Pixmap b t p = rw p (pixmap-stays (str_eq_ignore_ascii_case t.text (codes "PIXMAP")))
 plain-stays expected.Width b t p = rw p (width-stays (bounded_of 1 MAX_LINE_WIDTH t.text))
 plain-stays expected.Size b t p = rw p (size-stays (bounded_of 1 MAX_SQUARE t.text))
 plain-stays expected.Tolerance b t p = rw p (tolerance-stays (bounded_of 0 MAX_TOLERANCE t.text))
@@ -359,6 +367,10 @@ layer-suits key = of (is_same_name key (codes "wms_title")) (is_same_name key (c
 -- a block of the keyword of a value
 suited : (e : Expected) → (b : Block) × Suits e b
 suited (expected.Text MapName) = (block.Map, refl)
+suited (expected.Text SymbolName) = (block.Symbol, refl)
+suited (expected.Text SymbolImage) = (block.Symbol, refl)
+suited (expected.Text StyleSymbol) = (block.Style, refl)
+suited expected.Pixmap = (block.Symbol, refl)
 suited (expected.Text LayerName) = (block.Layer, refl)
 suited (expected.Text ClassItem) = (block.Layer, refl)
 suited (expected.Text LabelItem) = (block.Layer, refl)
@@ -631,6 +643,7 @@ module _ (tail : Tail) (n : ℕ) (below : (b : Block) (up own : Entries) (o : Op
   token-here block.Layer up own o t ts p q = role-here block.Layer up own o t ts q p _ (fits-option block.Layer (keyword_at t))
   token-here block.Class up own o t ts p q = role-here block.Class up own o t ts q p _ (fits-option block.Class (keyword_at t))
   token-here block.Style up own o t ts p q = role-here block.Style up own o t ts q p _ (fits-option block.Style (keyword_at t))
+  token-here block.Symbol up own o t ts p q = role-here block.Symbol up own o t ts q p _ (fits-option block.Symbol (keyword_at t))
   token-here block.Web up own o t ts p q = role-here block.Web up own o t ts q p _ (fits-option block.Web (keyword_at t))
   token-here block.Label up own o t ts p q = role-here block.Label up own o t ts q p _ (fits-option block.Label (keyword_at t))
   token-here block.Feature up own o t ts p q = role-here block.Feature up own o t ts q p _ (fits-option block.Feature (keyword_at t))

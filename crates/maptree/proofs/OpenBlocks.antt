@@ -6,10 +6,10 @@ use Rattle.std.proofs.lemmas.List.{map-append, length-map}
 use Rattle.maplex.specs.Token.{TokenValue}
 use Rattle.mapdefs.specs.declared.layer.Kind.{Kind}
 use Rattle.mapdefs.specs.declared.layer.Kind.TheVariants.{Polygon}
-use Rattle.mapdefs.specs.declared.limits.TheConstants.{MAX_LAYERS, MAX_CLASSES, MAX_STYLES, MAX_FEATURES}
+use Rattle.mapdefs.specs.declared.limits.TheConstants.{MAX_SYMBOLS, MAX_LAYERS, MAX_CLASSES, MAX_STYLES, MAX_FEATURES}
 use Rattle.maptree.specs.declared.context.Block.{Block}
 use Rattle.maptree.specs.declared.context.Block.TheVariants as block
-use Rattle.maptree.specs.declared.context.TextKeyword.TheVariants.{MapName, LayerName, ClassItem, LabelItem, Template, CsvX, CsvY, ServiceWmsTitle, ServiceOwsTitle, ServiceWmsUrl, ServiceOwsUrl, LayerWmsTitle, LayerOwsTitle, FeatureText, FeatureItems}
+use Rattle.maptree.specs.declared.context.TextKeyword.TheVariants.{MapName, LayerName, ClassItem, LabelItem, Template, CsvX, CsvY, ServiceWmsTitle, ServiceOwsTitle, ServiceWmsUrl, ServiceOwsUrl, LayerWmsTitle, LayerOwsTitle, SymbolName, SymbolImage, StyleSymbol, FeatureText, FeatureItems}
 use Rattle.maptree.specs.declared.context.ColourKeyword.TheVariants.{StyleColour, StyleOutline, LabelColour, LabelOutline}
 use Rattle.maptree.specs.declared.context.ScaleKeyword.TheVariants.{LayerMin, LayerMax, ClassMin, ClassMax}
 use Rattle.maptree.specs.declared.context.Expected.{Expected}
@@ -18,20 +18,23 @@ use Rattle.maptree.specs.declared.context.Role.{Role}
 use Rattle.maptree.specs.declared.context.Role.TheVariants as role
 use Rattle.maptree.specs.declared.draft.Drafts.{Drafts}
 use Rattle.maptree.specs.declared.draft.LayerDraft.{LayerDraft}
-use Rattle.maptree.specs.declared.draft.Named.{Named}
+use Rattle.maptree.specs.declared.tree.Named.{Named}
 use Rattle.maptree.specs.declared.fault.Fault.{Fault}
 use Rattle.maptree.specs.declared.fault.ParseKind.TheVariants.{DuplicateName}
 use Rattle.maptree.specs.declared.keyword.Keyword.{Keyword}
 use Rattle.maptree.specs.declared.keyword.Keyword.TheVariants as keyword
 use Rattle.maptree.specs.declared.tree.LayerTree.{LayerTree}
 use Rattle.maptree.specs.Draft as draft
-use Rattle.maptree.specs.End.{layer_with, finished_layer, ends}
+use Rattle.maptree.specs.End.{layer_with, finished_layer, finished_symbol, ends}
+use Rattle.maptree.specs.End as end
+use Rattle.maptree.specs.Symbol.{symbol_fault, map_fault}
+use Rattle.maptree.specs.declared.tree.SymbolTree.{SymbolTree}
 use Rattle.maptree.specs.Entries.{Entries, Nothing, Inside, with_block, last, blocks, last_block, last_within, vertices}
 use Rattle.maptree.specs.Fault.{and_then}
 use Rattle.maptree.specs.Name.{is_taken}
 use Rattle.maptree.specs.Says.{layer_fault, closing_fault, is_full}
-use Rattle.maptree.specs.Table.{map_role, web_role, layer_role, class_role, style_role, label_role, feature_role, passed_role, passed_label_role, end_role, role_of}
-use Rattle.maptree.specs.Tree.{style_tree, label_tree, class_tree, feature_tree, layer_name, layer_kind, class_item, label_item, template, layer_tolerance, layer_min, layer_max, layer_items, layer_csv_x, layer_csv_y, layer_wms_title, layer_ows_title, feature_text, feature_items, layer_tree, service_wms_title, service_ows_title, service_wms_url, service_ows_url, web_text, service_text, map_tree}
+use Rattle.maptree.specs.Table.{map_role, web_role, symbol_role, layer_role, class_role, style_role, label_role, feature_role, passed_role, passed_label_role, end_role, role_of}
+use Rattle.maptree.specs.Tree.{style_tree, label_tree, class_tree, feature_tree, layer_name, layer_kind, class_item, label_item, template, layer_tolerance, layer_min, layer_max, layer_items, layer_csv_x, layer_csv_y, layer_wms_title, layer_ows_title, feature_text, feature_items, layer_tree, symbol_name, symbol_kind, symbol_image, symbol_tree, service_wms_title, service_ows_title, service_wms_url, service_ows_url, web_text, service_text, map_tree}
 use Rattle.maptree.specs.declared.value.Value.{Value}
 
 -- what the open blocks say so far; a block that isn't open says nothing
@@ -39,6 +42,7 @@ pub record OpenBlocks : Type 0 where
   pub map : Entries
   pub web : Entries
   pub web_metadata : Entries
+  pub symbol : Entries
   pub layer : Entries
   pub layer_metadata : Entries
   pub class : Entries
@@ -64,6 +68,7 @@ drafts_of o = record {
     wms_url = open_text service_wms_url o;
     ows_url = open_text service_ows_url o;
   };
+  symbol = record { name = last symbol_name o.symbol; pixmap = is_some (last symbol_kind o.symbol); image = last symbol_image o.symbol };
   layer = record {
     name = last layer_name o.layer;
     kind = last layer_kind o.layer;
@@ -97,6 +102,7 @@ only_map own = record {
   map = own;
   web = Nothing;
   web_metadata = Nothing;
+  symbol = Nothing;
   layer = Nothing;
   layer_metadata = Nothing;
   class = Nothing;
@@ -109,6 +115,7 @@ only_map own = record {
 -- a block says this, within the blocks round it, and none is open inside it
 abbrev pub in_block : Block → Entries → OpenBlocks → OpenBlocks
 in_block block.Map own o = only_map own
+in_block block.Symbol own o = record (only_map o.map) { symbol = own }
 in_block block.Web own o = record (only_map o.map) { web = own }
 in_block block.WebMetadata own o = record (only_map o.map) { web = o.web; web_metadata = own }
 in_block block.Layer own o = record (only_map o.map) { layer = own }
@@ -128,6 +135,7 @@ above block.Class up o = o.layer
 above block.Style up o = o.class
 above block.Feature up o = o.layer
 above block.Points up o = o.feature
+above block.Symbol up o = o.map
 above block.Web up o = o.map
 above block.WebMetadata up o = o.web
 above block.LayerMetadata up o = o.layer
@@ -137,6 +145,7 @@ above _ up o = up
 -- after the END of a block its parent has it
 abbrev pub after_end : Block → Entries → OpenBlocks → OpenBlocks
 after_end block.Map own o = in_block block.Map own o
+after_end block.Symbol own o = in_block block.Map (Inside block.Symbol own o.map) o
 after_end block.Layer own o = in_block block.Map (Inside block.Layer own o.map) o
 after_end block.Class own o = in_block block.Layer (Inside block.Class own o.layer) o
 after_end block.Style own o = in_block block.Class (Inside block.Style own o.class) o
@@ -157,6 +166,10 @@ pub record Nests (c b : Block) : Type 0 where
 -- the keyword of a value is one of the block; a value without effect may stand in each
 abbrev pub Suits : Expected → Block → Type 0
 Suits (expected.Text MapName) b = b ≡ block.Map
+Suits (expected.Text SymbolName) b = b ≡ block.Symbol
+Suits (expected.Text SymbolImage) b = b ≡ block.Symbol
+Suits (expected.Text StyleSymbol) b = b ≡ block.Style
+Suits expected.Pixmap b = b ≡ block.Symbol
 Suits (expected.Text LayerName) b = b ≡ block.Layer
 Suits (expected.Text ClassItem) b = b ≡ block.Layer
 Suits (expected.Text LabelItem) b = b ≡ block.Layer
@@ -218,6 +231,7 @@ fits-map : (k : Keyword) → Fits block.Map (map_role k)
 fits-map keyword.Name = refl
 fits-map keyword.Extent = refl
 fits-map keyword.Web = nests (λ own o. refl) (λ own o. refl) (λ inner own o. refl)
+fits-map keyword.Symbol = nests (λ own o. refl) (λ own o. refl) (λ inner own o. refl)
 fits-map keyword.Layer = nests (λ own o. refl) (λ own o. refl) (λ inner own o. refl)
 fits-map keyword.Legend = nests (λ own o. refl) (λ own o. refl) (λ inner own o. refl)
 fits-map keyword.OutputFormat = nests (λ own o. refl) (λ own o. refl) (λ inner own o. refl)
@@ -231,6 +245,12 @@ fits-web : (k : Keyword) → Fits block.Web (web_role k)
 fits-web keyword.Metadata = nests (λ own o. refl) (λ own o. refl) (λ inner own o. refl)
 fits-web keyword.Validation = nests (λ own o. refl) (λ own o. refl) (λ inner own o. refl)
 fits-web _ = tt
+
+fits-symbol : (k : Keyword) → Fits block.Symbol (symbol_role k)
+fits-symbol keyword.Name = refl
+fits-symbol keyword.Kind = refl
+fits-symbol keyword.Image = refl
+fits-symbol _ = tt
 
 fits-layer : (k : Keyword) → Fits block.Layer (layer_role k)
 fits-layer keyword.Name = refl
@@ -262,6 +282,7 @@ fits-style keyword.Color = refl
 fits-style keyword.OutlineColor = refl
 fits-style keyword.Width = refl
 fits-style keyword.Size = refl
+fits-style keyword.Symbol = refl
 fits-style _ = tt
 
 fits-label : (k : Keyword) → Fits block.Label (label_role k)
@@ -305,6 +326,7 @@ fits block.Layer k = fits-layer k
 fits block.Class k = fits-class k
 fits block.Style k = fits-style k
 fits block.Web k = fits-web k
+fits block.Symbol k = fits-symbol k
 fits block.Label k = fits-label k
 fits block.Feature k = fits-feature k
 fits block.Passed k = fits-passed k
@@ -360,6 +382,7 @@ is_some-map None = refl
 
 -- there is as much room for a further block as its parent says
 pub same-room : (b : Block) (up own : Entries) (o : OpenBlocks) → draft.is_full b (drafts_of (in_block b own o)) ≡ is_full b (above b up o)
+same-room block.Symbol up own o = ap (nat_le MAX_SYMBOLS) (length-map (blocks block.Symbol o.map) symbol_tree)
 same-room block.Layer up own o = ap (nat_le MAX_LAYERS) (length-map (blocks block.Layer o.map) layer_tree)
 same-room block.Class up own o = ap (nat_le MAX_CLASSES) (length-map (blocks block.Class o.layer) class_tree)
 same-room block.Style up own o = ap (nat_le MAX_STYLES) (length-map (blocks block.Style o.class) style_tree)
@@ -387,6 +410,19 @@ module _ (earlier : List LayerTree) (t : TokenValue) (layer : LayerDraft) (with_
   layer-ends None (Some kind) = refl
   layer-ends None None = refl
 
+-- a fault refuses the drafts
+unless-same : (fault : Option Fault) (d : Drafts) → end.unless_fault fault d ≡ unless_fault fault d
+unless-same None d = refl
+unless-same (Some f) d = refl
+
+symbol-ends : (with_symbol : SymbolTree → Drafts) (t : TokenValue) (name : Option (List ℕ)) (pixmap : Bool) (image : Option Named) →
+    and_then (finished_symbol name pixmap image t) (λ made. Ok (with_symbol made))
+    ≡ unless_fault (symbol_fault name pixmap image t) (with_symbol (record { name = unwrap_or name []; image = unwrap_or image (record { text = []; line = 0 }) }))
+symbol-ends with_symbol t (Some name) true (Some image) = refl
+symbol-ends with_symbol t (Some name) true None = refl
+symbol-ends with_symbol t (Some name) false image = refl
+symbol-ends with_symbol t None pixmap image = refl
+
 given-unless : {A : Type 0} (none : Bool) (f : Fault) (a b : A) → a ≡ b → (if none then Err f else Ok a) ≡ unless_fault (if none then Some f else None) b
 given-unless true f a b p = refl
 given-unless false f a b p = ap (λ x. Ok x) p
@@ -407,6 +443,12 @@ metadata-ends own o =
 
 -- the END of a block, in drafts and by what it says
 pub same-end : (b : Block) (up own : Entries) (o : OpenBlocks) (t : TokenValue) → ends b (drafts_of (in_block b own o)) t ≡ unless_fault (closing_fault b (above b up o) own t) (drafts_of (after_end b own o))
+same-end block.Map up own o t = unless-same (map_fault (map_tree own).symbols (map_tree own).layers) (drafts_of (in_block block.Map own o))
+same-end block.Symbol up own o t =
+    symbol-ends (λ symbol. record (drafts_of (in_block block.Map o.map o)) { map = record (map_tree o.map) { symbols = (map_tree o.map).symbols ++ symbol ∷ [] } })
+    t (last symbol_name own) (is_some (last symbol_kind own)) (last symbol_image own)
+    ∙ ap (λ (symbols : List SymbolTree). unless_fault (closing_fault block.Symbol o.map own t) (record (drafts_of (in_block block.Map o.map o)) { map = record (map_tree o.map) { symbols = symbols } }))
+    (sym (map-append symbol_tree (blocks block.Symbol o.map) (own ∷ [])))
 same-end block.Layer up own o t =
     layer-ends (map_tree o.map).layers t (drafts_of (in_block block.Layer own o)).layer
     (λ layer. record (drafts_of (in_block block.Map o.map o)) { map = record (map_tree o.map) { layers = (map_tree o.map).layers ++ layer ∷ [] } })

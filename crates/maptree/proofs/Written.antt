@@ -39,7 +39,7 @@ use Rattle.maptree.specs.Fault.{and_then}
 use Rattle.maptree.specs.Keyword.{spelling, is_spelt}
 use Rattle.maptree.specs.Meaning.{value_in, block_in, alone}
 use Rattle.maptree.specs.Says.{closing_fault, is_full}
-use Rattle.maptree.specs.Written.{bare, written_value, block_text, written_out, position_text, flag_text, HasNoComma, IsValueIn, map_name, map_extent, service_wms_title, service_ows_title, service_wms_url, service_ows_url, layer_wms_title, layer_ows_title, layer_name, class_item, label_item, template, csv_x, csv_y, layer_items, layer_min, layer_max, class_min, class_max, class_equals, class_one_of, label_priority, label_buffer, label_distance, label_position, label_partials, label_force, no_label_colour, label_colour, no_label_outline, label_outline, feature_text, feature_items, style_width, style_size, layer_tolerance, layer_kind, no_colour, style_colour, no_outline, style_outline, IsBlockIn, layer, class, feature, style, points, label, web, web_metadata, layer_metadata, MaySay, nothing, said, vertex, inside, WrittenIsRead}
+use Rattle.maptree.specs.Written.{bare, written_value, block_text, written_out, position_text, flag_text, HasNoComma, IsValueIn, map_name, map_extent, service_wms_title, service_ows_title, service_wms_url, service_ows_url, layer_wms_title, layer_ows_title, symbol_name, symbol_kind, symbol_image, style_symbol, layer_name, class_item, label_item, template, csv_x, csv_y, layer_items, layer_min, layer_max, class_min, class_max, class_equals, class_one_of, label_priority, label_buffer, label_distance, label_position, label_partials, label_force, no_label_colour, label_colour, no_label_outline, label_outline, feature_text, feature_items, style_width, style_size, layer_tolerance, layer_kind, no_colour, style_colour, no_outline, style_outline, IsBlockIn, symbol, layer, class, feature, style, points, label, web, web_metadata, layer_metadata, MaySay, nothing, said, vertex, inside, WrittenIsRead}
 use Rattle.maptree.proofs.Blocks.{block-enough}
 use Rattle.maptree.proofs.Colours.{counts_of}
 
@@ -161,6 +161,10 @@ module _ (tail : Tail) (k : ℕ) where
       block_in tail (suc k) b above before (written_value v line ++ rest) ≡ block_in tail (suc k) b above (Said v line before) rest
   unfolding block_in value_in spelling nearest
   value-read b above before v line rest (map_name text) p = on b above (Said v line before) rest (omega arith)
+  value-read b above before v line rest (symbol_name text) p = on b above (Said v line before) rest (omega arith)
+  value-read b above before v line rest symbol_kind p = on b above (Said v line before) rest (omega arith)
+  value-read b above before v line rest (symbol_image text) p = on b above (Said v line before) rest (omega arith)
+  value-read b above before v line rest (style_symbol text) p = on b above (Said v line before) rest (omega arith)
   value-read b above before v line rest (layer_name text) p = on b above (Said v line before) rest (omega arith)
   value-read b above before v line rest (class_item text) p = on b above (Said v line before) rest (omega arith)
   value-read b above before v line rest (label_item text) p = on b above (Said v line before) rest (omega arith)
@@ -272,6 +276,7 @@ module _ (tail : Tail) (k : ℕ) where
   block-opens : (b c : Block) (above before : Entries) (rest : List TokenValue) → IsBlockIn b c → is_full c before ≡ false →
       block_in tail (suc k) b above before (bare 1 (block_text c) ∷ rest) ≡ and_then (block_in tail k c before Nothing rest) (λ inner. block_in tail k b above (Inside c inner.0 before) inner.1)
   unfolding block_in spelling
+  block-opens b c above before rest symbol room = rw room refl
   block-opens b c above before rest layer room = rw room refl
   block-opens b c above before rest class room = rw room refl
   block-opens b c above before rest feature room = rw room refl
@@ -286,7 +291,8 @@ module _ (tail : Tail) (k : ℕ) where
   block-ends : (c : Block) (before inner : Entries) (rest : List TokenValue) → ((t : TokenValue) → closing_fault c before inner t ≡ None) →
       block_in tail (suc k) c before inner (bare 1 (codes "END") ∷ rest) ≡ Ok (inner, rest)
   unfolding block_in spelling
-  block-ends block.Map before inner rest fine = refl
+  block-ends block.Map before inner rest fine = rw (fine (bare 1 (codes "END"))) refl
+  block-ends block.Symbol before inner rest fine = rw (fine (bare 1 (codes "END"))) refl
   block-ends block.Layer before inner rest fine = rw (fine (bare 1 (codes "END"))) refl
   block-ends block.Class before inner rest fine = refl
   block-ends block.Style before inner rest fine = refl
@@ -306,6 +312,10 @@ value-here : (tail : Tail) (n : ℕ) (b : Block) (above before : Entries) (v : V
     block_in tail n b above before (written_value v line ++ rest) ≡ block_in tail n b above (Said v line before) rest
 value-here tail (suc k) b above before v line rest is p = value-read tail k b above before v line rest is p
 value-here tail zero b above before v line rest (map_name text) p = absurd (omega arith)
+value-here tail zero b above before v line rest (symbol_name text) p = absurd (omega arith)
+value-here tail zero b above before v line rest symbol_kind p = absurd (omega arith)
+value-here tail zero b above before v line rest (symbol_image text) p = absurd (omega arith)
+value-here tail zero b above before v line rest (style_symbol text) p = absurd (omega arith)
 value-here tail zero b above before v line rest (layer_name text) p = absurd (omega arith)
 value-here tail zero b above before v line rest (class_item text) p = absurd (omega arith)
 value-here tail zero b above before v line rest (label_item text) p = absurd (omega arith)
@@ -406,10 +416,10 @@ reading tail n b above own rest (inside d c over before inner may in_b room may_
 -- a mapfile that is written out is read as what it says
 pub written-law : WrittenIsRead
 unfolding spelling
-written-law own line may =
+written-law own line may fine =
     let tokens = written_out own ++ (bare 1 (codes "END") ∷ []) in
     ap (λ r. and_then r (λ e. alone (tails.Ends line) e.0 e.1)) (whole (length tokens) (omega arith))
   where
     whole : (n : ℕ) → length (written_out own ++ (bare 1 (codes "END") ∷ [])) ≤ n → block_in (tails.Ends line) n block.Map Nothing Nothing (written_out own ++ (bare 1 (codes "END") ∷ [])) ≡ Ok (own, [])
     whole zero p = absurd (omega (arith, length-append (written_out own) (bare 1 (codes "END") ∷ [])))
-    whole (suc k) p = reading (tails.Ends line) (suc k) block.Map Nothing own (bare 1 (codes "END") ∷ []) may p ∙ block-ends (tails.Ends line) k block.Map Nothing own [] (λ t. refl)
+    whole (suc k) p = reading (tails.Ends line) (suc k) block.Map Nothing own (bare 1 (codes "END") ∷ []) may p ∙ block-ends (tails.Ends line) k block.Map Nothing own [] fine

@@ -1,10 +1,10 @@
 -- What was read of the open blocks (docs/MAPFILE.md, "Blocks and words").
 use Rattle.std.specs.Prelude.{ℕ, ℤ, Bool, true, false, nat_le, List, [], length, Option, None, Some, is_some}
-use Rattle.mapdefs.specs.declared.limits.TheConstants.{MAX_LAYERS, MAX_CLASSES, MAX_STYLES, MAX_FEATURES}
+use Rattle.mapdefs.specs.declared.limits.TheConstants.{MAX_SYMBOLS, MAX_LAYERS, MAX_CLASSES, MAX_STYLES, MAX_FEATURES}
 use Rattle.maptree.specs.declared.context.Block.{Block}
 use Rattle.maptree.specs.declared.context.Block.TheVariants as block
 use Rattle.maptree.specs.declared.context.TextKeyword.{TextKeyword}
-use Rattle.maptree.specs.declared.context.TextKeyword.TheVariants.{MapName, LayerName, ClassItem, LabelItem, Template, CsvX, CsvY, ServiceWmsTitle, ServiceOwsTitle, ServiceWmsUrl, ServiceOwsUrl, LayerWmsTitle, LayerOwsTitle, FeatureText, FeatureItems}
+use Rattle.maptree.specs.declared.context.TextKeyword.TheVariants.{MapName, LayerName, ClassItem, LabelItem, Template, CsvX, CsvY, ServiceWmsTitle, ServiceOwsTitle, ServiceWmsUrl, ServiceOwsUrl, LayerWmsTitle, LayerOwsTitle, SymbolName, SymbolImage, StyleSymbol, FeatureText, FeatureItems}
 use Rattle.maptree.specs.declared.context.ColourKeyword.{ColourKeyword}
 use Rattle.maptree.specs.declared.context.ColourKeyword.TheVariants.{StyleColour, StyleOutline, LabelColour, LabelOutline, ImageColour}
 use Rattle.maptree.specs.declared.context.FlagKeyword.{FlagKeyword}
@@ -18,14 +18,20 @@ use Rattle.maptree.specs.declared.tree.ClassTree.{ClassTree}
 use Rattle.maptree.specs.declared.tree.StyleTree.{StyleTree}
 use Rattle.maptree.specs.declared.tree.LabelTree.{LabelTree}
 use Rattle.maptree.specs.declared.tree.MapTree.{MapTree}
+use Rattle.maptree.specs.declared.draft.SymbolDraft.{SymbolDraft}
 use Rattle.maptree.specs.declared.draft.LayerDraft.{LayerDraft}
 use Rattle.maptree.specs.declared.draft.FeatureDraft.{FeatureDraft}
 use Rattle.maptree.specs.declared.draft.Drafts.{Drafts}
 use Rattle.maptree.specs.Parts.{no_parts}
+use Rattle.maptree.specs.Symbol.{symbol_named}
 
 -- a MAP of which nothing was read
 abbrev pub new_map : MapTree
-new_map = record { name = None; extent = None; wms_title = None; ows_title = None; wms_url = None; ows_url = None; layers = [] }
+new_map = record { name = None; extent = None; wms_title = None; ows_title = None; wms_url = None; ows_url = None; symbols = []; layers = [] }
+
+-- a SYMBOL of which nothing was read
+abbrev pub new_symbol : SymbolDraft
+new_symbol = record { name = None; pixmap = false; image = None }
 
 -- a LAYER of which nothing was read
 abbrev pub new_layer : LayerDraft
@@ -37,7 +43,7 @@ new_class = record { rule = None; min = None; max = None; styles = []; label = N
 
 -- a STYLE of which nothing was read
 abbrev pub new_style : StyleTree
-new_style = record { colour = None; outline = None; width = None; size = None }
+new_style = record { colour = None; outline = None; width = None; size = None; symbol = None }
 
 -- a LABEL of which nothing was read
 abbrev pub new_label : LabelTree
@@ -51,6 +57,7 @@ new_feature = record { parts = no_parts; text = None; items = None }
 abbrev pub fresh : Drafts
 fresh = record {
   map = new_map;
+  symbol = new_symbol;
   layer = new_layer;
   class = new_class;
   style = new_style;
@@ -58,13 +65,14 @@ fresh = record {
   feature = new_feature;
 }
 
--- a text of a MAP or a FEATURE is noted
+-- a text of a MAP, a SYMBOL or a FEATURE is noted
 abbrev pub with_other_text : TextKeyword → List ℕ → Drafts → Drafts
 with_other_text MapName text d = record d { map = record d.map { name = Some text } }
 with_other_text ServiceWmsTitle text d = record d { map = record d.map { wms_title = Some text } }
 with_other_text ServiceOwsTitle text d = record d { map = record d.map { ows_title = Some text } }
 with_other_text ServiceWmsUrl text d = record d { map = record d.map { wms_url = Some text } }
 with_other_text ServiceOwsUrl text d = record d { map = record d.map { ows_url = Some text } }
+with_other_text SymbolName text d = record d { symbol = record d.symbol { name = Some text } }
 with_other_text FeatureText text d = record d { feature = record d.feature { text = Some text } }
 with_other_text FeatureItems text d = record d { feature = record d.feature { items = Some text } }
 with_other_text _ text d = d
@@ -73,6 +81,9 @@ with_other_text _ text d = d
 abbrev pub with_text : TextKeyword → List ℕ → ℕ → Drafts → Drafts
 with_text LayerName text line d =
     record d { layer = record d.layer { name = Some (record { text = text; line = line }) } }
+with_text SymbolImage text line d =
+    record d { symbol = record d.symbol { image = Some (record { text = text; line = line }) } }
+with_text StyleSymbol text line d = record d { style = record d.style { symbol = symbol_named text line } }
 with_text ClassItem text line d = record d { layer = record d.layer { classitem = Some text } }
 with_text LabelItem text line d = record d { layer = record d.layer { labelitem = Some text } }
 with_text Template text line d = record d { layer = record d.layer { queryable = true } }
@@ -106,6 +117,7 @@ with_flag Force flag d = record d { label = record d.label { force = Some flag }
 abbrev pub with_value : Value → ℕ → Drafts → Drafts
 with_value (value.Text keyword text) line d = with_text keyword text line d
 with_value (value.Kind kind) line d = record d { layer = record d.layer { kind = Some kind } }
+with_value value.Pixmap line d = record d { symbol = record d.symbol { pixmap = true } }
 with_value (value.Width width) line d = record d { style = record d.style { width = Some width } }
 with_value (value.Size size) line d = record d { style = record d.style { size = Some size } }
 with_value (value.Tolerance tolerance) line d = record d { layer = record d.layer { tolerance = Some tolerance } }
@@ -123,6 +135,7 @@ with_value value.Nothing line d = d
 
 -- a further block of this kind is one more than a map may have; the others have no limit of their own
 abbrev pub is_full : Block → Drafts → Bool
+is_full block.Symbol d = nat_le MAX_SYMBOLS (length d.map.symbols)
 is_full block.Layer d = nat_le MAX_LAYERS (length d.map.layers)
 is_full block.Class d = nat_le MAX_CLASSES (length d.layer.classes)
 is_full block.Style d = nat_le MAX_STYLES (length d.class.styles)

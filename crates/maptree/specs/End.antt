@@ -1,5 +1,5 @@
 -- What an END does, and what is checked at it (docs/MAPFILE.md, "Blocks and words").
-use Rattle.std.specs.Prelude.{ℕ, ◌==◌, if◌then◌else◌, List, [], ◌∷◌, ◌++◌, length, Option, Some, Result, Ok, Err}
+use Rattle.std.specs.Prelude.{ℕ, ◌==◌, if◌then◌else◌, List, [], ◌∷◌, ◌++◌, length, Bool, true, Option, None, Some, Result, Ok, Err}
 use Rattle.maplex.specs.Token.{TokenValue}
 use Rattle.mapdefs.specs.declared.layer.Kind.{Kind}
 use Rattle.maptree.specs.Name.{is_taken}
@@ -8,12 +8,14 @@ use Rattle.maptree.specs.declared.context.Block.TheVariants as block
 use Rattle.maptree.specs.declared.fault.Fault.{Fault}
 use Rattle.maptree.specs.declared.fault.ParseKind.TheVariants.{MissingValue, DuplicateName}
 use Rattle.maptree.specs.declared.tree.LayerTree.{LayerTree}
-use Rattle.maptree.specs.declared.draft.Named.{Named}
+use Rattle.maptree.specs.declared.tree.SymbolTree.{SymbolTree}
+use Rattle.maptree.specs.declared.tree.Named.{Named}
 use Rattle.maptree.specs.declared.draft.LayerDraft.{LayerDraft}
 use Rattle.maptree.specs.declared.draft.Drafts.{Drafts}
 use Rattle.maptree.specs.Fault.{refused, and_then}
 use Rattle.maptree.specs.Parts.{with_part}
-use Rattle.maptree.specs.Draft.{new_layer, new_class, new_style, new_label, new_feature}
+use Rattle.maptree.specs.Symbol.{map_fault}
+use Rattle.maptree.specs.Draft.{new_symbol, new_layer, new_class, new_style, new_label, new_feature}
 
 -- a layer with this name and this kind, and what else its draft has
 abbrev pub layer_with : List ℕ → Kind → LayerDraft → LayerTree
@@ -78,8 +80,29 @@ points_end d t =
     if length d.feature.parts.next == 0 then refused MissingValue t
     else Ok (record d { feature = record d.feature { parts = with_part d.feature.parts } })
 
+-- a symbol has a name, a kind and an image
+abbrev pub finished_symbol : Option (List ℕ) → Bool → Option Named → TokenValue → Result SymbolTree Fault
+finished_symbol (Some name) true (Some image) t = Ok (record { name = name; image = image })
+finished_symbol _ _ _ t = refused MissingValue t
+
+-- at the END of a SYMBOL the map has it
+abbrev pub symbol_end : Drafts → TokenValue → Result Drafts Fault
+symbol_end d t = and_then (finished_symbol d.symbol.name d.symbol.pixmap d.symbol.image t) (λ symbol.
+    Ok (record d { map = record d.map { symbols = d.map.symbols ++ symbol ∷ [] }; symbol = new_symbol }))
+
+-- what was read, unless there is a fault
+abbrev pub unless_fault : Option Fault → Drafts → Result Drafts Fault
+unless_fault None d = Ok d
+unless_fault (Some f) d = Err f
+
+-- at the END of MAP its styles name symbols that it has
+abbrev pub map_end : Drafts → Result Drafts Fault
+map_end d = unless_fault (map_fault d.map.symbols d.map.layers) d
+
 -- what the END of a block does: the parent has the block, and the next one of the kind begins anew
 abbrev pub ends : Block → Drafts → TokenValue → Result Drafts Fault
+ends block.Map d t = map_end d
+ends block.Symbol d t = symbol_end d t
 ends block.Layer d t = layer_end d t
 ends block.Class d t = Ok (class_end d)
 ends block.Style d t = Ok (style_end d)

@@ -53,6 +53,7 @@ block_number block.Label = 10
 block_number block.Web = 11
 block_number block.WebMetadata = 12
 block_number block.LayerMetadata = 13
+block_number block.Symbol = 14
 
 -- the inner blocks of a kind, in their order
 abbrev pub blocks : Block → Entries → List Entries

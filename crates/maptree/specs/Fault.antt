@@ -6,7 +6,7 @@ use Rattle.maplex.specs.declared.fault.Tail.TheVariants.{Ends, Breaks}
 use Rattle.maplex.specs.Token.{TokenValue}
 use Rattle.maptree.specs.declared.fault.Fault.{Fault}
 use Rattle.maptree.specs.declared.fault.ParseKind.{ParseKind}
-use Rattle.maptree.specs.declared.fault.ParseKind.TheVariants.{Lex, UnknownWord, WrongValue, MissingEnd, MissingValue, Limit, DuplicateName, BadExpression}
+use Rattle.maptree.specs.declared.fault.ParseKind.TheVariants.{Lex, UnknownWord, WrongValue, MissingEnd, MissingValue, Limit, MissingFile, DuplicateName, BadExpression, BadFile}
 use Rattle.maptree.specs.declared.fault.ParseFault.{ParseFault}
 use Rattle.maptree.specs.declared.fault.ParseFault.TheVariants.{At, NoMemory}
 
@@ -18,8 +18,10 @@ number_of WrongValue = 3
 number_of MissingEnd = 4
 number_of MissingValue = 5
 number_of Limit = 6
+number_of MissingFile = 7
 number_of DuplicateName = 8
 number_of BadExpression = 9
+number_of BadFile = 10
 
 -- a fault of a kind at a token
 abbrev pub fault_of : ParseKind → TokenValue → Fault

@@ -17,6 +17,7 @@ pub mod Says
 pub mod Setting
 pub mod Source
 pub mod Step
+pub mod Symbol
 pub mod Table
 pub mod Tree
 pub mod Value

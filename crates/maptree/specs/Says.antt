@@ -2,14 +2,14 @@
 use Rattle.std.specs.Prelude.{ℤ, Bool, false, if◌then◌else◌, nat_le, List, ◌==◌, length, is_some, Option, None, Some, option_and_then, Result, Ok, Err}
 use Rattle.std.specs.Option.{ok_or}
 use Rattle.maplex.specs.Token.{TokenValue}
-use Rattle.mapdefs.specs.declared.limits.TheConstants.{MAX_LAYERS, MAX_CLASSES, MAX_STYLES, MAX_FEATURES, MAX_VERTICES}
+use Rattle.mapdefs.specs.declared.limits.TheConstants.{MAX_SYMBOLS, MAX_LAYERS, MAX_CLASSES, MAX_STYLES, MAX_FEATURES, MAX_VERTICES}
 use Rattle.mapdefs.specs.declared.layer.Kind.{Kind}
 use Rattle.maptree.specs.declared.context.Block.{Block}
 use Rattle.maptree.specs.declared.context.Block.TheVariants as block
 use Rattle.maptree.specs.declared.context.Expected.{Expected}
 use Rattle.maptree.specs.declared.context.Role.{Role}
 use Rattle.maptree.specs.declared.context.Role.TheVariants as role
-use Rattle.maptree.specs.declared.draft.Named.{Named}
+use Rattle.maptree.specs.declared.tree.Named.{Named}
 use Rattle.maptree.specs.declared.fault.Fault.{Fault}
 use Rattle.maptree.specs.declared.fault.ParseKind.TheVariants.{UnknownWord, WrongValue, MissingValue, Limit, DuplicateName}
 use Rattle.maptree.specs.declared.tree.LayerTree.{LayerTree}
@@ -19,8 +19,9 @@ use Rattle.maptree.specs.Name.{is_taken}
 use Rattle.maptree.specs.Setting.{pair_expects}
 use Rattle.maptree.specs.Keyword.{keyword_at, is_end}
 use Rattle.maptree.specs.Table.{role_of}
+use Rattle.maptree.specs.Symbol.{symbol_fault, map_fault}
 use Rattle.maptree.specs.Value.{is_value, coordinate_in}
-use Rattle.maptree.specs.Tree.{layer_name, layer_kind, map_tree}
+use Rattle.maptree.specs.Tree.{symbol_name, symbol_kind, symbol_image, layer_name, layer_kind, map_tree}
 
 -- what a token says: the block ends, an inner block opens, a keyword takes values, a vertex has this longitude, or nothing
 pub data Saying : Type 0 where
@@ -38,6 +39,9 @@ layer_fault _ _ earlier t = Some (fault_of MissingValue t)
 
 -- what is wrong at the END of a block, by what its parent says before it and what it says itself
 abbrev pub closing_fault : Block → Entries → Entries → TokenValue → Option Fault
+closing_fault block.Map above own t = map_fault (map_tree own).symbols (map_tree own).layers
+closing_fault block.Symbol above own t =
+    symbol_fault (last symbol_name own) (is_some (last symbol_kind own)) (last symbol_image own) t
 closing_fault block.Layer above own t = layer_fault (last layer_name own) (last layer_kind own) (map_tree above).layers t
 closing_fault block.Feature above own t = if length (blocks block.Points own) == 0 then Some (fault_of MissingValue t) else None
 closing_fault block.Points above own t = if length (vertices own) == 0 then Some (fault_of MissingValue t) else None
@@ -50,6 +54,7 @@ ends_unless (Some f) = Err f
 
 -- the block has as many inner blocks of this kind as a map may have; a class has one LABEL
 abbrev pub is_full : Block → Entries → Bool
+is_full block.Symbol own = nat_le MAX_SYMBOLS (length (blocks block.Symbol own))
 is_full block.Layer own = nat_le MAX_LAYERS (length (blocks block.Layer own))
 is_full block.Class own = nat_le MAX_CLASSES (length (blocks block.Class own))
 is_full block.Style own = nat_le MAX_STYLES (length (blocks block.Style own))

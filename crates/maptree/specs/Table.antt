@@ -2,7 +2,7 @@
 use Rattle.std.specs.Prelude.{Option, None, Some}
 use Rattle.maptree.specs.declared.context.Block.{Block}
 use Rattle.maptree.specs.declared.context.Block.TheVariants as block
-use Rattle.maptree.specs.declared.context.TextKeyword.TheVariants.{MapName, LayerName, ClassItem, LabelItem, Template, FeatureText, FeatureItems}
+use Rattle.maptree.specs.declared.context.TextKeyword.TheVariants.{MapName, LayerName, ClassItem, LabelItem, Template, FeatureText, FeatureItems, SymbolName, SymbolImage, StyleSymbol}
 use Rattle.maptree.specs.declared.context.ColourKeyword.TheVariants.{StyleColour, StyleOutline, LabelColour, LabelOutline, ImageColour}
 use Rattle.maptree.specs.declared.context.FlagKeyword.TheVariants.{Partials, Force}
 use Rattle.maptree.specs.declared.context.ScaleKeyword.TheVariants.{LayerMin, LayerMax, ClassMin, ClassMax}
@@ -17,6 +17,7 @@ use Rattle.maptree.specs.declared.keyword.Keyword.TheVariants as keyword
 abbrev pub map_role : Keyword → Option Role
 map_role keyword.Layer = Some (Opens block.Layer)
 map_role keyword.Web = Some (Opens block.Web)
+map_role keyword.Symbol = Some (Opens block.Symbol)
 map_role keyword.Name = Some (Takes (expected.Text MapName))
 map_role keyword.Extent = Some (Takes expected.West)
 map_role keyword.Config = Some (Takes expected.ConfigKey)
@@ -56,6 +57,16 @@ web_role keyword.MinScaleDenom = Some (Takes (expected.Unused 0))
 web_role keyword.Template = Some (Takes (expected.Unused 0))
 web_role keyword.End = Some Closes
 web_role _ = None
+
+-- the keywords of SYMBOL
+abbrev pub symbol_role : Keyword → Option Role
+symbol_role keyword.Name = Some (Takes (expected.Text SymbolName))
+symbol_role keyword.Kind = Some (Takes expected.Pixmap)
+symbol_role keyword.Image = Some (Takes (expected.Text SymbolImage))
+symbol_role keyword.Transparent = Some (Takes (expected.Unused 0))
+symbol_role keyword.AnchorPoint = Some (Takes (expected.Unused 1))
+symbol_role keyword.End = Some Closes
+symbol_role _ = None
 
 -- the keywords of LAYER
 abbrev pub layer_role : Keyword → Option Role
@@ -109,6 +120,7 @@ style_role keyword.Color = Some (Takes (expected.Colour StyleColour))
 style_role keyword.OutlineColor = Some (Takes (expected.Colour StyleOutline))
 style_role keyword.Width = Some (Takes expected.Width)
 style_role keyword.Size = Some (Takes expected.Size)
+style_role keyword.Symbol = Some (Takes (expected.Text StyleSymbol))
 style_role keyword.Antialias = Some (Takes (expected.Unused 0))
 style_role keyword.MaxSize = Some (Takes (expected.Unused 0))
 style_role keyword.MaxWidth = Some (Takes (expected.Unused 0))
@@ -176,6 +188,7 @@ end_role _ = None
 abbrev pub role_of : Block → Keyword → Option Role
 role_of block.Map k = map_role k
 role_of block.Web k = web_role k
+role_of block.Symbol k = symbol_role k
 role_of block.Layer k = layer_role k
 role_of block.Class k = class_role k
 role_of block.Style k = style_role k

@@ -1,12 +1,12 @@
 -- What the entries of a block come to (docs/MAPFILE.md, "Blocks and words"): of equal keywords the last one counts, and
 -- equal blocks add up. Nothing but its own entries counts for a block.
-use Rattle.std.specs.Prelude.{ℕ, List, [], map, ℤ, Bool, Option, None, Some, is_some, unwrap_or, option_map}
+use Rattle.std.specs.Prelude.{ℕ, List, [], map, ℤ, Bool, true, Option, None, Some, is_some, unwrap_or, option_map}
 use Rattle.std.specs.Option.{option_flatten, option_map_or}
 use Rattle.mapdefs.specs.declared.colour.Rgb.{Rgb}
 use Rattle.mapdefs.specs.declared.layer.Kind.{Kind}
 use Rattle.mapdefs.specs.declared.layer.Kind.TheVariants.{Polygon}
 use Rattle.maptree.specs.declared.context.Block.TheVariants as block
-use Rattle.maptree.specs.declared.context.TextKeyword.TheVariants.{MapName, LayerName, ClassItem, LabelItem, Template, CsvX, CsvY, ServiceWmsTitle, ServiceOwsTitle, ServiceWmsUrl, ServiceOwsUrl, LayerWmsTitle, LayerOwsTitle, FeatureText, FeatureItems}
+use Rattle.maptree.specs.declared.context.TextKeyword.TheVariants.{MapName, LayerName, ClassItem, LabelItem, Template, CsvX, CsvY, ServiceWmsTitle, ServiceOwsTitle, ServiceWmsUrl, ServiceOwsUrl, LayerWmsTitle, LayerOwsTitle, SymbolName, SymbolImage, StyleSymbol, FeatureText, FeatureItems}
 use Rattle.maptree.specs.declared.context.ColourKeyword.TheVariants.{StyleColour, StyleOutline, LabelColour, LabelOutline}
 use Rattle.maptree.specs.declared.context.FlagKeyword.TheVariants.{Partials, Force}
 use Rattle.maptree.specs.declared.context.ScaleKeyword.TheVariants.{LayerMin, LayerMax, ClassMin, ClassMax}
@@ -15,13 +15,15 @@ use Rattle.mapdefs.specs.declared.class.Rule.{Rule}
 use Rattle.mapdefs.specs.declared.label.Position.{Position}
 use Rattle.maptree.specs.declared.value.Value.{Value}
 use Rattle.maptree.specs.declared.value.Value.TheVariants as value
-use Rattle.maptree.specs.declared.draft.Named.{Named}
+use Rattle.maptree.specs.declared.tree.Named.{Named}
 use Rattle.maptree.specs.declared.tree.StyleTree.{StyleTree}
 use Rattle.maptree.specs.declared.tree.ClassTree.{ClassTree}
 use Rattle.maptree.specs.declared.tree.LabelTree.{LabelTree}
 use Rattle.maptree.specs.declared.tree.FeatureTree.{FeatureTree}
 use Rattle.maptree.specs.declared.tree.LayerTree.{LayerTree}
+use Rattle.maptree.specs.declared.tree.SymbolTree.{SymbolTree}
 use Rattle.maptree.specs.declared.tree.MapTree.{MapTree}
+use Rattle.maptree.specs.Symbol.{symbol_named}
 use Rattle.maptree.specs.Entries.{Entries, last, blocks, last_block, last_within, vertices}
 
 -- the colours that COLOR and OUTLINECOLOR give a style, which may be none
@@ -46,13 +48,19 @@ abbrev pub layer_tolerance : Value → ℕ → Option ℕ
 layer_tolerance (value.Tolerance tolerance) line = Some tolerance
 layer_tolerance _ line = None
 
--- a STYLE has the colours of its last COLOR and its last OUTLINECOLOR, its last WIDTH and its last SIZE
+-- the symbol that SYMBOL names, which may be none
+abbrev pub style_symbol : Value → ℕ → Option (Option Named)
+style_symbol (value.Text StyleSymbol text) line = Some (symbol_named text line)
+style_symbol _ line = None
+
+-- a STYLE has the colours of its last COLOR and its last OUTLINECOLOR, its last WIDTH, its last SIZE and its last SYMBOL
 abbrev pub style_tree : Entries → StyleTree
 style_tree own = record {
   colour = option_flatten (last style_colour own);
   outline = option_flatten (last style_outline own);
   width = last style_width own;
   size = last style_size own;
+  symbol = option_flatten (last style_symbol own);
 }
 
 -- the colours that COLOR and OUTLINECOLOR give a label, which may be none
@@ -221,6 +229,26 @@ layer_tree own = record {
   features = map feature_tree (blocks block.Feature own);
 }
 
+-- the name, the kind and the file that NAME, TYPE and IMAGE give a symbol
+abbrev pub symbol_name : Value → ℕ → Option (List ℕ)
+symbol_name (value.Text SymbolName text) line = Some text
+symbol_name _ line = None
+
+abbrev pub symbol_kind : Value → ℕ → Option Bool
+symbol_kind value.Pixmap line = Some true
+symbol_kind _ line = None
+
+abbrev pub symbol_image : Value → ℕ → Option Named
+symbol_image (value.Text SymbolImage text) line = Some (record { text = text; line = line })
+symbol_image _ line = None
+
+-- a SYMBOL has its last NAME and its last IMAGE, without which its END is refused
+abbrev pub symbol_tree : Entries → SymbolTree
+symbol_tree own = record {
+  name = unwrap_or (last symbol_name own) [];
+  image = unwrap_or (last symbol_image own) (record { text = []; line = 0 });
+}
+
 -- the name that a NAME gives the map
 abbrev pub map_name : Value → ℕ → Option (List ℕ)
 map_name (value.Text MapName text) line = Some text
@@ -255,7 +283,7 @@ web_text wanted web = last_within block.WebMetadata (last wanted) web
 abbrev pub service_text : (Value → ℕ → Option (List ℕ)) → Entries → Option (List ℕ)
 service_text wanted own = last_within block.Web (web_text wanted) own
 
--- a MAP has its last NAME and its last EXTENT, the last of each key of its service's METADATA, and its LAYER blocks
+-- a MAP has its last NAME and its last EXTENT, the last of each key of its service's METADATA, and its SYMBOL and LAYER blocks
 abbrev pub map_tree : Entries → MapTree
 map_tree own = record {
   name = last map_name own;
@@ -264,5 +292,6 @@ map_tree own = record {
   ows_title = service_text service_ows_title own;
   wms_url = service_text service_wms_url own;
   ows_url = service_text service_ows_url own;
+  symbols = map symbol_tree (blocks block.Symbol own);
   layers = map layer_tree (blocks block.Layer own);
 }

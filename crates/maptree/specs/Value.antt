@@ -38,6 +38,10 @@ kind_of text =
     else if str_eq_ignore_ascii_case text (codes "POLYGON") then Some Polygon
     else None
 
+-- a symbol is a pixmap; the word may be in letters of either case
+abbrev pub pixmap_step : List ℕ → Option ValueStep
+pixmap_step text = if str_eq_ignore_ascii_case text (codes "PIXMAP") then Some (Whole value.Pixmap) else None
+
 -- a value is a bare word or a quoted text
 abbrev pub is_value : Shape → Bool
 is_value Word = true
@@ -88,6 +92,7 @@ config_step key = if is_same_name key (codes "LABELFONT") then None else Some (M
 -- a token as a value of which nothing is kept but numbers, if it is such a value
 abbrev pub plain_step : Expected → TokenValue → Option ValueStep
 plain_step expected.Kind t = option_map (λ kind. Whole (value.Kind kind)) (kind_of t.text)
+plain_step expected.Pixmap t = pixmap_step t.text
 plain_step expected.Width t = option_map (λ n. Whole (value.Width n)) (bounded_of 1 MAX_LINE_WIDTH t.text)
 plain_step expected.Size t = option_map (λ n. Whole (value.Size n)) (bounded_of 1 MAX_SQUARE t.text)
 plain_step expected.Tolerance t = option_map (λ n. Whole (value.Tolerance n)) (bounded_of 0 MAX_TOLERANCE t.text)

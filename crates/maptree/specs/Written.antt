@@ -18,7 +18,7 @@ use Rattle.maplex.specs.Token.{TokenValue}
 use Rattle.maptree.specs.declared.context.Block.{Block}
 use Rattle.maptree.specs.declared.context.Block.TheVariants as block
 use Rattle.maptree.specs.declared.context.TextKeyword.{TextKeyword}
-use Rattle.maptree.specs.declared.context.TextKeyword.TheVariants.{MapName, LayerName, ClassItem, LabelItem, Template, CsvX, CsvY, ServiceWmsTitle, ServiceOwsTitle, ServiceWmsUrl, ServiceOwsUrl, LayerWmsTitle, LayerOwsTitle, FeatureText, FeatureItems}
+use Rattle.maptree.specs.declared.context.TextKeyword.TheVariants.{MapName, LayerName, ClassItem, LabelItem, Template, CsvX, CsvY, ServiceWmsTitle, ServiceOwsTitle, ServiceWmsUrl, ServiceOwsUrl, LayerWmsTitle, LayerOwsTitle, SymbolName, SymbolImage, StyleSymbol, FeatureText, FeatureItems}
 use Rattle.maptree.specs.declared.context.ColourKeyword.{ColourKeyword}
 use Rattle.maptree.specs.declared.context.ColourKeyword.TheVariants.{StyleColour, StyleOutline, LabelColour, LabelOutline, ImageColour}
 use Rattle.maptree.specs.declared.context.FlagKeyword.{FlagKeyword}
@@ -66,6 +66,9 @@ written_text ServiceWmsTitle text line = quoted line (codes "wms_title") ∷ quo
 written_text ServiceOwsTitle text line = quoted line (codes "ows_title") ∷ quoted line text ∷ []
 written_text ServiceWmsUrl text line = quoted line (codes "wms_onlineresource") ∷ quoted line text ∷ []
 written_text ServiceOwsUrl text line = quoted line (codes "ows_onlineresource") ∷ quoted line text ∷ []
+written_text SymbolName text line = bare line (codes "NAME") ∷ quoted line text ∷ []
+written_text SymbolImage text line = bare line (codes "IMAGE") ∷ quoted line text ∷ []
+written_text StyleSymbol text line = bare line (codes "SYMBOL") ∷ quoted line text ∷ []
 written_text LayerWmsTitle text line = quoted line (codes "wms_title") ∷ quoted line text ∷ []
 written_text LayerOwsTitle text line = quoted line (codes "ows_title") ∷ quoted line text ∷ []
 
@@ -111,6 +114,7 @@ written_value (value.Text keyword text) line = written_text keyword text line
 written_value (value.Kind Polygon) line = bare line (codes "TYPE") ∷ bare line (codes "POLYGON") ∷ []
 written_value (value.Kind Point) line = bare line (codes "TYPE") ∷ bare line (codes "POINT") ∷ []
 written_value (value.Kind Line) line = bare line (codes "TYPE") ∷ bare line (codes "LINE") ∷ []
+written_value value.Pixmap line = bare line (codes "TYPE") ∷ bare line (codes "PIXMAP") ∷ []
 written_value (value.Width width) line = bare line (codes "WIDTH") ∷ bare line (decimal width) ∷ []
 written_value (value.Size size) line = bare line (codes "SIZE") ∷ bare line (decimal size) ∷ []
 written_value (value.Tolerance tolerance) line = bare line (codes "TOLERANCE") ∷ bare line (decimal tolerance) ∷ []
@@ -145,6 +149,7 @@ block_text block.Passed = codes "LEGEND"
 block_text block.PassedLabel = codes "LABEL"
 block_text block.Label = codes "LABEL"
 block_text block.Web = codes "WEB"
+block_text block.Symbol = codes "SYMBOL"
 block_text block.WebMetadata = codes "METADATA"
 block_text block.LayerMetadata = codes "METADATA"
 
@@ -169,6 +174,10 @@ HasNoComma name = All (λ byte. is_comma byte ≡ false) name
 -- the values that a block may be given; the expressions of classes have a grammar and a law of their own
 pub data IsValueIn : Block → Value → Type 0 where
   map_name : (text : List ℕ) → IsValueIn block.Map (value.Text MapName text)
+  symbol_name : (text : List ℕ) → IsValueIn block.Symbol (value.Text SymbolName text)
+  symbol_kind : IsValueIn block.Symbol value.Pixmap
+  symbol_image : (text : List ℕ) → IsValueIn block.Symbol (value.Text SymbolImage text)
+  style_symbol : (text : List ℕ) → IsValueIn block.Style (value.Text StyleSymbol text)
   layer_name : (text : List ℕ) → IsValueIn block.Layer (value.Text LayerName text)
   class_item : (text : List ℕ) → IsValueIn block.Layer (value.Text ClassItem text)
   label_item : (text : List ℕ) → IsValueIn block.Layer (value.Text LabelItem text)
@@ -213,6 +222,7 @@ pub data IsValueIn : Block → Value → Type 0 where
 
 -- the blocks that a block may have
 pub data IsBlockIn : Block → Block → Type 0 where
+  symbol : IsBlockIn block.Map block.Symbol
   layer : IsBlockIn block.Map block.Layer
   class : IsBlockIn block.Layer block.Class
   feature : IsBlockIn block.Layer block.Feature
@@ -236,7 +246,9 @@ pub data MaySay : Block → Entries → Entries → Type 0 where
       MaySay c before inner → ((t : TokenValue) → closing_fault c before inner t ≡ None) →
       MaySay b above (Inside c inner before)
 
--- the law that a mapfile which is written out from what it may say is read as that
+-- the law that a mapfile which is written out from what it may say, and whose styles name symbols that it has, is read as
+-- that
 abbrev pub WrittenIsRead : Type 0
 WrittenIsRead = (own : Entries) (line : ℕ) → MaySay block.Map Nothing own →
+    ((t : TokenValue) → closing_fault block.Map Nothing own t ≡ None) →
     meaning (bare 1 (codes "MAP") ∷ (written_out own ++ (bare 1 (codes "END") ∷ []))) (tails.Ends line) ≡ Ok own

@@ -12,6 +12,8 @@ pub enum Block {
     Points,
     Label,
     Web,
+    /// A symbol that points are drawn with.
+    Symbol,
     /// Keys and values of a WEB, of which some say what the service is called.
     WebMetadata,
     /// Keys and values of a LAYER, of which some say what it is called.
@@ -47,6 +49,11 @@ pub enum TextKeyword {
     /// The keys of a LAYER's METADATA.
     LayerWmsTitle,
     LayerOwsTitle,
+    SymbolName,
+    /// The name of the file that a symbol's pixmap is in.
+    SymbolImage,
+    /// The name of the symbol that a style draws points with.
+    StyleSymbol,
 }
 
 /// The keywords that take a colour.
@@ -90,6 +97,8 @@ pub enum Expected {
     Text(TextKeyword),
     /// The kind of a layer's features.
     Kind,
+    /// The kind of a symbol, which is PIXMAP.
+    Pixmap,
     /// The width of a style.
     Width,
     /// The size of a style.

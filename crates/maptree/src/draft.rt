@@ -1,22 +1,16 @@
 ghost use Rattle.std.specs.Prelude.{◌≡◌};
-ghost use Rattle.maptree.specs.Draft.{fresh, new_map, new_layer, new_class, new_style, new_label, new_feature, with_other_text, with_text, with_scale, with_colour, with_flag, with_value, is_full};
+ghost use Rattle.maptree.specs.Symbol.{symbol_named};
+ghost use Rattle.maptree.specs.Draft.{fresh, new_map, new_symbol, new_layer, new_class, new_style, new_label, new_feature, with_other_text, with_text, with_scale, with_colour, with_flag, with_value, is_full};
 
 use crate::bounded::Bounded;
 use crate::capped::Capped;
 use crate::context::{Block, ColourKeyword, FlagKeyword, ScaleKeyword, TextKeyword};
 use crate::parts::PartsDraft;
-use crate::tree::{ClassTree, FeatureTree, LabelTree, LayerTree, MapTree, StyleTree};
+use crate::tree::{ClassTree, FeatureTree, LabelTree, LayerTree, MapTree, Named, StyleTree};
 use crate::value::Value;
 use geom::Micro;
 use mapdefs::{Kind, MAX_CLASSES, MAX_FEATURES, MAX_ITEMS, Rgb, Text};
 use std::alloc::Global;
-
-/// A name, and the line of its token.
-#[derive(Drop)]
-pub struct Named {
-    pub text: Text,
-    pub line: u64,
-}
 
 /// What was read of the open LAYER.
 #[derive(Drop)]
@@ -46,15 +40,36 @@ pub struct FeatureDraft {
     pub items: Option<Text>,
 }
 
+/// What was read of the open SYMBOL.
+#[derive(Drop)]
+pub struct SymbolDraft {
+    pub name: Option<Text>,
+    /// Whether its TYPE is given.
+    pub pixmap: bool,
+    pub image: Option<Named>,
+}
+
 /// What was read of the open blocks. The draft of a block that isn't open is a new one.
 #[derive(Drop)]
 pub struct Drafts {
     pub map: MapTree,
+    pub symbol: SymbolDraft,
     pub layer: LayerDraft,
     pub class: ClassTree,
     pub style: StyleTree,
     pub label: LabelTree,
     pub feature: FeatureDraft,
+}
+
+// The symbol that a text names. The text 0 names none.
+fn symbol_named(text: Text, line: u64) -> Option<Named>
+    ensures { result ≡ symbol_named text line }
+{
+    if text.as_str() == "0" {
+        None
+    } else {
+        Some(Named { text, line })
+    }
 }
 
 impl MapTree {
@@ -69,7 +84,21 @@ impl MapTree {
             ows_title: None,
             wms_url: None,
             ows_url: None,
+            symbols: Capped::new(alloc),
             layers: Capped::new(alloc),
+        }
+    }
+}
+
+impl SymbolDraft {
+    /// A SYMBOL of which nothing was read.
+    pub fn new() -> Self
+        ensures { result ≡ new_symbol }
+    {
+        SymbolDraft {
+            name: None,
+            pixmap: false,
+            image: None,
         }
     }
 }
@@ -124,6 +153,7 @@ impl StyleTree {
             outline: None,
             width: None,
             size: None,
+            symbol: None,
         }
     }
 }
@@ -166,6 +196,7 @@ impl Drafts {
     {
         Drafts {
             map: MapTree::new(alloc),
+            symbol: SymbolDraft::new(),
             layer: LayerDraft::new(alloc),
             class: ClassTree::new(alloc),
             style: StyleTree::new(),
@@ -181,7 +212,7 @@ impl Drafts {
         self.map
     }
 
-    // Notes a text of a MAP or a FEATURE.
+    // Notes a text of a MAP, a SYMBOL or a FEATURE.
     fn set_other_text(&mut self, keyword: TextKeyword, text: Text)
         ensures { self.new ≡ with_other_text keyword text self.old }
     {
@@ -191,6 +222,7 @@ impl Drafts {
             TextKeyword::ServiceOwsTitle => self.map.ows_title = Some(text),
             TextKeyword::ServiceWmsUrl => self.map.wms_url = Some(text),
             TextKeyword::ServiceOwsUrl => self.map.ows_url = Some(text),
+            TextKeyword::SymbolName => self.symbol.name = Some(text),
             TextKeyword::FeatureText => self.feature.text = Some(text),
             TextKeyword::FeatureItems => self.feature.items = Some(text),
             _ => {}
@@ -203,6 +235,8 @@ impl Drafts {
     {
         match keyword {
             TextKeyword::LayerName => self.layer.name = Some(Named { text, line }),
+            TextKeyword::SymbolImage => self.symbol.image = Some(Named { text, line }),
+            TextKeyword::StyleSymbol => self.style.symbol = symbol_named(text, line),
             TextKeyword::ClassItem => self.layer.classitem = Some(text),
             TextKeyword::LabelItem => self.layer.labelitem = Some(text),
             TextKeyword::Template => self.layer.queryable = true,
@@ -256,6 +290,7 @@ impl Drafts {
         match value {
             Value::Text(keyword, text) => self.set_text(keyword, text, line),
             Value::Kind(kind) => self.layer.kind = Some(kind),
+            Value::Pixmap => self.symbol.pixmap = true,
             Value::Width(width) => self.style.width = Some(width),
             Value::Size(size) => self.style.size = Some(size),
             Value::Tolerance(tolerance) => self.layer.tolerance = Some(tolerance),
@@ -278,6 +313,7 @@ impl Drafts {
         ensures { result ≡ is_full block self.now }
     {
         match block {
+            Block::Symbol => self.map.symbols.is_full(),
             Block::Layer => self.map.layers.is_full(),
             Block::Class => self.layer.classes.is_full(),
             Block::Style => self.class.styles.is_full(),

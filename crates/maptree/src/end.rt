@@ -1,14 +1,15 @@
 ghost use Rattle.std.specs.Prelude.{◌≡◌, ◌<◌, false, length, Ok, OnOk, MatchResult};
-ghost use Rattle.mapdefs.specs.declared.limits.TheConstants.{MAX_LAYERS, MAX_CLASSES, MAX_STYLES, MAX_FEATURES};
+ghost use Rattle.mapdefs.specs.declared.limits.TheConstants.{MAX_SYMBOLS, MAX_LAYERS, MAX_CLASSES, MAX_STYLES, MAX_FEATURES};
 ghost use Rattle.maptree.specs.Draft.{is_full};
-ghost use Rattle.maptree.specs.End.{finished_layer, layer_end, class_end, style_end, label_end, feature_end, points_end, ends};
+ghost use Rattle.maptree.specs.End.{finished_layer, layer_end, finished_symbol, symbol_end, map_end, class_end, style_end, label_end, feature_end, points_end, ends};
 ghost use Rattle.maptree.specs.Fault.{IsErrorOf};
 ghost use Rattle.maptree.specs.Name.{is_taken};
 
 use crate::context::Block;
-use crate::draft::{Drafts, FeatureDraft, LayerDraft};
+use crate::draft::{Drafts, FeatureDraft, LayerDraft, SymbolDraft};
 use crate::fault::{Fault, ParseFault, ParseKind, fault_of};
-use crate::tree::{ClassTree, FeatureTree, LabelTree, LayerTree, StyleTree};
+use crate::symbol::map_fault;
+use crate::tree::{ClassTree, FeatureTree, LabelTree, LayerTree, StyleTree, SymbolTree};
 use maplex::Token;
 use std::alloc::{AllocError, Global};
 use std::mem;
@@ -80,6 +81,46 @@ fn end_layer(drafts: &mut Drafts, end: &Token, alloc: Global) -> Result<(), Pars
     let layer = finished_layer(draft, drafts.map.layers.as_slice(), end)?;
     drafts.map.layers.push(layer)?;
     Ok(())
+}
+
+// The symbol of a draft at its END.
+fn finished_symbol(draft: SymbolDraft, end: &Token) -> Result<SymbolTree, Fault>
+    ensures { result ≡ finished_symbol draft.name draft.pixmap draft.image end.now }
+{
+    let SymbolDraft {
+        name,
+        pixmap,
+        image,
+    } = draft;
+    match (name, pixmap, image) {
+        (Some(name), true, Some(image)) => Ok(SymbolTree { name, image }),
+        _ => Err(fault_of(ParseKind::MissingValue, end)),
+    }
+}
+
+// Ends a SYMBOL: the map gets it.
+fn end_symbol(drafts: &mut Drafts, end: &Token) -> Result<(), ParseFault>
+    requires { length drafts.old.map.symbols < MAX_SYMBOLS }
+    ensures { MatchResult result
+        (λ _. symbol_end drafts.old end.now ≡ Ok drafts.new)
+        (IsErrorOf (symbol_end drafts.old end.now)) }
+{
+    let draft = mem::replace(&mut drafts.symbol, SymbolDraft::new());
+    let symbol = finished_symbol(draft, end)?;
+    drafts.map.symbols.push(symbol)?;
+    Ok(())
+}
+
+// Ends MAP: each symbol that a style names is there.
+fn end_map(drafts: &Drafts) -> Result<(), Fault>
+    ensures { MatchResult result
+        (λ _. map_end drafts.now ≡ Ok drafts.now)
+        (λ fault. map_end drafts.now ≡ Err fault) }
+{
+    match map_fault(drafts.map.symbols.as_slice(), drafts.map.layers.as_slice()) {
+        None => Ok(()),
+        Some(fault) => Err(fault),
+    }
 }
 
 // Ends a CLASS: the layer gets it.
@@ -154,6 +195,8 @@ pub fn close(
         (IsErrorOf (ends block drafts.old end.now)) }
 {
     match block {
+        Block::Map => end_map(drafts)?,
+        Block::Symbol => end_symbol(drafts, end)?,
         Block::Layer => end_layer(drafts, end, alloc)?,
         Block::Class => end_class(drafts, alloc)?,
         Block::Style => end_style(drafts)?,
@@ -161,8 +204,7 @@ pub fn close(
         Block::Feature => end_feature(drafts, end, alloc)?,
         Block::Points => end_points(drafts, end, alloc)?,
         // There is nothing to check, and nothing to keep.
-        Block::Map
-        | Block::Web
+        Block::Web
         | Block::WebMetadata
         | Block::LayerMetadata
         | Block::Validation

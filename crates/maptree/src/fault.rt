@@ -24,14 +24,20 @@ pub enum ParseKind {
     #[error("an END before all that has to be given was given")]
     MissingValue,
     /// A block, a vertex or an item more than a map may have.
-    #[error("more layers, classes, styles, labels, features, vertices or items than a map may have")]
+    #[error("more symbols, layers, classes, styles, labels, features, vertices or items than a map may have")]
     Limit,
+    /// A file that isn't given. The line is that of its first use.
+    #[error("a file that can't be read")]
+    MissingFile,
     /// A layer whose name an earlier layer has. The line is that of the name.
     #[error("an earlier layer has the same name")]
     DuplicateName,
     /// The value of EXPRESSION is no expression.
     #[error("no expression")]
     BadExpression,
+    /// A file that is no file of its kind. The line is that of its first use.
+    #[error("a file that is none of its kind")]
+    BadFile,
 }
 
 impl ParseKind {
@@ -46,8 +52,10 @@ impl ParseKind {
             ParseKind::MissingEnd => 4,
             ParseKind::MissingValue => 5,
             ParseKind::Limit => 6,
+            ParseKind::MissingFile => 7,
             ParseKind::DuplicateName => 8,
             ParseKind::BadExpression => 9,
+            ParseKind::BadFile => 10,
         }
     }
 }

@@ -80,6 +80,10 @@ pub enum Keyword {
     Validation,
     Web,
     Width,
+    Symbol,
+    Image,
+    Transparent,
+    AnchorPoint,
     End,
 }
 
@@ -95,7 +99,7 @@ const FOUR: [Keyword; 6] = [
     Keyword::Text,
 ];
 
-const FIVE: [Keyword; 15] = [
+const FIVE: [Keyword; 16] = [
     Keyword::Layer,
     Keyword::Class,
     Keyword::Style,
@@ -111,9 +115,10 @@ const FIVE: [Keyword; 15] = [
     Keyword::Title,
     Keyword::Units,
     Keyword::Width,
+    Keyword::Image,
 ];
 
-const SIX: [Keyword; 9] = [
+const SIX: [Keyword; 10] = [
     Keyword::Points,
     Keyword::Buffer,
     Keyword::Config,
@@ -123,6 +128,7 @@ const SIX: [Keyword; 9] = [
     Keyword::Legend,
     Keyword::Offset,
     Keyword::Status,
+    Keyword::Symbol,
 ];
 
 const SEVEN: [Keyword; 4] = [
@@ -167,7 +173,11 @@ const TEN: [Keyword; 7] = [
     Keyword::Validation,
 ];
 
-const ELEVEN: [Keyword; 1] = [Keyword::MinDistance];
+const ELEVEN: [Keyword; 3] = [
+    Keyword::MinDistance,
+    Keyword::Transparent,
+    Keyword::AnchorPoint,
+];
 
 const TWELVE: [Keyword; 3] = [
     Keyword::OutlineColor,
@@ -186,7 +196,7 @@ const FOURTEEN: [Keyword; 3] = [
 const EIGHTEEN: [Keyword; 2] = [Keyword::LabelMaxScaleDenom, Keyword::LabelMinScaleDenom];
 
 // The spelling of each keyword, in their order.
-const SPELLINGS: [&str; 75] = [
+const SPELLINGS: [&str; 79] = [
     "MAP",
     "LAYER",
     "NAME",
@@ -261,6 +271,10 @@ const SPELLINGS: [&str; 75] = [
     "VALIDATION",
     "WEB",
     "WIDTH",
+    "SYMBOL",
+    "IMAGE",
+    "TRANSPARENT",
+    "ANCHORPOINT",
     "END",
 ];
 

@@ -38,6 +38,7 @@ mod reader;
 mod rule;
 mod setting;
 mod step;
+mod symbol;
 mod table;
 mod texts;
 mod tree;
@@ -51,4 +52,6 @@ pub use mapfile::read;
 pub use parts::Parts;
 pub use rule::ClassRule;
 pub use texts::texts_of;
-pub use tree::{ClassTree, FeatureTree, LabelTree, LayerTree, MapTree, StyleTree};
+pub use tree::{
+    ClassTree, FeatureTree, LabelTree, LayerTree, MapTree, Named, StyleTree, SymbolTree,
+};

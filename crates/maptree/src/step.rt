@@ -182,6 +182,7 @@ pub fn read_token(
             Block::Projection | Block::Passed | Block::PassedLabel => Ok(pass_over(block, token)),
             Block::Map
             | Block::Web
+            | Block::Symbol
             | Block::Layer
             | Block::Class
             | Block::Style

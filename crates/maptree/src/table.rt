@@ -1,5 +1,5 @@
 ghost use Rattle.std.specs.Prelude.{◌≡◌};
-ghost use Rattle.maptree.specs.Table.{map_role, web_role, layer_role, class_role, style_role, label_role, feature_role, passed_role, passed_label_role, end_role, role_of};
+ghost use Rattle.maptree.specs.Table.{map_role, web_role, symbol_role, layer_role, class_role, style_role, label_role, feature_role, passed_role, passed_label_role, end_role, role_of};
 
 use crate::context::{
     Block, ColourKeyword, Expected, FlagKeyword, OnlyWord, Role, ScaleKeyword, TextKeyword,
@@ -13,6 +13,7 @@ fn map_role(keyword: Keyword) -> Option<Role>
     match keyword {
         Keyword::Layer => Some(Role::Opens(Block::Layer)),
         Keyword::Web => Some(Role::Opens(Block::Web)),
+        Keyword::Symbol => Some(Role::Opens(Block::Symbol)),
         Keyword::Name => Some(Role::Takes(Expected::Text(TextKeyword::MapName))),
         Keyword::Extent => Some(Role::Takes(Expected::West)),
         Keyword::Config => Some(Role::Takes(Expected::ConfigKey)),
@@ -55,6 +56,21 @@ fn web_role(keyword: Keyword) -> Option<Role>
         | Keyword::MaxScaleDenom
         | Keyword::MinScaleDenom
         | Keyword::Template => Some(Role::Takes(Expected::Unused(0))),
+        Keyword::End => Some(Role::Closes),
+        _ => None,
+    }
+}
+
+// The keywords of SYMBOL.
+fn symbol_role(keyword: Keyword) -> Option<Role>
+    ensures { result ≡ symbol_role keyword }
+{
+    match keyword {
+        Keyword::Name => Some(Role::Takes(Expected::Text(TextKeyword::SymbolName))),
+        Keyword::Kind => Some(Role::Takes(Expected::Pixmap)),
+        Keyword::Image => Some(Role::Takes(Expected::Text(TextKeyword::SymbolImage))),
+        Keyword::Transparent => Some(Role::Takes(Expected::Unused(0))),
+        Keyword::AnchorPoint => Some(Role::Takes(Expected::Unused(1))),
         Keyword::End => Some(Role::Closes),
         _ => None,
     }
@@ -122,6 +138,7 @@ fn style_role(keyword: Keyword) -> Option<Role>
         Keyword::OutlineColor => Some(Role::Takes(Expected::Colour(ColourKeyword::StyleOutline))),
         Keyword::Width => Some(Role::Takes(Expected::Width)),
         Keyword::Size => Some(Role::Takes(Expected::Size)),
+        Keyword::Symbol => Some(Role::Takes(Expected::Text(TextKeyword::StyleSymbol))),
         Keyword::Antialias
         | Keyword::MaxSize
         | Keyword::MaxWidth
@@ -218,6 +235,7 @@ pub fn role_of(block: Block, keyword: Keyword) -> Option<Role>
     match block {
         Block::Map => map_role(keyword),
         Block::Web => web_role(keyword),
+        Block::Symbol => symbol_role(keyword),
         Block::Layer => layer_role(keyword),
         Block::Class => class_role(keyword),
         Block::Style => style_role(keyword),

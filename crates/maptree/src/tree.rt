@@ -5,8 +5,16 @@ use crate::parts::Parts;
 use crate::rule::ClassRule;
 use geom::Micro;
 use mapdefs::{
-    Kind, MAX_CLASSES, MAX_FEATURES, MAX_ITEMS, MAX_LAYERS, MAX_STYLES, Position, Rgb, Text,
+    Kind, MAX_CLASSES, MAX_FEATURES, MAX_ITEMS, MAX_LAYERS, MAX_STYLES, MAX_SYMBOLS, Position, Rgb,
+    Text,
 };
+
+/// A name, and the line of its token.
+#[derive(Drop)]
+pub struct Named {
+    pub text: Text,
+    pub line: u64,
+}
 
 /// A MAP as it is written.
 #[derive(Drop)]
@@ -19,7 +27,16 @@ pub struct MapTree {
     pub ows_title: Option<Text>,
     pub wms_url: Option<Text>,
     pub ows_url: Option<Text>,
+    pub symbols: Capped<SymbolTree, MAX_SYMBOLS>,
     pub layers: Capped<LayerTree, MAX_LAYERS>,
+}
+
+/// A SYMBOL as it is written.
+#[derive(Drop)]
+pub struct SymbolTree {
+    pub name: Text,
+    /// The name of the file that its pixmap is in.
+    pub image: Named,
 }
 
 /// A LAYER as it is written.
@@ -78,6 +95,8 @@ pub struct StyleTree {
     pub outline: Option<Rgb>,
     pub width: Option<Bounded<1, 32>>,
     pub size: Option<Bounded<1, 256>>,
+    /// The name of its symbol. It is none where no SYMBOL is given, and where it is 0.
+    pub symbol: Option<Named>,
 }
 
 /// A FEATURE as it is written.

@@ -3,7 +3,7 @@ ghost use Rattle.maptree.specs.declared.value.ValueStep.TheVariants.{Whole, More
 ghost use Rattle.maptree.specs.Fault.{IsErrorOf};
 ghost use Rattle.maptree.specs.declared.value.Value.TheVariants as ValueTree;
 ghost use Rattle.maptree.specs.Colour.{component_of};
-ghost use Rattle.maptree.specs.Value.{kind_of, is_value, hex_at, colour_step, only_text, only_step, unused_step, east_step, north_step, config_step, rule_step, plain_step, step_in, may_take, value_step, coordinate_in};
+ghost use Rattle.maptree.specs.Value.{kind_of, pixmap_step, is_value, hex_at, colour_step, only_text, only_step, unused_step, east_step, north_step, config_step, rule_step, plain_step, step_in, may_take, value_step, coordinate_in};
 
 use crate::bounded::Bounded;
 use crate::capped::Capped;
@@ -25,6 +25,8 @@ use std::alloc::Global;
 pub enum Value {
     Text(TextKeyword, Text),
     Kind(Kind),
+    /// The kind of a symbol.
+    Pixmap,
     Colour(ColourKeyword, Option<Rgb>),
     Width(Bounded<1, 32>),
     Size(Bounded<1, 256>),
@@ -72,6 +74,17 @@ fn kind_of(text: &str) -> Option<Kind>
         Some(Kind::Line)
     } else if text.eq_ignore_ascii_case("POLYGON") {
         Some(Kind::Polygon)
+    } else {
+        None
+    }
+}
+
+// Reads the kind of a symbol.
+fn pixmap_step(text: &str) -> Option<ValueStep>
+    ensures { result ≡ pixmap_step text.now }
+{
+    if text.eq_ignore_ascii_case("PIXMAP") {
+        Some(ValueStep::Whole(Value::Pixmap))
     } else {
         None
     }
@@ -185,6 +198,7 @@ fn plain_step(expected: Expected, token: &Token) -> Option<ValueStep>
     let text = token.text;
     match expected {
         Expected::Kind => whole(kind_of(text).map(Value::Kind)),
+        Expected::Pixmap => pixmap_step(text),
         Expected::Width => whole(Bounded::read(text).map(Value::Width)),
         Expected::Size => whole(Bounded::read(text).map(Value::Size)),
         Expected::Tolerance => whole(Bounded::read(text).map(Value::Tolerance)),

@@ -1,4 +1,4 @@
-use crate::{Cover, Polygon, Reading, Rows, Span, Spans, Work};
+use crate::{Cover, Polygon, Reading, Rows, Span, Spans, Sweep, Work};
 use geom::{Device, Edge, PictureSide};
 use std::alloc::{AllocError, Global};
 use std::process::Abort;
@@ -13,32 +13,81 @@ fn point(x: i64, y: i64) -> Device {
     Device::new(x.clamp(-limit, limit), y.clamp(-limit, limit))
 }
 
-// A polygon of rings that `/` parts, each a list of points as `16,48`.
+// A point as `16,48`.
+fn vertex(word: &str) -> Result<Device, Fail> {
+    let (x, y) = word.split_once(',').ok_or("a point without a comma")?;
+    Ok(point(x.parse()?, y.parse()?))
+}
+
+// A ring of points with blanks between.
+fn ring(alloc: Global, text: &str) -> Result<Vec<Device>, Fail> {
+    let mut ring = Vec::new(alloc);
+    for word in text.split_whitespace() {
+        ring.push(vertex(word)?)?;
+    }
+    Ok(ring)
+}
+
+// A polygon of rings that `/` parts.
 fn polygon(alloc: Global, text: &str) -> Result<Polygon, Fail> {
     let mut rings = Vec::new(alloc);
     for part in text.split('/') {
-        let mut ring = Vec::new(alloc);
-        for word in part.split_whitespace() {
-            let (x, y) = word.split_once(',').ok_or("a point without a comma")?;
-            ring.push(point(x.parse()?, y.parse()?))?;
-        }
-        rings.push(ring)?;
+        rings.push(ring(alloc, part)?)?;
     }
     Ok(Polygon::new(alloc, rings.as_slice())?)
 }
 
-// A row as its spans, as `1-3`, or `-` where it has none.
-fn drawn(alloc: Global, spans: &Spans) -> Result<String, AllocError> {
-    let mut text = String::new(alloc);
+// The sides of a picture, with a blank between.
+fn sides(text: &str) -> Result<(PictureSide, PictureSide), Fail> {
+    let (width, height) = text.split_once(' ').ok_or("not two sides")?;
+    Ok((side(width.parse()?), side(height.parse()?)))
+}
+
+// Adds a row as its spans, as `1-3`, or `-` where it has none.
+fn draw(out: &mut String, spans: &Spans) -> Result<(), AllocError> {
+    if spans.as_slice().is_empty() {
+        return out.push('-');
+    }
+    let mut between = "";
     for span in spans.as_slice() {
-        if !text.is_empty() {
-            text.push('+')?;
+        write!(out, "{between}{}-{}", span.from, span.to)?;
+        between = "+";
+    }
+    Ok(())
+}
+
+// Adds the rows of a sweep with a blank before each, and `!` where it doesn't end after so many, or leaves
+// spans at its end.
+fn draw_rows(
+    out: &mut String,
+    sweep: &mut Sweep,
+    spans: &mut Spans,
+    height: PictureSide,
+) -> Result<(), AllocError> {
+    for _row in 0..height.pixels() {
+        if !sweep.next(spans)? {
+            return out.push('!');
         }
-        text.push_str(format!(in alloc; "{}-{}", span.from, span.to)?.as_str())?;
+        out.push(' ')?;
+        draw(out, spans)?;
     }
-    if text.is_empty() {
-        text.push('-')?;
+    if sweep.next(spans)? || !spans.as_slice().is_empty() {
+        out.push('!')?;
     }
+    Ok(())
+}
+
+// The divisions of a sweep, and its rows.
+fn swept(
+    alloc: Global,
+    polygon: &Polygon,
+    width: PictureSide,
+    height: PictureSide,
+) -> Result<String, AllocError> {
+    let mut work = Work::new();
+    let mut sweep = polygon.sweep(width, height, &mut work)?;
+    let mut text = format!(in alloc; "{}|", work.divisions)?;
+    draw_rows(&mut text, &mut sweep, &mut Spans::new(alloc), height)?;
     Ok(text)
 }
 
@@ -46,37 +95,32 @@ fn drawn(alloc: Global, spans: &Spans) -> Result<String, AllocError> {
 // squares and a bow tie of two to four degrees on 4 by 4 pixels of a degree each, one of them much larger
 // than the picture and one left of it.
 const SWEEPS: &str = "\
-16,48 48,48 48,16 16,16|4 4|4|- 1-3 1-3 -
-16,48 48,16 48,48 16,16|4 4|8|- 2-3 2-3 -
--3200,3264 3200,3264 3200,-3136 -3200,-3136|4 4|0|0-4 0-4 0-4 0-4
--48,48 -16,48 -16,16 -48,16|4 4|0|- - - -
-0,0 64,0 64,64 0,64/16,16 48,16 48,48 16,48|4 4|4|0-4 0-1+3-4 0-1+3-4 0-4
-9,8 40,8 40,40 9,40|5 3|4|1-2 1-2 -
-24,8 56,8 56,40 24,40|5 3|4|1-3 1-3 -
-8,0 8,48 40,48 40,0|3 3|2|0-2 0-2 0-2
-24,24|4 4|0|- - - -
-0,0 64,64|4 4|4|- - - -
-0,0 64,0 64,64 0,64/0,0 64,0 64,64 0,64|4 2|0|- -";
+16,48 48,48 48,16 16,16|4 4|4| - 1-3 1-3 -
+16,48 48,16 48,48 16,16|4 4|8| - 2-3 2-3 -
+-3200,3264 3200,3264 3200,-3136 -3200,-3136|4 4|0| 0-4 0-4 0-4 0-4
+-48,48 -16,48 -16,16 -48,16|4 4|0| - - - -
+0,0 64,0 64,64 0,64/16,16 48,16 48,48 16,48|4 4|4| 0-4 0-1+3-4 0-1+3-4 0-4
+9,8 40,8 40,40 9,40|5 3|4| 1-2 1-2 -
+24,8 56,8 56,40 24,40|5 3|4| 1-3 1-3 -
+8,0 8,48 40,48 40,0|3 3|2| 0-2 0-2 0-2
+24,24|4 4|0| - - - -
+0,0 64,64|4 4|4| - - - -
+0,0 64,0 64,64 0,64/0,0 64,0 64,64 0,64|4 2|0| - -";
+
+// What is told of the sweep of rings.
+fn swept_rings(alloc: Global, rings: &str, of: &str) -> Result<String, Fail> {
+    let (width, height) = sides(of)?;
+    let polygon = polygon(alloc, rings)?;
+    Ok(swept(alloc, &polygon, width, height)?)
+}
 
 #[test]
 fn sweeps_have_worked_rows(rt: HostRuntime) -> Result<(), Fail> {
     for line in SWEEPS.lines() {
-        let parts: Vec<&str> = line.split('|').collect(rt.alloc())?;
-        let [rings, sides, divisions, rows] = *parts.as_slice() else {
-            return Err("not four parts".into());
-        };
-        let (width, height) = sides.split_once(' ').ok_or("not two sides")?;
-        let polygon = polygon(rt.alloc(), rings)?;
-        let mut work = Work::new();
-        let mut sweep = polygon.sweep(side(width.parse()?), side(height.parse()?), &mut work)?;
-        let mut spans = Spans::new(rt.alloc());
-        for row in rows.split(' ') {
-            assert!(rt; sweep.next(&mut spans)?, "{line}");
-            assert_eq!(rt; drawn(rt.alloc(), &spans)?.as_str(), row, "{line}");
-        }
-        assert!(rt; !sweep.next(&mut spans)?, "{line}");
-        assert!(rt; spans.as_slice().is_empty(), "{line}");
-        assert_eq!(rt; work.divisions, divisions.parse::<u64>()?, "{line}");
+        let (rings, rest) = line.split_once('|').ok_or("no sides")?;
+        let (sides, expected) = rest.split_once('|').ok_or("no divisions")?;
+        let told = swept_rings(rt.alloc(), rings, sides)?;
+        assert_eq!(rt; told.as_str(), expected, "{line}");
     }
     Ok(())
 }
@@ -107,25 +151,40 @@ fn drawn_rows(alloc: Global, rows: Rows) -> Result<String, AllocError> {
     }
 }
 
+// The rows of a polygon, or the first one outside of them that covers a pixel.
+fn rows_of(
+    alloc: Global,
+    polygon: &Polygon,
+    width: PictureSide,
+    height: PictureSide,
+) -> Result<String, AllocError> {
+    let rows = polygon.rows(width, height);
+    let mut spans = Spans::new(alloc);
+    for row in 0..height.pixels() {
+        if !rows.has(row) {
+            polygon.row(row, width, &mut spans)?;
+            if !spans.as_slice().is_empty() {
+                return format!(in alloc; "row {row} has pixels");
+            }
+        }
+    }
+    drawn_rows(alloc, rows)
+}
+
+// What is told of the rows of rings.
+fn rows_of_rings(alloc: Global, rings: &str, of: &str) -> Result<String, Fail> {
+    let (width, height) = sides(of)?;
+    let polygon = polygon(alloc, rings)?;
+    Ok(rows_of(alloc, &polygon, width, height)?)
+}
+
 #[test]
 fn polygons_have_worked_rows(rt: HostRuntime) -> Result<(), Fail> {
     for line in ROWS.lines() {
-        let parts: Vec<&str> = line.split('|').collect(rt.alloc())?;
-        let [rings, sides, rows] = *parts.as_slice() else {
-            return Err("not three parts".into());
-        };
-        let (width, height) = sides.split_once(' ').ok_or("not two sides")?;
-        let (width, height) = (side(width.parse()?), side(height.parse()?));
-        let polygon = polygon(rt.alloc(), rings)?;
-        let found = polygon.rows(width, height);
-        assert_eq!(rt; drawn_rows(rt.alloc(), found)?.as_str(), rows, "{line}");
-        let mut spans = Spans::new(rt.alloc());
-        for row in 0..height.pixels() {
-            if !found.has(row) {
-                polygon.row(row, width, &mut spans)?;
-                assert!(rt; spans.as_slice().is_empty(), "{line}");
-            }
-        }
+        let (rings, rest) = line.split_once('|').ok_or("no sides")?;
+        let (sides, expected) = rest.split_once('|').ok_or("no rows")?;
+        let told = rows_of_rings(rt.alloc(), rings, sides)?;
+        assert_eq!(rt; told.as_str(), expected, "{line}");
     }
     Ok(())
 }
@@ -148,18 +207,22 @@ fn number(state: &mut u64, kind: u16) -> i64 {
     }
 }
 
-// A polygon of two rings of up to seven vertices.
-fn some_polygon(alloc: Global, state: &mut u64, kind: u16) -> Result<Polygon, Fail> {
-    let mut rings = Vec::new(alloc);
-    for _ring in 0..2 {
-        let mut ring = Vec::new(alloc);
-        for _vertex in 0..next(state) % 8 {
-            let x = number(state, kind);
-            ring.push(point(x, number(state, kind)))?;
-        }
-        rings.push(ring)?;
+// A ring of up to seven vertices.
+fn some_ring(alloc: Global, state: &mut u64, kind: u16) -> Result<Vec<Device>, AllocError> {
+    let mut ring = Vec::new(alloc);
+    for _vertex in 0..next(state) % 8 {
+        let x = number(state, kind);
+        ring.push(point(x, number(state, kind)))?;
     }
-    Ok(Polygon::new(alloc, rings.as_slice())?)
+    Ok(ring)
+}
+
+// A polygon of two rings.
+fn some_polygon(alloc: Global, state: &mut u64, kind: u16) -> Result<Polygon, AllocError> {
+    let mut rings = Vec::new(alloc);
+    rings.push(some_ring(alloc, state, kind)?)?;
+    rings.push(some_ring(alloc, state, kind)?)?;
+    Polygon::new(alloc, rings.as_slice())
 }
 
 // Whether the spans are the pixels of the row that the polygon covers.
@@ -201,80 +264,111 @@ fn agree(
     Ok(!sweep.next(&mut swept)?)
 }
 
+// Whether they agree on some polygon.
+fn agree_on_some(alloc: Global, state: &mut u64, kind: u16) -> Result<bool, AllocError> {
+    let polygon = some_polygon(alloc, state, kind)?;
+    agree(alloc, &polygon, side(1 + kind % 7), side(1 + kind % 5))
+}
+
 #[test]
 fn rows_sweeps_and_pixels_agree(rt: HostRuntime) -> Result<(), Fail> {
     let mut state = 20_261_123;
     for kind in 0..300_u16 {
-        let polygon = some_polygon(rt.alloc(), &mut state, kind)?;
-        let width = side(1 + kind % 7);
-        let height = side(1 + kind % 5);
-        assert!(rt; agree(rt.alloc(), &polygon, width, height)?, "{kind}");
+        assert!(rt; agree_on_some(rt.alloc(), &mut state, kind)?, "{kind}");
     }
     Ok(())
 }
 
 // A thousand and twenty-four upright bars, in every second column. The first one's left edge lies left of
 // the view, so that 2,047 edges are walked.
-#[test]
-fn widest_rows_have_many_spans(rt: HostRuntime) -> Result<(), Fail> {
-    let mut edges = Vec::new(rt.alloc());
+fn bars(alloc: Global) -> Result<Polygon, AllocError> {
+    let mut edges = Vec::new(alloc);
     for bar in 0..1_024_u16 {
         let x = 32 * i64::from(bar);
         edges.push(Edge::new(point(x, 0), point(x, 32_768)))?;
         edges.push(Edge::new(point(x + 16, 32_768), point(x + 16, 0)))?;
     }
-    let polygon = Polygon::of(edges);
-    let mut work = Work {
-        divisions: u64::MAX - 4_093,
-    };
+    Ok(Polygon::of(edges))
+}
+
+// The divisions of a sweep on the largest picture, where so many stood before, and how many spans its first
+// row has and which is the last. There are none where it isn't the row of the polygon.
+fn first_row(
+    alloc: Global,
+    polygon: &Polygon,
+    divisions: u64,
+) -> Result<(u64, usize, Option<Span>), AllocError> {
+    let mut work = Work { divisions };
     let mut sweep = polygon.sweep(side(2_048), side(2_048), &mut work)?;
-    assert_eq!(rt; work.divisions, u64::MAX);
-    let mut swept = Spans::new(rt.alloc());
-    let mut read = Spans::new(rt.alloc());
-    assert!(rt; sweep.next(&mut swept)?);
+    let mut swept = Spans::new(alloc);
+    let mut read = Spans::new(alloc);
+    let more = sweep.next(&mut swept)?;
     polygon.row(2_047, side(2_048), &mut read)?;
-    assert_eq!(rt; swept.as_slice().len(), 1_024);
-    assert!(rt; swept.as_slice() == read.as_slice());
-    assert_eq!(rt;
-        swept.as_slice().last().copied(),
-        Some(Span {
-            from: 2_046,
-            to: 2_047
-        })
-    );
+    if !more || swept.as_slice() != read.as_slice() {
+        return Ok((work.divisions, 0, None));
+    }
+    let last = swept.as_slice().last().copied();
+    Ok((work.divisions, swept.as_slice().len(), last))
+}
+
+#[test]
+fn widest_rows_have_many_spans(rt: HostRuntime) -> Result<(), Fail> {
+    let polygon = bars(rt.alloc())?;
+    let told = first_row(rt.alloc(), &polygon, u64::MAX - 4_093)?;
+    let last = Span {
+        from: 2_046,
+        to: 2_047,
+    };
+    assert_eq!(rt; told, (u64::MAX, 1_024, Some(last)));
     Ok(())
+}
+
+// Adds the rows to which a sweep skips, one after another, and `!` where none is left.
+fn draw_skips(
+    out: &mut String,
+    sweep: &mut Sweep,
+    spans: &mut Spans,
+    count: u8,
+) -> Result<(), AllocError> {
+    for _skip in 0..count {
+        sweep.skip();
+        write!(out, " {}", sweep.row())?;
+        if !sweep.next(spans)? {
+            out.push('!')?;
+        }
+    }
+    Ok(())
+}
+
+// What is told of five skips.
+fn skipped(alloc: Global, polygon: &Polygon) -> Result<String, AllocError> {
+    let mut sweep = polygon.sweep(side(9), side(14), &mut Work::new())?;
+    let mut text = String::new(alloc);
+    draw_skips(&mut text, &mut sweep, &mut Spans::new(alloc), 5)?;
+    Ok(text)
 }
 
 #[test]
 fn sweeps_skip_rows_without_edges(rt: HostRuntime) -> Result<(), Fail> {
     let polygon = polygon(rt.alloc(), "16,88 48,88 48,120/16,168 48,168 48,200")?;
-    let mut sweep = polygon.sweep(side(9), side(14), &mut Work::new())?;
-    let mut spans = Spans::new(rt.alloc());
-    for row in [5, 6, 10, 11] {
-        sweep.skip();
-        assert_eq!(rt; sweep.row(), row);
-        assert!(rt; sweep.next(&mut spans)?);
-    }
-    sweep.skip();
-    assert_eq!(rt; sweep.row(), 14);
-    assert!(rt; !sweep.next(&mut spans)?);
+    let told = skipped(rt.alloc(), &polygon)?;
+    assert_eq!(rt; told.as_str(), " 5 6 10 11 14!");
     Ok(())
+}
+
+// The polygon of one edge.
+fn edge(alloc: Global) -> Result<Polygon, AllocError> {
+    let mut edges = Vec::new(alloc);
+    edges.push(Edge::new(point(16, 16), point(48, 48)))?;
+    Ok(Polygon::of(edges))
 }
 
 // One edge by itself: the pixels from its column on lie inside.
 #[test]
 fn walks_have_worked_columns(rt: HostRuntime) -> Result<(), Fail> {
-    let mut edges = Vec::new(rt.alloc());
-    edges.push(Edge::new(point(16, 16), point(48, 48)))?;
-    let mut work = Work::new();
-    let polygon = Polygon::of(edges);
-    let mut sweep = polygon.sweep(side(4), side(4), &mut work)?;
-    let mut spans = Spans::new(rt.alloc());
-    for row in ["-", "1-4", "2-4", "-"] {
-        assert!(rt; sweep.next(&mut spans)?);
-        assert_eq!(rt; drawn(rt.alloc(), &spans)?.as_str(), row);
-    }
-    assert_eq!(rt; work.divisions, 2);
+    let polygon = edge(rt.alloc())?;
+    let told = swept(rt.alloc(), &polygon, side(4), side(4))?;
+    assert_eq!(rt; told.as_str(), "2| - 1-4 2-4 -");
     Ok(())
 }
 
@@ -282,11 +376,16 @@ fn walks_have_worked_columns(rt: HostRuntime) -> Result<(), Fail> {
 #[test]
 fn values_differ_where_one_field_does(rt: HostRuntime) {
     let span = Span { from: 3, to: 5 };
-    assert_eq!(rt; span, Span { from: 3, to: 5 });
-    assert_ne!(rt; span, Span { from: 2, to: 5 });
-    assert_ne!(rt; span, Span { from: 3, to: 6 });
-    assert_eq!(rt; Reading::Inside { from: 3 }, Reading::Inside { from: 3 });
-    assert_ne!(rt; Reading::Inside { from: 3 }, Reading::Inside { from: 4 });
-    assert_ne!(rt; Reading::Inside { from: 3 }, Reading::Outside);
-    assert_ne!(rt; Work { divisions: 1 }, Work { divisions: 2 });
+    let inside = Reading::Inside { from: 3 };
+    let work = Work { divisions: 1 };
+    let are_equal = [
+        span == Span { from: 3, to: 5 },
+        span == Span { from: 2, to: 5 },
+        span == Span { from: 3, to: 6 },
+        inside == Reading::Inside { from: 3 },
+        inside == Reading::Inside { from: 4 },
+        inside == Reading::Outside,
+        work == Work { divisions: 2 },
+    ];
+    assert_eq!(rt; are_equal, [true, false, false, true, false, false, false]);
 }

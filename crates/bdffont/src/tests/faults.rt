@@ -187,38 +187,46 @@ const MESSAGES: [(FontKind, &str); 6] = [
 ];
 
 #[test]
-fn faults_are_told_in_words(rt: HostRuntime) -> Result<(), Fail> {
-    for (i, (kind, message)) in MESSAGES.iter().enumerate() {
+fn kinds_are_told_in_words(rt: HostRuntime) -> Result<(), Fail> {
+    for (kind, message) in MESSAGES.iter() {
         let printed = format!(in rt.alloc(); "{} {kind}", kind.number())?;
         assert_eq!(rt; printed.as_str(), *message);
+    }
+    Ok(())
+}
+
+#[test]
+fn kinds_differ_from_one_another(rt: HostRuntime) {
+    for (i, (kind, _)) in MESSAGES.iter().enumerate() {
         for (j, (other, _)) in MESSAGES.iter().enumerate() {
             assert_eq!(rt; kind == other, i == j);
         }
     }
-    let fault = FontFault {
-        line: 7,
-        kind: FontKind::Count,
-    };
-    let printed = format!(in rt.alloc(); "{fault}; {}", FontError::Fault(fault))?;
+}
+
+fn fault_on(line: u64, kind: FontKind) -> FontFault {
+    FontFault { line, kind }
+}
+
+#[test]
+fn faults_are_told_in_words(rt: HostRuntime) -> Result<(), Fail> {
+    let fault = fault_on(7, FontKind::Count);
+    let (error, memory) = (FontError::Fault(fault), FontError::NoMemory);
+    let printed = format!(in rt.alloc(); "{fault}; {error}; {memory}")?;
     let message =
-        "line 7: another number of glyphs than CHARS says; line 7: another number of glyphs than CHARS says";
+        "line 7: another number of glyphs than CHARS says; line 7: another number of glyphs than CHARS says; out of memory";
     assert_eq!(rt; printed.as_str(), message);
-    let printed = format!(in rt.alloc(); "{}", FontError::NoMemory)?;
-    assert_eq!(rt; printed.as_str(), "out of memory");
-    assert_ne!(rt;
-        fault,
-        FontFault {
-            line: 8,
-            kind: FontKind::Count
-        }
-    );
-    assert_ne!(rt;
-        fault,
-        FontFault {
-            line: 7,
-            kind: FontKind::Limit
-        }
-    );
-    assert_ne!(rt; FontError::Fault(fault), FontError::NoMemory);
     Ok(())
+}
+
+#[test]
+fn faults_differ_where_one_field_does(rt: HostRuntime) {
+    let fault = fault_on(7, FontKind::Count);
+    let are_equal = [
+        fault == fault_on(7, FontKind::Count),
+        fault == fault_on(8, FontKind::Count),
+        fault == fault_on(7, FontKind::Limit),
+        FontError::Fault(fault) == FontError::NoMemory,
+    ];
+    assert_eq!(rt; are_equal, [true, false, false, false]);
 }

@@ -1,7 +1,7 @@
 use super::{TINY, edited, told};
 use crate::{MAX_CHARACTERS, extent, ink, is_short, read};
 use geom::Pixel;
-use mapdefs::Font;
+use mapdefs::{BitmapBox, Font, Glyph};
 use std::alloc::{AllocError, Global};
 use std::test::Fail;
 
@@ -68,6 +68,14 @@ fn pixel(numbers: &str) -> Pixel {
     Pixel::new(i64::from(i), i64::from(j))
 }
 
+// What a font with such a line draws.
+fn drawn_in(alloc: Global, source: &[u8], text: &str, at: Pixel) -> Result<String, AllocError> {
+    match read(alloc, source) {
+        Ok(font) => drawn(alloc, &font, text, at),
+        Err(_) => String::from_str(alloc, "refused"),
+    }
+}
+
 #[test]
 fn texts_are_drawn_as_worked(rt: HostRuntime) -> Result<(), Fail> {
     let alloc = rt.alloc();
@@ -76,10 +84,8 @@ fn texts_are_drawn_as_worked(rt: HostRuntime) -> Result<(), Fail> {
         let (line, rest) = rest.split_once('|').unwrap_or((rest, ""));
         let (text, rest) = rest.split_once('|').unwrap_or((rest, ""));
         let (at, expected) = rest.split_once('|').unwrap_or((rest, ""));
-        let Ok(font) = read(alloc, &edited(alloc, number, line)?) else {
-            panic!(rt; "{row}");
-        };
-        let picture = drawn(alloc, &font, text, pixel(at))?;
+        let source = edited(alloc, number, line)?;
+        let picture = drawn_in(alloc, &source, text, pixel(at))?;
         assert_eq!(rt; picture.as_str(), expected, "{row}");
     }
     Ok(())
@@ -100,19 +106,43 @@ STARTCHAR wide\nENCODING 128512\nDWIDTH 17 0\nBBX 16 1 0 0\nBITMAP\n8001\nENDCHA
 STARTCHAR space\nENCODING 32\nDWIDTH 7 0\nBBX 0 2 0 0\nBITMAP\n\n\nENDCHAR\n\
 ENDFONT\n";
 
-// The ink of a glyph, its rows parted by `/`.
-fn rows_of(alloc: Global, font: &Font, index: usize) -> Result<String, AllocError> {
-    let mut rows = String::new(alloc);
-    if let Some(glyph) = font.get().glyphs.as_slice().get(index) {
-        let width = usize::from(glyph.bounds.width);
-        for (i, is_inked) in glyph.rows.as_slice().iter().enumerate() {
-            if i > 0 && width > 0 && i % width == 0 {
-                rows.push('/')?;
-            }
-            rows.push(if *is_inked { '#' } else { '.' })?;
+// Adds the ink of a glyph, its rows parted by `/`.
+fn draw_glyph(out: &mut String, glyph: &Glyph) -> Result<(), AllocError> {
+    let width = usize::from(glyph.bounds.width);
+    for (i, is_inked) in glyph.rows.as_slice().iter().enumerate() {
+        if i > 0 && width > 0 && i % width == 0 {
+            out.push('/')?;
         }
+        out.push(if *is_inked { '#' } else { '.' })?;
     }
-    Ok(rows)
+    Ok(())
+}
+
+// Adds the encoding, the advance and the rows of each glyph, a line each.
+fn draw_glyphs(out: &mut String, font: &Font) -> Result<(), AllocError> {
+    for glyph in font.get().glyphs.as_slice() {
+        write!(out, "{} {} ", glyph.encoding, glyph.advance)?;
+        draw_glyph(out, glyph)?;
+        out.push('\n')?;
+    }
+    Ok(())
+}
+
+// The glyphs of a font's file.
+fn drawn_glyphs(alloc: Global, source: &[u8]) -> Result<String, AllocError> {
+    let mut out = String::new(alloc);
+    if let Ok(font) = read(alloc, source) {
+        draw_glyphs(&mut out, &font)?;
+    }
+    Ok(out)
+}
+
+// The box of a font's file.
+fn bounds_of(alloc: Global, source: &[u8]) -> Option<BitmapBox> {
+    match read(alloc, source) {
+        Ok(font) => Some(font.get().bounds),
+        Err(_) => None,
+    }
 }
 
 // The encoding, the advance and the rows of each glyph of that font.
@@ -125,22 +155,15 @@ const MIXED_GLYPHS: &str = "\
 
 #[test]
 fn glyphs_stand_by_their_encodings(rt: HostRuntime) -> Result<(), Fail> {
-    let alloc = rt.alloc();
-    let Ok(font) = read(alloc, MIXED.as_bytes()) else {
-        panic!(rt; "the font is refused");
+    let glyphs = drawn_glyphs(rt.alloc(), MIXED.as_bytes())?;
+    assert_eq!(rt; glyphs.as_str(), MIXED_GLYPHS);
+    let bounds = BitmapBox {
+        width: 16,
+        height: 3,
+        xoff: 1,
+        yoff: -1,
     };
-    let mut printed = String::new(alloc);
-    for (i, glyph) in font.get().glyphs.as_slice().iter().enumerate() {
-        let rows = rows_of(alloc, &font, i)?;
-        let line = format!(in alloc; "{} {} {rows}\n", glyph.encoding, glyph.advance)?;
-        printed.push_str(line.as_str())?;
-    }
-    assert_eq!(rt; printed.as_str(), MIXED_GLYPHS);
-    let bounds = font.get().bounds;
-    assert_eq!(rt;
-        (bounds.width, bounds.height, bounds.xoff, bounds.yoff),
-        (16, 3, 1, -1)
-    );
+    assert_eq!(rt; bounds_of(rt.alloc(), MIXED.as_bytes()), Some(bounds));
     Ok(())
 }
 
@@ -154,42 +177,44 @@ c|5\n\
 \u{1F600}?|22\n\
 \u{e9}|5";
 
+// The extent of a text in the font of a file.
+fn extent_in(alloc: Global, source: &str, text: &str) -> Option<(u32, u32)> {
+    match read(alloc, source.as_bytes()) {
+        Ok(font) => Some(extent_of(&font, text)),
+        Err(_) => None,
+    }
+}
+
 #[test]
 fn extents_are_summed_advances(rt: HostRuntime) -> Result<(), Fail> {
     let alloc = rt.alloc();
-    let Ok(font) = read(alloc, MIXED.as_bytes()) else {
-        panic!(rt; "the font is refused");
-    };
     for row in WIDTHS.lines() {
-        let (text, expected) = row.split_once('|').unwrap_or((row, ""));
-        let (width, height) = extent_of(&font, text);
-        let printed = format!(in alloc; "{width}")?;
-        assert_eq!(rt; printed.as_str(), expected, "{row}");
-        assert_eq!(rt; height, 3);
+        let (text, width) = row.split_once('|').unwrap_or((row, ""));
+        let width = width.parse::<u32>()?;
+        assert_eq!(rt; extent_in(alloc, MIXED, text), Some((width, 3)), "{row}");
     }
-    let Ok(tiny) = read(alloc, TINY.as_bytes()) else {
-        panic!(rt; "the tiny font is refused");
-    };
-    assert_eq!(rt; extent_of(&tiny, "AA"), (6, 2));
-    assert_eq!(rt; extent_of(&tiny, "B"), (0, 2));
+    assert_eq!(rt; extent_in(alloc, TINY, "AA"), Some((6, 2)));
+    assert_eq!(rt; extent_in(alloc, TINY, "B"), Some((0, 2)));
     Ok(())
+}
+
+// Whether a text has ink in a column of row 1 of the font of a file.
+fn has_ink_in(alloc: Global, source: &str, text: &str, i: i64) -> Option<bool> {
+    match read(alloc, source.as_bytes()) {
+        Ok(font) => Some(has_ink(&font, text, Pixel::new(0, 0), i, 1)),
+        Err(_) => None,
+    }
 }
 
 #[test]
 fn texts_have_at_most_256_characters(rt: HostRuntime) -> Result<(), Fail> {
+    let alloc = rt.alloc();
     assert_eq!(rt; MAX_CHARACTERS, 256);
-    let mut text = String::new(rt.alloc());
-    for _ in 0..256 {
-        text.push('\u{1F600}')?;
-    }
+    let mut text = "\u{1F600}".repeat(alloc, 256)?;
     assert!(rt; is_short(text.as_str()));
-    let Ok(font) = read(rt.alloc(), MIXED.as_bytes()) else {
-        panic!(rt; "the font is refused");
-    };
-    assert_eq!(rt; extent_of(&font, text.as_str()), (4352, 3));
-    let at = Pixel::new(0, 0);
-    assert!(rt; has_ink(&font, text.as_str(), at, 4350, 1));
-    assert!(rt; !has_ink(&font, text.as_str(), at, 4351, 1));
+    assert_eq!(rt; extent_in(alloc, MIXED, text.as_str()), Some((4352, 3)));
+    assert_eq!(rt; has_ink_in(alloc, MIXED, text.as_str(), 4350), Some(true));
+    assert_eq!(rt; has_ink_in(alloc, MIXED, text.as_str(), 4351), Some(false));
     text.push('a')?;
     assert!(rt; !is_short(text.as_str()));
     Ok(())
@@ -211,19 +236,37 @@ fn falling(alloc: Global, count: u32) -> Result<Vec<u8>, AllocError> {
     Ok(source)
 }
 
+// How many glyphs such a font has, and the encodings of the first and the last of them.
+fn ends_of_falling(alloc: Global, count: u32) -> Result<(usize, Option<u32>, Option<u32>), Fail> {
+    let source = falling(alloc, count)?;
+    match read(alloc, &source) {
+        Ok(font) => {
+            let glyphs = font.get().glyphs.as_slice();
+            let first = glyphs.first().map(|glyph| glyph.encoding);
+            Ok((
+                glyphs.len(),
+                first,
+                glyphs.last().map(|glyph| glyph.encoding),
+            ))
+        }
+        Err(_) => Err("the font is refused".into()),
+    }
+}
+
+// The fault of such a font.
+fn told_falling(alloc: Global, count: u32) -> Result<(u8, u64), AllocError> {
+    let source = falling(alloc, count)?;
+    Ok(told(alloc, &source))
+}
+
 #[test]
 fn fonts_have_at_most_65536_glyphs(rt: HostRuntime) -> Result<(), Fail> {
     let alloc = rt.alloc();
-    let Ok(font) = read(alloc, &falling(alloc, 65_536)?) else {
-        panic!(rt; "the font is refused");
-    };
-    let glyphs = font.get().glyphs.as_slice();
-    assert_eq!(rt; glyphs.len(), 65_536);
-    assert_eq!(rt; glyphs.first().map(|glyph| glyph.encoding), Some(1));
-    assert_eq!(rt; glyphs.last().map(|glyph| glyph.encoding), Some(65_536));
+    let ends = ends_of_falling(alloc, 65_536)?;
+    assert_eq!(rt; ends, (65_536, Some(1), Some(65_536)));
     // three lines of the header, and six of each glyph
-    assert_eq!(rt; told(alloc, &falling(alloc, 65_537)?), (5, 393_220));
-    assert_eq!(rt; told(alloc, &falling(alloc, 65_535)?), (4, 393_214));
+    assert_eq!(rt; told_falling(alloc, 65_537)?, (5, 393_220));
+    assert_eq!(rt; told_falling(alloc, 65_535)?, (4, 393_214));
     Ok(())
 }
 
@@ -257,20 +300,30 @@ const DRAWN_LETTERS: &str = "\
 ......#...#.#..#..\n\
 .......###...##...\n";
 
-#[test]
-fn letters_are_drawn_as_their_rows(rt: HostRuntime) -> Result<(), Fail> {
-    let alloc = rt.alloc();
-    let Ok(font) = read(alloc, LETTERS.as_bytes()) else {
-        panic!(rt; "the font is refused");
-    };
-    let mut picture = String::new(alloc);
+// Adds 18 columns of 13 rows of them.
+fn draw_letters(out: &mut String, font: &Font) -> Result<(), AllocError> {
     for j in 0..13 {
         for i in 0..18 {
-            let is_inked = has_ink(&font, "Agj", Pixel::new(0, 0), i, j);
-            picture.push(if is_inked { '#' } else { '.' })?;
+            let is_inked = has_ink(font, "Agj", Pixel::new(0, 0), i, j);
+            out.push(if is_inked { '#' } else { '.' })?;
         }
-        picture.push('\n')?;
+        out.push('\n')?;
     }
+    Ok(())
+}
+
+// The letters in the font of a file.
+fn drawn_letters(alloc: Global, source: &[u8]) -> Result<String, AllocError> {
+    let mut out = String::new(alloc);
+    if let Ok(font) = read(alloc, source) {
+        draw_letters(&mut out, &font)?;
+    }
+    Ok(out)
+}
+
+#[test]
+fn letters_are_drawn_as_their_rows(rt: HostRuntime) -> Result<(), Fail> {
+    let picture = drawn_letters(rt.alloc(), LETTERS.as_bytes())?;
     assert_eq!(rt; picture.as_str(), DRAWN_LETTERS);
     Ok(())
 }

@@ -1,6 +1,7 @@
 use super::*;
 use std::alloc::{AllocError, Global};
 use std::io;
+use std::process::Abort;
 use std::test::Fail;
 
 // A reader and a writer that gives and takes so many bytes at once, for so many calls, and then
@@ -156,38 +157,53 @@ fn sources_give_bytes_up_to_their_end(rt: HostRuntime) -> Result<(), Fail> {
     Ok(())
 }
 
-#[test]
-fn each_flag_stays_as_it_was_set(rt: HostRuntime) -> Result<(), Fail> {
-    let alloc = rt.alloc();
-    let mut room = [0; 4];
+// Both flags: that of writing, then that of reading.
+fn flags(stream: &Flagged<Narrow<'_>>) -> (bool, bool) {
+    (stream.put_failed(), stream.take_failed())
+}
 
+fn assert_writing_stays_failed(rt: &impl Abort, alloc: Global) {
     let mut stream = flagged(alloc, b"nine left", 2, 0);
     assert_eq!(rt; stream.put(b"square"), Err(PutFailed));
-    assert_eq!(rt; (stream.put_failed(), stream.take_failed()), (true, false));
+    assert_eq!(rt; flags(&stream), (true, false));
     stream.inner.calls = 4;
-    assert_eq!(rt; stream.take(&mut room), Ok(2));
+    assert_eq!(rt; stream.take(&mut [0; 4]), Ok(2));
     assert_eq!(rt; stream.put(b"square"), Ok(2));
     assert_eq!(rt; stream.put(b""), Ok(0));
     assert_eq!(rt; stream.flush(), Ok(()));
-    assert_eq!(rt; (stream.put_failed(), stream.take_failed()), (true, false));
+    assert_eq!(rt; flags(&stream), (true, false));
+}
 
+fn assert_reading_stays_failed(rt: &impl Abort, alloc: Global) {
     let mut stream = flagged(alloc, b"nine left", 2, 0);
-    assert_eq!(rt; stream.take(&mut room), Err(TakeFailed));
+    assert_eq!(rt; stream.take(&mut [0; 4]), Err(TakeFailed));
     stream.inner.calls = 3;
     assert_eq!(rt; stream.put(b"square"), Ok(2));
-    assert_eq!(rt; stream.take(&mut room), Ok(2));
+    assert_eq!(rt; stream.take(&mut [0; 4]), Ok(2));
     assert_eq!(rt; stream.flush(), Ok(()));
-    assert_eq!(rt; (stream.put_failed(), stream.take_failed()), (false, true));
+    assert_eq!(rt; flags(&stream), (false, true));
+}
 
-    let mut stream = flagged(alloc, b"nine left", 2, 1);
+#[test]
+fn each_flag_stays_as_it_was_set(rt: HostRuntime) {
+    let alloc = rt.alloc();
+    assert_writing_stays_failed(&rt, alloc);
+    assert_reading_stays_failed(&rt, alloc);
+}
+
+#[test]
+fn no_bytes_set_no_flag(rt: HostRuntime) {
+    let mut stream = flagged(rt.alloc(), b"nine left", 2, 1);
     assert_eq!(rt; stream.put(b""), Ok(0));
-    assert_eq!(rt; (stream.put_failed(), stream.take_failed()), (false, false));
+    assert_eq!(rt; flags(&stream), (false, false));
+}
 
-    let mut stream = flagged(alloc, b"nine left", 2, 0);
+#[test]
+fn failed_flushes_set_the_flag_of_writing(rt: HostRuntime) {
+    let mut stream = flagged(rt.alloc(), b"nine left", 2, 0);
     assert_eq!(rt; stream.flush(), Err(PutFailed));
-    assert_eq!(rt; (stream.put_failed(), stream.take_failed()), (true, false));
+    assert_eq!(rt; flags(&stream), (true, false));
     assert_eq!(rt; stream.taken(), 0);
-    Ok(())
 }
 
 #[test]

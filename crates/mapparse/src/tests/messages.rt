@@ -3,7 +3,7 @@ use maplex::LexKind;
 use std::test::Fail;
 
 // The lines and the kinds of faults. Each differs from the one above it in one field.
-const FAULTS: [(u64, ParseKind); 9] = [
+const FAULTS: [(u64, ParseKind); 11] = [
     (7, ParseKind::Lex(LexKind::OpenString)),
     (7, ParseKind::Lex(LexKind::BadByte)),
     (7, ParseKind::UnknownWord),
@@ -11,8 +11,10 @@ const FAULTS: [(u64, ParseKind); 9] = [
     (7, ParseKind::MissingEnd),
     (7, ParseKind::MissingValue),
     (7, ParseKind::Limit),
+    (7, ParseKind::MissingFile),
     (7, ParseKind::DuplicateName),
     (80, ParseKind::DuplicateName),
+    (80, ParseKind::BadFile),
 ];
 
 // Their numbers and messages.
@@ -23,9 +25,11 @@ const MESSAGES: &str = "\
 3 line 7: a value that its keyword does not take
 4 line 7: the mapfile ends where an END is missing
 5 line 7: an END before all that has to be given was given
-6 line 7: more layers, classes, styles, labels, features, vertices or items than a map may have
+6 line 7: more symbols, layers, classes, styles, labels, features, vertices or items than a map may have
+7 line 7: a file that can't be read
 8 line 7: an earlier layer has the same name
-8 line 80: an earlier layer has the same name";
+8 line 80: an earlier layer has the same name
+10 line 80: a file that is none of its kind";
 
 #[test]
 fn faults_have_numbers_and_messages(rt: HostRuntime) -> Result<(), Fail> {

@@ -1,4 +1,4 @@
-use crate::parse;
+use crate::{Files, parse};
 use geom::Micro;
 use mapdefs::{Class, Feature, Label, Layer, Map, Rgb, Rule, Style, Text};
 use std::alloc::{AllocError, Global};
@@ -152,7 +152,7 @@ fn write_map(text: &mut String, map: &Map) -> Result<(), AllocError> {
 
 /// What the map of a source says, in the form of `write_map`.
 pub fn said(alloc: Global, source: &str) -> Result<String, Fail> {
-    let map = parse(alloc, source.as_bytes())?;
+    let map = parse(alloc, source.as_bytes(), &Files::new(alloc))?;
     let mut text = String::new(alloc);
     write_map(&mut text, &map)?;
     Ok(text)

@@ -1,4 +1,4 @@
-use crate::{ParseFault, parse};
+use crate::{Files, ParseFault, parse};
 use mapdefs::{Layer, Map};
 use std::alloc::{AllocError, Global};
 use std::process::Abort;
@@ -51,7 +51,7 @@ fn totals_of(alloc: Global, map: &Map) -> Result<String, AllocError> {
 
 // The line and the kind of a source's fault, or how many of each its map has.
 fn told(alloc: Global, source: &str) -> Result<String, AllocError> {
-    match parse(alloc, source.as_bytes()) {
+    match parse(alloc, source.as_bytes(), &Files::new(alloc)) {
         Ok(map) => totals_of(alloc, &map),
         Err(ParseFault::At { line, kind }) => format!(in alloc; "{line} {kind:?}"),
         Err(ParseFault::NoMemory) => Err(AllocError),

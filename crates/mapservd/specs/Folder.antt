@@ -1,0 +1,32 @@
+-- The files of a mapfile, and the folder that they are in (docs/PROFILE.md, "The program").
+use Rattle.std.specs.Prelude.{◌≡◌, ℕ, List, [], ◌∷◌, ◌++◌, Option, None, Some, Result, Ok, Err}
+use Rattle.mapdefs.specs.declared.map.MapFields.{MapFields}
+use Rattle.maptree.specs.declared.fault.Fault.{Fault}
+use Rattle.maptree.specs.declared.fault.ParseFault.{ParseFault}
+use Rattle.maptree.specs.declared.fault.ParseFault.TheVariants.{At, NoMemory}
+use Rattle.mapparse.specs.declared.files.FileBytes.{FileBytes}
+use Rattle.mapparse.specs.Files.{with_file}
+use Rattle.mapparse.specs.Parsed.{wanted, parsed}
+
+-- what a folder gives under a name: bytes, or none
+abbrev pub Giving : Type 1
+Giving = List ℕ → Option (List ℕ) → Type 0
+
+-- the files of these names, of which those are left out that the folder doesn't give
+pub data FilesOf (gives : Giving) : List (List ℕ) → List FileBytes → Type 0 where
+  none : FilesOf gives [] []
+  given : (names : List (List ℕ)) (files : List FileBytes) (name bytes : List ℕ) → FilesOf gives names files → gives name (Some bytes) →
+      FilesOf gives (names ++ name ∷ []) (with_file name bytes files)
+  missing : (names : List (List ℕ)) (files : List FileBytes) (name : List ℕ) → FilesOf gives names files → gives name None →
+      FilesOf gives (names ++ name ∷ []) files
+
+-- a mapfile comes to this map, or has this fault, with the files of a folder that it wants
+pub record ComesTo (gives : Giving) (mapfile : List ℕ) (map : Result MapFields Fault) : Type 0 where
+  pub files : List FileBytes
+  pub are : (names : List (List ℕ)) → wanted mapfile ≡ Ok names → FilesOf gives names files
+  pub is : parsed files mapfile ≡ map
+
+-- the error is a fault of the mapfile, or memory was refused
+abbrev pub ComesToFault : Giving → List ℕ → ParseFault → Type 0
+ComesToFault gives mapfile (At line kind) = ComesTo gives mapfile (Err (record { line = line; kind = kind }))
+ComesToFault gives mapfile NoMemory = Unit {0}

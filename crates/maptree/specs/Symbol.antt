@@ -1,0 +1,51 @@
+-- The symbols of a map, and the styles that name them (docs/MAPFILE.md, "Symbols").
+use Rattle.std.specs.Prelude.{ℕ, Bool, true, if◌then◌else◌, List, [], ◌∷◌, codes, Option, None, Some}
+use Rattle.std.specs.List.{list_any}
+use Rattle.std.specs.Option.{option_or}
+use Rattle.maplex.specs.Token.{TokenValue}
+use Rattle.mapdefs.specs.Name.{is_same_name}
+use Rattle.maptree.specs.declared.fault.Fault.{Fault}
+use Rattle.maptree.specs.declared.fault.ParseKind.TheVariants.{WrongValue, MissingValue}
+use Rattle.maptree.specs.declared.tree.Named.{Named}
+use Rattle.maptree.specs.declared.tree.SymbolTree.{SymbolTree}
+use Rattle.maptree.specs.declared.tree.StyleTree.{StyleTree}
+use Rattle.maptree.specs.declared.tree.ClassTree.{ClassTree}
+use Rattle.maptree.specs.declared.tree.LayerTree.{LayerTree}
+use Rattle.maptree.specs.Fault.{fault_of}
+
+-- the symbol that a text names; 0 names none
+abbrev pub symbol_named : List ℕ → ℕ → Option Named
+symbol_named text line = if is_same_name text (codes "0") then None else Some (record { text = text; line = line })
+
+-- the END of a SYMBOL asks for a NAME, a TYPE and an IMAGE
+abbrev pub symbol_fault : Option (List ℕ) → Bool → Option Named → TokenValue → Option Fault
+symbol_fault (Some name) true (Some image) t = None
+symbol_fault _ _ _ t = Some (fault_of MissingValue t)
+
+-- one of the symbols has this name
+abbrev pub has_symbol : List SymbolTree → List ℕ → Bool
+has_symbol symbols name = list_any (λ (symbol : SymbolTree). is_same_name symbol.name name) symbols
+
+-- the first fault in a list of things
+abbrev pub first_fault : {A : Type 0} → (A → Option Fault) → List A → Option Fault
+first_fault fault [] = None
+first_fault fault (x ∷ xs) = option_or (fault x) (first_fault fault xs)
+
+-- a name that none of the symbols has is a wrong value, at its line
+abbrev pub named_fault : List SymbolTree → Option Named → Option Fault
+named_fault symbols None = None
+named_fault symbols (Some named) =
+    if has_symbol symbols named.text then None else Some (record { line = named.line; kind = WrongValue })
+
+-- the first style, in the order of the mapfile, that names a symbol which the map doesn't have
+abbrev pub style_fault : List SymbolTree → StyleTree → Option Fault
+style_fault symbols style = named_fault symbols style.symbol
+
+abbrev pub class_fault : List SymbolTree → ClassTree → Option Fault
+class_fault symbols class = first_fault (style_fault symbols) class.styles
+
+abbrev pub layer_fault : List SymbolTree → LayerTree → Option Fault
+layer_fault symbols layer = first_fault (class_fault symbols) layer.classes
+
+abbrev pub map_fault : List SymbolTree → List LayerTree → Option Fault
+map_fault symbols layers = first_fault (layer_fault symbols) layers

@@ -1,0 +1,62 @@
+ghost use Rattle.std.specs.Prelude.{◌≡◌};
+ghost use Rattle.maptree.specs.Symbol.{has_symbol, named_fault, style_fault, class_fault, layer_fault, map_fault};
+
+use crate::fault::{Fault, ParseKind};
+use crate::tree::{ClassTree, LayerTree, Named, StyleTree, SymbolTree};
+
+// Whether one of the symbols has the name.
+fn has_symbol(symbols: &[SymbolTree], name: &str) -> bool
+    ensures { result ≡ has_symbol symbols.now name.now }
+{
+    symbols.iter().any(|symbol| symbol.name.as_str() == name)
+}
+
+// The fault of a name that none of the symbols has.
+fn style_fault(symbols: &[SymbolTree], style: &StyleTree) -> Option<Fault>
+    ensures { result ≡ style_fault symbols.now style.now }
+{
+    match &style.symbol {
+        Some(named) if !has_symbol(symbols, named.text.as_str()) => Some(Fault {
+            line: named.line,
+            kind: ParseKind::WrongValue,
+        }),
+        _ => None,
+    }
+}
+
+// The fault of the first style of a class that names no symbol.
+fn class_fault(symbols: &[SymbolTree], class: &ClassTree) -> Option<Fault>
+    ensures { result ≡ class_fault symbols.now class.now }
+{
+    for style in class.styles.as_slice() {
+        if let Some(fault) = style_fault(symbols, style) {
+            return Some(fault);
+        }
+    }
+    None
+}
+
+// The fault of the first style of a layer that names no symbol.
+fn layer_fault(symbols: &[SymbolTree], layer: &LayerTree) -> Option<Fault>
+    ensures { result ≡ layer_fault symbols.now layer.now }
+{
+    for class in layer.classes.as_slice() {
+        if let Some(fault) = class_fault(symbols, class) {
+            return Some(fault);
+        }
+    }
+    None
+}
+
+/// The fault of the first style, in the order of the mapfile, that names a symbol which the map doesn't
+/// have.
+pub fn map_fault(symbols: &[SymbolTree], layers: &[LayerTree]) -> Option<Fault>
+    ensures { result ≡ map_fault symbols.now layers.now }
+{
+    for layer in layers {
+        if let Some(fault) = layer_fault(symbols, layer) {
+            return Some(fault);
+        }
+    }
+    None
+}
