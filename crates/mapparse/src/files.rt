@@ -58,10 +58,7 @@ impl Files {
     pub fn bytes(&self, name: &str) -> Option<&[u8]>
         ensures { option_map (λ x. x.now) result ≡ bytes_in name.now self.now }
     {
-        let file = self
-            .files
-            .iter()
-            .find(|file| file.name.as_str() == name)?;
+        let file = self.files.iter().find(|file| file.name.as_str() == name)?;
         Some(file.bytes.as_slice())
     }
 }

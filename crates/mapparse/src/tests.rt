@@ -1,3 +1,4 @@
+mod explained;
 mod faults;
 mod limits;
 mod map;

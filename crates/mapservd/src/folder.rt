@@ -36,11 +36,7 @@ fn add_file<F: Folder>(
 }
 
 // Reads files by their names, in their order.
-fn read_files<F: Folder>(
-    alloc: Global,
-    folder: &F,
-    names: Items<Text>,
-) -> Result<Files, AllocError>
+fn read_files<F: Folder>(alloc: Global, folder: &F, names: Items<Text>) -> Result<Files, AllocError>
     ensures { IfOk result (λ files. FilesOf (F.gives folder.now) names files) }
 {
     let mut files = Files::new(alloc);
@@ -52,11 +48,7 @@ fn read_files<F: Folder>(
 
 /// The files of a folder that a mapfile uses, or the mapfile's first fault. A file that can't be read is
 /// left out, so that the mapfile has a fault where it is used.
-pub fn files_of<F: Folder>(
-    alloc: Global,
-    folder: &F,
-    mapfile: &[u8],
-) -> Result<Files, ParseFault>
+pub fn files_of<F: Folder>(alloc: Global, folder: &F, mapfile: &[u8]) -> Result<Files, ParseFault>
     ensures files { IfOk result (λ files. (names : List (List ℕ)) → wanted mapfile.now ≡ Ok names → FilesOf (F.gives folder.now) names files) }
     ensures fault { IfErr result (IsFaultOf (wanted mapfile.now)) }
 {

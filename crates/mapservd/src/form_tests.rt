@@ -1,6 +1,6 @@
 use crate::files::{check_file, run_files};
-use crate::form::Command;
 use crate::folder_tests::NoFiles;
+use crate::form::Command;
 use crate::stream_tests::Memory;
 use crate::summary::summary;
 use crate::tests::{Narrow, columns, exception};
@@ -121,7 +121,14 @@ fn formed(
     let mut output = Flagged::new(Memory::new(alloc, &[], 5, failing));
     let mut errors = Flagged::new(Memory::new(alloc, &[], 5, None));
     let outcome = if form == "check" {
-        check_file(alloc, &NoFiles, "m.map", &mut file, &mut output, &mut errors)
+        check_file(
+            alloc,
+            &NoFiles,
+            "m.map",
+            &mut file,
+            &mut output,
+            &mut errors,
+        )
     } else {
         run_files(
             alloc,

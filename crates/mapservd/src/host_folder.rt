@@ -41,9 +41,16 @@ impl Folder for HostFolder<'_> {
     ghost gives = { λ _ _ _. Unit {0} };
 
     fn read(&self, alloc: Global, name: &str) -> Result<Option<Items<u8>>, AllocError> {
-        let front = if name.starts_with('/') { "" } else { self.front };
+        let front = if name.starts_with('/') {
+            ""
+        } else {
+            self.front
+        };
         let path = format!(in alloc; "{front}{name}")?;
-        match read_all(alloc, &mut Flagged::new(NamedFile::new(self.rt, path.as_str()))) {
+        match read_all(
+            alloc,
+            &mut Flagged::new(NamedFile::new(self.rt, path.as_str())),
+        ) {
             Ok(bytes) => Ok(Some(Items::of(bytes))),
             Err(ReadFault::Input) => Ok(None),
             Err(ReadFault::NoMemory) => Err(AllocError),

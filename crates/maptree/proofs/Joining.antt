@@ -37,7 +37,7 @@ answer-broken f (context ∷ outer) d = goes_on-Err (Breaks f) outer (lexical f)
 
 module _ (tail : Tail) (t : TokenValue) (ts : List TokenValue) (context : Context) (outer : List Context) (d : Drafts) where
   -- the fault of a token is the fault of the map
-  answer-refused : (f : Fault) → read_token context d t ≡ Err f → goes_on tail (context ∷ outer) (Ok (d, t ∷ ts)) ≡ Err f
+  pub answer-refused : (f : Fault) → read_token context d t ≡ Err f → goes_on tail (context ∷ outer) (Ok (d, t ∷ ts)) ≡ Err f
   unfolding reads
   answer-refused f p = rw p (goes_on-Err tail outer f)
 

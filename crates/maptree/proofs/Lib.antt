@@ -1,5 +1,6 @@
 mod Blocks
 mod Colours
+mod Explaining
 mod FirstFault
 mod Joining
 mod Lookup

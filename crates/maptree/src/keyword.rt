@@ -279,9 +279,9 @@ const SPELLINGS: [&str; 79] = [
 ];
 
 impl Keyword {
-    // How the keyword is written.
+    /// How the keyword is written.
     #[tactic(auto, unfolding(crate::specs::Keyword::spelling))]
-    fn spelling(self) -> &'static str
+    pub fn spelling(self) -> &'static str
         ensures { result.now ≡ spelling self }
     {
         SPELLINGS[self as usize]
@@ -327,8 +327,8 @@ impl Keyword {
             .find(|keyword| keyword.is_spelt(text))
     }
 
-    // The keyword that the text is. Only those of its length are compared with it.
-    fn of(text: &str) -> Option<Keyword>
+    /// The keyword that the text is. Only those of its length are compared with it.
+    pub fn of(text: &str) -> Option<Keyword>
         ensures { result ≡ keyword_of text.now }
     {
         Keyword::first_of(Keyword::of_length(text.len()), text)

@@ -11,8 +11,8 @@ use crate::tree::MapTree;
 use maplex::{Tail, Token, Tokens};
 use std::alloc::Global;
 
-// The next token, or what comes after the last one.
-fn next<'a>(tokens: &mut Tokens<'a>) -> Result<Token<'a>, Tail>
+/// The next token, or what comes after the last one.
+pub fn next<'a>(tokens: &mut Tokens<'a>) -> Result<Token<'a>, Tail>
     ensures { MatchResult result
         (λ token. tokens.old ≡ with_token token tokens.new)
         (λ tail. tokens.old ≡ stopped tokens.old.line tail) }

@@ -150,7 +150,10 @@ fn a_file_takes_the_place_of_one_of_its_name(rt: HostRuntime) -> Result<(), Fail
     let mut files = some_files(alloc)?;
     add(&mut files, alloc, "b.ppm", b"new")?;
     add(&mut files, alloc, "c.ppm", b"other")?;
-    assert_eq!(rt; files.bytes("a.ppm"), Some(b"P6 1 2 255\nabcdef".as_slice()));
+    assert_eq!(rt;
+        files.bytes("a.ppm"),
+        Some(b"P6 1 2 255\nabcdef".as_slice())
+    );
     assert_eq!(rt; files.bytes("b.ppm"), Some(b"new".as_slice()));
     assert_eq!(rt; files.bytes("bad.ppm"), Some(b"P5".as_slice()));
     assert_eq!(rt; files.bytes("c.ppm"), Some(b"other".as_slice()));

@@ -5,7 +5,7 @@ use Rattle.mapservd.proofs.folder.read_files.Goals as goal
 
 pub loop-name-init : goal.loop-name-init
 loop-name-init g c =
-    let items : into_iter_items c.into_iter-name-iterator.result ≡ c.into_vec-name-items.result.items = c.into_iter-name-iterator.ensures.into_iter_gives in
+    let items : into_iter_items c.into_iter-name-iterator.result ≡ c.into_vec-name-items.result.items = c.into_iter-name-iterator.ensures.into_iter_gives.0 in
     ([], rw c.new-files.ensures none, items ∙ c.into_vec-name-items.ensures)
 
 pub loop-name-preserved : goal.loop-name-preserved

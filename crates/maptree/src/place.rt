@@ -1,0 +1,216 @@
+ghost use Rattle.std.specs.Prelude.{◌≡◌, ℕ, [], ◌∷◌, None, Some, Ok, IfOk, MatchResult};
+ghost use Rattle.maplex.specs.Lexed.{lexed, stopped};
+ghost use Rattle.maptree.specs.Explained.{begun, stepped, IsStop, IsWalked, IsFinding, standing};
+
+use crate::context::{Block, Context, Expected, TextKeyword};
+use crate::draft::Drafts;
+use crate::fault::{Fault, ParseFault, ParseKind, fault_of, missing};
+use crate::keyword::Keyword;
+use crate::mapfile::next;
+use crate::openings::{Opening, Openings};
+use crate::step::read_token;
+use maplex::{Tail, Token, Tokens};
+use std::alloc::{AllocError, Global};
+
+/// The first fault of a mapfile, with what stands there.
+#[derive(Drop)]
+pub struct Explained<'a> {
+    /// Its line, counted from 1.
+    pub line: u64,
+    /// What is wrong there.
+    pub kind: ParseKind,
+    /// The token at which it was found. There is none after the last token.
+    pub token: Option<Token<'a>>,
+    /// What is open there. Nothing is before MAP, and after its END.
+    pub openings: Openings<'a>,
+    /// What was noted before it.
+    pub noted: Noted<'a>,
+}
+
+/// What is noted of a mapfile for those that read the words on a fault.
+#[derive(Clone, Copy)]
+pub struct Noted<'a> {
+    /// MAP was read.
+    pub begun: bool,
+    /// The last NAME of a LAYER.
+    pub name: &'a str,
+    /// The open LAYER has a NAME.
+    pub is_named: bool,
+}
+
+/// What is found of a mapfile.
+#[derive(Drop)]
+pub enum Finding<'a> {
+    /// It has no fault.
+    Sound,
+    /// It has a fault.
+    Faulty(Explained<'a>),
+    /// Memory was refused.
+    NoMemory,
+}
+
+// Reads tokens, and keeps what is open.
+#[derive(Drop)]
+struct Walker<'a> {
+    openings: Openings<'a>,
+    drafts: Drafts,
+    noted: Noted<'a>,
+}
+
+impl<'a> Walker<'a> {
+    // A walker after MAP, if memory is there.
+    fn new(token: &Token<'a>, alloc: Global) -> Result<Self, AllocError>
+        ensures { IfOk result (λ walker. standing walker.openings walker.drafts ≡ begun token.now) }
+    {
+        let mut openings = Openings::new(alloc);
+        openings.push(Opening::new(Context::Keywords(Block::Map), token))?;
+        Ok(Walker {
+            openings,
+            drafts: Drafts::new(alloc),
+            noted: Noted {
+                begun: true,
+                name: "",
+                is_named: false,
+            },
+        })
+    }
+
+    // Notes what the words on a fault may need, before a token of a context.
+    fn note(&mut self, context: Context, token: &Token<'a>)
+        ensures { standing self.new.openings self.new.drafts ≡ standing self.old.openings self.old.drafts }
+    {
+        self.noted.is_named = self.drafts.layer.name.is_some();
+        if let Context::Values(Expected::Text(TextKeyword::LayerName)) = context {
+            self.noted.name = token.text;
+        }
+    }
+
+    // Reads the next token in the context that is open. A token that has a fault leaves that open.
+    fn read_in(
+        &mut self,
+        inner: Opening<'a>,
+        token: &Token<'a>,
+        alloc: Global,
+    ) -> Result<(), ParseFault>
+        ensures { MatchResult result
+            (λ _. stepped (standing (inner.entry ∷ self.old.openings) self.old.drafts) token.now ≡ Ok (standing self.new.openings self.new.drafts))
+            (IsStop (standing (inner.entry ∷ self.old.openings) self.old.drafts) token.now self.new.openings) }
+    {
+        match read_token(&inner.context, &mut self.drafts, token, alloc) {
+            Ok(next) => match self.openings.go_on(inner, next, token) {
+                Ok(()) => Ok(()),
+                Err(_) => Err(ParseFault::NoMemory),
+            },
+            Err(error) => match self.openings.push(inner) {
+                Ok(()) => Err(error),
+                Err(_) => Err(ParseFault::NoMemory),
+            },
+        }
+    }
+
+    // Reads the next token.
+    fn take(&mut self, token: &Token<'a>, alloc: Global) -> Result<(), ParseFault>
+        ensures { MatchResult result
+            (λ _. stepped (standing self.old.openings self.old.drafts) token.now ≡ Ok (standing self.new.openings self.new.drafts))
+            (IsStop (standing self.old.openings self.old.drafts) token.now self.new.openings) }
+    {
+        let Some(inner) = self.openings.pop() else {
+            return Err(ParseFault::At {
+                line: token.line,
+                kind: ParseKind::UnknownWord,
+            });
+        };
+        self.note(inner.context, token);
+        self.read_in(inner, token, alloc)
+    }
+
+    // What is found at a fault.
+    fn stop(self, line: u64, kind: ParseKind, token: Option<Token<'a>>) -> Explained<'a>
+        ensures { result ≡ record { line = line; kind = kind; token = token.entry; openings = self.entry.openings; noted = self.entry.noted } }
+    {
+        Explained {
+            line,
+            kind,
+            token,
+            openings: self.openings,
+            noted: self.noted,
+        }
+    }
+
+    // What is found after the last token.
+    fn finish(self, tail: Tail) -> Finding<'a>
+        ensures { (line : ℕ) → IsWalked (standing self.entry.openings self.entry.drafts) (stopped line tail) result }
+    {
+        match tail {
+            Tail::Ends(line) => {
+                if self.openings.is_empty() {
+                    return Finding::Sound;
+                }
+                Finding::Faulty(self.stop(line, ParseKind::MissingEnd, None))
+            }
+            Tail::Breaks(fault) => {
+                Finding::Faulty(self.stop(fault.line, ParseKind::Lex(fault.kind), None))
+            }
+        }
+    }
+}
+
+// Reads the tokens after MAP.
+fn walk<'a>(walker: Walker<'a>, tokens: &mut Tokens<'a>, alloc: Global) -> Finding<'a>
+    ensures { IsWalked (standing walker.entry.openings walker.entry.drafts) tokens.old result }
+{
+    let mut at = walker;
+    loop {
+        match next(tokens) {
+            Ok(token) => match at.take(&token, alloc) {
+                Ok(()) => {}
+                Err(ParseFault::At { line, kind }) => {
+                    return Finding::Faulty(at.stop(line, kind, Some(token)));
+                }
+                Err(ParseFault::NoMemory) => return Finding::NoMemory,
+            },
+            Err(tail) => return at.finish(tail),
+        }
+    }
+}
+
+// A fault before MAP.
+fn outside<'a>(alloc: Global, fault: Fault, token: Option<Token<'a>>) -> Explained<'a>
+    ensures line { result.line ≡ fault.line }
+    ensures kind { result.kind ≡ fault.kind }
+    ensures token { result.token ≡ token.entry }
+    ensures openings { result.openings ≡ [] }
+{
+    Explained {
+        line: fault.line,
+        kind: fault.kind,
+        token,
+        openings: Openings::new(alloc),
+        noted: Noted {
+            begun: false,
+            name: "",
+            is_named: false,
+        },
+    }
+}
+
+/// Reads a mapfile once more for the words on its first fault.
+///
+/// Unless memory is refused, it finds a fault exactly where `tree_of` is one, with its line and its
+/// kind, and with the token at which it was found and all that is open there.
+pub fn explain<'a>(alloc: Global, source: &'a [u8]) -> Finding<'a>
+    ensures { IsFinding (lexed source.now) result }
+{
+    let mut tokens = Tokens::new(source);
+    match next(&mut tokens) {
+        Ok(token) if Keyword::Map.is_at(&token) => match Walker::new(&token, alloc) {
+            Ok(walker) => walk(walker, &mut tokens, alloc),
+            Err(_) => Finding::NoMemory,
+        },
+        Ok(token) => {
+            let fault = fault_of(ParseKind::UnknownWord, &token);
+            Finding::Faulty(outside(alloc, fault, Some(token)))
+        }
+        Err(tail) => Finding::Faulty(outside(alloc, missing(tail), None)),
+    }
+}
