@@ -1,0 +1,230 @@
+#!/usr/bin/env python3
+"""Measures the built program, and prints a table: processor time and peak memory of each workload.
+
+Usage: table.py PROGRAM [RUNS]
+
+Everything that it reads it makes, from demo/world.map and by rule, in a folder of its own. Each picture is
+compared, pixel by pixel, with one that this script paints by the rules of docs/PROFILE.md, in whole numbers
+and without looking at what the program does. A time is that of the pictures without that of as many empty
+ones of the same map, so that it is the painting alone. The figures are medians of RUNS runs (7 where it
+isn't given), with the least and the greatest.
+"""
+import json
+import os
+import platform
+import re
+import statistics
+import subprocess
+import sys
+import tempfile
+import time
+
+from painting import Picture, read_places
+
+HERE = os.path.dirname(os.path.abspath(__file__))
+SIZES = [(2048, 1024), (1024, 512), (256, 128)]
+EARTH = (-180_000_000, -90_000_000, 180_000_000, 90_000_000)
+FAR = (500_000_000, 500_000_000, 501_000_000, 501_000_000)
+STAR = ["..#..", ".###.", "#####", ".###.", "..#.."]
+COLOUR, OTHER = (10, 20, 30), (40, 50, 60)
+
+# Runs a command from a small process, whose own memory would else be counted: the peak is that of the
+# program, or this process's own 10 MB where that is more.
+CHILD = """
+import json, os, sys
+pid = os.fork()
+if pid == 0:
+    out = os.open(sys.argv[1], os.O_WRONLY | os.O_CREAT | os.O_TRUNC)
+    os.dup2(out, 1)
+    os.execv(sys.argv[2], sys.argv[2:])
+_, status, usage = os.wait4(pid, 0)
+print(json.dumps([status, usage.ru_utime + usage.ru_stime, usage.ru_maxrss]))
+"""
+
+
+class Bench:
+    """A folder with maps and scripts, and the program that reads them."""
+
+    def __init__(self, program, runs, folder):
+        self.program, self.runs, self.folder = os.path.abspath(program), runs, folder
+
+    def path(self, name, content):
+        path = os.path.join(self.folder, name)
+        with open(path, "wb") as file:
+            file.write(content if isinstance(content, bytes) else content.encode())
+        return path
+
+    def run(self, *words):
+        """The seconds of processor and the megabytes of a run, and what it wrote."""
+        out = os.path.join(self.folder, "out")
+        command = [sys.executable, "-I", "-S", "-c", CHILD, out, self.program, *words]
+        told = subprocess.run(command, stdout=subprocess.PIPE, check=True).stdout
+        status, seconds, kilobytes = json.loads(told)
+        if status != 0:
+            sys.exit(f"failed: status {status} of {words}")
+        return seconds, kilobytes / 1024, out
+
+    def pictures(self, name, mapfile, layer, box, size, count, picture):
+        """A row: the milliseconds of one picture, and the peak."""
+        full = self.path("full.script", query(layer, box, size) * count)
+        bare = self.path("bare.script", query("nothing", box, size) * count)
+        path = self.path("bench.map", with_empty_layer(mapfile))
+        self.compare(name, path, layer, box, size, picture)
+        times, peaks = [], []
+        for _ in range(self.runs):
+            with_all, peak, _ = self.run("run", path, full)
+            without, _, _ = self.run("run", path, bare)
+            times.append(1000 * (with_all - without) / count)
+            peaks.append(peak)
+        row(f"{name}, {size[0]} by {size[1]}", times, peaks)
+
+    def compare(self, name, path, layer, box, size, picture):
+        script = self.path("one.script", query(layer, box, size))
+        _, _, out = self.run("run", path, script)
+        with open(out) as file:
+            head, body = file.read().split("\n", 1)
+        pixels = bytes.fromhex(body.replace("\n", ""))[len(f"P6\n{size[0]} {size[1]}\n255\n") :]
+        if pixels != picture.bytes():
+            sys.exit(f"failed: {name}, {size}: another picture")
+
+    def reading(self, count):
+        """A row: the milliseconds of `check` of a map with so many vertices."""
+        lines = ['MAP\nLAYER\nNAME "a"\nTYPE POLYGON\n']
+        for start in range(0, count, 1000):
+            numbers = ((k * 7919 % 360_000 / 1000 - 180, k * 104_729 % 180_000 / 1000 - 90) for k in range(start, start + 1000))
+            lines.append("FEATURE\nPOINTS\n" + "".join(f"{x:.6f} {y:.6f}\n" for x, y in numbers) + "END\nEND\n")
+        path = self.path("large.map", "".join(lines) + "END\nEND\n")
+        times, peaks = [], []
+        for _ in range(self.runs):
+            seconds, peak, out = self.run("check", path)
+            with open(out) as file:
+                if file.read() != f"ok 1 layers {count // 1000} features\n":
+                    sys.exit("failed: another map was read")
+            times.append(1000 * seconds)
+            peaks.append(peak)
+        megabytes = os.path.getsize(path) / 1_000_000
+        row(f"reading a mapfile of {megabytes:.0f} MB, {count:,} vertices", times, peaks)
+
+
+def row(name, times, peaks):
+    middle, least, most = statistics.median(times), min(times), max(times)
+    print(f"| {name} | {middle:.1f} | {least:.1f} to {most:.1f} | {max(peaks):.0f} |", flush=True)
+
+
+def degrees(number):
+    return f"{number / 1_000_000:.6f}"
+
+
+def query(layer, box, size):
+    sides = ",".join(map(degrees, box))
+    return (
+        f"QUERY VERSION=1.3.0&REQUEST=GetMap&LAYERS={layer}&STYLES=&CRS=CRS:84&BBOX={sides}"
+        f"&WIDTH={size[0]}&HEIGHT={size[1]}&FORMAT=image/x-portable-pixmap\n"
+    )
+
+
+def with_empty_layer(mapfile):
+    """The map with a layer of no feature before its last END."""
+    return mapfile.rstrip().rsplit("END", 1)[0] + 'LAYER\nNAME "nothing"\nTYPE POLYGON\nEND\nEND\n'
+
+
+def layer(kind, style, features, symbol=""):
+    """A map of one layer, each of whose features is a list of rings."""
+    text = [f'MAP\n{symbol}LAYER\nNAME "a"\nTYPE {kind}\nCLASS\nSTYLE\n{style}\nEND\nEND\n']
+    for rings in features:
+        text.append("FEATURE\n")
+        for ring in rings:
+            text.append("POINTS\n" + "".join(f"{degrees(x)} {degrees(y)}\n" for x, y in ring) + "END\n")
+        text.append("END\n")
+    return "".join(text) + "END\nEND\n"
+
+
+def scattered(count):
+    """Places all over the earth."""
+    return [(k * 7_919_017 % 360_000_000 - 180_000_000, k * 104_729_011 % 180_000_000 - 90_000_000) for k in range(count)]
+
+
+def box_round(x, y, half):
+    return [(x - half, y - half), (x + half, y - half), (x + half, y + half), (x - half, y + half)]
+
+
+def teeth(count):
+    """One ring of so many vertices: a comb across the earth."""
+    tops = [(360_000_000 * k // count - 180_000_000, (-60_000_000, 60_000_000)[k % 2]) for k in range(count - 2)]
+    return tops + [(180_000_000, -80_000_000), (-180_000_000, -80_000_000)]
+
+
+def star():
+    """The bytes of a pixmap of 5 by 5 pixels, of which 13 are not transparent."""
+    pixels = b"".join(bytes(OTHER if mark == "#" else (255, 0, 255)) for line in STAR for mark in line)
+    return b"P6\n5 5\n255\n" + pixels
+
+
+def world_rows(bench, world):
+    countries, borders = read_places(world, "countries"), read_places(world, "borders")
+    for size in SIZES:
+        picture = Picture(EARTH, size)
+        for colour, rings in countries:
+            picture.fill(rings, colour)
+        bench.pictures(f"filling {len(countries)} countries", world, "countries", EARTH, size, 10, picture)
+    for width in [1, 3]:
+        text = re.sub(r"OUTLINECOLOR (\d+ \d+ \d+) WIDTH 1", rf"OUTLINECOLOR \1 WIDTH {width}", world)
+        for size in SIZES:
+            picture = Picture(EARTH, size)
+            for colour, rings in borders:
+                picture.outline(rings, colour, width)
+            bench.pictures(f"their borders, {width} wide", text, "borders", EARTH, size, 10, picture)
+    bench.pictures("countries off the view", world, "countries", FAR, SIZES[0], 10, Picture(FAR, SIZES[0]))
+
+
+def point_rows(bench, places):
+    squares = layer("POINT", "COLOR 10 20 30\nSIZE 5", [[[place]] for place in places])
+    symbol = 'SYMBOL\nNAME "star"\nTYPE PIXMAP\nIMAGE "star.ppm"\nEND\n'
+    stamps = layer("POINT", 'SYMBOL "star"', [[[place]] for place in places], symbol)
+    bench.path("star.ppm", star())
+    for size in SIZES:
+        picture = Picture(EARTH, size)
+        for place in places:
+            picture.square(place, 5, COLOUR)
+        bench.pictures(f"{len(places):,} squares of 5 pixels", squares, "a", EARTH, size, 5, picture)
+    for size in SIZES:
+        picture = Picture(EARTH, size)
+        for place in places:
+            picture.stamp(place, STAR, OTHER)
+        bench.pictures(f"{len(places):,} pixmaps of 5 by 5", stamps, "a", EARTH, size, 5, picture)
+
+
+def polygon_rows(bench, places):
+    small = [[box_round(x, y, 300_000)] for x, y in places]
+    large = [[teeth(65_536)]]
+    for name, features, count in [("20,000 small polygons", small, 5), ("one polygon of 65,536 vertices", large, 2)]:
+        text = layer("POLYGON", "COLOR 10 20 30", features)
+        for size in SIZES:
+            picture = Picture(EARTH, size)
+            for rings in features:
+                picture.fill(rings, COLOUR)
+            bench.pictures(name, text, "a", EARTH, size, count, picture)
+
+
+def processor():
+    with open("/proc/cpuinfo") as file:
+        names = re.findall(r"model name\s*: (.*)", file.read())
+    return f"{len(names)} processors, {names[0] if names else platform.machine()}"
+
+
+def main():
+    with open(os.path.join(HERE, "..", "demo", "world.map"), encoding="utf-8") as file:
+        world = file.read()
+    runs = int(sys.argv[2]) if len(sys.argv) > 2 else 7
+    print(f"{time.strftime('%Y-%m-%d')}, {processor()}, medians of {runs} runs\n")
+    print("| Workload | ms | From, to | MB at most |\n|---|---|---|---|")
+    with tempfile.TemporaryDirectory() as folder:
+        bench = Bench(sys.argv[1], runs, folder)
+        bench.reading(2_300_000)
+        world_rows(bench, world)
+        point_rows(bench, scattered(20_000))
+        polygon_rows(bench, scattered(20_000))
+
+
+if __name__ == "__main__":
+    main()
