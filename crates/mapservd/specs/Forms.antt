@@ -1,12 +1,15 @@
 -- The forms that read files, from their bytes to what the writers get (docs/PROFILE.md, "The program").
-use Rattle.std.specs.Prelude.{◌≡◌, ℕ, Bool, true, false, List, Option, Ok, ◌⊎◌}
+use Rattle.std.specs.Prelude.{ℕ, Bool, true, false, List, ◌++◌, Option, None, Some, Ok, Err, ◌⊎◌, codes}
+use Rattle.std.specs.Fmt.{decimal}
 use Rattle.std.specs.Io.KnownBytes.{Keeps, Appends, Consumes, IsAtEnd}
 use Rattle.mapdefs.specs.declared.map.MapFields.{MapFields}
 use Rattle.mapmachine.specs.Machine.{State}
+use Rattle.maptree.specs.declared.fault.Fault.{Fault}
+use Rattle.maptree.specs.Fault.{number_of}
 use Rattle.mapservd.specs.Folder.{Giving, ComesTo}
 use Rattle.mapservd.specs.Session.{Streams, IsTold, HasToldFault, Ends, opened}
 use Rattle.mapservd.specs.Summary.{summary_line, HasPartlySummed}
-use Rattle.mapservd.specs.Transcript.{file_fault}
+use Rattle.mapservd.specs.Transcript.{file_fault, mapfile_fault}
 use Rattle.mapservd.specs.declared.outcome.Outcome.{Outcome}
 use Rattle.mapservd.specs.declared.outcome.Outcome.TheVariants.{Played, Checked, MapfileFault, FileFailed, OutputFailed, NoMemory}
 
@@ -60,6 +63,30 @@ ChecksTo gives Checked name old new failed = IsChecked gives Checked old new
 ChecksTo gives OutputFailed name old new failed = IsChecked gives OutputFailed old new
 ChecksTo gives outcome name old new failed =
     Keeps old.output new.output × GivesNoMap gives outcome name old.input new.input old.errors new.errors failed
+
+-- what is told of a fault in words: its line, and then the words, with the name of the mapfile and the fault's line before
+-- them; or its line alone, where memory was refused for words
+abbrev pub told_in_words : List ℕ → Fault → Option (List ℕ) → List ℕ
+told_in_words name fault None = mapfile_fault fault.line (number_of fault.kind)
+told_in_words name fault (Some words) =
+    mapfile_fault fault.line (number_of fault.kind) ++ (name ++ (codes ":" ++ (decimal fault.line ++ (codes ": " ++ (words ++ codes "\n")))))
+
+-- a mapfile was read, and its fault told in words
+pub record HasExplainedFault (gives : Giving) (name : List ℕ) (before after errors_before errors_after : Option (List ℕ)) (failed : Bool) : Type 0 where
+  pub mapfile : List ℕ
+  pub read : HasReadFile before after mapfile
+  pub fault : Fault
+  pub is_fault : ComesTo gives mapfile (Err fault)
+  pub words : Option (List ℕ)
+  pub told : IsTold errors_before errors_after (told_in_words name fault words) failed
+
+-- what checking a mapfile in words tells of the streams: as `ChecksTo`, but that a fault is told in words, too
+abbrev pub ExplainsTo : Giving → Outcome → List ℕ → Streams → Streams → Bool → Type 0
+ExplainsTo gives Checked name old new failed = IsChecked gives Checked old new
+ExplainsTo gives OutputFailed name old new failed = IsChecked gives OutputFailed old new
+ExplainsTo gives MapfileFault name old new failed =
+    Keeps old.output new.output × HasExplainedFault gives name old.input new.input old.errors new.errors failed
+ExplainsTo gives outcome name old new failed = Keeps old.output new.output × IsUnread outcome name old.errors new.errors failed
 
 -- a mapfile describes a map, on which a script was played with this outcome; the script is the input of the streams, and
 -- `before` and `after` are what is left of the mapfile

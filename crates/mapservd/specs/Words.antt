@@ -2,6 +2,7 @@
 use Rattle.std.specs.Prelude.{◌≡◌, ℕ, pos, Ok, List, [], ◌∷◌, Option, Some, None, IsSomeAnd, Bool, true, false, codes}
 use Rattle.std.specs.Str.Parse.{ParsesUnsigned}
 use Rattle.std.specs.declared.num.ParseIntError.{ParseIntError}
+use Rattle.clap.specs.declared.builder.action.ArgAction.TheVariants.{SetTrue}
 use Rattle.clap.specs.declared.builder.value_parser.ValueParser.TheVariants as vp
 use Rattle.clap.specs.Words.{App, Row, Rule, Text, fault_of, first_of, one_of, subcommand_of, takes, new_app, new_rule, with_rule, with_subcommand}
 use Rattle.mapservd.specs.declared.form.Command.{Command}
@@ -17,9 +18,13 @@ file_rule = record (new_rule (codes "FILE")) { required = true }
 abbrev pub script_rule : Rule
 script_rule = record (new_rule (codes "SCRIPT")) { required = true }
 
--- `check FILE`
+-- `--explain`, a flag
+abbrev pub explain_rule : Rule
+explain_rule = record (new_rule (codes "explain")) { long = Some (codes "explain"); action = Some SetTrue }
+
+-- `check --explain FILE`
 abbrev pub check_app : App
-check_app = with_rule (new_app (codes "check")) file_rule
+check_app = with_rule (with_rule (new_app (codes "check")) file_rule) explain_rule
 
 -- `run FILE SCRIPT`
 abbrev pub run_app : App
@@ -53,14 +58,21 @@ app = with_subcommand (with_subcommand (with_subcommand named_app check_app.top)
 abbrev pub IsNumber : ℕ → Text → List Row → ℕ → Type 0
 IsNumber bits name rows n = (t : Text) × (one_of name rows ≡ Some t) × ParsesUnsigned {E = ParseIntError} bits 10 t (Ok n)
 
+-- a flag is set in the rows of matches, or it is not
+pub record IsFlag (name : Text) (rows : List Row) (flag : Bool) : Type 0 where
+  pub set : one_of name rows ≡ Some (codes "true") → flag ≡ true
+  pub unset : one_of name rows ≡ Some (codes "false") → flag ≡ false
+  pub absent : one_of name rows ≡ None → flag ≡ false
+
 -- a command is what matches say: none of the forms, or the name of one with its files
 abbrev pub IsCommand : Option (Text × List Row) → Command → Type 0
 IsCommand None Session = Unit {0}
-IsCommand None (Check file) = ⊥
+IsCommand None (Check file explains) = ⊥
 IsCommand None (Run file script) = ⊥
 IsCommand None (Serve file port connections) = ⊥
 IsCommand (Some m) Session = ⊥
-IsCommand (Some m) (Check file) = (m.0 ≡ codes "check") × (first_of (codes "FILE") m.1 ≡ Some file.now)
+IsCommand (Some m) (Check file explains) =
+    (m.0 ≡ codes "check") × (first_of (codes "FILE") m.1 ≡ Some file.now) × IsFlag (codes "explain") m.1 explains
 IsCommand (Some m) (Run file script) =
     (m.0 ≡ codes "run") × (first_of (codes "FILE") m.1 ≡ Some file.now) × (first_of (codes "SCRIPT") m.1 ≡ Some script.now)
 IsCommand (Some m) (Serve file port connections) =
@@ -71,11 +83,14 @@ abbrev pub is_refusal : WordsFault → Bool
 is_refusal (Refused text) = true
 is_refusal NoMemory = false
 
--- the law on words that are written out: without words no form is named; `check` has its file, and `run` the mapfile before
+-- the law on words that are written out: without words no form is named; `check` has its file, and its flag where that is given; `run` has the mapfile before
 -- the script; and words that lack a file, or begin with another word, are refused
 pub record FormsAreWritten : Type 0 where
   pub none : subcommand_of app [] ≡ None
   pub check : IsSomeAnd (subcommand_of app (codes "check" ∷ codes "a.map" ∷ [])) (λ m. (m.0 ≡ codes "check") × (first_of (codes "FILE") m.1 ≡ Some (codes "a.map")))
+  pub unexplained : IsSomeAnd (subcommand_of app (codes "check" ∷ codes "a.map" ∷ [])) (λ m. one_of (codes "explain") m.1 ≡ Some (codes "false"))
+  pub explained : IsSomeAnd (subcommand_of app (codes "check" ∷ codes "--explain" ∷ codes "a.map" ∷ []))
+      (λ m. (m.0 ≡ codes "check") × (first_of (codes "FILE") m.1 ≡ Some (codes "a.map")) × (one_of (codes "explain") m.1 ≡ Some (codes "true")))
   pub run : IsSomeAnd (subcommand_of app (codes "run" ∷ codes "a.map" ∷ codes "b.txt" ∷ []))
       (λ m. (m.0 ≡ codes "run") × (first_of (codes "FILE") m.1 ≡ Some (codes "a.map")) × (first_of (codes "SCRIPT") m.1 ≡ Some (codes "b.txt")))
   pub serve : IsSomeAnd (subcommand_of app (codes "serve" ∷ codes "a.map" ∷ codes "--connections" ∷ codes "2" ∷ []))

@@ -12,9 +12,9 @@ use mapdefs::Map;
 use mapmachine::{Machine, Sink, Source};
 use std::alloc::Global;
 
-// The bytes of a file, or how the program ends without them. A file that can't be read is told by its
-// name.
-fn read_file<I: Source, E: Sink>(
+/// The bytes of a file, or how the program ends without them. A file that can't be read is told by its
+/// name.
+pub fn read_file<I: Source, E: Sink>(
     alloc: Global,
     name: &str,
     file: &mut I,
@@ -60,8 +60,8 @@ pub fn read_map<F: Folder, I: Source, E: Sink>(
     }
 }
 
-// Writes the line of a map, and flushes it.
-fn sum_up<O: Sink>(map: &Map, output: &mut O) -> Outcome
+/// Writes the line of a map, and flushes it.
+pub fn sum_up<O: Sink>(map: &Map, output: &mut O) -> Outcome
     ensures sums { SumsUp result map.now (O.held output.old) (O.held output.new) }
     ensures flushed { result ≡ Checked → O.is_flushed output.new ≡ true }
     ensures flag { O.put_failed output.new ≡ (is_output_failed result || O.put_failed output.old) }

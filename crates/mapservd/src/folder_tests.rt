@@ -1,11 +1,11 @@
+use crate::explaining::explain_file;
 use crate::folder::Folder;
 use crate::host_folder::front_of;
 use crate::session::serve_session;
-use crate::stream_tests::Memory;
+use crate::stream_tests::{Memory, outcome_text};
 use mapdefs::Items;
 use mapmachine::Flagged;
 use std::alloc::{AllocError, Global};
-use std::str;
 use std::test::Fail;
 
 /// A folder without files.
@@ -48,13 +48,7 @@ fn served(alloc: Global, session: &str) -> Result<String, AllocError> {
     let mut output = Flagged::new(Memory::new(alloc, &[], 100, None));
     let mut errors = Flagged::new(Memory::new(alloc, &[], 100, None));
     let outcome = serve_session(alloc, &TwoFiles, &mut input, &mut output, &mut errors);
-    let (output, errors) = (output.into_inner().held, errors.into_inner().held);
-    format!(in alloc;
-        "{}|{}|{}",
-        outcome.status(),
-        str::from_utf8(&output).unwrap_or("?"),
-        str::from_utf8(&errors).unwrap_or("?")
-    )
+    outcome_text(alloc, outcome, output, errors)
 }
 
 // A session with a symbol of this file, which a point at the pixel 2, 1 is drawn with, and what becomes
@@ -81,6 +75,43 @@ fn symbols_are_read_from_the_folder(rt: HostRuntime) {
     assert_eq!(rt; SYMBOLS.lines().count(), 4);
     for row in SYMBOLS.lines() {
         assert_eq!(rt; is_row(rt.alloc(), row), Ok(true), "{row}");
+    }
+}
+
+// What becomes of a mapfile in that folder that is checked in words.
+fn explained(alloc: Global, mapfile: &str) -> Result<String, AllocError> {
+    let mut file = Flagged::new(Memory::new(alloc, mapfile.as_bytes(), 100, None));
+    let mut output = Flagged::new(Memory::new(alloc, &[], 100, None));
+    let mut errors = Flagged::new(Memory::new(alloc, &[], 100, None));
+    let outcome = explain_file(
+        alloc,
+        &TwoFiles,
+        "maps/m.map",
+        &mut file,
+        &mut output,
+        &mut errors,
+    );
+    outcome_text(alloc, outcome, output, errors)
+}
+
+// The file of a symbol, and what is told of its mapfile.
+const IMAGES: &str = "\
+p.ppm|0|ok 0 layers 0 features~|
+bad.ppm|1||fault line 3 kind 10~maps/m.map:3: the file that IMAGE names is no pixmap in Netpbm's P6 format of at most 256 by 256 pixels~
+none.ppm|1||fault line 3 kind 7~maps/m.map:3: the file that IMAGE names can't be read~";
+
+fn is_explained(alloc: Global, row: &str) -> Result<bool, AllocError> {
+    let (name, expected) = row.split_once('|').unwrap_or((row, ""));
+    let expected = expected.replace(alloc, '~', "\n")?;
+    let mapfile = format!(in alloc; "MAP SYMBOL NAME s\nTYPE PIXMAP\nIMAGE {name}\nEND END")?;
+    Ok(explained(alloc, mapfile.as_str())?.as_str() == expected.as_str())
+}
+
+#[test]
+fn faults_of_files_are_told_in_words(rt: HostRuntime) {
+    assert_eq!(rt; IMAGES.lines().count(), 3);
+    for row in IMAGES.lines() {
+        assert_eq!(rt; is_explained(rt.alloc(), row), Ok(true), "{row}");
     }
 }
 

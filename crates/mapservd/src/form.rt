@@ -7,6 +7,8 @@ pub enum Command<'a> {
     Check {
         /// Its name.
         file: &'a str,
+        /// Its fault is told in words, too.
+        explains: bool,
     },
     /// To play a script on the map of a mapfile.
     Run {

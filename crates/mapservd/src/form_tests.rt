@@ -1,7 +1,8 @@
+use crate::explaining::explain_file;
 use crate::files::{check_file, run_files};
 use crate::folder_tests::NoFiles;
 use crate::form::Command;
-use crate::stream_tests::Memory;
+use crate::stream_tests::{Memory, outcome_text};
 use crate::summary::summary;
 use crate::tests::{Narrow, columns, exception};
 use crate::words::{WordsFault, command};
@@ -9,13 +10,23 @@ use mapdefs::Map;
 use mapmachine::{Flagged, WriteFault};
 use mapparse::{Files, parse};
 use std::alloc::{AllocError, Global};
-use std::str;
 
 // What is told of some words: their form, or why they were refused.
 fn told(alloc: Global, words: &[&str]) -> Result<String, AllocError> {
     match command(alloc, words) {
         Ok(Command::Session) => String::from_str(alloc, "a session"),
-        Ok(Command::Check { file }) => format!(in alloc; "check {file}"),
+        Ok(
+            Command::Check {
+                file,
+                explains: false,
+            },
+        ) => format!(in alloc; "check {file}"),
+        Ok(
+            Command::Check {
+                file,
+                explains: true,
+            },
+        ) => format!(in alloc; "check {file} in words"),
         Ok(Command::Run { file, script }) => format!(in alloc; "run {file} and then {script}"),
         Ok(
             Command::Serve {
@@ -37,9 +48,15 @@ run a b|run a and then b
 run same same|run same and then same
 check run|check run
 check -- -m|check -m
+check --explain m.map|check m.map in words
+check m.map --explain|check m.map in words
+check -- --explain|check --explain
+check --explain|error: the following required arguments were not provided:~  <FILE>~~Usage: mapservd check --explain <FILE>~~For more information, try '--help'.~
+check --explain=no m.map|error: unexpected value 'no' for '--explain' found; no more were expected~~Usage: mapservd check --explain <FILE>~~For more information, try '--help'.~
+run --explain a b|error: unexpected argument '--explain' found~~  tip: to pass '--explain' as a value, use '-- --explain'~~Usage: mapservd run <FILE> <SCRIPT>~~For more information, try '--help'.~
 check|error: the following required arguments were not provided:~  <FILE>~~Usage: mapservd check <FILE>~~For more information, try '--help'.~
 run a|error: the following required arguments were not provided:~  <SCRIPT>~~Usage: mapservd run <FILE> <SCRIPT>~~For more information, try '--help'.~
-check a b|error: unexpected argument 'b' found~~Usage: mapservd check <FILE>~~For more information, try '--help'.~
+check a b|error: unexpected argument 'b' found~~Usage: mapservd check [OPTIONS] <FILE>~~For more information, try '--help'.~
 run a b c|error: unexpected argument 'c' found~~Usage: mapservd run <FILE> <SCRIPT>~~For more information, try '--help'.~
 m.map|error: unrecognized subcommand 'm.map'~~Usage: mapservd [COMMAND]~~For more information, try '--help'.~
 serve m.map|serve m.map on 8080 for 0
@@ -50,7 +67,7 @@ serve m.map --connections 4294967296|error: invalid value '4294967296' for '--co
 draw m.map|error: unrecognized subcommand 'draw'~~Usage: mapservd [COMMAND]~~For more information, try '--help'.~
 CHECK a|error: unrecognized subcommand 'CHECK'~~Usage: mapservd [COMMAND]~~For more information, try '--help'.~
 --port 80|error: unexpected argument '--port' found~~Usage: mapservd [COMMAND]~~For more information, try '--help'.~
-check --help|Reads a mapfile, and says how many layers and features it has~~Usage: mapservd check <FILE>~~Arguments:~  <FILE>  ~~Options:~  -h, --help  Print help~
+check --help|Reads a mapfile, and says how many layers and features it has~~Usage: mapservd check [OPTIONS] <FILE>~~Arguments:~  <FILE>  ~~Options:~      --explain  Tells the mapfile's fault in words, too~  -h, --help     Print help~
 --help|Plays map requests~~Usage: mapservd [COMMAND]~~Commands:~  check  Reads a mapfile, and says how many layers and features it has~  run    Plays a script on the map of a mapfile~  serve  Answers connections on a port of this machine~  help   Print this message or the help of the given subcommand(s)~~Options:~  -h, --help  Print help~";
 
 // Whether words have the form of their row.
@@ -63,7 +80,7 @@ fn is_form(alloc: Global, row: &str) -> Result<bool, AllocError> {
 
 #[test]
 fn words_have_their_forms(rt: HostRuntime) {
-    assert_eq!(rt; WORDS.lines().count(), 21);
+    assert_eq!(rt; WORDS.lines().count(), 27);
     for row in WORDS.lines() {
         assert_eq!(rt; is_form(rt.alloc(), row), Ok(true), "{row}");
     }
@@ -120,17 +137,24 @@ fn formed(
     let mut script = file_of(alloc, texts.1);
     let mut output = Flagged::new(Memory::new(alloc, &[], 5, failing));
     let mut errors = Flagged::new(Memory::new(alloc, &[], 5, None));
-    let outcome = if form == "check" {
-        check_file(
+    let outcome = match form {
+        "check" => check_file(
             alloc,
             &NoFiles,
             "m.map",
             &mut file,
             &mut output,
             &mut errors,
-        )
-    } else {
-        run_files(
+        ),
+        "explain" => explain_file(
+            alloc,
+            &NoFiles,
+            "m.map",
+            &mut file,
+            &mut output,
+            &mut errors,
+        ),
+        _ => run_files(
             alloc,
             &NoFiles,
             "m.map",
@@ -139,15 +163,9 @@ fn formed(
             &mut script,
             &mut output,
             &mut errors,
-        )
+        ),
     };
-    let (output, errors) = (output.into_inner().held, errors.into_inner().held);
-    format!(in alloc;
-        "{}|{}|{}",
-        outcome.status(),
-        str::from_utf8(&output).unwrap_or("?"),
-        str::from_utf8(&errors).unwrap_or("?")
-    )
+    outcome_text(alloc, outcome, output, errors)
 }
 
 // Forms with their mapfile and their script, then the exit status, the output and the errors. `~` is a
@@ -161,6 +179,11 @@ check|MAP~~FOO END||1||fault line 3 kind 2~
 check|(||1||fault line 1 kind 1~
 check|||1||fault line 1 kind 4~
 check|!||1||fault file m.map~
+explain|*||0|ok 2 layers 3 features~|
+explain|MAP~~FOO END||1||fault line 3 kind 2~m.map:3: FOO is no keyword of MAP~
+explain|MAP~LAYER NAME a~~END~END||1||fault line 4 kind 5~m.map:4: LAYER of line 2 has no TYPE~
+explain|||1||fault line 1 kind 4~m.map:1: the mapfile has no MAP~
+explain|!||1||fault file m.map~
 run|MAP END|QUERY a~|0|@|
 run|*|QUERY a~QUERY b~|0|@@|
 run|*||0||
@@ -189,7 +212,7 @@ fn is_ended(alloc: Global, line: &str) -> Result<bool, AllocError> {
 
 #[test]
 fn forms_end_as_they_should(rt: HostRuntime) {
-    assert_eq!(rt; FORMS.lines().count(), 15);
+    assert_eq!(rt; FORMS.lines().count(), 20);
     for line in FORMS.lines() {
         assert_eq!(rt; is_ended(rt.alloc(), line), Ok(true), "{line}");
     }
@@ -202,6 +225,9 @@ check|0|3||
 check|3|3|ok 0 laye|
 check|7|3|ok 0 layers 0 features~|
 check|8|0|ok 0 layers 0 features~|
+explain|0|3||
+explain|7|3|ok 0 layers 0 features~|
+explain|8|0|ok 0 layers 0 features~|
 run|0|3||
 run|2|3|fault scri|
 run|5|3|fault script 1~|
@@ -218,7 +244,7 @@ fn is_failed(alloc: Global, line: &str) -> Result<bool, AllocError> {
 
 #[test]
 fn outputs_that_fail_end_a_form(rt: HostRuntime) {
-    assert_eq!(rt; FAILING.lines().count(), 8);
+    assert_eq!(rt; FAILING.lines().count(), 11);
     for line in FAILING.lines() {
         assert_eq!(rt; is_failed(rt.alloc(), line), Ok(true), "{line}");
     }
@@ -246,8 +272,18 @@ fn refusals_print_their_text(rt: HostRuntime) {
 fn commands_that_differ_in_one_field_are_unequal(rt: HostRuntime) {
     let commands = [
         Command::Session,
-        Command::Check { file: "a" },
-        Command::Check { file: "b" },
+        Command::Check {
+            file: "a",
+            explains: false,
+        },
+        Command::Check {
+            file: "a",
+            explains: true,
+        },
+        Command::Check {
+            file: "b",
+            explains: false,
+        },
         Command::Run {
             file: "a",
             script: "b",

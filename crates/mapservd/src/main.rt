@@ -1,21 +1,23 @@
 //! The program. Without words on its command line it plays a session from standard input: a mapfile,
 //! a line of two percent signs, and a script, whose transcript it writes. `check FILE` reads a mapfile
-//! and says how much its map has, `run FILE SCRIPT` plays a script on the map of a mapfile, `serve FILE`
-//! answers connections on a port.
+//! and says how much its map has, and with `--explain` it tells a fault in words, too. `run FILE SCRIPT`
+//! plays a script on the map of a mapfile, `serve FILE` answers connections on a port.
 //!
 //! Proved: `command` finds the form of the words as `clap`'s matches have it (`command`), where the
-//! command line takes them (`taken`, `refused`; `laws` has words written out). `serve_session` reads its input up to the end and tells
-//! by its outcome what was written: the whole transcript of the map machine's replies, or exactly the
-//! first bytes of it, or the fault of the mapfile (`tells`); `check_file` and `run_files` say the same of
-//! the files that they read. `split_session` parts a session at its first line of two percent signs.
-//! `play_script` and `summary` say how many bytes went out where the writer fails. What the files and
-//! standard input and output held or got is no promise of any proof.
+//! command line takes them (`taken`, `refused`; `laws` has words written out). `serve_session` reads its
+//! input up to the end and tells by its outcome what was written: the whole transcript of the map
+//! machine's replies, or exactly the first bytes of it, or the fault of the mapfile (`tells`);
+//! `check_file`, `explain_file` and `run_files` say the same of the files that they read. `split_session`
+//! parts a session at its first line of two percent signs. `play_script` and `summary` say how many bytes
+//! went out where the writer fails. What the files and standard input and output held or got is no
+//! promise of any proof.
 //!
 //! Words: a *script* is a list of commands, each a line; its *events* are what they ask of the
 //! machine. The *transcript* is what is written of the replies.
 #![tactic(auto)]
 
 mod connection;
+mod explaining;
 mod files;
 mod folder;
 #[cfg(test)]
@@ -46,6 +48,7 @@ mod summary;
 mod tests;
 mod words;
 
+use crate::explaining::explain_file;
 use crate::files::{check_file, read_map, run_files};
 use crate::form::Command;
 use crate::host_folder::HostFolder;
@@ -79,7 +82,21 @@ fn perform<O: Sink, E: Sink>(
             output,
             errors,
         ),
-        Command::Check { file } => check_file(
+        Command::Check {
+            file,
+            explains: false,
+        } => check_file(
+            rt.alloc(),
+            &HostFolder::of(rt, file),
+            file,
+            &mut Flagged::new(NamedFile::new(rt, file)),
+            output,
+            errors,
+        ),
+        Command::Check {
+            file,
+            explains: true,
+        } => explain_file(
             rt.alloc(),
             &HostFolder::of(rt, file),
             file,

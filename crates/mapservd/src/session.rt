@@ -46,8 +46,8 @@ pub fn serve_session<F: Folder, I: Source, O: Sink, E: Sink>(
     }
 }
 
-// The map of a mapfile with the files of its folder, or its first fault.
-fn read_map_of<F: Folder>(alloc: Global, folder: &F, mapfile: &[u8]) -> Result<Map, ParseFault>
+/// The map of a mapfile with the files of its folder, or its first fault.
+pub fn read_map_of<F: Folder>(alloc: Global, folder: &F, mapfile: &[u8]) -> Result<Map, ParseFault>
     ensures map { IfOk result (λ map. ComesTo (F.gives folder.now) mapfile.now (Ok map)) }
     ensures fault { IfErr result (ComesToFault (F.gives folder.now) mapfile.now) }
 {
@@ -93,8 +93,8 @@ pub fn play_out<O: Sink>(machine: &mut Machine, script: &[u8], output: &mut O) -
     }
 }
 
-// Tells the fault of a mapfile.
-fn tell_mapfile_fault<E: Sink>(errors: &mut E, line: u64, kind: u8)
+/// Tells the fault of a mapfile.
+pub fn tell_mapfile_fault<E: Sink>(errors: &mut E, line: u64, kind: u8)
     ensures told { IsTold (E.held errors.old) (E.held errors.new) (mapfile_fault line kind) (E.put_failed errors.new) }
     ensures flushed { E.put_failed errors.new ≡ false → E.is_flushed errors.new ≡ true }
 {

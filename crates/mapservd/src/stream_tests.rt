@@ -6,6 +6,7 @@ use crate::tests::{QUERY, SQUARE, SQUARE_TEXT, columns, exception, map_text};
 use mapmachine::Flagged;
 use std::alloc::{AllocError, Global};
 use std::io::{self, Read, Write};
+use std::str;
 
 /// A stream in memory: it gives and takes so many bytes at once, and one of its calls fails.
 #[derive(Drop)]
@@ -63,6 +64,22 @@ impl Write for Memory<'_> {
     fn flush(&mut self) -> io::Result<()> {
         self.call()
     }
+}
+
+/// The exit status of an outcome, and what the two writers hold, with bars between them.
+pub fn outcome_text(
+    alloc: Global,
+    outcome: Outcome,
+    output: Flagged<Memory<'_>>,
+    errors: Flagged<Memory<'_>>,
+) -> Result<String, AllocError> {
+    let (output, errors) = (output.into_inner().held, errors.into_inner().held);
+    format!(in alloc;
+        "{}|{}|{}",
+        outcome.status(),
+        str::from_utf8(&output).unwrap_or("?"),
+        str::from_utf8(&errors).unwrap_or("?")
+    )
 }
 
 // What became of a session: its outcome, what the two writers held, and how often each stream was

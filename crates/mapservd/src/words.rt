@@ -6,7 +6,7 @@ ghost use Rattle.mapservd.specs.Words.{app, check_app, run_app, port_app, serve_
 
 use crate::form::Command;
 use clap::error::ErrorKind;
-use clap::{Arg, ArgMatches, value_parser};
+use clap::{Arg, ArgAction, ArgMatches, value_parser};
 use std::alloc::{AllocError, Global};
 use thiserror::Error;
 
@@ -24,15 +24,20 @@ pub enum WordsFault {
     NoMemory,
 }
 
-// The form `check FILE`.
+// The form `check --explain FILE`.
 fn check_form<'a>(alloc: Global) -> Result<clap::Command<'a>, AllocError>
     ensures app { IfOk result (λ c. app_of c ≡ check_app) }
     ensures local { IfOk result (λ c. (out-Command c).has_globals ≡ false) }
 {
     let file = Arg::new(alloc, "FILE").required(true);
+    let explain = Arg::new(alloc, "explain")
+        .long("explain")
+        .help("Tells the mapfile's fault in words, too")
+        .action(ArgAction::SetTrue);
     clap::Command::new(alloc, "check")
         .about("Reads a mapfile, and says how many layers and features it has")
-        .arg(file)
+        .arg(file)?
+        .arg(explain)
 }
 
 // The form `run FILE SCRIPT`.
@@ -98,7 +103,10 @@ fn command_of<'a>(matches: &ArgMatches<'a>) -> Option<Command<'a>>
     };
     let file = inner.get_str("FILE")?;
     match name {
-        "check" => Some(Command::Check { file }),
+        "check" => Some(Command::Check {
+            file,
+            explains: inner.get_flag("explain"),
+        }),
         "run" => Some(Command::Run {
             file,
             script: inner.get_str("SCRIPT")?,

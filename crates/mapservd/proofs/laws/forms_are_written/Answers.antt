@@ -7,6 +7,8 @@ unfolding clap_on_literals
 returns c = record {
   none = refl;
   check = (refl, refl);
+  unexplained = refl;
+  explained = (refl, refl, refl);
   run = (refl, refl, refl);
   serve = (refl, refl, refl, refl);
   taken = (refl, refl, refl);

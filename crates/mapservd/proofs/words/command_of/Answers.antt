@@ -9,10 +9,16 @@ use Rattle.mapservd.proofs.words.command_of.Goals as goal
 pub returns-in-check : goal.returns-in-check
 returns-in-check c =
     let s = c.in-Some.ensures in
-    let at = named (out-ArgMatches c.args.matches.now).subcommand c.in-Some.name.now (rows_of (found_of c.in-Some.inner.now)) s.name s.rows in
+    let inner = found_of c.in-Some.inner.now in
+    let at = named (out-ArgMatches c.args.matches.now).subcommand c.in-Some.name.now (rows_of inner) s.name s.rows in
     let name : c.in-Some.name.now ≡ codes "check" = search rules in
-    let file = sym (first_value-rows (found_of c.in-Some.inner.now) (codes "FILE")) ∙ sym c.in_ok-file.ensures in
-    rw at (name, file)
+    let file = sym (first_value-rows inner (codes "FILE")) ∙ sym c.in_ok-file.ensures in
+    let text = one_text-rows inner (codes "explain") in
+    rw at (
+      name,
+      file,
+      record { set = λ is. c.get_flag.ensures.value (text ∙ is); unset = λ is. c.get_flag.ensures.other (text ∙ is); absent = λ is. c.get_flag.ensures.none (text ∙ is) },
+    )
 
 pub returns-in_ok-get_str-in-run : goal.returns-in_ok-get_str-in-run
 returns-in_ok-get_str-in-run c =
