@@ -6,8 +6,8 @@ use Rattle.mapdefs.specs.Name.{is_same_name}
 use Rattle.mapdefs.specs.declared.symbol.PixmapFields.{PixmapFields}
 use Rattle.mapdefs.specs.declared.symbol.Symbol.{Symbol}
 use Rattle.maptree.specs.declared.fault.Fault.{Fault}
-use Rattle.maptree.specs.declared.fault.ParseKind.{ParseKind}
 use Rattle.maptree.specs.declared.fault.ParseKind.TheVariants.{MissingFile, BadFile}
+use Rattle.maptree.specs.declared.tree.MapTree.{MapTree}
 use Rattle.maptree.specs.declared.tree.Named.{Named}
 use Rattle.maptree.specs.declared.tree.SymbolTree.{SymbolTree}
 use Rattle.maptree.specs.Fault.{and_then}
@@ -57,3 +57,7 @@ with_use names name = if is_among names name then names else names ++ name ∷ [
 abbrev pub uses_after : List (List ℕ) → List SymbolTree → List (List ℕ)
 uses_after names [] = names
 uses_after names (tree ∷ trees) = uses_after (with_use names tree.image.text) trees
+
+-- the names of the files that a mapfile uses, as it is written
+abbrev pub uses_of : MapTree → List (List ℕ)
+uses_of tree = uses_after [] tree.symbols

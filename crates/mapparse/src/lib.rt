@@ -2,7 +2,8 @@
 //!
 //! Proved: `parse` gives the map or the fault that the definition `parsed` has for the source, by its
 //! clauses `map` and `fault`. `parsed` is the map of what the blocks of the source say, with what stands
-//! for that which isn't given; `maptree` reads the blocks and tells the faults.
+//! for that which isn't given; `maptree` reads the blocks and tells the faults. A `Mapfile` is read once,
+//! names the files that it uses (`Mapfile::wanted`), and becomes the map with them (`Mapfile::into_map`).
 //!
 //! Words: the *tree* is the whole mapfile as it is written.
 #![tactic(auto)]
@@ -16,5 +17,5 @@ mod tests;
 mod texts;
 
 pub use files::{FileBytes, Files};
-pub use mapfile::{parse, wanted};
+pub use mapfile::{Mapfile, parse, wanted};
 pub use maptree::{ParseFault, ParseKind};

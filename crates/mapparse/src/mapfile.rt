@@ -6,32 +6,86 @@ use crate::files::Files;
 use crate::mapping::map_of;
 use crate::symbol::uses_of;
 use mapdefs::{Items, Map, Text};
-use maptree::{ParseFault, read};
-use std::alloc::Global;
+use maptree::{MapTree, ParseFault, read};
+use std::alloc::{AllocError, Global};
+use std::marker::Model;
 
-/// The names of the files that a mapfile uses, each once, in the order of their first use, or its first
-/// fault with its line. A name that a later one of its keyword replaces is no use.
+/// A mapfile that was read, seen as its tree. It has no fault but those of the files that it uses.
+#[derive(Drop)]
+pub struct Mapfile {
+    tree: MapTree,
+}
+
+impl Model for Mapfile {
+    ghost use Rattle.mapdefs.specs.contracts.expr.Expr as expr;
+    ghost use Rattle.maptree.specs.declared.tree.MapTree.{MapTree as Tree};
+    ghost use Rattle.std.specs.Coded.{codes};
+
+    ghost Value = { Tree };
+
+    ghost coded = { Prim.hlevel (codes, expr.the_row.coded) };
+
+    ghost view = { λ m. m.tree };
+}
+
+impl Mapfile {
+    ghost use Rattle.maplex.specs.Lexed.{lexed};
+    ghost use Rattle.maptree.specs.Source.{tree_of};
+    ghost use Rattle.mapparse.specs.Mapping.{map_of};
+    ghost use Rattle.mapparse.specs.Symbols.{uses_of};
+
+    /// Reads a mapfile in one pass, or tells its first fault with its line.
+    ///
+    /// The memory that it takes is in proportion to the map, and a source that is refused leaves none
+    /// behind.
+    pub fn read(alloc: Global, source: &[u8]) -> Result<Self, ParseFault>
+        ensures tree { IfOk result (λ mapfile. tree_of (lexed source.now) ≡ Ok mapfile) }
+        ensures fault { IfErr result (IsFaultOf (tree_of (lexed source.now))) }
+    {
+        let tree = read(alloc, source)?;
+        Ok(Mapfile { tree })
+    }
+
+    /// The names of the files that it uses, each once, in the order of their first use. A name that a
+    /// later one of its keyword replaces is no use.
+    pub fn wanted(&self, alloc: Global) -> Result<Items<Text>, AllocError>
+        ensures { IfOk result (λ names. names ≡ uses_of self.now) }
+    {
+        uses_of(&self.tree, alloc)
+    }
+
+    /// The map that it describes with these files, or the first fault of a file: `MissingFile` for one
+    /// that isn't given, and `BadFile` for one that isn't of its kind.
+    pub fn into_map(self, files: &Files, alloc: Global) -> Result<Map, ParseFault>
+        ensures map { IfOk result (λ map. map_of files.now self ≡ Ok map) }
+        ensures fault { IfErr result (IsFaultOf (map_of files.now self)) }
+    {
+        let Mapfile { tree } = self;
+        map_of(tree, files, alloc)
+    }
+}
+
+/// The names of the files that a mapfile uses, as `Mapfile::wanted` has them, or its first fault with its
+/// line.
 ///
 /// `parse` has this fault too, whatever the files are.
 pub fn wanted(alloc: Global, source: &[u8]) -> Result<Items<Text>, ParseFault>
     ensures names { IfOk result (λ names. wanted source.now ≡ Ok names) }
     ensures fault { IfErr result (IsFaultOf (wanted source.now)) }
 {
-    let tree = read(alloc, source)?;
-    Ok(uses_of(tree, alloc)?)
+    let mapfile = Mapfile::read(alloc, source)?;
+    Ok(mapfile.wanted(alloc)?)
 }
 
-/// Reads a mapfile in one pass: the map that it describes, or its first fault with its line.
+/// Reads a mapfile: the map that it describes with these files, or its first fault with its line.
 ///
 /// `parsed` is either a map or a fault, so the two clauses say when each comes: unless memory is
 /// refused, which is `NoMemory`, the call gives the map or the fault that `parsed` is. The faults of files
-/// come after all others: `MissingFile` for a file that isn't given, and `BadFile` for one that isn't of
-/// its kind. The memory that it takes is in proportion to the map, and a source that is refused leaves
-/// none behind.
+/// come after all others.
 pub fn parse(alloc: Global, source: &[u8], files: &Files) -> Result<Map, ParseFault>
     ensures map { IfOk result (λ map. parsed files.now source.now ≡ Ok map) }
     ensures fault { IfErr result (IsFaultOf (parsed files.now source.now)) }
 {
-    let tree = read(alloc, source)?;
-    map_of(tree, files, alloc)
+    let mapfile = Mapfile::read(alloc, source)?;
+    mapfile.into_map(files, alloc)
 }

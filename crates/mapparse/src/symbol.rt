@@ -1,7 +1,7 @@
-ghost use Rattle.std.specs.Prelude.{◌≡◌, ◌≤◌, [], length, Ok, IfOk, IfErr, OnOk};
+ghost use Rattle.std.specs.Prelude.{◌≡◌, ◌≤◌, length, Ok, IfOk, IfErr, OnOk};
 ghost use Rattle.mapdefs.specs.declared.limits.TheConstants.{MAX_SYMBOLS};
 ghost use Rattle.maptree.specs.Fault.{IsFaultOf};
-ghost use Rattle.mapparse.specs.Symbols.{last_named, symbol_index, pixmap_in, symbols_of, is_among, with_use, uses_after};
+ghost use Rattle.mapparse.specs.Symbols.{last_named, symbol_index, pixmap_in, symbols_of, is_among, with_use, uses_of};
 
 use crate::files::Files;
 use mapdefs::{Items, MAX_SYMBOLS, Pixmap, Symbol, Text};
@@ -81,24 +81,23 @@ fn is_among(names: &[Text], name: &str) -> bool
 }
 
 // Adds a name, unless it is there already.
-fn add_use(names: &mut Vec<Text>, name: Text) -> Result<(), AllocError>
-    ensures { OnOk result (names.new.items ≡ with_use names.old.items name) }
+fn add_use(names: &mut Vec<Text>, name: &str, alloc: Global) -> Result<(), AllocError>
+    ensures { OnOk result (names.new.items ≡ with_use names.old.items name.now) }
 {
-    if is_among(names, name.as_str()) {
+    if is_among(names, name) {
         return Ok(());
     }
-    names.push(name)?;
+    names.push(Text::from_str(alloc, name)?)?;
     Ok(())
 }
 
-/// The names of the files that a map uses, each once, in the order of their first use.
-pub fn uses_of(tree: MapTree, alloc: Global) -> Result<Items<Text>, AllocError>
-    ensures { IfOk result (λ names. names ≡ uses_after [] tree.symbols) }
+/// The names of the files that a mapfile uses, each once, in the order of their first use.
+pub fn uses_of(tree: &MapTree, alloc: Global) -> Result<Items<Text>, AllocError>
+    ensures { IfOk result (λ names. names ≡ uses_of tree.now) }
 {
     let mut names = Vec::new(alloc);
-    for symbol in tree.symbols.into_vec() {
-        let SymbolTree { name: _, image } = symbol;
-        add_use(&mut names, image.text)?;
+    for symbol in tree.symbols.as_slice() {
+        add_use(&mut names, symbol.image.text.as_str(), alloc)?;
     }
     Ok(Items::of(names))
 }

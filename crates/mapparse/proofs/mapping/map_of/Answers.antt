@@ -1,4 +1,3 @@
-use Rattle.std.proofs.Common.{arith}
 use Rattle.std.proofs.lemmas.List.{length-map}
 use Rattle.mapparse.proofs.Within.{layer_symbols}
 use Rattle.mapparse.proofs.mapping.map_of.Goals as goal
