@@ -1,10 +1,9 @@
-ghost use Rattle.std.specs.Prelude.{◌≡◌, ℕ, List, [], ◌∷◌, ◌++◌, Ok, IfOk, IfErr, OnOk};
-ghost use Rattle.maptree.specs.Fault.{IsFaultOf};
-ghost use Rattle.mapparse.specs.Parsed.{wanted};
+ghost use Rattle.std.specs.Prelude.{ℕ, List, [], ◌∷◌, ◌++◌, IfOk, OnOk};
+ghost use Rattle.mapparse.specs.Symbols.{uses_of};
 ghost use Rattle.mapservd.specs.Folder.{FilesOf};
 
 use mapdefs::{Items, Text};
-use mapparse::{Files, ParseFault, wanted};
+use mapparse::{Files, Mapfile};
 use std::alloc::{AllocError, Global};
 
 /// A folder, of which files are read by the names that mapfiles have for them.
@@ -46,12 +45,15 @@ fn read_files<F: Folder>(alloc: Global, folder: &F, names: Items<Text>) -> Resul
     Ok(files)
 }
 
-/// The files of a folder that a mapfile uses, or the mapfile's first fault. A file that can't be read is
-/// left out, so that the mapfile has a fault where it is used.
-pub fn files_of<F: Folder>(alloc: Global, folder: &F, mapfile: &[u8]) -> Result<Files, ParseFault>
-    ensures files { IfOk result (λ files. (names : List (List ℕ)) → wanted mapfile.now ≡ Ok names → FilesOf (F.gives folder.now) names files) }
-    ensures fault { IfErr result (IsFaultOf (wanted mapfile.now)) }
+/// The files of a folder that a mapfile uses. A file that can't be read is left out, so that the mapfile
+/// has a fault where it is used.
+pub fn files_of<F: Folder>(
+    alloc: Global,
+    folder: &F,
+    mapfile: &Mapfile,
+) -> Result<Files, AllocError>
+    ensures { IfOk result (λ files. FilesOf (F.gives folder.now) (uses_of mapfile.now) files) }
 {
-    let names = wanted(alloc, mapfile)?;
-    Ok(read_files(alloc, folder, names)?)
+    let names = mapfile.wanted(alloc)?;
+    read_files(alloc, folder, names)
 }

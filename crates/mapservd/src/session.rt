@@ -13,7 +13,7 @@ use crate::play::play_script;
 use crate::sending::{send_mapfile_fault, send_pieces};
 use mapdefs::Map;
 use mapmachine::{Machine, Sink, Source};
-use mapparse::{ParseFault, parse};
+use mapparse::{Mapfile, ParseFault};
 use std::alloc::Global;
 
 /// Reads a session from the input up to its end, and plays it: the transcript goes to the output, or
@@ -46,13 +46,14 @@ pub fn serve_session<F: Folder, I: Source, O: Sink, E: Sink>(
     }
 }
 
-/// The map of a mapfile with the files of its folder, or its first fault.
-pub fn read_map_of<F: Folder>(alloc: Global, folder: &F, mapfile: &[u8]) -> Result<Map, ParseFault>
-    ensures map { IfOk result (λ map. ComesTo (F.gives folder.now) mapfile.now (Ok map)) }
-    ensures fault { IfErr result (ComesToFault (F.gives folder.now) mapfile.now) }
+/// The map of a mapfile with the files of its folder, or its first fault. The source is read once.
+pub fn read_map_of<F: Folder>(alloc: Global, folder: &F, source: &[u8]) -> Result<Map, ParseFault>
+    ensures map { IfOk result (λ map. ComesTo (F.gives folder.now) source.now (Ok map)) }
+    ensures fault { IfErr result (ComesToFault (F.gives folder.now) source.now) }
 {
-    let files = files_of(alloc, folder, mapfile)?;
-    parse(alloc, mapfile, &files)
+    let mapfile = Mapfile::read(alloc, source)?;
+    let files = files_of(alloc, folder, &mapfile)?;
+    mapfile.into_map(&files, alloc)
 }
 
 /// The map of a mapfile, or how the program ends without it. The mapfile's fault is told.
