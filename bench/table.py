@@ -7,7 +7,8 @@ Everything that it reads it makes, from demo/world.map and by rule, in a folder 
 compared, pixel by pixel, with one that this script paints by the rules of docs/PROFILE.md, in whole numbers
 and without looking at what the program does. A time is that of the pictures without that of as many empty
 ones of the same map, so that it is the painting alone. The figures are medians of RUNS runs (7 where it
-isn't given), with the least and the greatest.
+isn't given), with the least and the greatest. All workloads are run in turn, RUNS times: what else the
+machine does shows in the least and the greatest, and not in one workload's median.
 """
 import json
 import os
@@ -42,11 +43,19 @@ print(json.dumps([status, usage.ru_utime + usage.ru_stime, usage.ru_maxrss]))
 """
 
 
+class Workload:
+    """Runs of the program that are repeated, and what they took."""
+
+    def __init__(self, name, count, words, without=None):
+        self.name, self.count, self.words, self.without = name, count, words, without
+        self.times, self.peaks = [], []
+
+
 class Bench:
     """A folder with maps and scripts, and the program that reads them."""
 
-    def __init__(self, program, runs, folder):
-        self.program, self.runs, self.folder = os.path.abspath(program), runs, folder
+    def __init__(self, program, folder):
+        self.program, self.folder, self.workloads = os.path.abspath(program), folder, []
 
     def path(self, name, content):
         path = os.path.join(self.folder, name)
@@ -54,61 +63,63 @@ class Bench:
             file.write(content if isinstance(content, bytes) else content.encode())
         return path
 
-    def run(self, *words):
-        """The seconds of processor and the megabytes of a run, and what it wrote."""
-        out = os.path.join(self.folder, "out")
+    def run(self, *words, out=os.devnull):
+        """The seconds of processor and the megabytes of a run, whose output goes to a file."""
         command = [sys.executable, "-I", "-S", "-c", CHILD, out, self.program, *words]
         told = subprocess.run(command, stdout=subprocess.PIPE, check=True).stdout
         status, seconds, kilobytes = json.loads(told)
         if status != 0:
             sys.exit(f"failed: status {status} of {words}")
-        return seconds, kilobytes / 1024, out
+        return seconds, kilobytes / 1024
+
+    def written(self, *words):
+        """What a run writes."""
+        out = os.path.join(self.folder, "out")
+        self.run(*words, out=out)
+        with open(out) as file:
+            return file.read()
+
+    def measure(self, runs):
+        """Runs all workloads in turn, so often, so that a slow minute of the machine falls on each."""
+        for _ in range(runs):
+            for work in self.workloads:
+                seconds, peak = self.run(*work.words)
+                without = self.run(*work.without)[0] if work.without else 0
+                work.times.append(1000 * (seconds - without) / work.count)
+                work.peaks.append(peak)
 
     def pictures(self, name, mapfile, layer, box, size, count, picture):
-        """A row: the milliseconds of one picture, and the peak."""
-        full = self.path("full.script", query(layer, box, size) * count)
-        bare = self.path("bare.script", query("nothing", box, size) * count)
-        path = self.path("bench.map", with_empty_layer(mapfile))
+        """Work: one picture, of which the script asks for so many. The first is compared with `picture`."""
+        number = len(self.workloads)
+        full = self.path(f"full{number}.script", query(layer, box, size) * count)
+        bare = self.path(f"bare{number}.script", query("nothing", box, size) * count)
+        path = self.path(f"bench{number}.map", with_empty_layer(mapfile))
         self.compare(name, path, layer, box, size, picture)
-        times, peaks = [], []
-        for _ in range(self.runs):
-            with_all, peak, _ = self.run("run", path, full)
-            without, _, _ = self.run("run", path, bare)
-            times.append(1000 * (with_all - without) / count)
-            peaks.append(peak)
-        row(f"{name}, {size[0]} by {size[1]}", times, peaks)
+        self.workloads.append(Workload(f"{name}, {size[0]} by {size[1]}", count, ("run", path, full), ("run", path, bare)))
 
     def compare(self, name, path, layer, box, size, picture):
         script = self.path("one.script", query(layer, box, size))
-        _, _, out = self.run("run", path, script)
-        with open(out) as file:
-            head, body = file.read().split("\n", 1)
+        _, body = self.written("run", path, script).split("\n", 1)
         pixels = bytes.fromhex(body.replace("\n", ""))[len(f"P6\n{size[0]} {size[1]}\n255\n") :]
         if pixels != picture.bytes():
             sys.exit(f"failed: {name}, {size}: another picture")
 
     def reading(self, count):
-        """A row: the milliseconds of `check` of a map with so many vertices."""
+        """Work: `check` of a map with so many vertices."""
         lines = ['MAP\nLAYER\nNAME "a"\nTYPE POLYGON\n']
         for start in range(0, count, 1000):
             numbers = ((k * 7919 % 360_000 / 1000 - 180, k * 104_729 % 180_000 / 1000 - 90) for k in range(start, start + 1000))
             lines.append("FEATURE\nPOINTS\n" + "".join(f"{x:.6f} {y:.6f}\n" for x, y in numbers) + "END\nEND\n")
         path = self.path("large.map", "".join(lines) + "END\nEND\n")
-        times, peaks = [], []
-        for _ in range(self.runs):
-            seconds, peak, out = self.run("check", path)
-            with open(out) as file:
-                if file.read() != f"ok 1 layers {count // 1000} features\n":
-                    sys.exit("failed: another map was read")
-            times.append(1000 * seconds)
-            peaks.append(peak)
+        if self.written("check", path) != f"ok 1 layers {count // 1000} features\n":
+            sys.exit("failed: another map was read")
         megabytes = os.path.getsize(path) / 1_000_000
-        row(f"reading a mapfile of {megabytes:.0f} MB, {count:,} vertices", times, peaks)
+        self.workloads.append(Workload(f"reading a mapfile of {megabytes:.0f} MB, {count:,} vertices", 1, ("check", path)))
 
 
-def row(name, times, peaks):
-    middle, least, most = statistics.median(times), min(times), max(times)
-    print(f"| {name} | {middle:.1f} | {least:.1f} to {most:.1f} | {max(peaks):.0f} |", flush=True)
+def row(work):
+    middle, least, most = statistics.median(work.times), min(work.times), max(work.times)
+    return f"| {work.name} | {middle:.1f} | {least:.1f} to {most:.1f} | {max(work.peaks):.0f} |"
 
 
 def degrees(number):
@@ -166,15 +177,15 @@ def world_rows(bench, world):
         picture = Picture(EARTH, size)
         for colour, rings in countries:
             picture.fill(rings, colour)
-        bench.pictures(f"filling {len(countries)} countries", world, "countries", EARTH, size, 10, picture)
+        bench.pictures(f"filling {len(countries)} countries", world, "countries", EARTH, size, 20, picture)
     for width in [1, 3]:
         text = re.sub(r"OUTLINECOLOR (\d+ \d+ \d+) WIDTH 1", rf"OUTLINECOLOR \1 WIDTH {width}", world)
         for size in SIZES:
             picture = Picture(EARTH, size)
             for colour, rings in borders:
                 picture.outline(rings, colour, width)
-            bench.pictures(f"their borders, {width} wide", text, "borders", EARTH, size, 10, picture)
-    bench.pictures("countries off the view", world, "countries", FAR, SIZES[0], 10, Picture(FAR, SIZES[0]))
+            bench.pictures(f"their borders, {width} wide", text, "borders", EARTH, size, 20, picture)
+    bench.pictures("countries off the view", world, "countries", FAR, SIZES[0], 20, Picture(FAR, SIZES[0]))
 
 
 def point_rows(bench, places):
@@ -186,18 +197,18 @@ def point_rows(bench, places):
         picture = Picture(EARTH, size)
         for place in places:
             picture.square(place, 5, COLOUR)
-        bench.pictures(f"{len(places):,} squares of 5 pixels", squares, "a", EARTH, size, 5, picture)
+        bench.pictures(f"{len(places):,} squares of 5 pixels", squares, "a", EARTH, size, 10, picture)
     for size in SIZES:
         picture = Picture(EARTH, size)
         for place in places:
             picture.stamp(place, STAR, OTHER)
-        bench.pictures(f"{len(places):,} pixmaps of 5 by 5", stamps, "a", EARTH, size, 5, picture)
+        bench.pictures(f"{len(places):,} pixmaps of 5 by 5", stamps, "a", EARTH, size, 10, picture)
 
 
 def polygon_rows(bench, places):
     small = [[box_round(x, y, 300_000)] for x, y in places]
     large = [[teeth(65_536)]]
-    for name, features, count in [("20,000 small polygons", small, 5), ("one polygon of 65,536 vertices", large, 2)]:
+    for name, features, count in [("20,000 small polygons", small, 10), ("one polygon of 65,536 vertices", large, 2)]:
         text = layer("POLYGON", "COLOR 10 20 30", features)
         for size in SIZES:
             picture = Picture(EARTH, size)
@@ -216,14 +227,19 @@ def main():
     with open(os.path.join(HERE, "..", "demo", "world.map"), encoding="utf-8") as file:
         world = file.read()
     runs = int(sys.argv[2]) if len(sys.argv) > 2 else 7
-    print(f"{time.strftime('%Y-%m-%d')}, {processor()}, medians of {runs} runs\n")
-    print("| Workload | ms | From, to | MB at most |\n|---|---|---|---|")
     with tempfile.TemporaryDirectory() as folder:
-        bench = Bench(sys.argv[1], runs, folder)
+        bench = Bench(sys.argv[1], folder)
+        # The map of the world names a pixmap, which is looked for beside it.
+        with open(os.path.join(HERE, "..", "demo", "anchor.ppm"), "rb") as file:
+            bench.path("anchor.ppm", file.read())
         bench.reading(2_300_000)
         world_rows(bench, world)
         point_rows(bench, scattered(20_000))
         polygon_rows(bench, scattered(20_000))
+        bench.measure(runs)
+    print(f"{time.strftime('%Y-%m-%d')}, {processor()}, medians of {runs} runs\n")
+    print("| Workload | ms | From, to | MB at most |\n|---|---|---|---|")
+    print("\n".join(map(row, bench.workloads)))
 
 
 if __name__ == "__main__":
