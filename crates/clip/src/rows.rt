@@ -71,22 +71,3 @@ fn first_row(y: i64, height: PictureSide) -> u16
         height.pixels()
     }
 }
-
-#[cfg(test)]
-mod tests {
-    use super::*;
-
-    fn rows(from: u16, to: u16) -> Rows {
-        Rows { from, to }
-    }
-
-    #[test]
-    fn joined_rows_go_from_the_first_to_the_last(rt: HostRuntime) {
-        assert_eq!(rt; rows(2, 4).joined(rows(7, 9)), rows(2, 9));
-        assert_eq!(rt; rows(7, 9).joined(rows(2, 4)), rows(2, 9));
-        assert_eq!(rt; rows(1, 8).joined(rows(3, 5)), rows(1, 8));
-        // No rows add none, wherever they stand.
-        assert_eq!(rt; rows(3, 5).joined(rows(0, 0)), rows(3, 5));
-        assert_eq!(rt; rows(9, 6).joined(rows(3, 5)), rows(3, 5));
-    }
-}

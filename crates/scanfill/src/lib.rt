@@ -24,8 +24,6 @@ mod polygon;
 mod reading;
 mod span;
 mod sweep;
-#[cfg(test)]
-mod tests;
 mod walk;
 mod work;
 

@@ -1,5 +1,5 @@
-use crate::{Cover, Polygon, Reading, Rows, Span, Spans, Sweep, Work};
 use geom::{Device, Edge, PictureSide};
+use scanfill::{Cover, Polygon, Reading, Rows, Span, Spans, Sweep, Work};
 use std::alloc::{AllocError, Global};
 use std::process::Abort;
 use std::test::Fail;

@@ -1,0 +1,8 @@
+//! Tests of the crates that say which pixels are drawn, by their public calls alone: each test checks a
+//! value that was worked by hand, or that no clause can say.
+#![tactic(auto)]
+
+#[cfg(test)]
+mod clipped_edges;
+#[cfg(test)]
+mod filled_rows;
