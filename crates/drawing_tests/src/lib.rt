@@ -6,3 +6,5 @@
 mod clipped_edges;
 #[cfg(test)]
 mod filled_rows;
+#[cfg(test)]
+mod lines_and_squares;

@@ -18,8 +18,6 @@ mod marks;
 mod number;
 mod segment;
 mod square;
-#[cfg(test)]
-mod tests;
 
 pub use line::Line;
 pub use segment::Segment;

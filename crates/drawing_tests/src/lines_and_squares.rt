@@ -1,9 +1,9 @@
-use crate::{Line, Segment, Square};
 use geom::{Device, Edge, PictureSide, Pixel};
 use scanfill::{Cover, Rows, Span, Spans};
 use std::alloc::{AllocError, Global};
 use std::process::Abort;
 use std::test::Fail;
+use strokes::{Line, Segment, Square};
 
 fn side(pixels: u16) -> PictureSide {
     PictureSide::new(pixels.clamp(1, 2_048)).unwrap()
