@@ -8,3 +8,5 @@ mod clipped_edges;
 mod filled_rows;
 #[cfg(test)]
 mod lines_and_squares;
+#[cfg(test)]
+mod pixmaps;

@@ -16,8 +16,6 @@ pub mod laws;
 mod netpbm;
 mod pixels;
 mod stamp;
-#[cfg(test)]
-mod tests;
 
 pub use fault::PixFault;
 pub use netpbm::write_ppm;

@@ -34,35 +34,3 @@ pub fn write_ppm(alloc: Global, picture: &Picture) -> Result<Items<u8>, AllocErr
     add_pixels(&mut bytes, fields.pixels.as_slice())?;
     Ok(Items::of(bytes))
 }
-
-#[cfg(test)]
-mod tests {
-    use super::*;
-    use geom::PictureSide;
-    use mapdefs::PictureFields;
-    use std::test::Fail;
-
-    #[test]
-    fn pictures_are_written_as_pixmaps(rt: HostRuntime) -> Result<(), Fail> {
-        let mut pixels = Items::new(rt.alloc());
-        for blue in [2, 5] {
-            pixels.push(Rgb {
-                red: 10,
-                green: 20,
-                blue,
-            })?;
-        }
-        assert_eq!(rt; pixels.len(), 2);
-        let picture = Picture::new(PictureFields {
-            width: PictureSide::new(2).unwrap(),
-            height: PictureSide::new(1).unwrap(),
-            pixels,
-        });
-        let bytes = write_ppm(rt.alloc(), &picture)?;
-        assert_eq!(rt;
-            bytes.as_slice(),
-            b"P6\n2 1\n255\n\x0a\x14\x02\x0a\x14\x05".as_slice()
-        );
-        Ok(())
-    }
-}

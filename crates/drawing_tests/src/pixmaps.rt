@@ -1,10 +1,10 @@
-use crate::{PixFault, Stamp, read, write_ppm};
 use geom::{PictureSide, Pixel};
 use mapdefs::{Items, Picture, PictureFields, Pixmap, Rgb};
 use scanfill::{Cover, Spans};
 use std::alloc::{AllocError, Global};
 use std::process::Abort;
 use std::test::Fail;
+use symbols::{PixFault, Stamp, read, write_ppm};
 
 fn side(pixels: u16) -> PictureSide {
     PictureSide::new(pixels.clamp(1, 2_048)).unwrap()
@@ -266,5 +266,29 @@ fn written_pictures_are_read(rt: HostRuntime) -> Result<(), Fail> {
     assert_eq!(rt; told_again(rt.alloc(), 7)?.as_str(), "7x7 6.6.20");
     assert_eq!(rt; told_again(rt.alloc(), 256)?.as_str(), "256x256 255.255.20");
     assert_eq!(rt; told_again(rt.alloc(), 257)?.as_str(), "Limit");
+    Ok(())
+}
+
+#[test]
+fn pictures_are_written_as_pixmaps(rt: HostRuntime) -> Result<(), Fail> {
+    let mut pixels = Items::new(rt.alloc());
+    for blue in [2, 5] {
+        pixels.push(Rgb {
+            red: 10,
+            green: 20,
+            blue,
+        })?;
+    }
+    assert_eq!(rt; pixels.len(), 2);
+    let picture = Picture::new(PictureFields {
+        width: PictureSide::new(2).unwrap(),
+        height: PictureSide::new(1).unwrap(),
+        pixels,
+    });
+    let bytes = write_ppm(rt.alloc(), &picture)?;
+    assert_eq!(rt;
+        bytes.as_slice(),
+        b"P6\n2 1\n255\n\x0a\x14\x02\x0a\x14\x05".as_slice()
+    );
     Ok(())
 }
