@@ -17,11 +17,7 @@ mod paint;
 mod parts;
 mod points;
 mod polygons;
-#[cfg(test)]
-mod ring_tests;
 mod rows;
 mod sweep;
-#[cfg(test)]
-mod tests;
 
 pub use paint::picture;

@@ -9,4 +9,10 @@ mod filled_rows;
 #[cfg(test)]
 mod lines_and_squares;
 #[cfg(test)]
+mod long_rings;
+#[cfg(test)]
+mod painted_maps;
+#[cfg(test)]
+mod painted_pixels;
+#[cfg(test)]
 mod pixmaps;

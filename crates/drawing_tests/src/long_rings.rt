@@ -1,7 +1,7 @@
 ghost use Rattle.std.specs.Prelude.{◌≡◌, ◌<◌, ◌≤◌, length, All, IfOk};
 
-use crate::picture;
-use crate::tests::{feature_of, layer, map_of};
+use crate::painted_maps::{feature_of, layer, map_of};
+use compose::picture;
 use geom::{Coordinate, Micro, PictureSide, World, WorldBox};
 use mapdefs::{Items, Map, Picture, Rgb};
 use scaledenom::Scale;

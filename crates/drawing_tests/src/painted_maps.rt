@@ -2,7 +2,7 @@ ghost use Rattle.std.specs.Prelude.{◌≡◌, ◌<◌, ◌≤◌, [], length, s
 ghost use Rattle.mapdefs.specs.MapLimits.{ClassNamesSymbolsOf, LayerNamesSymbolsOf, NamesSymbolOf};
 ghost use Rattle.mapdefs.specs.declared.limits.TheConstants.{MAX_LAYERS};
 
-use crate::picture;
+use compose::picture;
 use geom::{Coordinate, Micro, NUMBER_LIMIT, PictureSide, World, WorldBox};
 use mapdefs::{
     Class, ClassFields, Feature, FeatureFields, Items, Kind, Layer, LayerFields, MAX_VERTICES, Map,
@@ -321,10 +321,10 @@ fn drawn_row(
     drawn(alloc, &map, chosen, background)
 }
 
-// Asserts of that many rows their pictures. A row is the picture in letters, the letter of the background,
-// the layers that are chosen, and the words and the rings of the first layer, in tenths of a degree. A
-// line that begins with `# ` is a heading.
-fn assert_drawn(rt: &impl Abort, alloc: Global, rows: &str, count: usize) -> Result<(), Fail> {
+/// Asserts of that many rows their pictures. A row is the picture in letters, the letter of the background,
+/// the layers that are chosen, and the words and the rings of the first layer, in tenths of a degree. A
+/// line that begins with `# ` is a heading.
+pub fn assert_drawn(rt: &impl Abort, alloc: Global, rows: &str, count: usize) -> Result<(), Fail> {
     let mut asserted = 0_usize;
     for row in rows.lines() {
         if !row.starts_with("# ") {
@@ -339,149 +339,4 @@ fn assert_drawn(rt: &impl Abort, alloc: Global, rows: &str, count: usize) -> Res
     }
     assert_eq!(rt; asserted, count);
     Ok(())
-}
-
-// Polygons, and the pixels that they cover.
-const POLYGONS: &str = "\
-.... .##. .##. ....;.;0;polygon #/- none;10,10 30,10 30,30 10,30
-# edges through the pixel centres of a column: one on the left covers them, one on the right doesn't
-.... .##. .##. ....;.;0;polygon #/- none;15,10 30,10 30,30 15,30
-.... #... #... ....;.;0;polygon #/- none;0,10 15,10 15,30 0,30
-# a hole
-#### #..# #..# ####;.;0;polygon #/- none;0,0 40,0 40,40 0,40/10,10 30,10 30,30 10,30
-# a ring that crosses itself
-.... ..#. ..#. ....;.;0;polygon #/- none;10,10 30,30 30,10 10,30
-# far larger than the picture, and left of it
-#### #### #### ####;.;0;polygon #/- none;-2000,-2000 2000,-2000 2000,2000 -2000,2000
-.... .... .... ....;.;0;polygon #/- none;-30,10 -10,10 -10,30 -30,30
-# from pixel centre to pixel centre: the edges at the top and on the left cover, the others don't
-.... ##.. ##.. ....;.;0;polygon #/- none;5,5 25,5 25,25 5,25
-# The left and the right corner are at the height of the second row's pixel centres. The third row is crossed at 12.8 and 51.2 sixteenths, the last at 25.6 and 38.4, between two pixel centres.
-.##. #### .##. ....;.;0;polygon #/- none;0,25 20,0 40,25 20,40
-# a tip at a pixel centre covers nothing, nor does a base at the height of one
-.... .... .#.. ....;.;0;polygon #/- none;15,25 5,5 25,5
-# a step whose horizontal edge is at the height of the second row's pixel centres
-##.. #### #### ####;.;0;polygon #/- none;0,40 20,40 20,25 40,25 40,0 0,0
-# two rings that share an edge through the pixel centres of the second column
-.... #### #### ....;.;0;polygon #/- none;0,10 15,10 15,30 0,30/15,10 40,10 40,30 15,30
-# a ring in each corner
-#..# .... .... #..#;.;0;polygon #/- none;0,0 10,0 10,10 0,10/30,0 40,0 40,10 30,10/0,30 10,30 10,40 0,40/30,30 40,30 40,40 30,40
-# a ring of one vertex, one of two, and one of none
-.... .... .... ....;.;0;polygon #/- none;15,15/0,0 40,40/
-# no ring
-.... .... .... ....;.;0;polygon #/- none;-";
-
-#[test]
-fn polygons_cover_worked_pixels(rt: HostRuntime) -> Result<(), Fail> {
-    assert_drawn(&rt, rt.alloc(), POLYGONS, 15)
-}
-
-// All of the picture, and the square within it.
-const LAYERS: &str = "\
-#### #oo# #oo# ####;.;0 1;polygon #/- none;0,0 40,0 40,40 0,40
-#### #### #### ####;.;1 0;polygon #/- none;0,0 40,0 40,40 0,40
-#### #oo# #oo# ####;.;1 0 1;polygon #/- none;0,0 40,0 40,40 0,40";
-
-#[test]
-fn later_layers_lie_over_earlier_ones(rt: HostRuntime) -> Result<(), Fail> {
-    assert_drawn(&rt, rt.alloc(), LAYERS, 3)
-}
-
-const BACKGROUNDS: &str = "\
-#### #### #### ####;#;none;polygon #/- none;-
-#### #oo# #oo# ####;#;1;polygon #/- none;-";
-
-#[test]
-fn background_is_seen_where_nothing_is_painted(rt: HostRuntime) -> Result<(), Fail> {
-    assert_drawn(&rt, rt.alloc(), BACKGROUNDS, 2)
-}
-
-// The inner square in some styles.
-const STYLES: &str = "\
-.... .oo. .oo. ....;.;0;polygon #/o none;10,10 30,10 30,30 10,30
-.... .##. .##. ....;.;0;polygon -/# none;10,10 30,10 30,30 10,30
-.... .... .... ....;.;0;polygon -/- none;10,10 30,10 30,30 10,30
-# a fill without an outline, an outline without a fill, and an outline above its fill
-.... .##. .##. ....;.;0;polygon #-/- none;10,10 30,10 30,30 10,30
-.... .ooo .o.o .ooo;.;0;polygon -o/- none;10,10 30,10 30,30 10,30
-.... .ooo .o#o .ooo;.;0;polygon #o/- none;10,10 30,10 30,30 10,30
-# a second style above the outline of the first
-.... .##o .##o .ooo;.;0;polygon #o/# none;10,10 30,10 30,30 10,30
-# the outlines of a ring of two vertices and of one of a single vertex
-###. .... .... ...#;.;0;polygon -#/- none;5,35 25,35/35,5
-# the size and the symbol are those of points
-.... .##. .##. ....;.;0;polygon #-140/- none;10,10 30,10 30,30 10,30";
-
-#[test]
-fn styles_paint_in_order(rt: HostRuntime) -> Result<(), Fail> {
-    assert_drawn(&rt, rt.alloc(), STYLES, 9)
-}
-
-// Lines along the parts, which stay open.
-const LINES: &str = "\
-.... .### ...# .###;.;0;line #/- none;10,10 30,10 30,30 10,30
-# in the colour, whatever the outline's
-.... .### ...# .###;.;0;line #o/- none;10,10 30,10 30,30 10,30
-.... .... .... ....;.;0;line -o/- none;10,10 30,10 30,30 10,30
-# a width of 3
-###..... ###..... ####.... ..###... ...####. ....###. ....###. ........;..;0;line #-3/- none;15,65 55,25
-# one vertex twice, in a width of 4
-........ .####... .####... .####... .####... ........ ........ ........;..;0;line #-4/- none;25,55 25,55
-# a second style above the first, and two parts of one vertex each
-o#o# #### .... ....;.;0;line #-3/o none;5,35/25,35
-# two parts, which nothing joins
-##.. .... .... ##..;.;0;line #/- none;5,35 15,35/5,5 15,5";
-
-#[test]
-fn lines_cover_worked_pixels(rt: HostRuntime) -> Result<(), Fail> {
-    assert_drawn(&rt, rt.alloc(), LINES, 7)
-}
-
-// Points: squares of a size, and pixmaps.
-const POINTS: &str = "\
-.... .#.# .... .#.#;.;0;point #/- none;10,10 30,10 30,30 10,30
-.... .... .... ....;.;0;point -o/- none;10,10 30,10 30,30 10,30
-# odd and even sizes
-###. #oo. #oo. ....;.;0;point #--3/o--2 none;15,25
-# the second style above the first at all points
-#### #oo# #### ....;.;0;point #--3/o none;15,25 25,25
-#### #oo# #### ....;.;0;point #--3/o none;15,25/25,25
-# partly off the picture
-.... #... #... #...;.;0;point #--3/- none;-5,20
-# the pixmaps of two symbols, whatever the colour and the size
-#o.. .#.. .... ....;.;0;point ----0/- none;15,25
-.o.. .... .#.. ....;.;0;point #--31/- none;15,25
-#... .... .... ....;.;0;point ----0/- none;5,35
-# what lies below is seen through a pixel of 255 0 255
-#o.. .#.. .#.. ....;.;0;point ----0/----1 none;15,25";
-
-#[test]
-fn points_cover_worked_pixels(rt: HostRuntime) -> Result<(), Fail> {
-    assert_drawn(&rt, rt.alloc(), POINTS, 10)
-}
-
-// Bounds on the scale denominator, which is 111,319,491, of the class and of the layer.
-const SCALES: &str = "\
-# a thing is visible from its first bound on, and before its second
-.... .##. .##. ....;.;0;polygon #/- -..-,111319491..-;10,10 30,10 30,30 10,30
-.... .... .... ....;.;0;polygon #/- -..-,111319491.000001..-;10,10 30,10 30,30 10,30
-.... .... .... ....;.;0;polygon #/- -..-,-..111319491;10,10 30,10 30,30 10,30
-.... .##. .##. ....;.;0;polygon #/- -..-,-..111319491.000001;10,10 30,10 30,30 10,30
-.... .##. .##. ....;.;0;polygon #/- 111319491..-,-..-;10,10 30,10 30,30 10,30
-.... .... .... ....;.;0;polygon #/- 111319491.000001..-,-..-;10,10 30,10 30,30 10,30
-.... .... .... ....;.;0;polygon #/- -..111319491,-..-;10,10 30,10 30,30 10,30
-.... .##. .##. ....;.;0;polygon #/- -..111319491.000001,-..-;10,10 30,10 30,30 10,30
-# both bounds
-.... .##. .##. ....;.;0;polygon #/- 111319490..111319492,111319489..111319493;10,10 30,10 30,30 10,30
-.... .... .... ....;.;0;polygon #/- -..-,111319492..111319490;10,10 30,10 30,30 10,30
-# a second bound of 0 or less is none, and a first one below 0 is reached
-.... .##. .##. ....;.;0;polygon #/- -..0,-..-0.000007;10,10 30,10 30,30 10,30
-.... .##. .##. ....;.;0;polygon #/- -1000000000000..-,-5..-;10,10 30,10 30,30 10,30
-.... .... .... ....;.;0;polygon #/- -..-,1000000000000..-;10,10 30,10 30,30 10,30
-# the smallest second bound that counts
-.... .... .... ....;.;0;polygon #/- -..-,-..0.000001;10,10 30,10 30,30 10,30";
-
-#[test]
-fn things_are_visible_between_their_bounds(rt: HostRuntime) -> Result<(), Fail> {
-    assert_drawn(&rt, rt.alloc(), SCALES, 14)
 }
