@@ -3,6 +3,8 @@
 #![tactic(auto)]
 
 #[cfg(test)]
+mod boxes_in_windows;
+#[cfg(test)]
 mod clipped_edges;
 #[cfg(test)]
 mod filled_rows;

@@ -17,7 +17,5 @@ mod groups;
 pub mod laws;
 mod level;
 mod order;
-#[cfg(test)]
-mod tests;
 
 pub use grid::Grid;

@@ -1,7 +1,7 @@
 ghost use Rattle.std.specs.Prelude.{◌≡◌, ◌≤◌, ◌<◌, ◌+◌, ◌-◌, ◌^◌, length, IfOk, OnOk};
 
-use crate::Grid;
 use geom::{Micro, WorldBox};
+use gridindex::Grid;
 use std::alloc::{AllocError, Global};
 use std::process::Abort;
 use std::test::Fail;
