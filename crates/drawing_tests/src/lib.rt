@@ -18,3 +18,5 @@ mod painted_maps;
 mod painted_pixels;
 #[cfg(test)]
 mod pixmaps;
+#[cfg(test)]
+mod placed_boxes;
