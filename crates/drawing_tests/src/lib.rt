@@ -20,3 +20,5 @@ mod painted_pixels;
 mod pixmaps;
 #[cfg(test)]
 mod placed_boxes;
+#[cfg(test)]
+mod views;
