@@ -7,18 +7,26 @@ mod boxes_in_windows;
 #[cfg(test)]
 mod clipped_edges;
 #[cfg(test)]
+mod edges;
+#[cfg(test)]
 mod filled_rows;
 #[cfg(test)]
 mod lines_and_squares;
 #[cfg(test)]
 mod long_rings;
 #[cfg(test)]
+mod numbers;
+#[cfg(test)]
 mod painted_maps;
 #[cfg(test)]
 mod painted_pixels;
 #[cfg(test)]
+mod pixels;
+#[cfg(test)]
 mod pixmaps;
 #[cfg(test)]
 mod placed_boxes;
+#[cfg(test)]
+mod places;
 #[cfg(test)]
 mod views;

@@ -120,31 +120,3 @@ impl Pixel {
         self.j
     }
 }
-
-#[cfg(test)]
-mod tests {
-    use super::*;
-
-    // An x in sixteenths of a pixel, and the column that it lies in.
-    const COLUMNS: [(i64, i64); 8] = [
-        (0, 0),
-        (15, 0),
-        (16, 1),
-        (-1, -1),
-        (-16, -1),
-        (-17, -2),
-        // the centre of a column, and its last sixteenth
-        (16_376, 1_023),
-        (32_767, 2_047),
-    ];
-
-    #[test]
-    fn points_lie_in_the_pixels_below_them(rt: HostRuntime) {
-        for (x, column) in COLUMNS {
-            let pixel = Device::new(x, 40).pixel();
-            assert_eq!(rt; (pixel.i(), pixel.j()), (column, 2), "at {x}");
-        }
-        let centre = Device::pixel_centre(3, 0);
-        assert_eq!(rt; (centre.x(), centre.y()), (56, 8));
-    }
-}

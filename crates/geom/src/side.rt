@@ -55,25 +55,3 @@ impl PictureSide {
         self.pixels
     }
 }
-
-#[cfg(test)]
-mod tests {
-    use super::*;
-
-    #[test]
-    fn sides_have_1_to_2048_pixels(rt: HostRuntime) {
-        for pixels in [1, 2, 2_047, 2_048] {
-            assert_eq!(rt;
-                PictureSide::new(pixels).map(PictureSide::pixels),
-                Some(pixels)
-            );
-        }
-        assert_eq!(rt;
-            Some(PictureSide::with_last(2_047)),
-            PictureSide::new(2_048)
-        );
-        for pixels in [0, 2_049, 65_535] {
-            assert_eq!(rt; PictureSide::new(pixels), None, "{pixels} pixels");
-        }
-    }
-}
