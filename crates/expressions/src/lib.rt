@@ -13,8 +13,6 @@ mod fault;
 pub mod laws;
 mod logic;
 mod operand;
-#[cfg(test)]
-mod tests;
 mod truth;
 mod word;
 

@@ -1,0 +1,8 @@
+//! Tests of the crates that read mapfiles and what belongs to them, by their public calls alone: each test
+//! checks a value that was worked by hand, or that no clause can say.
+#![tactic(auto)]
+
+#[cfg(test)]
+mod expression_trees;
+#[cfg(test)]
+mod expression_truths;
