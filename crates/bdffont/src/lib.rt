@@ -22,8 +22,6 @@ mod line;
 mod number;
 mod section;
 mod step;
-#[cfg(test)]
-mod tests;
 mod text;
 
 pub use fault::{FontError, FontFault, FontKind};

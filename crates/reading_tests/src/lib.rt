@@ -6,3 +6,5 @@
 mod expression_trees;
 #[cfg(test)]
 mod expression_truths;
+#[cfg(test)]
+mod fonts;

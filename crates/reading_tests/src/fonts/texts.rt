@@ -1,5 +1,5 @@
 use super::{TINY, edited, told};
-use crate::{MAX_CHARACTERS, extent, ink, is_short, read};
+use bdffont::{MAX_CHARACTERS, extent, ink, is_short, read};
 use geom::Pixel;
 use mapdefs::{BitmapBox, Font, Glyph};
 use std::alloc::{AllocError, Global};

@@ -1,7 +1,7 @@
 mod faults;
 mod texts;
 
-use crate::{FontError, read};
+use bdffont::{FontError, read};
 use std::alloc::{AllocError, Global};
 
 // A font of one glyph, whose rows are `##` and `#.`.

@@ -1,5 +1,5 @@
 use super::{TINY, edited, told};
-use crate::{FontError, FontFault, FontKind};
+use bdffont::{FontError, FontFault, FontKind};
 use std::alloc::Global;
 use std::process::Abort;
 use std::test::Fail;
