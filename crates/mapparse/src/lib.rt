@@ -12,8 +12,6 @@ mod files;
 mod mapfile;
 mod mapping;
 mod symbol;
-#[cfg(test)]
-mod tests;
 mod texts;
 
 pub use files::{FileBytes, Files};

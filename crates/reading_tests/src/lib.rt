@@ -8,3 +8,5 @@ mod expression_trees;
 mod expression_truths;
 #[cfg(test)]
 mod fonts;
+#[cfg(test)]
+mod mapfiles;

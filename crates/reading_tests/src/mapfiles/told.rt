@@ -1,5 +1,5 @@
-use crate::{Files, ParseFault, parse};
 use mapdefs::{Layer, Map};
+use mapparse::{Files, ParseFault, parse};
 use std::alloc::{AllocError, Global};
 use std::process::Abort;
 use std::test::Fail;

@@ -1,4 +1,4 @@
-use crate::tests::told::{assert_rows, assert_told};
+use crate::mapfiles::told::{assert_rows, assert_told};
 use std::test::Fail;
 
 // Sources up to a limit, each with one that goes further, in the form of `assert_rows`.

@@ -1,4 +1,4 @@
-use crate::tests::said::said;
+use crate::mapfiles::said::said;
 use std::alloc::Global;
 use std::process::Abort;
 use std::test::Fail;

@@ -1,6 +1,6 @@
-use crate::{Files, parse};
 use geom::Micro;
 use mapdefs::{Class, Feature, Label, Layer, Map, Rgb, Rule, Style, Text};
+use mapparse::{Files, parse};
 use std::alloc::{AllocError, Global};
 use std::test::Fail;
 

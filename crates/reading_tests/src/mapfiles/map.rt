@@ -1,5 +1,5 @@
-use crate::tests::said::said;
-use crate::tests::told::assert_told;
+use crate::mapfiles::said::said;
+use crate::mapfiles::told::assert_told;
 use std::test::Fail;
 
 // Two layers, and two of each block in the first, with values that are all different. Keywords and keys

@@ -1,4 +1,4 @@
-use crate::tests::told::assert_rows;
+use crate::mapfiles::told::assert_rows;
 use std::test::Fail;
 
 // Words of WEB, LABEL, CLASS and FEATURE, in the form of `assert_rows`.

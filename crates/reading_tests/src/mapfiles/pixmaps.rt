@@ -1,5 +1,5 @@
-use crate::{Files, ParseFault, parse, wanted};
 use mapdefs::{Items, Layer, Map, Text};
+use mapparse::{Files, ParseFault, parse, wanted};
 use std::alloc::{AllocError, Global};
 use std::process::Abort;
 use std::test::Fail;

@@ -1,5 +1,5 @@
-use crate::{ParseFault, ParseKind};
 use maplex::LexKind;
+use mapparse::{ParseFault, ParseKind};
 use std::test::Fail;
 
 // The lines and the kinds of faults. Each differs from the one above it in one field.
