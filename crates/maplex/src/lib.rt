@@ -18,8 +18,6 @@ mod extent;
 mod fault;
 pub mod laws;
 mod logic;
-#[cfg(test)]
-mod tests;
 mod text;
 mod token;
 mod tokens;

@@ -10,3 +10,5 @@ mod expression_truths;
 mod fonts;
 #[cfg(test)]
 mod mapfiles;
+#[cfg(test)]
+mod tokens;

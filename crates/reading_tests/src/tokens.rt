@@ -1,5 +1,5 @@
-use crate::Shape::{List, Logic, Text, Word};
-use crate::{LexFault, LexKind, TOKEN_LIMIT, Tail, Tokens};
+use maplex::Shape::{List, Logic, Text, Word};
+use maplex::{LexFault, LexKind, TOKEN_LIMIT, Tail, Tokens};
 use std::alloc::{AllocError, Global};
 use std::fmt::Debug;
 use std::process::Abort;
