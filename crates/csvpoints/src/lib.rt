@@ -15,8 +15,6 @@ pub mod laws;
 mod row;
 mod source;
 mod table;
-#[cfg(test)]
-mod tests;
 
 pub use fault::{CsvError, CsvFault, CsvKind};
 pub use table::{Table, TableFields, read};

@@ -11,4 +11,6 @@ mod fonts;
 #[cfg(test)]
 mod mapfiles;
 #[cfg(test)]
+mod point_tables;
+#[cfg(test)]
 mod tokens;

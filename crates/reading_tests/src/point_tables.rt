@@ -1,4 +1,4 @@
-use crate::{CsvError, CsvFault, CsvKind, Table, read};
+use csvpoints::{CsvError, CsvFault, CsvKind, Table, read};
 use mapdefs::Text;
 use std::alloc::{AllocError, Global};
 use std::process::Abort;
