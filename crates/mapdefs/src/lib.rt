@@ -27,8 +27,6 @@ mod map;
 mod picture;
 mod style;
 mod symbol;
-#[cfg(test)]
-mod tests;
 mod text;
 
 pub use boxed::Boxed;

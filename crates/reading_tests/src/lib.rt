@@ -9,6 +9,8 @@ mod expression_truths;
 #[cfg(test)]
 mod fonts;
 #[cfg(test)]
+mod map_values;
+#[cfg(test)]
 mod mapfiles;
 #[cfg(test)]
 mod point_tables;

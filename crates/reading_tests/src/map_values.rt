@@ -2,13 +2,13 @@ ghost use Rattle.std.specs.Prelude.{◌≡◌, ◌≤◌, [], length, All, IfOk}
 ghost use Rattle.mapdefs.specs.MapLimits.{LayerNamesSymbolsOf};
 ghost use Rattle.mapdefs.specs.declared.limits.TheConstants.{MAX_LAYERS};
 
-use crate::{
+use geom::{Micro, PictureSide, WorldBox};
+use mapdefs::{
     BitmapBox, Items, Kind, Layer, LayerFields, MAX_BUFFER, MAX_CLASSES, MAX_DISTANCE,
     MAX_FEATURES, MAX_GLYPH_SIDE, MAX_GLYPHS, MAX_ITEMS, MAX_LAYERS, MAX_LINE_WIDTH, MAX_NESTING,
     MAX_PRIORITY, MAX_SQUARE, MAX_STYLES, MAX_SYMBOL_SIDE, MAX_SYMBOLS, MAX_TOLERANCE,
     MAX_VERTICES, Map, MapFields, Picture, PictureFields, Rgb, Text,
 };
-use geom::{Micro, PictureSide, WorldBox};
 use std::alloc::{AllocError, Global};
 use std::test::Fail;
 
