@@ -15,15 +15,11 @@ mod asks;
 mod came;
 mod conn;
 mod edge;
-#[cfg(test)]
-mod edge_tests;
 pub mod laws;
 mod outcome;
 mod refusal;
 mod response;
 mod step;
-#[cfg(test)]
-mod tests;
 mod verdict;
 
 pub use asks::{Asks, Busy};

@@ -1,5 +1,5 @@
-use crate::{Asks, Busy, Conn, EdgeFault, Outcome, Refusal, exchange, respond};
 use geom::{Micro, WorldBox};
+use httpedge::{Asks, Busy, Conn, EdgeFault, Outcome, Refusal, exchange, respond};
 use mapdefs::{Items, Map, MapFields, Text};
 use mapmachine::{Answer, Flagged, Machine, Mime};
 use std::alloc::{AllocError, Global};

@@ -1,6 +1,6 @@
 ghost use Rattle.std.specs.Prelude.{◌≤◌, length};
 
-use crate::{Conn, End, Refusal, Step};
+use httpedge::{Conn, End, Refusal, Step};
 use std::alloc::{AllocError, Global};
 use std::test::Fail;
 

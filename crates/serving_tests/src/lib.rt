@@ -1,0 +1,8 @@
+//! Tests of the crates that read requests and answer them, by their public calls alone: each test checks a
+//! value that was worked by hand, or that no clause can say.
+#![tactic(auto)]
+
+#[cfg(test)]
+mod exchanges;
+#[cfg(test)]
+mod request_heads;
