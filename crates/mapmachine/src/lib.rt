@@ -14,8 +14,6 @@ mod bytes;
 mod machine;
 mod reply;
 mod stream;
-#[cfg(test)]
-mod tests;
 
 pub use bytes::Bytes;
 pub use machine::Machine;

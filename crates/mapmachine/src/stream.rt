@@ -269,6 +269,3 @@ impl<T: Write> Sink for Flagged<T> {
         self.taken
     }
 }
-
-#[cfg(test)]
-mod tests;

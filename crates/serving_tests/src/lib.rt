@@ -5,4 +5,8 @@
 #[cfg(test)]
 mod exchanges;
 #[cfg(test)]
+mod map_replies;
+#[cfg(test)]
 mod request_heads;
+#[cfg(test)]
+mod streams;

@@ -1,11 +1,11 @@
-use super::*;
+use mapmachine::{Flagged, PutFailed, Sink, Source, TakeFailed, WriteFault, put_all, put_pieces};
 use std::alloc::{AllocError, Global};
-use std::io;
+use std::io::{self, Read, Write};
 use std::process::Abort;
 use std::test::Fail;
 
 // A reader and a writer that gives and takes so many bytes at once, for so many calls, and then
-// fails. A write may take none instead.
+// fails. A write may take none instead. After a failure it goes on for so many calls.
 #[derive(Drop)]
 struct Narrow<'a> {
     left: &'a [u8],
@@ -13,6 +13,7 @@ struct Narrow<'a> {
     at_once: usize,
     calls: usize,
     fails: bool,
+    calls_after: usize,
 }
 
 impl Narrow<'_> {
@@ -23,6 +24,7 @@ impl Narrow<'_> {
             return Ok(self.at_once);
         }
         if self.fails {
+            self.calls = self.calls_after;
             return Err(io::Error::from(io::ErrorKind::Other));
         }
         Ok(0)
@@ -61,15 +63,16 @@ fn pattern(alloc: Global, len: usize) -> Result<Vec<u8>, AllocError> {
     Ok(bytes)
 }
 
-// A stream that holds nothing.
-fn flagged(alloc: Global, left: &[u8], at_once: usize, calls: usize) -> Flagged<Narrow<'_>> {
-    Flagged::new(Narrow {
+// A reader and a writer that holds nothing.
+fn narrow(alloc: Global, left: &[u8], at_once: usize, calls: usize) -> Narrow<'_> {
+    Narrow {
         left,
         held: Vec::new(alloc),
         at_once,
         calls,
         fails: true,
-    })
+        calls_after: 0,
+    }
 }
 
 // How many bytes are put, how many are taken at once in how many calls, and the outcome.
@@ -91,8 +94,9 @@ fn sinks_take_all_or_say_where_they_failed(rt: HostRuntime) -> Result<(), Fail> 
     for fails in [true, false] {
         for (len, at_once, calls, outcome) in PUTS {
             let bytes = pattern(alloc, len)?;
-            let mut sink = flagged(alloc, &[], at_once, calls);
-            sink.inner.fails = fails;
+            let mut writer = narrow(alloc, &[], at_once, calls);
+            writer.fails = fails;
+            let mut sink = Flagged::new(writer);
             assert_eq!(rt; put_all(&mut sink, &bytes), outcome);
             assert_eq!(rt; sink.put_failed(), outcome.is_err());
             assert_eq!(rt; sink.take_failed(), false);
@@ -116,8 +120,9 @@ fn pieces_go_out_up_to_a_failure(rt: HostRuntime) -> Result<(), Fail> {
     let alloc = rt.alloc();
     for fails in [true, false] {
         for (calls, count) in FRONTS.into_iter().enumerate() {
-            let mut sink = flagged(alloc, &[], 3, calls);
-            sink.inner.fails = fails;
+            let mut writer = narrow(alloc, &[], 3, calls);
+            writer.fails = fails;
+            let mut sink = Flagged::new(writer);
             let written = count as u128;
             let outcome = if calls == 4 {
                 Ok(())
@@ -142,7 +147,7 @@ fn pieces_go_out_up_to_a_failure(rt: HostRuntime) -> Result<(), Fail> {
 fn sources_give_bytes_up_to_their_end(rt: HostRuntime) -> Result<(), Fail> {
     let alloc = rt.alloc();
     let bytes = pattern(alloc, 100_000)?;
-    let mut source = flagged(alloc, &bytes, 70_000, 4);
+    let mut source = Flagged::new(narrow(alloc, &bytes, 70_000, 4));
     let mut room = pattern(alloc, 90_000)?;
     assert_eq!(rt; source.take(&mut []), Ok(0));
     assert_eq!(rt; source.take(&mut room), Ok(70_000));
@@ -163,10 +168,11 @@ fn flags(stream: &Flagged<Narrow<'_>>) -> (bool, bool) {
 }
 
 fn assert_writing_stays_failed(rt: &impl Abort, alloc: Global) {
-    let mut stream = flagged(alloc, b"nine left", 2, 0);
+    let mut inner = narrow(alloc, b"nine left", 2, 0);
+    inner.calls_after = 4;
+    let mut stream = Flagged::new(inner);
     assert_eq!(rt; stream.put(b"square"), Err(PutFailed));
     assert_eq!(rt; flags(&stream), (true, false));
-    stream.inner.calls = 4;
     assert_eq!(rt; stream.take(&mut [0; 4]), Ok(2));
     assert_eq!(rt; stream.put(b"square"), Ok(2));
     assert_eq!(rt; stream.put(b""), Ok(0));
@@ -175,9 +181,10 @@ fn assert_writing_stays_failed(rt: &impl Abort, alloc: Global) {
 }
 
 fn assert_reading_stays_failed(rt: &impl Abort, alloc: Global) {
-    let mut stream = flagged(alloc, b"nine left", 2, 0);
+    let mut inner = narrow(alloc, b"nine left", 2, 0);
+    inner.calls_after = 3;
+    let mut stream = Flagged::new(inner);
     assert_eq!(rt; stream.take(&mut [0; 4]), Err(TakeFailed));
-    stream.inner.calls = 3;
     assert_eq!(rt; stream.put(b"square"), Ok(2));
     assert_eq!(rt; stream.take(&mut [0; 4]), Ok(2));
     assert_eq!(rt; stream.flush(), Ok(()));
@@ -193,14 +200,14 @@ fn each_flag_stays_as_it_was_set(rt: HostRuntime) {
 
 #[test]
 fn no_bytes_set_no_flag(rt: HostRuntime) {
-    let mut stream = flagged(rt.alloc(), b"nine left", 2, 1);
+    let mut stream = Flagged::new(narrow(rt.alloc(), b"nine left", 2, 1));
     assert_eq!(rt; stream.put(b""), Ok(0));
     assert_eq!(rt; flags(&stream), (false, false));
 }
 
 #[test]
 fn failed_flushes_set_the_flag_of_writing(rt: HostRuntime) {
-    let mut stream = flagged(rt.alloc(), b"nine left", 2, 0);
+    let mut stream = Flagged::new(narrow(rt.alloc(), b"nine left", 2, 0));
     assert_eq!(rt; stream.flush(), Err(PutFailed));
     assert_eq!(rt; flags(&stream), (true, false));
     assert_eq!(rt; stream.taken(), 0);

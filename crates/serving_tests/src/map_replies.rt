@@ -2,12 +2,12 @@ ghost use Rattle.std.specs.Prelude.{◌≡◌, ◌≤◌, [], length, All, IfOk}
 ghost use Rattle.mapdefs.specs.MapLimits.{ClassNamesSymbolsOf, LayerNamesSymbolsOf};
 ghost use Rattle.mapdefs.specs.declared.limits.TheConstants.{MAX_LAYERS};
 
-use crate::Machine;
 use geom::{Coordinate, Micro, NUMBER_LIMIT, World, WorldBox};
 use mapdefs::{
     Class, ClassFields, Feature, FeatureFields, Items, Kind, Layer, LayerFields, Map, MapFields,
     Rgb, Rule, Style, StyleFields, Text,
 };
+use mapmachine::Machine;
 use std::alloc::{AllocError, Global};
 use std::process::Abort;
 use std::test::Fail;
