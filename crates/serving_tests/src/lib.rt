@@ -7,6 +7,10 @@ mod exchanges;
 #[cfg(test)]
 mod map_replies;
 #[cfg(test)]
+mod queries;
+#[cfg(test)]
 mod request_heads;
+#[cfg(test)]
+mod service_exceptions;
 #[cfg(test)]
 mod streams;

@@ -19,8 +19,6 @@ mod lists;
 mod pairs;
 mod query;
 mod request;
-#[cfg(test)]
-mod tests;
 mod values;
 
 pub use error::QueryError;

@@ -2,10 +2,10 @@ ghost use Rattle.std.specs.Prelude.{◌≡◌, ◌≤◌, [], length, All, IfOk}
 ghost use Rattle.mapdefs.specs.MapLimits.{LayerNamesSymbolsOf};
 ghost use Rattle.mapdefs.specs.declared.limits.TheConstants.{MAX_LAYERS};
 
-use crate::{MapRequest, QueryError, read};
 use geom::{Micro, WorldBox};
 use mapdefs::{Items, Kind, Layer, LayerFields, MAX_LAYERS, Map, MapFields, Text};
 use std::alloc::{AllocError, Global};
+use wmsquery::{MapRequest, QueryError, read};
 
 // A query without a fault. The first pair of a name counts, so that the rows put others before it.
 const QUERY: &str =
