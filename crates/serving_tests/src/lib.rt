@@ -3,6 +3,8 @@
 #![tactic(auto)]
 
 #[cfg(test)]
+mod axis_orders;
+#[cfg(test)]
 mod exchanges;
 #[cfg(test)]
 mod map_replies;
