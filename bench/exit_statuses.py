@@ -21,6 +21,7 @@ MISSING = b"""<?xml version="1.0" encoding="UTF-8"?>
 """
 FEATURE = b" FEATURE POINTS" + b" 1 2" * 60_000 + b" END END"
 LARGE = b"MAP LAYER NAME 'a' TYPE POLYGON" + FEATURE * 30 + b" END END\n%%\n"
+SYMBOL = b"MAP SYMBOL NAME s TYPE PIXMAP\nIMAGE p.ppm END END\n"
 REFUSED = b"""error: the following required arguments were not provided:
   <SCRIPT>
 
@@ -39,10 +40,16 @@ NO_PORT = b"""error: invalid value '65536' for '--port <port>': 65536 is not in 
 
 For more information, try '--help'.
 """
+IN_WORDS = b"fault line 3 kind 2\nbad.map:3: FOO is no keyword of MAP\n"
+NO_SYMBOL = b"fault line 2 kind 7\nmaps/symbol.map:2: the file that IMAGE names can't be read\n"
 NOT_UTF8 = b"error: a word is not UTF-8\n"
 FILES = {
     "good.map": MAP.removesuffix(b"%%\n"),
     "bad.map": b"MAP\n\nFOO END\n",
+    # The pixmap stands beside the first of two mapfiles alone, and is looked for there.
+    "symbol.map": SYMBOL,
+    "p.ppm": b"P6 1 1 255 abc",
+    "maps/symbol.map": SYMBOL,
     "large.map": LARGE.removesuffix(b"%%\n"),
     "good.script": QUERY,
     "bad.script": b"QUERY a\nx\n",
@@ -66,6 +73,7 @@ def main():
         held.listen()
         taken = str(held.getsockname()[1])
         os.chdir(folder)
+        os.mkdir("maps")
         for name, text in FILES.items():
             with open(name, "wb") as file:
                 file.write(text)
@@ -78,6 +86,10 @@ def main():
             ("check", run(b"", "check", "good.map"), (0, b"ok 1 layers 0 features\n", b"")),
             ("check many", run(b"", "check", "large.map"), (0, b"ok 1 layers 30 features\n", b"")),
             ("check faulty", run(b"", "check", "bad.map"), (1, b"", b"fault line 3 kind 2\n")),
+            ("explain", run(b"", "check", "--explain", "good.map"), (0, b"ok 1 layers 0 features\n", b"")),
+            ("explain faulty", run(b"", "check", "--explain", "bad.map"), (1, b"", IN_WORDS)),
+            ("explain a symbol", run(b"", "check", "--explain", "symbol.map"), (0, b"ok 0 layers 0 features\n", b"")),
+            ("explain no symbol", run(b"", "check", "--explain", "maps/symbol.map"), (1, b"", NO_SYMBOL)),
             ("check no file", run(b"", "check", "no.map"), (1, b"", b"fault file no.map\n")),
             ("check a folder", run(b"", "check", "."), (1, b"", b"fault file .\n")),
             ("check full output", run(b"", "check", "good.map", stdout=full), (3, None, b"")),
