@@ -64,7 +64,7 @@ fn pattern(alloc: Global, len: usize) -> Result<Vec<u8>, AllocError> {
 }
 
 // A reader and a writer that holds nothing.
-fn narrow(alloc: Global, left: &[u8], at_once: usize, calls: usize) -> Narrow<'_> {
+fn holding_nothing(alloc: Global, left: &[u8], at_once: usize, calls: usize) -> Narrow<'_> {
     Narrow {
         left,
         held: Vec::new(alloc),
@@ -94,7 +94,7 @@ fn sinks_take_all_or_say_where_they_failed(rt: HostRuntime) -> Result<(), Fail> 
     for fails in [true, false] {
         for (len, at_once, calls, outcome) in PUTS {
             let bytes = pattern(alloc, len)?;
-            let mut writer = narrow(alloc, &[], at_once, calls);
+            let mut writer = holding_nothing(alloc, &[], at_once, calls);
             writer.fails = fails;
             let mut sink = Flagged::new(writer);
             assert_eq!(rt; put_all(&mut sink, &bytes), outcome);
@@ -120,7 +120,7 @@ fn pieces_go_out_up_to_a_failure(rt: HostRuntime) -> Result<(), Fail> {
     let alloc = rt.alloc();
     for fails in [true, false] {
         for (calls, count) in FRONTS.into_iter().enumerate() {
-            let mut writer = narrow(alloc, &[], 3, calls);
+            let mut writer = holding_nothing(alloc, &[], 3, calls);
             writer.fails = fails;
             let mut sink = Flagged::new(writer);
             let written = count as u128;
@@ -147,7 +147,7 @@ fn pieces_go_out_up_to_a_failure(rt: HostRuntime) -> Result<(), Fail> {
 fn sources_give_bytes_up_to_their_end(rt: HostRuntime) -> Result<(), Fail> {
     let alloc = rt.alloc();
     let bytes = pattern(alloc, 100_000)?;
-    let mut source = Flagged::new(narrow(alloc, &bytes, 70_000, 4));
+    let mut source = Flagged::new(holding_nothing(alloc, &bytes, 70_000, 4));
     let mut room = pattern(alloc, 90_000)?;
     assert_eq!(rt; source.take(&mut []), Ok(0));
     assert_eq!(rt; source.take(&mut room), Ok(70_000));
@@ -168,7 +168,7 @@ fn flags(stream: &Flagged<Narrow<'_>>) -> (bool, bool) {
 }
 
 fn assert_writing_stays_failed(rt: &impl Abort, alloc: Global) {
-    let mut inner = narrow(alloc, b"nine left", 2, 0);
+    let mut inner = holding_nothing(alloc, b"nine left", 2, 0);
     inner.calls_after = 4;
     let mut stream = Flagged::new(inner);
     assert_eq!(rt; stream.put(b"square"), Err(PutFailed));
@@ -181,7 +181,7 @@ fn assert_writing_stays_failed(rt: &impl Abort, alloc: Global) {
 }
 
 fn assert_reading_stays_failed(rt: &impl Abort, alloc: Global) {
-    let mut inner = narrow(alloc, b"nine left", 2, 0);
+    let mut inner = holding_nothing(alloc, b"nine left", 2, 0);
     inner.calls_after = 3;
     let mut stream = Flagged::new(inner);
     assert_eq!(rt; stream.take(&mut [0; 4]), Err(TakeFailed));
@@ -200,14 +200,14 @@ fn each_flag_stays_as_it_was_set(rt: HostRuntime) {
 
 #[test]
 fn no_bytes_set_no_flag(rt: HostRuntime) {
-    let mut stream = Flagged::new(narrow(rt.alloc(), b"nine left", 2, 1));
+    let mut stream = Flagged::new(holding_nothing(rt.alloc(), b"nine left", 2, 1));
     assert_eq!(rt; stream.put(b""), Ok(0));
     assert_eq!(rt; flags(&stream), (false, false));
 }
 
 #[test]
 fn failed_flushes_set_the_flag_of_writing(rt: HostRuntime) {
-    let mut stream = Flagged::new(narrow(rt.alloc(), b"nine left", 2, 0));
+    let mut stream = Flagged::new(holding_nothing(rt.alloc(), b"nine left", 2, 0));
     assert_eq!(rt; stream.flush(), Err(PutFailed));
     assert_eq!(rt; flags(&stream), (true, false));
     assert_eq!(rt; stream.taken(), 0);
