@@ -34,8 +34,8 @@ pub struct Noted<'a> {
     pub begun: bool,
     /// The last NAME of a LAYER.
     pub name: &'a str,
-    /// The open LAYER has a NAME.
-    pub is_named: bool,
+    /// What the open block lacks of what its END requires, if it lacks something.
+    pub lacking: &'static str,
 }
 
 /// What is found of a mapfile.
@@ -57,6 +57,20 @@ struct Walker<'a> {
     noted: Noted<'a>,
 }
 
+// What is missing first in the block of a context, where its END requires something that isn't there.
+fn lacking(context: Context, drafts: &Drafts) -> &'static str {
+    match context {
+        Context::Keywords(Block::Layer) if drafts.layer.name.is_none() => "NAME",
+        Context::Keywords(Block::Layer) => "TYPE",
+        Context::Keywords(Block::Symbol) if drafts.symbol.name.is_none() => "NAME",
+        Context::Keywords(Block::Symbol) if !drafts.symbol.pixmap => "TYPE",
+        Context::Keywords(Block::Symbol) => "IMAGE",
+        Context::Keywords(Block::Feature) => "POINTS",
+        Context::Keywords(Block::Points) => "vertex",
+        _ => "",
+    }
+}
+
 impl<'a> Walker<'a> {
     // A walker after MAP, if memory is there.
     fn new(token: &Token<'a>, alloc: Global) -> Result<Self, AllocError>
@@ -70,7 +84,7 @@ impl<'a> Walker<'a> {
             noted: Noted {
                 begun: true,
                 name: "",
-                is_named: false,
+                lacking: "",
             },
         })
     }
@@ -79,10 +93,10 @@ impl<'a> Walker<'a> {
     fn note(&mut self, context: Context, token: &Token<'a>)
         ensures { standing self.new.openings self.new.drafts ≡ standing self.old.openings self.old.drafts }
     {
-        self.noted.is_named = self.drafts.layer.name.is_some();
         if let Context::Values(Expected::Text(TextKeyword::LayerName)) = context {
             self.noted.name = token.text;
         }
+        self.noted.lacking = lacking(context, &self.drafts);
     }
 
     // Reads the next token in the context that is open. A token that has a fault leaves that open.
@@ -189,7 +203,7 @@ fn outside<'a>(alloc: Global, fault: Fault, token: Option<Token<'a>>) -> Explain
         noted: Noted {
             begun: false,
             name: "",
-            is_named: false,
+            lacking: "",
         },
     }
 }

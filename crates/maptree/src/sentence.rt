@@ -110,18 +110,6 @@ fn no_value(alloc: Global, expected: Expected, name: &str) -> Result<String, All
     }
 }
 
-// What a block lacks at its END.
-fn lacking(block: Block, is_named: bool) -> &'static str {
-    match block {
-        Block::Layer if is_named => "TYPE",
-        Block::Layer => "NAME",
-        Block::Symbol => "NAME, TYPE or IMAGE",
-        Block::Feature => "POINTS",
-        Block::Points => "vertex",
-        _ => "end yet",
-    }
-}
-
 // The words on an END before all that has to be given.
 fn missing_value(alloc: Global, e: &Explained, inner: &Opening) -> Result<String, AllocError> {
     let block = block(alloc, e.openings.as_slice())?;
@@ -131,8 +119,8 @@ fn missing_value(alloc: Global, e: &Explained, inner: &Opening) -> Result<String
             no_value(alloc, expected, name.as_str())
         }
         Context::Latitude(_) => { format!(in alloc; "the last vertex of {block} has no latitude") }
-        Context::Keywords(kind) => {
-            let lacking = lacking(kind, e.noted.is_named);
+        Context::Keywords(_) => {
+            let lacking = e.noted.lacking;
             format!(in alloc; "{block} has no {lacking}")
         }
     }

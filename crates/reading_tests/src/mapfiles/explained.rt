@@ -51,6 +51,9 @@ MAP LAYER FEATURE~POINTS 1~|3: the mapfile ends inside POINTS of line 2, which h
 MAP~LAYER NAME a TYPE LINE END~LAYER NAME b~END|4: LAYER of line 3 has no TYPE
 MAP~LAYER NAME a TYPE LINE END~LAYER TYPE LINE~END|4: LAYER of line 3 has no NAME
 MAP LAYER~FEATURE POINTS 1 2 END END~FEATURE TEXT a END|3: FEATURE of line 3 has no POINTS
+MAP SYMBOL NAME a TYPE PIXMAP IMAGE b END~SYMBOL TYPE PIXMAP IMAGE b~END|3: SYMBOL of line 2 has no NAME
+MAP SYMBOL NAME a TYPE PIXMAP IMAGE b END~SYMBOL IMAGE b NAME c~END|3: SYMBOL of line 2 has no TYPE
+MAP SYMBOL NAME a TYPE PIXMAP IMAGE b END~SYMBOL NAME c~TYPE PIXMAP END|3: SYMBOL of line 2 has no IMAGE
 MAP LAYER FEATURE~POINTS 1 2 END~POINTS~END|4: POINTS of line 3 has no vertex
 MAP LAYER FEATURE~POINTS 1 2~3 END|3: the last vertex of POINTS of line 2 has no latitude
 MAP LAYER~NAME END|2: NAME has no value
@@ -70,7 +73,7 @@ MAP éééééééééééééééééééééééééééééééééééééé
 
 #[test]
 fn faults_are_told_in_words(rt: HostRuntime) -> Result<(), Fail> {
-    assert_eq!(rt; ROWS.lines().count(), 45);
+    assert_eq!(rt; ROWS.lines().count(), 48);
     for row in ROWS.lines() {
         let (source, expected) = row.rsplit_once('|').ok_or("a row without a bar")?;
         let found = row_told(rt.alloc(), source)?;
