@@ -11,6 +11,7 @@ use crate::value::Value;
 use geom::Micro;
 use mapdefs::{Kind, MAX_CLASSES, MAX_FEATURES, MAX_ITEMS, Rgb, Text};
 use std::alloc::Global;
+use std::mem;
 
 /// What was read of the open LAYER.
 #[derive(Drop)]
@@ -205,11 +206,11 @@ impl Drafts {
         }
     }
 
-    /// The map.
-    pub fn into_map(self) -> MapTree
-        ensures { result ≡ self.map }
+    /// The map, in whose place a new one is left.
+    pub fn take_map(&mut self, alloc: Global) -> MapTree
+        ensures { result ≡ self.old.map }
     {
-        self.map
+        mem::replace(&mut self.map, MapTree::new(alloc))
     }
 
     // Notes a text of a MAP, a SYMBOL or a FEATURE.

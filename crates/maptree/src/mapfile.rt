@@ -1,5 +1,6 @@
 ghost use Rattle.std.specs.Prelude.{◌≡◌, Ok, Err, IfOk, IfErr, MatchResult};
 ghost use Rattle.maplex.specs.Lexed.{lexed, stopped, with_token};
+ghost use Rattle.maptree.specs.Answer.{answer};
 ghost use Rattle.maptree.specs.Fault.{IsFaultOf};
 ghost use Rattle.maptree.specs.Pass.{map_body, pass_of};
 ghost use Rattle.maptree.specs.Source.{tree_of};
@@ -37,6 +38,24 @@ fn begin(tokens: &mut Tokens) -> Result<(), Fault>
     }
 }
 
+// Reads the tokens that are left. The reader is lent, since what it owns is dropped once by its owner.
+fn read_tokens(
+    reader: &mut Reader,
+    tokens: &mut Tokens,
+    alloc: Global,
+) -> Result<MapTree, ParseFault>
+    ensures { MatchResult result
+        (λ tree. answer reader.old tokens.old.tokens tokens.old.tail ≡ Ok tree)
+        (IsFaultOf (answer reader.old tokens.old.tokens tokens.old.tail)) }
+{
+    loop {
+        match next(tokens) {
+            Ok(token) => reader.take(&token, alloc)?,
+            Err(tail) => return Ok(reader.finish(tail, alloc)?),
+        }
+    }
+}
+
 // Reads the tokens of the source in one pass.
 fn pass(source: &[u8], alloc: Global) -> Result<MapTree, ParseFault>
     ensures { MatchResult result
@@ -46,12 +65,7 @@ fn pass(source: &[u8], alloc: Global) -> Result<MapTree, ParseFault>
     let mut tokens = Tokens::new(source);
     begin(&mut tokens)?;
     let mut reader = Reader::new(alloc)?;
-    loop {
-        match next(&mut tokens) {
-            Ok(token) => reader.take(&token, alloc)?,
-            Err(tail) => return Ok(reader.finish(tail)?),
-        }
-    }
+    read_tokens(&mut reader, &mut tokens, alloc)
 }
 
 /// Reads a mapfile in one pass: what its blocks say, or its first fault with its line.

@@ -11,6 +11,7 @@ use crate::openings::{Opening, Openings};
 use crate::step::read_token;
 use maplex::{Tail, Token, Tokens};
 use std::alloc::{AllocError, Global};
+use std::mem;
 
 /// The first fault of a mapfile, with what stands there.
 #[derive(Drop)]
@@ -138,52 +139,57 @@ impl<'a> Walker<'a> {
         self.read_in(inner, token, alloc)
     }
 
-    // What is found at a fault.
-    fn stop(self, line: u64, kind: ParseKind, token: Option<Token<'a>>) -> Explained<'a>
-        ensures { result ≡ record { line = line; kind = kind; token = token.entry; openings = self.entry.openings; noted = self.entry.noted } }
+    // What is found at a fault. What is open is taken from the walker.
+    fn stop(
+        &mut self,
+        line: u64,
+        kind: ParseKind,
+        token: Option<Token<'a>>,
+        alloc: Global,
+    ) -> Explained<'a>
+        ensures { result ≡ record { line = line; kind = kind; token = token.entry; openings = self.old.openings; noted = self.old.noted } }
     {
         Explained {
             line,
             kind,
             token,
-            openings: self.openings,
+            openings: mem::replace(&mut self.openings, Openings::new(alloc)),
             noted: self.noted,
         }
     }
 
     // What is found after the last token.
-    fn finish(self, tail: Tail) -> Finding<'a>
-        ensures { (line : ℕ) → IsWalked (standing self.entry.openings self.entry.drafts) (stopped line tail) result }
+    fn finish(&mut self, tail: Tail, alloc: Global) -> Finding<'a>
+        ensures { (line : ℕ) → IsWalked (standing self.old.openings self.old.drafts) (stopped line tail) result }
     {
         match tail {
             Tail::Ends(line) => {
                 if self.openings.is_empty() {
                     return Finding::Sound;
                 }
-                Finding::Faulty(self.stop(line, ParseKind::MissingEnd, None))
+                Finding::Faulty(self.stop(line, ParseKind::MissingEnd, None, alloc))
             }
             Tail::Breaks(fault) => {
-                Finding::Faulty(self.stop(fault.line, ParseKind::Lex(fault.kind), None))
+                Finding::Faulty(self.stop(fault.line, ParseKind::Lex(fault.kind), None, alloc))
             }
         }
     }
 }
 
-// Reads the tokens after MAP.
-fn walk<'a>(walker: Walker<'a>, tokens: &mut Tokens<'a>, alloc: Global) -> Finding<'a>
-    ensures { IsWalked (standing walker.entry.openings walker.entry.drafts) tokens.old result }
+// Reads the tokens after MAP. The walker is lent, since what it owns is dropped once by its owner.
+fn walk<'a>(walker: &mut Walker<'a>, tokens: &mut Tokens<'a>, alloc: Global) -> Finding<'a>
+    ensures { IsWalked (standing walker.old.openings walker.old.drafts) tokens.old result }
 {
-    let mut at = walker;
     loop {
         match next(tokens) {
-            Ok(token) => match at.take(&token, alloc) {
+            Ok(token) => match walker.take(&token, alloc) {
                 Ok(()) => {}
                 Err(ParseFault::At { line, kind }) => {
-                    return Finding::Faulty(at.stop(line, kind, Some(token)));
+                    return Finding::Faulty(walker.stop(line, kind, Some(token), alloc));
                 }
                 Err(ParseFault::NoMemory) => return Finding::NoMemory,
             },
-            Err(tail) => return at.finish(tail),
+            Err(tail) => return walker.finish(tail, alloc),
         }
     }
 }
@@ -218,7 +224,7 @@ pub fn explain<'a>(alloc: Global, source: &'a [u8]) -> Finding<'a>
     let mut tokens = Tokens::new(source);
     match next(&mut tokens) {
         Ok(token) if Keyword::Map.is_at(&token) => match Walker::new(&token, alloc) {
-            Ok(walker) => walk(walker, &mut tokens, alloc),
+            Ok(mut walker) => walk(&mut walker, &mut tokens, alloc),
             Err(_) => Finding::NoMemory,
         },
         Ok(token) => {

@@ -51,17 +51,13 @@ impl Reader {
         Ok(())
     }
 
-    /// The map, by what stands after the last token.
-    pub fn finish(self, tail: Tail) -> Result<MapTree, Fault>
-        ensures { result ≡ answer self [] tail }
+    /// The map, by what stands after the last token. It is taken from the reader.
+    pub fn finish(&mut self, tail: Tail, alloc: Global) -> Result<MapTree, Fault>
+        ensures { result ≡ answer self.old [] tail }
     {
-        let Reader {
-            mut contexts,
-            drafts,
-        } = self;
         match tail {
-            Tail::Ends(_) => match contexts.pop() {
-                None => Ok(drafts.into_map()),
+            Tail::Ends(_) => match self.contexts.pop() {
+                None => Ok(self.drafts.take_map(alloc)),
                 Some(_) => Err(missing(tail)),
             },
             Tail::Breaks(_) => Err(missing(tail)),

@@ -1,9 +1,11 @@
-use Rattle.std.proofs.lemmas.Result.{err_from_is_err_and}
-use Rattle.maptree.proofs.Joining.{step-fault}
+use Rattle.std.proofs.Common.{◌≡◌, ◌∙◌, ap, sym, subst, Ok}
+use Rattle.std.specs.Result.{MatchResult}
+use Rattle.maptree.specs.Fault.{IsFaultOf}
+use Rattle.maptree.specs.Pass.{pass_of}
 use Rattle.maptree.proofs.mapfile.pass.Goals as goal
 
-pub returns-in_err-take-in-Ok : goal.returns-in_err-take-in-Ok
-returns-in_err-take-in-Ok c =
-    let p = err_from_is_err_and c.from_residual-in_err-take-in-Ok.result c.from_residual-in_err-take-in-Ok.ensures.1 in
-    rw (p.1, p.2, ← c.loop-token.invariant, c.in-Ok.ensures)
-    (step-fault c.loop-token.reader c.in-Ok.token c.next.new.tokens.tokens c.next.new.tokens.tail _ c.in_err-take-in-Ok.ensures.err)
+pub returns : goal.returns
+returns c =
+    let left = c.begin.new.tokens in
+    subst (λ read. MatchResult c.read_tokens.result (λ tree. read ≡ Ok tree) (IsFaultOf read))
+    (c.in_ok-reader.ensures left.tokens left.tail ∙ (sym c.in_ok-begin.ensures ∙ ap pass_of c.new-tokens.ensures)) c.read_tokens.ensures

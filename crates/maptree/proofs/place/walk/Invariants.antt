@@ -5,7 +5,7 @@ use Rattle.maptree.proofs.place.walk.Given as goal
 
 abbrev pub invariant-loop-token : goal.invariant-loop-token
 invariant-loop-token l =
-    (f : Finding) → IsWalked (standing l.at.openings l.at.drafts) l.tokens f → IsWalked (standing l.fn.walker.openings l.fn.walker.drafts) l.fn.tokens f
+    (f : Finding) → IsWalked (standing l.walker.openings l.walker.drafts) l.tokens f → IsWalked (standing l.fn.walker.openings l.fn.walker.drafts) l.fn.tokens f
 
 abbrev pub decreases-loop-token : goal.decreases-loop-token
 decreases-loop-token l = length l.tokens.tokens
