@@ -1,10 +1,9 @@
 mod Blocks
 mod Colours
-mod Explaining
 mod FirstFault
-mod Joining
+pub mod Joining
 mod Lookup
-mod OnePass
+pub mod OnePass
 mod OpenBlocks
 mod Reading
 mod Written

@@ -4,14 +4,12 @@ pub mod Count
 pub mod Draft
 pub mod End
 pub mod Entries
-pub mod Explained
 pub mod Extent
 pub mod Fault
 pub mod Keyword
 pub mod Label
 pub mod Meaning
 pub mod Name
-pub mod Opening
 pub mod Parts
 pub mod Pass
 pub mod Rule

@@ -11,17 +11,12 @@
 //! `laws::counts_are_colour`). The reader goes over the tokens once, with a draft for each kind of
 //! block; that this gives what the blocks say is a theorem (`proofs/OnePass`).
 //!
-//! `explain` reads a source once more for the words on its first fault. Proved: it has the line and the
-//! kind of the fault that `tree_of` is, the token at which it is found, and what is open there. The words
-//! are only tested.
-//!
 //! What takes no memory fails with a `Fault` alone.
 //!
 //! Words: a *keyword* is a bare word of a block. A *block* opens with its keyword and closes with END.
 //! A *value* stands after the keyword that takes it. A *context* is what a token is read as: a keyword
-//! of a block, a value, or a latitude. The *openings* are the contexts that are open, with the words that
-//! opened them. The *drafts* are what was read of the open blocks, and the *tree* is the whole mapfile as
-//! it is written. The *tail* is what stands after the last token.
+//! of a block, a value, or a latitude. The *drafts* are what was read of the open blocks, and the *tree*
+//! is the whole mapfile as it is written. The *tail* is what stands after the last token.
 #![tactic(auto)]
 
 mod bounded;
@@ -38,12 +33,9 @@ mod label;
 pub mod laws;
 mod mapfile;
 mod number;
-mod openings;
 mod parts;
-mod place;
 mod reader;
 mod rule;
-mod sentence;
 mod setting;
 mod step;
 mod symbol;
@@ -51,16 +43,18 @@ mod table;
 mod texts;
 mod tree;
 mod value;
-mod wanted;
 
 pub use bounded::Bounded;
 pub use capped::Capped;
+pub use context::{Block, Context, Expected, Move, OnlyWord, TextKeyword};
+pub use draft::Drafts;
 pub use extent::Extent;
-pub use fault::{ParseFault, ParseKind};
-pub use mapfile::read;
+pub use fault::{Fault, ParseFault, ParseKind, fault_of, missing};
+pub use keyword::Keyword;
+pub use mapfile::{next_token, read};
 pub use parts::Parts;
-pub use place::{Explained, Finding, explain};
 pub use rule::ClassRule;
+pub use step::read_token;
 pub use texts::texts_of;
 pub use tree::{
     ClassTree, FeatureTree, LabelTree, LayerTree, MapTree, Named, StyleTree, SymbolTree,

@@ -12,7 +12,7 @@ use maplex::{Tail, Token, Tokens};
 use std::alloc::Global;
 
 /// The next token, or what comes after the last one.
-pub fn next<'a>(tokens: &mut Tokens<'a>) -> Result<Token<'a>, Tail>
+pub fn next_token<'a>(tokens: &mut Tokens<'a>) -> Result<Token<'a>, Tail>
     ensures { MatchResult result
         (λ token. tokens.old ≡ with_token token tokens.new)
         (λ tail. tokens.old ≡ stopped tokens.old.line tail) }
@@ -30,7 +30,7 @@ fn begin(tokens: &mut Tokens) -> Result<(), Fault>
         (λ _. pass_of tokens.old ≡ map_body tokens.new.tail tokens.new.tokens)
         (λ fault. pass_of tokens.old ≡ Err fault) }
 {
-    match next(tokens) {
+    match next_token(tokens) {
         Ok(token) if Keyword::Map.is_at(&token) => Ok(()),
         Ok(token) => Err(fault_of(ParseKind::UnknownWord, &token)),
         Err(tail) => Err(missing(tail)),
@@ -47,7 +47,7 @@ fn pass(source: &[u8], alloc: Global) -> Result<MapTree, ParseFault>
     begin(&mut tokens)?;
     let mut reader = Reader::new(alloc)?;
     loop {
-        match next(&mut tokens) {
+        match next_token(&mut tokens) {
             Ok(token) => reader.take(&token, alloc)?,
             Err(tail) => return Ok(reader.finish(tail)?),
         }

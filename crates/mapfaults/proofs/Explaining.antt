@@ -11,9 +11,9 @@ use Rattle.maptree.specs.declared.context.Context.{Context}
 use Rattle.maptree.specs.declared.context.Move.{Move}
 use Rattle.maptree.specs.declared.context.Move.TheVariants.{GoesOn, Enters, Leaves}
 use Rattle.maptree.specs.declared.draft.Drafts.{Drafts}
-use Rattle.maptree.specs.declared.place.Explained.{Explained}
-use Rattle.maptree.specs.declared.place.Finding.{Finding}
-use Rattle.maptree.specs.declared.place.Finding.TheVariants as finding
+use Rattle.mapfaults.specs.declared.place.Explained.{Explained}
+use Rattle.mapfaults.specs.declared.place.Finding.{Finding}
+use Rattle.mapfaults.specs.declared.place.Finding.TheVariants as finding
 use Rattle.maptree.specs.declared.fault.Fault.{Fault}
 use Rattle.maptree.specs.declared.keyword.Keyword.TheVariants as keyword
 use Rattle.maptree.specs.declared.fault.ParseKind.{ParseKind}
@@ -21,10 +21,10 @@ use Rattle.maptree.specs.declared.fault.ParseKind.TheVariants.{UnknownWord}
 use Rattle.maptree.specs.declared.fault.ParseFault.{ParseFault}
 use Rattle.maptree.specs.declared.fault.ParseFault.TheVariants.{At}
 use Rattle.maptree.specs.Answer.{moved, goes_on}
-use Rattle.maptree.specs.Explained.{Standing, IsOpenAfter, IsAt, IsStop, IsWalked, IsFinding, begun, standing, stepped, stepped_in, walked}
+use Rattle.mapfaults.specs.Explained.{Standing, IsOpenAfter, IsAt, IsStop, IsWalked, IsFinding, begun, standing, stepped, stepped_in, walked}
 use Rattle.maptree.specs.Fault.{and_then, missing, lexical, fault_of}
 use Rattle.maptree.specs.Keyword.{is_at}
-use Rattle.maptree.specs.Opening.{OpeningValue, opened}
+use Rattle.mapfaults.specs.Opening.{OpeningValue, opened}
 use Rattle.maptree.specs.Pass.{alone}
 use Rattle.maptree.specs.Step.{read_token}
 use Rattle.maptree.proofs.Joining.{answer-open, answer-broken, answer-moved, answer-refused}

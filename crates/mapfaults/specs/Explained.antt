@@ -5,9 +5,9 @@ use Rattle.maplex.specs.Token.{TokenValue}
 use Rattle.maptree.specs.declared.context.Block.TheVariants as block
 use Rattle.maptree.specs.declared.context.Context.TheVariants.{Keywords}
 use Rattle.maptree.specs.declared.draft.Drafts.{Drafts}
-use Rattle.maptree.specs.declared.place.Explained.{Explained}
-use Rattle.maptree.specs.declared.place.Finding.{Finding}
-use Rattle.maptree.specs.declared.place.Finding.TheVariants as finding
+use Rattle.mapfaults.specs.declared.place.Explained.{Explained}
+use Rattle.mapfaults.specs.declared.place.Finding.{Finding}
+use Rattle.mapfaults.specs.declared.place.Finding.TheVariants as finding
 use Rattle.maptree.specs.declared.fault.Fault.{Fault}
 use Rattle.maptree.specs.declared.fault.ParseFault.{ParseFault}
 use Rattle.maptree.specs.declared.fault.ParseFault.TheVariants.{At, NoMemory}
@@ -18,7 +18,7 @@ use Rattle.maptree.specs.Answer.{goes_on}
 use Rattle.maptree.specs.Draft.{fresh}
 use Rattle.maptree.specs.Fault.{refused, and_then}
 use Rattle.maptree.specs.Keyword.{is_at}
-use Rattle.maptree.specs.Opening.{OpeningValue, opening, opened}
+use Rattle.mapfaults.specs.Opening.{OpeningValue, opening, opened}
 use Rattle.maptree.specs.Source.{tree_of}
 use Rattle.maptree.specs.Step.{read_token}
 

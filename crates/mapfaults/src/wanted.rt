@@ -1,4 +1,4 @@
-use crate::context::{Expected, OnlyWord};
+use maptree::{Expected, OnlyWord};
 
 /// What is taken where a value is expected, in words.
 pub fn wanted(expected: Expected) -> &'static str {

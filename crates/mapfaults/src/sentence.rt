@@ -1,6 +1,3 @@
-use crate::context::{Block, Context, Expected};
-use crate::fault::ParseKind;
-use crate::keyword::Keyword;
 use crate::openings::Opening;
 use crate::place::Explained;
 use crate::wanted::wanted;
@@ -8,6 +5,7 @@ use mapdefs::{
     MAX_CLASSES, MAX_FEATURES, MAX_ITEMS, MAX_LAYERS, MAX_STYLES, MAX_SYMBOLS, MAX_VERTICES,
 };
 use maplex::{Shape, Token};
+use maptree::{Block, Context, Expected, Keyword, ParseKind};
 use std::alloc::{AllocError, Global};
 
 // The most characters that are shown of a word.

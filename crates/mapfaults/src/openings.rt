@@ -1,8 +1,8 @@
 ghost use Rattle.std.specs.Prelude.{◌≡◌, ◌==◌, [], ◌∷◌, length, OnOk, MatchOption};
-ghost use Rattle.maptree.specs.Opening.{opened, opening};
+ghost use Rattle.mapfaults.specs.Opening.{opened, opening};
 
-use crate::context::{Context, Move};
 use maplex::Token;
+use maptree::{Context, Move};
 use std::alloc::{AllocError, Global};
 use std::marker::Model;
 
@@ -18,7 +18,7 @@ pub struct Opening<'a> {
 }
 
 impl<'a> Model for Opening<'a> {
-    ghost use Rattle.maptree.specs.Opening.{OpeningValue};
+    ghost use Rattle.mapfaults.specs.Opening.{OpeningValue};
 
     ghost Value = { OpeningValue };
 
@@ -63,7 +63,7 @@ pub struct Openings<'a> {
 
 impl<'a> Model for Openings<'a> {
     ghost use Rattle.std.specs.Prelude.{List, reverse};
-    ghost use Rattle.maptree.specs.Opening.{OpeningValue};
+    ghost use Rattle.mapfaults.specs.Opening.{OpeningValue};
 
     ghost Value = { List OpeningValue };
 

@@ -1,7 +1,7 @@
 use Rattle.std.proofs.Common.{length}
-use Rattle.maptree.specs.declared.place.Finding.{Finding}
-use Rattle.maptree.specs.Explained.{IsWalked, standing}
-use Rattle.maptree.proofs.place.walk.Given as goal
+use Rattle.mapfaults.specs.declared.place.Finding.{Finding}
+use Rattle.mapfaults.specs.Explained.{IsWalked, standing}
+use Rattle.mapfaults.proofs.place.walk.Given as goal
 
 abbrev pub invariant-loop-token : goal.invariant-loop-token
 invariant-loop-token l =

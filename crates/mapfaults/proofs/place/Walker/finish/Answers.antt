@@ -1,10 +1,10 @@
 use Rattle.std.proofs.Common.{◌∙◌, ap, sym, subst}
 use Rattle.maplex.specs.Lexed.{stopped}
-use Rattle.maptree.specs.declared.place.Explained.{Explained}
-use Rattle.maptree.specs.declared.place.Finding.TheVariants as finding
-use Rattle.maptree.specs.Explained.{IsWalked, standing}
-use Rattle.maptree.proofs.Explaining.{fault_in, sound-here, ends-here, breaks-here}
-use Rattle.maptree.proofs.place.Walker.finish.Goals as goal
+use Rattle.mapfaults.specs.declared.place.Explained.{Explained}
+use Rattle.mapfaults.specs.declared.place.Finding.TheVariants as finding
+use Rattle.mapfaults.specs.Explained.{IsWalked, standing}
+use Rattle.mapfaults.proofs.Explaining.{fault_in, sound-here, ends-here, breaks-here}
+use Rattle.mapfaults.proofs.place.Walker.finish.Goals as goal
 
 pub returns-then-is_empty : goal.returns-then-is_empty
 returns-then-is_empty c = λ line.

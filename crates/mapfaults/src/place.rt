@@ -1,15 +1,13 @@
 ghost use Rattle.std.specs.Prelude.{◌≡◌, ℕ, [], ◌∷◌, None, Some, Ok, IfOk, MatchResult};
 ghost use Rattle.maplex.specs.Lexed.{lexed, stopped};
-ghost use Rattle.maptree.specs.Explained.{begun, stepped, IsStop, IsWalked, IsFinding, standing};
+ghost use Rattle.mapfaults.specs.Explained.{begun, stepped, IsStop, IsWalked, IsFinding, standing};
 
-use crate::context::{Block, Context, Expected, TextKeyword};
-use crate::draft::Drafts;
-use crate::fault::{Fault, ParseFault, ParseKind, fault_of, missing};
-use crate::keyword::Keyword;
-use crate::mapfile::next;
 use crate::openings::{Opening, Openings};
-use crate::step::read_token;
 use maplex::{Tail, Token, Tokens};
+use maptree::{
+    Block, Context, Drafts, Expected, Fault, Keyword, ParseFault, ParseKind, TextKeyword, fault_of,
+    missing, next_token, read_token,
+};
 use std::alloc::{AllocError, Global};
 
 /// The first fault of a mapfile, with what stands there.
@@ -175,7 +173,7 @@ fn walk<'a>(walker: Walker<'a>, tokens: &mut Tokens<'a>, alloc: Global) -> Findi
 {
     let mut at = walker;
     loop {
-        match next(tokens) {
+        match next_token(tokens) {
             Ok(token) => match at.take(&token, alloc) {
                 Ok(()) => {}
                 Err(ParseFault::At { line, kind }) => {
@@ -216,7 +214,7 @@ pub fn explain<'a>(alloc: Global, source: &'a [u8]) -> Finding<'a>
     ensures { IsFinding (lexed source.now) result }
 {
     let mut tokens = Tokens::new(source);
-    match next(&mut tokens) {
+    match next_token(&mut tokens) {
         Ok(token) if Keyword::Map.is_at(&token) => match Walker::new(&token, alloc) {
             Ok(walker) => walk(walker, &mut tokens, alloc),
             Err(_) => Finding::NoMemory,
