@@ -14,16 +14,16 @@ use Rattle.maptree.specs.declared.draft.Drafts.{Drafts}
 use Rattle.mapfaults.specs.declared.place.Explained.{Explained}
 use Rattle.mapfaults.specs.declared.place.Finding.{Finding}
 use Rattle.mapfaults.specs.declared.place.Finding.TheVariants as finding
-use Rattle.maptree.specs.declared.fault.Fault.{Fault}
-use Rattle.maptree.specs.declared.keyword.Keyword.TheVariants as keyword
-use Rattle.maptree.specs.declared.fault.ParseKind.{ParseKind}
-use Rattle.maptree.specs.declared.fault.ParseKind.TheVariants.{UnknownWord}
-use Rattle.maptree.specs.declared.fault.ParseFault.{ParseFault}
-use Rattle.maptree.specs.declared.fault.ParseFault.TheVariants.{At}
+use Rattle.mapwords.specs.declared.fault.Fault.{Fault}
+use Rattle.mapwords.specs.declared.keyword.Keyword.TheVariants as keyword
+use Rattle.mapwords.specs.declared.fault.ParseKind.{ParseKind}
+use Rattle.mapwords.specs.declared.fault.ParseKind.TheVariants.{UnknownWord}
+use Rattle.mapwords.specs.declared.fault.ParseFault.{ParseFault}
+use Rattle.mapwords.specs.declared.fault.ParseFault.TheVariants.{At}
 use Rattle.maptree.specs.Answer.{moved, goes_on}
 use Rattle.mapfaults.specs.Explained.{Standing, IsOpenAfter, IsAt, IsStop, IsWalked, IsFinding, begun, standing, stepped, stepped_in, walked}
-use Rattle.maptree.specs.Fault.{and_then, missing, lexical, fault_of}
-use Rattle.maptree.specs.Keyword.{is_at}
+use Rattle.mapwords.specs.Fault.{and_then, missing, lexical, fault_of}
+use Rattle.mapwords.specs.Keyword.{is_at}
 use Rattle.mapfaults.specs.Opening.{OpeningValue, opened}
 use Rattle.maptree.specs.Pass.{alone}
 use Rattle.maptree.specs.Step.{read_token}

@@ -2,22 +2,22 @@
 use Rattle.std.specs.Prelude.{◌≡◌, Bool, true, false, List, [], ◌∷◌, ◌++◌, map, Option, None, Some, Result, Ok, Err}
 use Rattle.maplex.specs.Lexed.{Lexed}
 use Rattle.maplex.specs.Token.{TokenValue}
-use Rattle.maptree.specs.declared.context.Block.TheVariants as block
+use Rattle.mapwords.specs.declared.role.Block.TheVariants as block
 use Rattle.maptree.specs.declared.context.Context.TheVariants.{Keywords}
 use Rattle.maptree.specs.declared.draft.Drafts.{Drafts}
 use Rattle.mapfaults.specs.declared.place.Explained.{Explained}
 use Rattle.mapfaults.specs.declared.place.Finding.{Finding}
 use Rattle.mapfaults.specs.declared.place.Finding.TheVariants as finding
-use Rattle.maptree.specs.declared.fault.Fault.{Fault}
-use Rattle.maptree.specs.declared.fault.ParseFault.{ParseFault}
-use Rattle.maptree.specs.declared.fault.ParseFault.TheVariants.{At, NoMemory}
-use Rattle.maptree.specs.declared.fault.ParseKind.TheVariants.{UnknownWord}
-use Rattle.maptree.specs.declared.keyword.Keyword.TheVariants as keyword
+use Rattle.mapwords.specs.declared.fault.Fault.{Fault}
+use Rattle.mapwords.specs.declared.fault.ParseFault.{ParseFault}
+use Rattle.mapwords.specs.declared.fault.ParseFault.TheVariants.{At, NoMemory}
+use Rattle.mapwords.specs.declared.fault.ParseKind.TheVariants.{UnknownWord}
+use Rattle.mapwords.specs.declared.keyword.Keyword.TheVariants as keyword
 use Rattle.maptree.specs.declared.tree.MapTree.{MapTree}
 use Rattle.maptree.specs.Answer.{goes_on}
 use Rattle.maptree.specs.Draft.{fresh}
-use Rattle.maptree.specs.Fault.{refused, and_then}
-use Rattle.maptree.specs.Keyword.{is_at}
+use Rattle.mapwords.specs.Fault.{refused, and_then}
+use Rattle.mapwords.specs.Keyword.{is_at}
 use Rattle.mapfaults.specs.Opening.{OpeningValue, opening, opened}
 use Rattle.maptree.specs.Source.{tree_of}
 use Rattle.maptree.specs.Step.{read_token}

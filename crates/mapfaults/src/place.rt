@@ -4,9 +4,9 @@ ghost use Rattle.mapfaults.specs.Explained.{begun, stepped, IsStop, IsWalked, Is
 
 use crate::openings::{Opening, Openings};
 use maplex::{Tail, Token, Tokens};
-use maptree::{
-    Block, Context, Drafts, Expected, Fault, Keyword, ParseFault, ParseKind, TextKeyword, fault_of,
-    missing, next_token, read_token,
+use maptree::{Context, Drafts, next_token, read_token};
+use mapwords::{
+    Block, Expected, Fault, Keyword, ParseFault, ParseKind, TextKeyword, fault_of, missing,
 };
 use std::alloc::{AllocError, Global};
 

@@ -5,7 +5,8 @@ use mapdefs::{
     MAX_CLASSES, MAX_FEATURES, MAX_ITEMS, MAX_LAYERS, MAX_STYLES, MAX_SYMBOLS, MAX_VERTICES,
 };
 use maplex::{Shape, Token};
-use maptree::{Block, Context, Expected, Keyword, ParseKind};
+use maptree::Context;
+use mapwords::{Block, Expected, Keyword, ParseKind};
 use std::alloc::{AllocError, Global};
 
 // The most characters that are shown of a word.

@@ -1,4 +1,4 @@
-use maptree::{Expected, OnlyWord};
+use mapwords::{Expected, OnlyWord};
 
 /// What is taken where a value is expected, in words.
 pub fn wanted(expected: Expected) -> &'static str {

@@ -1,14 +1,13 @@
 ghost use Rattle.std.specs.Prelude.{◌≡◌, Ok, Err, IfOk, IfErr, MatchResult};
 ghost use Rattle.maplex.specs.Lexed.{lexed, stopped, with_token};
-ghost use Rattle.maptree.specs.Fault.{IsFaultOf};
+ghost use Rattle.mapwords.specs.Fault.{IsFaultOf};
 ghost use Rattle.maptree.specs.Pass.{map_body, pass_of};
 ghost use Rattle.maptree.specs.Source.{tree_of};
 
-use crate::fault::{Fault, ParseFault, ParseKind, fault_of, missing};
-use crate::keyword::Keyword;
 use crate::reader::Reader;
 use crate::tree::MapTree;
 use maplex::{Tail, Token, Tokens};
+use mapwords::{Fault, Keyword, ParseFault, ParseKind, fault_of, missing};
 use std::alloc::Global;
 
 /// The next token, or what comes after the last one.
