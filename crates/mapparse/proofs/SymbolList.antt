@@ -4,9 +4,9 @@ use Rattle.std.specs.Prelude.{Result, Ok, Err}
 use Rattle.std.proofs.lemmas.List.{append_assoc}
 use Rattle.mapdefs.specs.declared.symbol.PixmapFields.{PixmapFields}
 use Rattle.mapdefs.specs.declared.symbol.Symbol.{Symbol}
-use Rattle.maptree.specs.declared.fault.Fault.{Fault}
+use Rattle.mapwords.specs.declared.fault.Fault.{Fault}
 use Rattle.maptree.specs.declared.tree.SymbolTree.{SymbolTree}
-use Rattle.maptree.specs.Fault.{and_then}
+use Rattle.mapwords.specs.Fault.{and_then}
 use Rattle.mapparse.specs.declared.files.FileBytes.{FileBytes}
 use Rattle.mapparse.specs.Symbols.{pixmap_in, symbols_of}
 

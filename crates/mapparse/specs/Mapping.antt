@@ -15,8 +15,8 @@ use Rattle.mapdefs.specs.declared.layer.LayerFields.{LayerFields}
 use Rattle.mapdefs.specs.declared.map.MapFields.{MapFields}
 use Rattle.mapdefs.specs.declared.style.StyleFields.{StyleFields}
 use Rattle.mapdefs.specs.declared.symbol.Symbol.{Symbol}
-use Rattle.maptree.specs.declared.fault.Fault.{Fault}
-use Rattle.maptree.specs.Fault.{and_then}
+use Rattle.mapwords.specs.declared.fault.Fault.{Fault}
+use Rattle.mapwords.specs.Fault.{and_then}
 use Rattle.maptree.specs.declared.tree.StyleTree.{StyleTree}
 use Rattle.maptree.specs.declared.tree.ClassTree.{ClassTree}
 use Rattle.maptree.specs.declared.tree.LabelTree.{LabelTree}

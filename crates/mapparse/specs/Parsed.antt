@@ -2,8 +2,8 @@
 use Rattle.std.specs.Prelude.{ℕ, List, Result, Ok}
 use Rattle.maplex.specs.Lexed.{lexed}
 use Rattle.mapdefs.specs.declared.map.MapFields.{MapFields}
-use Rattle.maptree.specs.declared.fault.Fault.{Fault}
-use Rattle.maptree.specs.Fault.{and_then}
+use Rattle.mapwords.specs.declared.fault.Fault.{Fault}
+use Rattle.mapwords.specs.Fault.{and_then}
 use Rattle.maptree.specs.Source.{tree_of}
 use Rattle.mapparse.specs.Mapping.{map_of}
 use Rattle.mapparse.specs.Symbols.{uses_of}

@@ -5,12 +5,12 @@ use Rattle.std.specs.Option.{option_or}
 use Rattle.mapdefs.specs.Name.{is_same_name}
 use Rattle.mapdefs.specs.declared.symbol.PixmapFields.{PixmapFields}
 use Rattle.mapdefs.specs.declared.symbol.Symbol.{Symbol}
-use Rattle.maptree.specs.declared.fault.Fault.{Fault}
-use Rattle.maptree.specs.declared.fault.ParseKind.TheVariants.{MissingFile, BadFile}
+use Rattle.mapwords.specs.declared.fault.Fault.{Fault}
+use Rattle.mapwords.specs.declared.fault.ParseKind.TheVariants.{MissingFile, BadFile}
 use Rattle.maptree.specs.declared.tree.MapTree.{MapTree}
 use Rattle.maptree.specs.declared.tree.Named.{Named}
 use Rattle.maptree.specs.declared.tree.SymbolTree.{SymbolTree}
-use Rattle.maptree.specs.Fault.{and_then}
+use Rattle.mapwords.specs.Fault.{and_then}
 use Rattle.symbols.specs.declared.fault.PixFault.{PixFault}
 use Rattle.symbols.specs.Format.{pixmap_of}
 use Rattle.mapparse.specs.declared.files.FileBytes.{FileBytes}

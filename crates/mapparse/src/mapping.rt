@@ -1,6 +1,6 @@
 ghost use Rattle.std.specs.Prelude.{◌≡◌, ◌≤◌, List, [], map, take, length, unwrap_or, Ok, IfOk, IfErr, OnOk};
 ghost use Rattle.mapdefs.specs.declared.symbol.Symbol.{Symbol as SymbolValue};
-ghost use Rattle.maptree.specs.Fault.{IsFaultOf};
+ghost use Rattle.mapwords.specs.Fault.{IsFaultOf};
 ghost use Rattle.std.specs.List.{slice_split};
 ghost use Rattle.geom.specs.World.{IsExtent};
 ghost use Rattle.mapdefs.specs.declared.limits.TheConstants.{MAX_FEATURES, MAX_LINE_WIDTH, MAX_SQUARE, MAX_TOLERANCE};
@@ -20,8 +20,9 @@ use mapdefs::{
 };
 use maptree::{
     Bounded, Capped, ClassRule, ClassTree, Extent, FeatureTree, LabelTree, LayerTree, MapTree,
-    ParseFault, StyleTree, texts_of,
+    ParseFault, StyleTree,
 };
+use mapwords::texts_of;
 use std::alloc::{AllocError, Global};
 
 /// A tree of a block, from which a part of the map is made.

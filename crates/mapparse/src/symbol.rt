@@ -1,6 +1,6 @@
 ghost use Rattle.std.specs.Prelude.{◌≡◌, ◌≤◌, length, Ok, IfOk, IfErr, OnOk};
 ghost use Rattle.mapdefs.specs.declared.limits.TheConstants.{MAX_SYMBOLS};
-ghost use Rattle.maptree.specs.Fault.{IsFaultOf};
+ghost use Rattle.mapwords.specs.Fault.{IsFaultOf};
 ghost use Rattle.mapparse.specs.Symbols.{last_named, symbol_index, pixmap_in, symbols_of, is_among, with_use, uses_of};
 
 use crate::files::Files;

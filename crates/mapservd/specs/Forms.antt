@@ -4,8 +4,8 @@ use Rattle.std.specs.Fmt.{decimal}
 use Rattle.std.specs.Io.KnownBytes.{Keeps, Appends, Consumes, IsAtEnd}
 use Rattle.mapdefs.specs.declared.map.MapFields.{MapFields}
 use Rattle.mapmachine.specs.Machine.{State}
-use Rattle.maptree.specs.declared.fault.Fault.{Fault}
-use Rattle.maptree.specs.Fault.{number_of}
+use Rattle.mapwords.specs.declared.fault.Fault.{Fault}
+use Rattle.mapwords.specs.Fault.{number_of}
 use Rattle.mapservd.specs.Folder.{Giving, ComesTo}
 use Rattle.mapservd.specs.Session.{Streams, IsTold, HasToldFault, Ends, opened}
 use Rattle.mapservd.specs.Summary.{summary_line, HasPartlySummed}

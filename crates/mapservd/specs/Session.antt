@@ -3,8 +3,8 @@ use Rattle.std.specs.Prelude.{◌≡◌, ℕ, ◌≤◌, Bool, true, false, List
 use Rattle.std.specs.Io.KnownBytes.{Keeps, Appends, Consumes, IsAtEnd}
 use Rattle.mapdefs.specs.declared.map.MapFields.{MapFields}
 use Rattle.mapmachine.specs.Machine.{State}
-use Rattle.maptree.specs.declared.fault.Fault.{Fault}
-use Rattle.maptree.specs.Fault.{number_of}
+use Rattle.mapwords.specs.declared.fault.Fault.{Fault}
+use Rattle.mapwords.specs.Fault.{number_of}
 use Rattle.mapservd.specs.Folder.{Giving, ComesTo}
 use Rattle.mapservd.specs.Parts.{AreParts}
 use Rattle.mapservd.specs.Playing.{HasPlayed, HasPartlyPlayed}

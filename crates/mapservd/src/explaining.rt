@@ -8,8 +8,9 @@ use crate::folder::Folder;
 use crate::outcome::Outcome;
 use crate::session::{read_map_of, tell, tell_mapfile_fault};
 use itoa::Buffer;
+use mapfaults::{Finding, explain};
 use mapmachine::{Sink, Source};
-use maptree::{Finding, ParseFault, ParseKind, explain};
+use mapwords::{ParseFault, ParseKind};
 use std::alloc::Global;
 
 // The words on the fault of a mapfile, whose kind is known. There are none where memory is refused.

@@ -3,11 +3,12 @@ use Rattle.std.proofs.Common.{◌≡◌, ℕ, zero, suc, ◌≤◌, List, [], �
 use Rattle.std.specs.Prelude.{Result, Ok, Err}
 use Rattle.maplex.specs.declared.fault.Tail.{Tail}
 use Rattle.maplex.specs.Token.{TokenValue}
-use Rattle.maptree.specs.declared.context.Block.{Block}
-use Rattle.maptree.specs.declared.fault.Fault.{Fault}
+use Rattle.mapwords.specs.declared.role.Block.{Block}
+use Rattle.mapwords.specs.declared.fault.Fault.{Fault}
 use Rattle.maptree.specs.Entries.{Entries, Nothing, with_block}
-use Rattle.maptree.specs.Fault.{and_then}
-use Rattle.maptree.specs.Meaning.{value_in, latitude_in, block_in, CountIsEnough}
+use Rattle.mapwords.specs.Fault.{and_then}
+use Rattle.mapwords.specs.Given.{value_in}
+use Rattle.maptree.specs.Meaning.{latitude_in, block_in, CountIsEnough}
 use Rattle.maptree.specs.Says.{Saying, Ends, Opens, Takes, Longitude, Passes, says}
 use Rattle.maptree.proofs.OnePass.{BlockRead, block_after, value-left, latitude-left}
 

@@ -5,17 +5,17 @@ use Rattle.maplex.specs.declared.fault.LexFault.{LexFault}
 use Rattle.maplex.specs.declared.fault.Tail.{Tail}
 use Rattle.maplex.specs.declared.fault.Tail.TheVariants.{Ends, Breaks}
 use Rattle.maplex.specs.Token.{TokenValue}
-use Rattle.maptree.specs.declared.context.Block.TheVariants as block
+use Rattle.mapwords.specs.declared.role.Block.TheVariants as block
 use Rattle.maptree.specs.declared.context.Context.{Context}
 use Rattle.maptree.specs.declared.context.Context.TheVariants.{Keywords}
 use Rattle.maptree.specs.declared.context.Move.{Move}
 use Rattle.maptree.specs.declared.context.Move.TheVariants.{GoesOn, Enters, Leaves}
 use Rattle.maptree.specs.declared.draft.Drafts.{Drafts}
-use Rattle.maptree.specs.declared.fault.Fault.{Fault}
-use Rattle.maptree.specs.declared.fault.ParseKind.TheVariants.{UnknownWord}
-use Rattle.maptree.specs.declared.keyword.Keyword.TheVariants as keyword
-use Rattle.maptree.specs.Fault.{and_then, lexical, refused}
-use Rattle.maptree.specs.Keyword.{is_at}
+use Rattle.mapwords.specs.declared.fault.Fault.{Fault}
+use Rattle.mapwords.specs.declared.fault.ParseKind.TheVariants.{UnknownWord}
+use Rattle.mapwords.specs.declared.keyword.Keyword.TheVariants as keyword
+use Rattle.mapwords.specs.Fault.{and_then, lexical, refused}
+use Rattle.mapwords.specs.Keyword.{is_at}
 use Rattle.maptree.specs.Draft.{fresh}
 use Rattle.maptree.specs.Step.{read_token}
 use Rattle.maptree.specs.Meaning as meaning

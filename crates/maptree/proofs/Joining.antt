@@ -9,10 +9,10 @@ use Rattle.maptree.specs.declared.context.Context.{Context}
 use Rattle.maptree.specs.declared.context.Move.{Move}
 use Rattle.maptree.specs.declared.context.Move.TheVariants.{GoesOn, Enters, Leaves}
 use Rattle.maptree.specs.declared.draft.Drafts.{Drafts}
-use Rattle.maptree.specs.declared.fault.Fault.{Fault}
-use Rattle.maptree.specs.declared.fault.ParseFault.{ParseFault}
-use Rattle.maptree.specs.declared.fault.ParseFault.TheVariants.{At, NoMemory}
-use Rattle.maptree.specs.Fault.{IsFaultOf, IsSound, IsErrorOf, missing, lexical}
+use Rattle.mapwords.specs.declared.fault.Fault.{Fault}
+use Rattle.mapwords.specs.declared.fault.ParseFault.{ParseFault}
+use Rattle.mapwords.specs.declared.fault.ParseFault.TheVariants.{At, NoMemory}
+use Rattle.mapwords.specs.Fault.{IsFaultOf, IsSound, IsErrorOf, missing, lexical}
 use Rattle.maptree.specs.declared.reader.Reader.{Reader}
 use Rattle.maptree.specs.Step.{read_token}
 use Rattle.maptree.specs.Pass.{reads}

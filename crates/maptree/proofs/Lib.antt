@@ -1,10 +1,7 @@
 mod Blocks
-mod Colours
-mod Explaining
 mod FirstFault
-mod Joining
-mod Lookup
-mod OnePass
+pub mod Joining
+pub mod OnePass
 mod OpenBlocks
 mod Reading
 mod Written

@@ -15,51 +15,52 @@ use Rattle.geom.specs.Number.{coordinate_of}
 use Rattle.geom.specs.World.{Area}
 use Rattle.mapdefs.specs.declared.colour.Rgb.{Rgb}
 use Rattle.mapdefs.specs.declared.layer.Kind.{Kind}
-use Rattle.maptree.specs.declared.colour.Component.{Component}
-use Rattle.maptree.specs.declared.context.Block.{Block}
-use Rattle.maptree.specs.declared.context.Block.TheVariants as block
-use Rattle.maptree.specs.declared.context.TextKeyword.TheVariants.{MapName, LayerName, ClassItem, LabelItem, Template, CsvX, CsvY, ServiceWmsTitle, ServiceOwsTitle, ServiceWmsUrl, ServiceOwsUrl, LayerWmsTitle, LayerOwsTitle, SymbolName, SymbolImage, StyleSymbol, FeatureText, FeatureItems}
-use Rattle.maptree.specs.declared.context.ColourKeyword.{ColourKeyword}
-use Rattle.maptree.specs.declared.context.ColourKeyword.TheVariants.{StyleColour, StyleOutline, LabelColour, LabelOutline, ImageColour}
-use Rattle.maptree.specs.declared.context.FlagKeyword.{FlagKeyword}
-use Rattle.maptree.specs.declared.context.FlagKeyword.TheVariants.{Partials, Force}
-use Rattle.maptree.specs.declared.context.ScaleKeyword.{ScaleKeyword}
-use Rattle.maptree.specs.declared.context.ScaleKeyword.TheVariants.{LayerMin, LayerMax, ClassMin, ClassMax}
+use Rattle.mapwords.specs.declared.colour.Component.{Component}
+use Rattle.mapwords.specs.declared.role.Block.{Block}
+use Rattle.mapwords.specs.declared.role.Block.TheVariants as block
+use Rattle.mapwords.specs.declared.role.TextKeyword.TheVariants.{MapName, LayerName, ClassItem, LabelItem, Template, CsvX, CsvY, ServiceWmsTitle, ServiceOwsTitle, ServiceWmsUrl, ServiceOwsUrl, LayerWmsTitle, LayerOwsTitle, SymbolName, SymbolImage, StyleSymbol, FeatureText, FeatureItems}
+use Rattle.mapwords.specs.declared.role.ColourKeyword.{ColourKeyword}
+use Rattle.mapwords.specs.declared.role.ColourKeyword.TheVariants.{StyleColour, StyleOutline, LabelColour, LabelOutline, ImageColour}
+use Rattle.mapwords.specs.declared.role.FlagKeyword.{FlagKeyword}
+use Rattle.mapwords.specs.declared.role.FlagKeyword.TheVariants.{Partials, Force}
+use Rattle.mapwords.specs.declared.role.ScaleKeyword.{ScaleKeyword}
+use Rattle.mapwords.specs.declared.role.ScaleKeyword.TheVariants.{LayerMin, LayerMax, ClassMin, ClassMax}
 use Rattle.maptree.specs.declared.context.Context.TheVariants.{Keywords, Values, Latitude}
-use Rattle.maptree.specs.declared.context.Expected.{Expected}
-use Rattle.maptree.specs.declared.context.Expected.TheVariants as expected
+use Rattle.mapwords.specs.declared.role.Expected.{Expected}
+use Rattle.mapwords.specs.declared.role.Expected.TheVariants as expected
 use Rattle.maptree.specs.declared.context.Move.TheVariants.{GoesOn, Enters, Leaves}
-use Rattle.maptree.specs.declared.context.Role.{Role}
-use Rattle.maptree.specs.declared.context.Role.TheVariants as role
+use Rattle.mapwords.specs.declared.role.Role.{Role}
+use Rattle.mapwords.specs.declared.role.Role.TheVariants as role
 use Rattle.maptree.specs.declared.draft.Drafts.{Drafts}
-use Rattle.maptree.specs.declared.fault.Fault.{Fault}
-use Rattle.maptree.specs.declared.fault.ParseKind.TheVariants.{UnknownWord, WrongValue, MissingValue, Limit, BadExpression}
-use Rattle.maptree.specs.declared.keyword.Keyword.TheVariants as keyword
+use Rattle.mapwords.specs.declared.fault.Fault.{Fault}
+use Rattle.mapwords.specs.declared.fault.ParseKind.TheVariants.{UnknownWord, WrongValue, MissingValue, Limit, BadExpression}
+use Rattle.mapwords.specs.declared.keyword.Keyword.TheVariants as keyword
 use Rattle.maptree.specs.declared.tree.MapTree.{MapTree}
-use Rattle.maptree.specs.declared.value.Value.{Value}
-use Rattle.maptree.specs.declared.value.Value.TheVariants as value
-use Rattle.maptree.specs.declared.value.ValueStep.{ValueStep}
-use Rattle.maptree.specs.declared.value.ValueStep.TheVariants.{More, Whole}
-use Rattle.maptree.specs.Count.{bounded_of, number_in}
-use Rattle.maptree.specs.Extent.{extent_of}
-use Rattle.maptree.specs.Label.{position_of, flag_of, distance_of}
-use Rattle.maptree.specs.Rule.{rule_of, is_comma}
-use Rattle.maptree.specs.Setting.{web_expects, layer_expects, setting_in, names_step, keyed_step, parted_step}
-use Rattle.maptree.specs.Colour.{component_of, rgb_of}
+use Rattle.mapwords.specs.declared.value.Value.{Value}
+use Rattle.mapwords.specs.declared.value.Value.TheVariants as value
+use Rattle.mapwords.specs.declared.value.ValueStep.{ValueStep}
+use Rattle.mapwords.specs.declared.value.ValueStep.TheVariants.{More, Whole}
+use Rattle.mapwords.specs.Count.{bounded_of, number_in}
+use Rattle.mapwords.specs.Extent.{extent_of}
+use Rattle.mapwords.specs.Label.{position_of, flag_of, distance_of}
+use Rattle.mapwords.specs.Rule.{rule_of, is_comma}
+use Rattle.mapwords.specs.Setting.{web_expects, layer_expects, setting_in, names_step, keyed_step, parted_step}
+use Rattle.mapwords.specs.Colour.{component_of, rgb_of}
 use Rattle.maptree.specs.Draft.{with_value}
 use Rattle.maptree.specs.Draft as draft
 use Rattle.maptree.specs.End.{ends}
 use Rattle.maptree.specs.Entries.{Entries, Nothing, Vertex, with_said, with_block, vertex_count}
-use Rattle.maptree.specs.Fault.{fault_of, refused, and_then}
-use Rattle.maptree.specs.Keyword.{keyword_at, is_at, is_end}
+use Rattle.mapwords.specs.Fault.{fault_of, refused, and_then}
+use Rattle.mapwords.specs.Keyword.{keyword_at, is_at, is_end}
 use Rattle.maptree.specs.Meaning as meaning
-use Rattle.maptree.specs.Meaning.{Given, value_in, latitude_in, block_in, map_in}
+use Rattle.mapwords.specs.Given.{Given, value_in}
+use Rattle.maptree.specs.Meaning.{latitude_in, block_in, map_in}
 use Rattle.maptree.specs.Pass as pass
 use Rattle.maptree.specs.Pass.{reads, passed}
 use Rattle.maptree.specs.Says.{Saying, Ends, Opens, Takes, Longitude, Passes, closing_fault, ends_unless, is_full, role_says, says, vertex_says, passed_says}
 use Rattle.maptree.specs.Step.{read_end, read_role, note_step, coordinate_at, pass_over, read_token}
 use Rattle.maptree.specs.Tree.{map_tree}
-use Rattle.maptree.specs.Value.{is_value, value_step, step_in, plain_step, may_take, hex_at, kind_of, colour_step, only_text, unused_step, east_step, north_step, coordinate_in}
+use Rattle.mapwords.specs.Value.{is_value, value_step, step_in, plain_step, may_take, hex_at, kind_of, colour_step, only_text, unused_step, east_step, north_step, coordinate_in}
 use Rattle.maptree.proofs.OpenBlocks.{OpenBlocks, only_map, metadata-ends, drafts_of, in_block, above, after_end, Nests, Suits, Fits, fits-option, Frees, projection-frees, passed-frees, label-frees, same-room, unless_fault, same-end}
 use Rattle.maptree.proofs.Reading.{Ended, LeavesAtMost, read_after, reads-at_most, reads-enough}
 

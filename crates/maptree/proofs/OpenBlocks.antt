@@ -7,22 +7,22 @@ use Rattle.maplex.specs.Token.{TokenValue}
 use Rattle.mapdefs.specs.declared.layer.Kind.{Kind}
 use Rattle.mapdefs.specs.declared.layer.Kind.TheVariants.{Polygon}
 use Rattle.mapdefs.specs.declared.limits.TheConstants.{MAX_SYMBOLS, MAX_LAYERS, MAX_CLASSES, MAX_STYLES, MAX_FEATURES}
-use Rattle.maptree.specs.declared.context.Block.{Block}
-use Rattle.maptree.specs.declared.context.Block.TheVariants as block
-use Rattle.maptree.specs.declared.context.TextKeyword.TheVariants.{MapName, LayerName, ClassItem, LabelItem, Template, CsvX, CsvY, ServiceWmsTitle, ServiceOwsTitle, ServiceWmsUrl, ServiceOwsUrl, LayerWmsTitle, LayerOwsTitle, SymbolName, SymbolImage, StyleSymbol, FeatureText, FeatureItems}
-use Rattle.maptree.specs.declared.context.ColourKeyword.TheVariants.{StyleColour, StyleOutline, LabelColour, LabelOutline}
-use Rattle.maptree.specs.declared.context.ScaleKeyword.TheVariants.{LayerMin, LayerMax, ClassMin, ClassMax}
-use Rattle.maptree.specs.declared.context.Expected.{Expected}
-use Rattle.maptree.specs.declared.context.Expected.TheVariants as expected
-use Rattle.maptree.specs.declared.context.Role.{Role}
-use Rattle.maptree.specs.declared.context.Role.TheVariants as role
+use Rattle.mapwords.specs.declared.role.Block.{Block}
+use Rattle.mapwords.specs.declared.role.Block.TheVariants as block
+use Rattle.mapwords.specs.declared.role.TextKeyword.TheVariants.{MapName, LayerName, ClassItem, LabelItem, Template, CsvX, CsvY, ServiceWmsTitle, ServiceOwsTitle, ServiceWmsUrl, ServiceOwsUrl, LayerWmsTitle, LayerOwsTitle, SymbolName, SymbolImage, StyleSymbol, FeatureText, FeatureItems}
+use Rattle.mapwords.specs.declared.role.ColourKeyword.TheVariants.{StyleColour, StyleOutline, LabelColour, LabelOutline}
+use Rattle.mapwords.specs.declared.role.ScaleKeyword.TheVariants.{LayerMin, LayerMax, ClassMin, ClassMax}
+use Rattle.mapwords.specs.declared.role.Expected.{Expected}
+use Rattle.mapwords.specs.declared.role.Expected.TheVariants as expected
+use Rattle.mapwords.specs.declared.role.Role.{Role}
+use Rattle.mapwords.specs.declared.role.Role.TheVariants as role
 use Rattle.maptree.specs.declared.draft.Drafts.{Drafts}
 use Rattle.maptree.specs.declared.draft.LayerDraft.{LayerDraft}
 use Rattle.maptree.specs.declared.tree.Named.{Named}
-use Rattle.maptree.specs.declared.fault.Fault.{Fault}
-use Rattle.maptree.specs.declared.fault.ParseKind.TheVariants.{DuplicateName}
-use Rattle.maptree.specs.declared.keyword.Keyword.{Keyword}
-use Rattle.maptree.specs.declared.keyword.Keyword.TheVariants as keyword
+use Rattle.mapwords.specs.declared.fault.Fault.{Fault}
+use Rattle.mapwords.specs.declared.fault.ParseKind.TheVariants.{DuplicateName}
+use Rattle.mapwords.specs.declared.keyword.Keyword.{Keyword}
+use Rattle.mapwords.specs.declared.keyword.Keyword.TheVariants as keyword
 use Rattle.maptree.specs.declared.tree.LayerTree.{LayerTree}
 use Rattle.maptree.specs.Draft as draft
 use Rattle.maptree.specs.End.{layer_with, finished_layer, finished_symbol, ends}
@@ -30,12 +30,12 @@ use Rattle.maptree.specs.End as end
 use Rattle.maptree.specs.Symbol.{symbol_fault, map_fault}
 use Rattle.maptree.specs.declared.tree.SymbolTree.{SymbolTree}
 use Rattle.maptree.specs.Entries.{Entries, Nothing, Inside, with_block, last, blocks, last_block, last_within, vertices}
-use Rattle.maptree.specs.Fault.{and_then}
+use Rattle.mapwords.specs.Fault.{and_then}
 use Rattle.maptree.specs.Name.{is_taken}
 use Rattle.maptree.specs.Says.{layer_fault, closing_fault, is_full}
-use Rattle.maptree.specs.Table.{map_role, web_role, symbol_role, layer_role, class_role, style_role, label_role, feature_role, passed_role, passed_label_role, end_role, role_of}
+use Rattle.mapwords.specs.Table.{map_role, web_role, symbol_role, layer_role, class_role, style_role, label_role, feature_role, passed_role, passed_label_role, end_role, role_of}
 use Rattle.maptree.specs.Tree.{style_tree, label_tree, class_tree, feature_tree, layer_name, layer_kind, class_item, label_item, template, layer_tolerance, layer_min, layer_max, layer_items, layer_csv_x, layer_csv_y, layer_wms_title, layer_ows_title, feature_text, feature_items, layer_tree, symbol_name, symbol_kind, symbol_image, symbol_tree, service_wms_title, service_ows_title, service_wms_url, service_ows_url, web_text, service_text, map_tree}
-use Rattle.maptree.specs.declared.value.Value.{Value}
+use Rattle.mapwords.specs.declared.value.Value.{Value}
 
 -- what the open blocks say so far; a block that isn't open says nothing
 pub record OpenBlocks : Type 0 where

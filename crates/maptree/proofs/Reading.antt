@@ -7,8 +7,8 @@ use Rattle.maptree.specs.declared.context.Context.{Context}
 use Rattle.maptree.specs.declared.context.Move.{Move}
 use Rattle.maptree.specs.declared.context.Move.TheVariants.{GoesOn, Enters, Leaves}
 use Rattle.maptree.specs.declared.draft.Drafts.{Drafts}
-use Rattle.maptree.specs.declared.fault.Fault.{Fault}
-use Rattle.maptree.specs.Fault.{and_then}
+use Rattle.mapwords.specs.declared.fault.Fault.{Fault}
+use Rattle.mapwords.specs.Fault.{and_then}
 use Rattle.maptree.specs.Step.{read_token}
 use Rattle.maptree.specs.Pass.{reads}
 

@@ -23,25 +23,26 @@ use Rattle.mapdefs.specs.declared.limits.TheConstants.{MAX_VERTICES, MAX_LINE_WI
 use Rattle.mapdefs.specs.declared.layer.Kind.TheVariants.{Point, Line, Polygon}
 use Rattle.mapdefs.specs.declared.label.Position.{Position}
 use Rattle.mapdefs.specs.declared.label.Position.TheVariants.{UpperLeft, UpperCentre, UpperRight, CentreLeft, Centre, CentreRight, LowerLeft, LowerCentre, LowerRight, Automatic}
-use Rattle.maptree.specs.declared.context.ColourKeyword.TheVariants.{StyleColour, StyleOutline, LabelColour, LabelOutline}
-use Rattle.maptree.specs.Rule.{is_comma}
-use Rattle.maptree.specs.Setting.{setting_in}
-use Rattle.maptree.specs.Label.{position_of, flag_of, distance_of}
-use Rattle.maptree.specs.declared.context.Block.{Block}
-use Rattle.maptree.specs.declared.context.Block.TheVariants as block
-use Rattle.maptree.specs.declared.keyword.Keyword.TheVariants.{End}
-use Rattle.maptree.specs.declared.value.Value.{Value}
-use Rattle.maptree.specs.declared.value.Value.TheVariants as value
+use Rattle.mapwords.specs.declared.role.ColourKeyword.TheVariants.{StyleColour, StyleOutline, LabelColour, LabelOutline}
+use Rattle.mapwords.specs.Rule.{is_comma}
+use Rattle.mapwords.specs.Setting.{setting_in}
+use Rattle.mapwords.specs.Label.{position_of, flag_of, distance_of}
+use Rattle.mapwords.specs.declared.role.Block.{Block}
+use Rattle.mapwords.specs.declared.role.Block.TheVariants as block
+use Rattle.mapwords.specs.declared.keyword.Keyword.TheVariants.{End}
+use Rattle.mapwords.specs.declared.value.Value.{Value}
+use Rattle.mapwords.specs.declared.value.Value.TheVariants as value
 use Rattle.mapdefs.specs.declared.class.Rule.TheVariants.{OneOf}
-use Rattle.maptree.specs.Count.{bounded_of, number_in}
+use Rattle.mapwords.specs.Count.{bounded_of, number_in}
 use Rattle.maptree.specs.Entries.{Entries, Nothing, Said, Vertex, Inside, vertex_count}
-use Rattle.maptree.specs.Fault.{and_then}
-use Rattle.maptree.specs.Keyword.{spelling, is_spelt}
-use Rattle.maptree.specs.Meaning.{value_in, block_in, alone}
+use Rattle.mapwords.specs.Fault.{and_then}
+use Rattle.mapwords.specs.Keyword.{spelling, is_spelt}
+use Rattle.mapwords.specs.Given.{value_in}
+use Rattle.maptree.specs.Meaning.{block_in, alone}
 use Rattle.maptree.specs.Says.{closing_fault, is_full}
 use Rattle.maptree.specs.Written.{bare, written_value, block_text, written_out, position_text, flag_text, HasNoComma, IsValueIn, map_name, map_extent, service_wms_title, service_ows_title, service_wms_url, service_ows_url, layer_wms_title, layer_ows_title, symbol_name, symbol_kind, symbol_image, style_symbol, layer_name, class_item, label_item, template, csv_x, csv_y, layer_items, layer_min, layer_max, class_min, class_max, class_equals, class_one_of, label_priority, label_buffer, label_distance, label_position, label_partials, label_force, no_label_colour, label_colour, no_label_outline, label_outline, feature_text, feature_items, style_width, style_size, layer_tolerance, layer_kind, no_colour, style_colour, no_outline, style_outline, IsBlockIn, symbol, layer, class, feature, style, points, label, web, web_metadata, layer_metadata, MaySay, nothing, said, vertex, inside, WrittenIsRead}
 use Rattle.maptree.proofs.Blocks.{block-enough}
-use Rattle.maptree.proofs.Colours.{counts_of}
+use Rattle.mapwords.proofs.Colours.{counts_of}
 
 -- the first letter of END is no digit
 abbrev is_other : ℕ → Bool

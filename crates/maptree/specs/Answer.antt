@@ -7,14 +7,14 @@ use Rattle.maplex.specs.Token.{TokenValue}
 use Rattle.maptree.specs.declared.context.Context.{Context}
 use Rattle.maptree.specs.declared.context.Move.{Move}
 use Rattle.maptree.specs.declared.context.Move.TheVariants.{GoesOn, Enters, Leaves}
-use Rattle.maptree.specs.declared.fault.Fault.{Fault}
-use Rattle.maptree.specs.declared.fault.ParseKind.TheVariants.{BadExpression}
-use Rattle.maptree.specs.declared.fault.ParseFault.{ParseFault}
-use Rattle.maptree.specs.declared.fault.ParseFault.TheVariants.{At, NoMemory}
+use Rattle.mapwords.specs.declared.fault.Fault.{Fault}
+use Rattle.mapwords.specs.declared.fault.ParseKind.TheVariants.{BadExpression}
+use Rattle.mapwords.specs.declared.fault.ParseFault.{ParseFault}
+use Rattle.mapwords.specs.declared.fault.ParseFault.TheVariants.{At, NoMemory}
 use Rattle.maptree.specs.declared.tree.MapTree.{MapTree}
 use Rattle.maptree.specs.declared.draft.Drafts.{Drafts}
 use Rattle.maptree.specs.declared.reader.Reader.{Reader}
-use Rattle.maptree.specs.Fault.{and_then, lexical}
+use Rattle.mapwords.specs.Fault.{and_then, lexical}
 use Rattle.maptree.specs.Pass.{reads, alone}
 
 -- the contexts that are open after a token of a context inside others, the innermost first

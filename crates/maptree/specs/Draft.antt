@@ -1,19 +1,19 @@
 -- What was read of the open blocks (docs/MAPFILE.md, "Blocks and words").
 use Rattle.std.specs.Prelude.{ℕ, ℤ, Bool, true, false, nat_le, List, [], length, Option, None, Some, is_some}
 use Rattle.mapdefs.specs.declared.limits.TheConstants.{MAX_SYMBOLS, MAX_LAYERS, MAX_CLASSES, MAX_STYLES, MAX_FEATURES}
-use Rattle.maptree.specs.declared.context.Block.{Block}
-use Rattle.maptree.specs.declared.context.Block.TheVariants as block
-use Rattle.maptree.specs.declared.context.TextKeyword.{TextKeyword}
-use Rattle.maptree.specs.declared.context.TextKeyword.TheVariants.{MapName, LayerName, ClassItem, LabelItem, Template, CsvX, CsvY, ServiceWmsTitle, ServiceOwsTitle, ServiceWmsUrl, ServiceOwsUrl, LayerWmsTitle, LayerOwsTitle, SymbolName, SymbolImage, StyleSymbol, FeatureText, FeatureItems}
-use Rattle.maptree.specs.declared.context.ColourKeyword.{ColourKeyword}
-use Rattle.maptree.specs.declared.context.ColourKeyword.TheVariants.{StyleColour, StyleOutline, LabelColour, LabelOutline, ImageColour}
-use Rattle.maptree.specs.declared.context.FlagKeyword.{FlagKeyword}
-use Rattle.maptree.specs.declared.context.FlagKeyword.TheVariants.{Partials, Force}
-use Rattle.maptree.specs.declared.context.ScaleKeyword.{ScaleKeyword}
-use Rattle.maptree.specs.declared.context.ScaleKeyword.TheVariants.{LayerMin, LayerMax, ClassMin, ClassMax}
+use Rattle.mapwords.specs.declared.role.Block.{Block}
+use Rattle.mapwords.specs.declared.role.Block.TheVariants as block
+use Rattle.mapwords.specs.declared.role.TextKeyword.{TextKeyword}
+use Rattle.mapwords.specs.declared.role.TextKeyword.TheVariants.{MapName, LayerName, ClassItem, LabelItem, Template, CsvX, CsvY, ServiceWmsTitle, ServiceOwsTitle, ServiceWmsUrl, ServiceOwsUrl, LayerWmsTitle, LayerOwsTitle, SymbolName, SymbolImage, StyleSymbol, FeatureText, FeatureItems}
+use Rattle.mapwords.specs.declared.role.ColourKeyword.{ColourKeyword}
+use Rattle.mapwords.specs.declared.role.ColourKeyword.TheVariants.{StyleColour, StyleOutline, LabelColour, LabelOutline, ImageColour}
+use Rattle.mapwords.specs.declared.role.FlagKeyword.{FlagKeyword}
+use Rattle.mapwords.specs.declared.role.FlagKeyword.TheVariants.{Partials, Force}
+use Rattle.mapwords.specs.declared.role.ScaleKeyword.{ScaleKeyword}
+use Rattle.mapwords.specs.declared.role.ScaleKeyword.TheVariants.{LayerMin, LayerMax, ClassMin, ClassMax}
 use Rattle.mapdefs.specs.declared.colour.Rgb.{Rgb}
-use Rattle.maptree.specs.declared.value.Value.{Value}
-use Rattle.maptree.specs.declared.value.Value.TheVariants as value
+use Rattle.mapwords.specs.declared.value.Value.{Value}
+use Rattle.mapwords.specs.declared.value.Value.TheVariants as value
 use Rattle.maptree.specs.declared.tree.ClassTree.{ClassTree}
 use Rattle.maptree.specs.declared.tree.StyleTree.{StyleTree}
 use Rattle.maptree.specs.declared.tree.LabelTree.{LabelTree}

@@ -3,16 +3,16 @@ use Rattle.std.specs.Prelude.{ℕ, ◌==◌, if◌then◌else◌, List, [], ◌�
 use Rattle.maplex.specs.Token.{TokenValue}
 use Rattle.mapdefs.specs.declared.layer.Kind.{Kind}
 use Rattle.maptree.specs.Name.{is_taken}
-use Rattle.maptree.specs.declared.context.Block.{Block}
-use Rattle.maptree.specs.declared.context.Block.TheVariants as block
-use Rattle.maptree.specs.declared.fault.Fault.{Fault}
-use Rattle.maptree.specs.declared.fault.ParseKind.TheVariants.{MissingValue, DuplicateName}
+use Rattle.mapwords.specs.declared.role.Block.{Block}
+use Rattle.mapwords.specs.declared.role.Block.TheVariants as block
+use Rattle.mapwords.specs.declared.fault.Fault.{Fault}
+use Rattle.mapwords.specs.declared.fault.ParseKind.TheVariants.{MissingValue, DuplicateName}
 use Rattle.maptree.specs.declared.tree.LayerTree.{LayerTree}
 use Rattle.maptree.specs.declared.tree.SymbolTree.{SymbolTree}
 use Rattle.maptree.specs.declared.tree.Named.{Named}
 use Rattle.maptree.specs.declared.draft.LayerDraft.{LayerDraft}
 use Rattle.maptree.specs.declared.draft.Drafts.{Drafts}
-use Rattle.maptree.specs.Fault.{refused, and_then}
+use Rattle.mapwords.specs.Fault.{refused, and_then}
 use Rattle.maptree.specs.Parts.{with_part}
 use Rattle.maptree.specs.Symbol.{map_fault}
 use Rattle.maptree.specs.Draft.{new_symbol, new_layer, new_class, new_style, new_label, new_feature}

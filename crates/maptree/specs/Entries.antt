@@ -2,11 +2,11 @@
 use Rattle.std.specs.Prelude.{ℕ, ◌+◌, ◌==◌, if◌then◌else◌, List, [], ◌∷◌, ◌++◌, length, map, sum_by, Option, None, Some}
 use Rattle.std.specs.Option.{option_or}
 use Rattle.geom.specs.World.{Place}
-use Rattle.maptree.specs.declared.context.Block.{Block}
-use Rattle.maptree.specs.declared.context.Block.TheVariants as block
-use Rattle.maptree.specs.declared.context.ColourKeyword.TheVariants.{ImageColour}
-use Rattle.maptree.specs.declared.value.Value.{Value}
-use Rattle.maptree.specs.declared.value.Value.TheVariants as value
+use Rattle.mapwords.specs.declared.role.Block.{Block}
+use Rattle.mapwords.specs.declared.role.Block.TheVariants as block
+use Rattle.mapwords.specs.declared.role.ColourKeyword.TheVariants.{ImageColour}
+use Rattle.mapwords.specs.declared.value.Value.{Value}
+use Rattle.mapwords.specs.declared.value.Value.TheVariants as value
 
 -- the entries of a block, the last one first: a keyword with its value and the line of the value's last token, a vertex,
 -- or an inner block with its own entries

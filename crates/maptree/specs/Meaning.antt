@@ -1,41 +1,21 @@
 -- What the tokens of a mapfile mean (docs/MAPFILE.md, "Blocks and words").
-use Rattle.std.specs.Prelude.{◌≡◌, ◌≢◌, ℕ, ℤ, zero, suc, ◌<◌, ◌≤◌, if◌then◌else◌, List, [], ◌∷◌, ◌++◌, length, IsTrue, Some, Result, Ok, Err}
-use Rattle.std.specs.Fmt.{decimal}
+use Rattle.std.specs.Prelude.{◌≡◌, ◌≢◌, ℕ, ℤ, zero, suc, ◌≤◌, if◌then◌else◌, List, [], ◌∷◌, ◌++◌, length, Result, Ok, Err}
 use Rattle.std.specs.Option.{ok_or}
 use Rattle.maplex.specs.declared.fault.LexFault.{LexFault}
 use Rattle.maplex.specs.declared.fault.Tail.{Tail}
 use Rattle.maplex.specs.declared.fault.Tail.TheVariants as tails
 use Rattle.maplex.specs.Token.{TokenValue}
-use Rattle.maptree.specs.declared.context.Block.{Block}
-use Rattle.maptree.specs.declared.context.Block.TheVariants as block
-use Rattle.maptree.specs.declared.context.ColourKeyword.TheVariants.{StyleColour}
-use Rattle.maptree.specs.declared.context.Expected.{Expected}
-use Rattle.maptree.specs.declared.context.Expected.TheVariants as expected
-use Rattle.maptree.specs.declared.keyword.Keyword.TheVariants as keyword
-use Rattle.maptree.specs.declared.value.Value.{Value}
-use Rattle.maptree.specs.declared.value.Value.TheVariants as value
-use Rattle.maptree.specs.declared.value.ValueStep.TheVariants.{More, Whole}
-use Rattle.maptree.specs.declared.fault.Fault.{Fault}
-use Rattle.maptree.specs.declared.fault.ParseKind.TheVariants.{UnknownWord, WrongValue, MissingValue}
+use Rattle.mapwords.specs.declared.role.Block.{Block}
+use Rattle.mapwords.specs.declared.role.Block.TheVariants as block
+use Rattle.mapwords.specs.declared.keyword.Keyword.TheVariants as keyword
+use Rattle.mapwords.specs.declared.fault.Fault.{Fault}
+use Rattle.mapwords.specs.declared.fault.ParseKind.TheVariants.{UnknownWord, WrongValue, MissingValue}
 use Rattle.maptree.specs.Entries.{Entries, Nothing, Vertex, with_said, with_block}
-use Rattle.maptree.specs.Fault.{fault_of, refused, lexical, missing, and_then}
-use Rattle.maptree.specs.Keyword.{is_at, is_end}
+use Rattle.mapwords.specs.Fault.{fault_of, refused, lexical, missing, and_then}
+use Rattle.mapwords.specs.Keyword.{is_at, is_end}
 use Rattle.maptree.specs.Says.{says, Ends, Opens, Takes, Longitude, Passes}
-use Rattle.maptree.specs.Value.{is_value, value_step, coordinate_in}
-
--- a value that was given, the line of its last token, and the tokens after it
-pub record Given : Type 0 where
-  pub value : Value
-  pub line : ℕ
-  pub rest : List TokenValue
-
--- the value that a keyword takes of the tokens after it
-unfoldable pub value_in : Tail → Expected → List TokenValue → Result Given Fault
-value_in tail expected [] = Err (missing tail)
-value_in tail expected (t ∷ ts) = if is_end t then refused MissingValue t else and_then (value_step expected t) (λ step. elim step [
-  | More next ↦ value_in tail next ts
-  | Whole value ↦ Ok (record { value = value; line = t.line; rest = ts })
-])
+use Rattle.mapwords.specs.Given.{value_in}
+use Rattle.mapwords.specs.Value.{coordinate_in}
 
 -- the latitude of a vertex, and the tokens after it
 abbrev pub latitude_in : Tail → List TokenValue → Result (ℤ × List TokenValue) Fault
@@ -82,12 +62,3 @@ CountIsEnough = (tail : Tail) (n m : ℕ) (b : Block) (above own : Entries) (ts 
 abbrev pub FirstFaultIsTold : Type 0
 FirstFaultIsTold = (front rest : List TokenValue) (f : LexFault) (g : Fault) (tail : Tail) →
     meaning front (tails.Breaks f) ≡ Err g → g ≢ lexical f → meaning (front ++ rest) tail ≡ Err g
-
--- the law that three counts after COLOR, bare or quoted and in decimals, are the red, the green and the blue of the style's colour
-abbrev pub CountsAreColour : Type 0
-CountsAreColour = (red green blue : ℕ) → red < 256 → green < 256 → blue < 256 →
-    (tail : Tail) (r g b : TokenValue) (ts : List TokenValue) →
-    IsTrue (is_value r.shape) → IsTrue (is_value g.shape) → IsTrue (is_value b.shape) →
-    r.text ≡ decimal red → g.text ≡ decimal green → b.text ≡ decimal blue →
-    value_in tail (expected.Colour StyleColour) (r ∷ g ∷ b ∷ ts)
-    ≡ Ok (record { value = value.Colour StyleColour (Some (record { red = red; green = green; blue = blue })); line = b.line; rest = ts })

@@ -4,23 +4,23 @@ use Rattle.std.specs.Option.{ok_or}
 use Rattle.maplex.specs.Token.{TokenValue}
 use Rattle.mapdefs.specs.declared.limits.TheConstants.{MAX_SYMBOLS, MAX_LAYERS, MAX_CLASSES, MAX_STYLES, MAX_FEATURES, MAX_VERTICES}
 use Rattle.mapdefs.specs.declared.layer.Kind.{Kind}
-use Rattle.maptree.specs.declared.context.Block.{Block}
-use Rattle.maptree.specs.declared.context.Block.TheVariants as block
-use Rattle.maptree.specs.declared.context.Expected.{Expected}
-use Rattle.maptree.specs.declared.context.Role.{Role}
-use Rattle.maptree.specs.declared.context.Role.TheVariants as role
+use Rattle.mapwords.specs.declared.role.Block.{Block}
+use Rattle.mapwords.specs.declared.role.Block.TheVariants as block
+use Rattle.mapwords.specs.declared.role.Expected.{Expected}
+use Rattle.mapwords.specs.declared.role.Role.{Role}
+use Rattle.mapwords.specs.declared.role.Role.TheVariants as role
 use Rattle.maptree.specs.declared.tree.Named.{Named}
-use Rattle.maptree.specs.declared.fault.Fault.{Fault}
-use Rattle.maptree.specs.declared.fault.ParseKind.TheVariants.{UnknownWord, WrongValue, MissingValue, Limit, DuplicateName}
+use Rattle.mapwords.specs.declared.fault.Fault.{Fault}
+use Rattle.mapwords.specs.declared.fault.ParseKind.TheVariants.{UnknownWord, WrongValue, MissingValue, Limit, DuplicateName}
 use Rattle.maptree.specs.declared.tree.LayerTree.{LayerTree}
 use Rattle.maptree.specs.Entries.{Entries, last, blocks, last_block, vertices, vertex_count}
-use Rattle.maptree.specs.Fault.{fault_of, refused, and_then}
+use Rattle.mapwords.specs.Fault.{fault_of, refused, and_then}
 use Rattle.maptree.specs.Name.{is_taken}
-use Rattle.maptree.specs.Setting.{pair_expects}
-use Rattle.maptree.specs.Keyword.{keyword_at, is_end}
-use Rattle.maptree.specs.Table.{role_of}
+use Rattle.mapwords.specs.Setting.{pair_expects}
+use Rattle.mapwords.specs.Keyword.{keyword_at, is_end}
+use Rattle.mapwords.specs.Table.{role_of}
 use Rattle.maptree.specs.Symbol.{symbol_fault, map_fault}
-use Rattle.maptree.specs.Value.{is_value, coordinate_in}
+use Rattle.mapwords.specs.Value.{is_value, coordinate_in}
 use Rattle.maptree.specs.Tree.{symbol_name, symbol_kind, symbol_image, layer_name, layer_kind, map_tree}
 
 -- what a token says: the block ends, an inner block opens, a keyword takes values, a vertex has this longitude, or nothing

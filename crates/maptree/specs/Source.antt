@@ -1,9 +1,9 @@
 -- What a source says (docs/MAPFILE.md, "Blocks and words").
 use Rattle.std.specs.Prelude.{Result, Ok}
 use Rattle.maplex.specs.Lexed.{Lexed}
-use Rattle.maptree.specs.declared.fault.Fault.{Fault}
+use Rattle.mapwords.specs.declared.fault.Fault.{Fault}
 use Rattle.maptree.specs.declared.tree.MapTree.{MapTree}
-use Rattle.maptree.specs.Fault.{and_then}
+use Rattle.mapwords.specs.Fault.{and_then}
 use Rattle.maptree.specs.Meaning.{meaning}
 use Rattle.maptree.specs.Tree.{map_tree}
 

@@ -3,25 +3,25 @@ use Rattle.std.specs.Prelude.{ℤ, if◌then◌else◌, nat_le, Option, None, So
 use Rattle.std.specs.Option.{ok_or}
 use Rattle.maplex.specs.Token.{TokenValue}
 use Rattle.mapdefs.specs.declared.limits.TheConstants.{MAX_VERTICES}
-use Rattle.maptree.specs.declared.context.Block.{Block}
-use Rattle.maptree.specs.declared.context.Block.TheVariants as block
-use Rattle.maptree.specs.declared.context.Expected.{Expected}
-use Rattle.maptree.specs.declared.context.Role.{Role}
-use Rattle.maptree.specs.declared.context.Role.TheVariants.{Closes, Opens, Takes}
+use Rattle.mapwords.specs.declared.role.Block.{Block}
+use Rattle.mapwords.specs.declared.role.Block.TheVariants as block
+use Rattle.mapwords.specs.declared.role.Expected.{Expected}
+use Rattle.mapwords.specs.declared.role.Role.{Role}
+use Rattle.mapwords.specs.declared.role.Role.TheVariants.{Closes, Opens, Takes}
 use Rattle.maptree.specs.declared.context.Context.{Context}
 use Rattle.maptree.specs.declared.context.Context.TheVariants.{Keywords, Values, Latitude}
 use Rattle.maptree.specs.declared.context.Move.{Move}
 use Rattle.maptree.specs.declared.context.Move.TheVariants.{GoesOn, Enters, Leaves}
-use Rattle.maptree.specs.declared.value.ValueStep.{ValueStep}
-use Rattle.maptree.specs.declared.value.ValueStep.TheVariants.{More, Whole}
+use Rattle.mapwords.specs.declared.value.ValueStep.{ValueStep}
+use Rattle.mapwords.specs.declared.value.ValueStep.TheVariants.{More, Whole}
 use Rattle.maptree.specs.declared.draft.Drafts.{Drafts}
-use Rattle.maptree.specs.declared.fault.Fault.{Fault}
-use Rattle.maptree.specs.declared.fault.ParseKind.TheVariants.{UnknownWord, WrongValue, MissingValue, Limit}
-use Rattle.maptree.specs.Fault.{fault_of, refused, and_then}
-use Rattle.maptree.specs.Keyword.{keyword_at, is_end}
-use Rattle.maptree.specs.Setting.{pair_expects}
-use Rattle.maptree.specs.Table.{role_of}
-use Rattle.maptree.specs.Value.{is_value, value_step, coordinate_in}
+use Rattle.mapwords.specs.declared.fault.Fault.{Fault}
+use Rattle.mapwords.specs.declared.fault.ParseKind.TheVariants.{UnknownWord, WrongValue, MissingValue, Limit}
+use Rattle.mapwords.specs.Fault.{fault_of, refused, and_then}
+use Rattle.mapwords.specs.Keyword.{keyword_at, is_end}
+use Rattle.mapwords.specs.Setting.{pair_expects}
+use Rattle.mapwords.specs.Table.{role_of}
+use Rattle.mapwords.specs.Value.{is_value, value_step, coordinate_in}
 use Rattle.maptree.specs.Parts.{vertex_count, with_vertex}
 use Rattle.maptree.specs.Draft.{with_value, is_full}
 use Rattle.maptree.specs.End.{ends}

@@ -4,14 +4,14 @@ use Rattle.std.specs.List.{list_any}
 use Rattle.std.specs.Option.{option_or}
 use Rattle.maplex.specs.Token.{TokenValue}
 use Rattle.mapdefs.specs.Name.{is_same_name}
-use Rattle.maptree.specs.declared.fault.Fault.{Fault}
-use Rattle.maptree.specs.declared.fault.ParseKind.TheVariants.{WrongValue, MissingValue}
+use Rattle.mapwords.specs.declared.fault.Fault.{Fault}
+use Rattle.mapwords.specs.declared.fault.ParseKind.TheVariants.{WrongValue, MissingValue}
 use Rattle.maptree.specs.declared.tree.Named.{Named}
 use Rattle.maptree.specs.declared.tree.SymbolTree.{SymbolTree}
 use Rattle.maptree.specs.declared.tree.StyleTree.{StyleTree}
 use Rattle.maptree.specs.declared.tree.ClassTree.{ClassTree}
 use Rattle.maptree.specs.declared.tree.LayerTree.{LayerTree}
-use Rattle.maptree.specs.Fault.{fault_of}
+use Rattle.mapwords.specs.Fault.{fault_of}
 
 -- the symbol that a text names; 0 names none
 abbrev pub symbol_named : List ℕ → ℕ → Option Named

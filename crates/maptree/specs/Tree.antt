@@ -5,16 +5,16 @@ use Rattle.std.specs.Option.{option_flatten, option_map_or}
 use Rattle.mapdefs.specs.declared.colour.Rgb.{Rgb}
 use Rattle.mapdefs.specs.declared.layer.Kind.{Kind}
 use Rattle.mapdefs.specs.declared.layer.Kind.TheVariants.{Polygon}
-use Rattle.maptree.specs.declared.context.Block.TheVariants as block
-use Rattle.maptree.specs.declared.context.TextKeyword.TheVariants.{MapName, LayerName, ClassItem, LabelItem, Template, CsvX, CsvY, ServiceWmsTitle, ServiceOwsTitle, ServiceWmsUrl, ServiceOwsUrl, LayerWmsTitle, LayerOwsTitle, SymbolName, SymbolImage, StyleSymbol, FeatureText, FeatureItems}
-use Rattle.maptree.specs.declared.context.ColourKeyword.TheVariants.{StyleColour, StyleOutline, LabelColour, LabelOutline}
-use Rattle.maptree.specs.declared.context.FlagKeyword.TheVariants.{Partials, Force}
-use Rattle.maptree.specs.declared.context.ScaleKeyword.TheVariants.{LayerMin, LayerMax, ClassMin, ClassMax}
+use Rattle.mapwords.specs.declared.role.Block.TheVariants as block
+use Rattle.mapwords.specs.declared.role.TextKeyword.TheVariants.{MapName, LayerName, ClassItem, LabelItem, Template, CsvX, CsvY, ServiceWmsTitle, ServiceOwsTitle, ServiceWmsUrl, ServiceOwsUrl, LayerWmsTitle, LayerOwsTitle, SymbolName, SymbolImage, StyleSymbol, FeatureText, FeatureItems}
+use Rattle.mapwords.specs.declared.role.ColourKeyword.TheVariants.{StyleColour, StyleOutline, LabelColour, LabelOutline}
+use Rattle.mapwords.specs.declared.role.FlagKeyword.TheVariants.{Partials, Force}
+use Rattle.mapwords.specs.declared.role.ScaleKeyword.TheVariants.{LayerMin, LayerMax, ClassMin, ClassMax}
 use Rattle.geom.specs.World.{Area}
 use Rattle.mapdefs.specs.declared.class.Rule.{Rule}
 use Rattle.mapdefs.specs.declared.label.Position.{Position}
-use Rattle.maptree.specs.declared.value.Value.{Value}
-use Rattle.maptree.specs.declared.value.Value.TheVariants as value
+use Rattle.mapwords.specs.declared.value.Value.{Value}
+use Rattle.mapwords.specs.declared.value.Value.TheVariants as value
 use Rattle.maptree.specs.declared.tree.Named.{Named}
 use Rattle.maptree.specs.declared.tree.StyleTree.{StyleTree}
 use Rattle.maptree.specs.declared.tree.ClassTree.{ClassTree}

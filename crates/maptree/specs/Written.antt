@@ -15,21 +15,21 @@ use Rattle.mapdefs.specs.declared.label.Position.TheVariants.{UpperLeft, UpperCe
 use Rattle.maplex.specs.declared.fault.Tail.TheVariants as tails
 use Rattle.maplex.specs.declared.token.Shape.TheVariants as shape
 use Rattle.maplex.specs.Token.{TokenValue}
-use Rattle.maptree.specs.declared.context.Block.{Block}
-use Rattle.maptree.specs.declared.context.Block.TheVariants as block
-use Rattle.maptree.specs.declared.context.TextKeyword.{TextKeyword}
-use Rattle.maptree.specs.declared.context.TextKeyword.TheVariants.{MapName, LayerName, ClassItem, LabelItem, Template, CsvX, CsvY, ServiceWmsTitle, ServiceOwsTitle, ServiceWmsUrl, ServiceOwsUrl, LayerWmsTitle, LayerOwsTitle, SymbolName, SymbolImage, StyleSymbol, FeatureText, FeatureItems}
-use Rattle.maptree.specs.declared.context.ColourKeyword.{ColourKeyword}
-use Rattle.maptree.specs.declared.context.ColourKeyword.TheVariants.{StyleColour, StyleOutline, LabelColour, LabelOutline, ImageColour}
-use Rattle.maptree.specs.declared.context.FlagKeyword.{FlagKeyword}
-use Rattle.maptree.specs.declared.context.FlagKeyword.TheVariants.{Partials, Force}
-use Rattle.maptree.specs.declared.context.ScaleKeyword.{ScaleKeyword}
-use Rattle.maptree.specs.declared.context.ScaleKeyword.TheVariants.{LayerMin, LayerMax, ClassMin, ClassMax}
-use Rattle.maptree.specs.declared.value.Value.{Value}
-use Rattle.maptree.specs.declared.value.Value.TheVariants as value
+use Rattle.mapwords.specs.declared.role.Block.{Block}
+use Rattle.mapwords.specs.declared.role.Block.TheVariants as block
+use Rattle.mapwords.specs.declared.role.TextKeyword.{TextKeyword}
+use Rattle.mapwords.specs.declared.role.TextKeyword.TheVariants.{MapName, LayerName, ClassItem, LabelItem, Template, CsvX, CsvY, ServiceWmsTitle, ServiceOwsTitle, ServiceWmsUrl, ServiceOwsUrl, LayerWmsTitle, LayerOwsTitle, SymbolName, SymbolImage, StyleSymbol, FeatureText, FeatureItems}
+use Rattle.mapwords.specs.declared.role.ColourKeyword.{ColourKeyword}
+use Rattle.mapwords.specs.declared.role.ColourKeyword.TheVariants.{StyleColour, StyleOutline, LabelColour, LabelOutline, ImageColour}
+use Rattle.mapwords.specs.declared.role.FlagKeyword.{FlagKeyword}
+use Rattle.mapwords.specs.declared.role.FlagKeyword.TheVariants.{Partials, Force}
+use Rattle.mapwords.specs.declared.role.ScaleKeyword.{ScaleKeyword}
+use Rattle.mapwords.specs.declared.role.ScaleKeyword.TheVariants.{LayerMin, LayerMax, ClassMin, ClassMax}
+use Rattle.mapwords.specs.declared.value.Value.{Value}
+use Rattle.mapwords.specs.declared.value.Value.TheVariants as value
 use Rattle.maptree.specs.Entries.{Entries, Nothing, Said, Vertex, Inside, vertex_count}
 use Rattle.maptree.specs.Meaning.{meaning}
-use Rattle.maptree.specs.Rule.{is_comma}
+use Rattle.mapwords.specs.Rule.{is_comma}
 use Rattle.maptree.specs.Says.{closing_fault, is_full}
 
 -- a bare word, a quoted text and a List on a line

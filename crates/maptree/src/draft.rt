@@ -2,14 +2,13 @@ ghost use Rattle.std.specs.Prelude.{◌≡◌};
 ghost use Rattle.maptree.specs.Symbol.{symbol_named};
 ghost use Rattle.maptree.specs.Draft.{fresh, new_map, new_symbol, new_layer, new_class, new_style, new_label, new_feature, with_other_text, with_text, with_scale, with_colour, with_flag, with_value, is_full};
 
-use crate::bounded::Bounded;
-use crate::capped::Capped;
-use crate::context::{Block, ColourKeyword, FlagKeyword, ScaleKeyword, TextKeyword};
 use crate::parts::PartsDraft;
 use crate::tree::{ClassTree, FeatureTree, LabelTree, LayerTree, MapTree, Named, StyleTree};
-use crate::value::Value;
 use geom::Micro;
 use mapdefs::{Kind, MAX_CLASSES, MAX_FEATURES, MAX_ITEMS, Rgb, Text};
+use mapwords::{
+    Block, Bounded, Capped, ColourKeyword, FlagKeyword, ScaleKeyword, TextKeyword, Value,
+};
 use std::alloc::Global;
 use std::mem;
 

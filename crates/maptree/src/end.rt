@@ -2,15 +2,14 @@ ghost use Rattle.std.specs.Prelude.{◌≡◌, ◌<◌, false, length, Ok, OnOk,
 ghost use Rattle.mapdefs.specs.declared.limits.TheConstants.{MAX_SYMBOLS, MAX_LAYERS, MAX_CLASSES, MAX_STYLES, MAX_FEATURES};
 ghost use Rattle.maptree.specs.Draft.{is_full};
 ghost use Rattle.maptree.specs.End.{finished_layer, layer_end, finished_symbol, symbol_end, map_end, class_end, style_end, label_end, feature_end, points_end, ends};
-ghost use Rattle.maptree.specs.Fault.{IsErrorOf};
+ghost use Rattle.mapwords.specs.Fault.{IsErrorOf};
 ghost use Rattle.maptree.specs.Name.{is_taken};
 
-use crate::context::Block;
 use crate::draft::{Drafts, FeatureDraft, LayerDraft, SymbolDraft};
-use crate::fault::{Fault, ParseFault, ParseKind, fault_of};
 use crate::symbol::map_fault;
 use crate::tree::{ClassTree, FeatureTree, LabelTree, LayerTree, StyleTree, SymbolTree};
 use maplex::Token;
+use mapwords::{Block, Fault, ParseFault, ParseKind, fault_of};
 use std::alloc::{AllocError, Global};
 use std::mem;
 

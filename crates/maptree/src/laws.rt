@@ -1,8 +1,7 @@
 //! Laws of the definitions that the contracts cite. A law is a function without arguments whose
 //! contract states it.
 
-ghost use Rattle.maptree.specs.Colour.{HexDigitsAreColour};
-ghost use Rattle.maptree.specs.Meaning.{CountIsEnough, FirstFaultIsTold, CountsAreColour};
+ghost use Rattle.maptree.specs.Meaning.{CountIsEnough, FirstFaultIsTold};
 ghost use Rattle.maptree.specs.Written.{WrittenIsRead};
 
 /// A mapfile that is written out from what it says is read as that: no word is lost, none is taken for
@@ -20,14 +19,4 @@ pub fn count_is_enough()
 /// The first fault in the order of tokens is the fault of the mapfile, whatever stands after it.
 pub fn first_fault_is_told()
     ensures { FirstFaultIsTold }
-{}
-
-/// A text of `#` and six hexadecimal digits is the colour of its red, green and blue, in this order.
-pub fn hex_digits_are_colour()
-    ensures { HexDigitsAreColour }
-{}
-
-/// Three counts after COLOR are the red, the green and the blue of the style's colour.
-pub fn counts_are_colour()
-    ensures { CountsAreColour }
 {}

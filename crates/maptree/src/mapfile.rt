@@ -1,19 +1,18 @@
 ghost use Rattle.std.specs.Prelude.{◌≡◌, Ok, Err, IfOk, IfErr, MatchResult};
 ghost use Rattle.maplex.specs.Lexed.{lexed, stopped, with_token};
+ghost use Rattle.mapwords.specs.Fault.{IsFaultOf};
 ghost use Rattle.maptree.specs.Answer.{answer};
-ghost use Rattle.maptree.specs.Fault.{IsFaultOf};
 ghost use Rattle.maptree.specs.Pass.{map_body, pass_of};
 ghost use Rattle.maptree.specs.Source.{tree_of};
 
-use crate::fault::{Fault, ParseFault, ParseKind, fault_of, missing};
-use crate::keyword::Keyword;
 use crate::reader::Reader;
 use crate::tree::MapTree;
 use maplex::{Tail, Token, Tokens};
+use mapwords::{Fault, Keyword, ParseFault, ParseKind, fault_of, missing};
 use std::alloc::Global;
 
 /// The next token, or what comes after the last one.
-pub fn next<'a>(tokens: &mut Tokens<'a>) -> Result<Token<'a>, Tail>
+pub fn next_token<'a>(tokens: &mut Tokens<'a>) -> Result<Token<'a>, Tail>
     ensures { MatchResult result
         (λ token. tokens.old ≡ with_token token tokens.new)
         (λ tail. tokens.old ≡ stopped tokens.old.line tail) }
@@ -31,7 +30,7 @@ fn begin(tokens: &mut Tokens) -> Result<(), Fault>
         (λ _. pass_of tokens.old ≡ map_body tokens.new.tail tokens.new.tokens)
         (λ fault. pass_of tokens.old ≡ Err fault) }
 {
-    match next(tokens) {
+    match next_token(tokens) {
         Ok(token) if Keyword::Map.is_at(&token) => Ok(()),
         Ok(token) => Err(fault_of(ParseKind::UnknownWord, &token)),
         Err(tail) => Err(missing(tail)),
@@ -49,7 +48,7 @@ fn read_tokens(
         (IsFaultOf (answer reader.old tokens.old.tokens tokens.old.tail)) }
 {
     loop {
-        match next(tokens) {
+        match next_token(tokens) {
             Ok(token) => reader.take(&token, alloc)?,
             Err(tail) => return Ok(reader.finish(tail, alloc)?),
         }

@@ -3,13 +3,13 @@ ghost use Rattle.maplex.specs.Token.{TokenValue};
 ghost use Rattle.maplex.specs.declared.fault.Tail.{Tail};
 ghost use Rattle.maptree.specs.Pass.{map_body};
 
-use crate::context::{Block, Context};
+use crate::context::Context;
 use crate::contexts::Contexts;
 use crate::draft::Drafts;
-use crate::fault::{Fault, ParseFault, ParseKind, fault_of, missing};
 use crate::step::read_token;
 use crate::tree::MapTree;
 use maplex::{Tail, Token};
+use mapwords::{Block, Fault, ParseFault, ParseKind, fault_of, missing};
 use std::alloc::{AllocError, Global};
 
 /// Reads what stands after the keyword MAP, token by token.

@@ -1,22 +1,21 @@
 ghost use Rattle.std.specs.Prelude.{◌≡◌, ◌<◌, Ok, Err, OnOk, MatchResult, option_and_then};
 ghost use Rattle.mapdefs.specs.declared.limits.TheConstants.{MAX_VERTICES};
-ghost use Rattle.maptree.specs.Fault.{IsErrorOf};
+ghost use Rattle.mapwords.specs.Fault.{IsErrorOf};
 ghost use Rattle.maptree.specs.declared.draft.Drafts.{Drafts as DraftsValue};
-ghost use Rattle.maptree.specs.Keyword.{keyword_at};
+ghost use Rattle.mapwords.specs.Keyword.{keyword_at};
 ghost use Rattle.maptree.specs.Parts.{vertex_count};
-ghost use Rattle.maptree.specs.Table.{role_of};
+ghost use Rattle.mapwords.specs.Table.{role_of};
 ghost use Rattle.maptree.specs.Step.{read_end, read_keyword, read_value, coordinate_at, read_longitude, read_latitude, pass_over, read_pair, read_token};
 
-use crate::context::{Block, Context, Expected, Move, Role};
+use crate::context::{Context, Move};
 use crate::draft::Drafts;
 use crate::end::close;
-use crate::fault::{Fault, ParseFault, ParseKind, fault_of};
-use crate::keyword::{Keyword, is_end};
-use crate::setting::pair_expects;
-use crate::table::role_of;
-use crate::value::{ValueStep, coordinate_in, is_value, value_step};
 use geom::{Coordinate, World};
 use maplex::Token;
+use mapwords::{
+    Block, Expected, Fault, Keyword, ParseFault, ParseKind, Role, ValueStep, coordinate_in,
+    fault_of, is_end, is_value, pair_expects, role_of, value_step,
+};
 use std::alloc::Global;
 
 // Reads the END of a block.

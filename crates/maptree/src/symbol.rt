@@ -1,8 +1,8 @@
 ghost use Rattle.std.specs.Prelude.{◌≡◌};
 ghost use Rattle.maptree.specs.Symbol.{has_symbol, named_fault, style_fault, class_fault, layer_fault, map_fault};
 
-use crate::fault::{Fault, ParseKind};
 use crate::tree::{ClassTree, LayerTree, Named, StyleTree, SymbolTree};
+use mapwords::{Fault, ParseKind};
 
 // Whether one of the symbols has the name.
 fn has_symbol(symbols: &[SymbolTree], name: &str) -> bool

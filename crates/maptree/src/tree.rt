@@ -1,13 +1,10 @@
-use crate::bounded::Bounded;
-use crate::capped::Capped;
-use crate::extent::Extent;
 use crate::parts::Parts;
-use crate::rule::ClassRule;
 use geom::Micro;
 use mapdefs::{
     Kind, MAX_CLASSES, MAX_FEATURES, MAX_ITEMS, MAX_LAYERS, MAX_STYLES, MAX_SYMBOLS, Position, Rgb,
     Text,
 };
+use mapwords::{Bounded, Capped, ClassRule, Extent};
 
 /// A name, and the line of its token.
 #[derive(Drop)]

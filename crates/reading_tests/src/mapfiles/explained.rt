@@ -1,4 +1,4 @@
-use maptree::{Finding, explain};
+use mapfaults::{Finding, explain};
 use std::alloc::{AllocError, Global};
 use std::test::Fail;
 

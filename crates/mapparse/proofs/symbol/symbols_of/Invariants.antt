@@ -1,7 +1,7 @@
 use Rattle.std.proofs.Common.{◌≡◌, ◌+◌, ◌++◌, length}
 use Rattle.std.specs.Prelude.{Ok}
 use Rattle.std.specs.Vec.Iter.{into_iter_items}
-use Rattle.maptree.specs.Fault.{and_then}
+use Rattle.mapwords.specs.Fault.{and_then}
 use Rattle.mapparse.specs.Symbols.{symbols_of}
 use Rattle.mapparse.proofs.symbol.symbols_of.Given as goal
 

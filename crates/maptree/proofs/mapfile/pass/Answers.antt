@@ -1,6 +1,6 @@
 use Rattle.std.proofs.Common.{◌≡◌, ◌∙◌, ap, sym, subst, Ok}
 use Rattle.std.specs.Result.{MatchResult}
-use Rattle.maptree.specs.Fault.{IsFaultOf}
+use Rattle.mapwords.specs.Fault.{IsFaultOf}
 use Rattle.maptree.specs.Pass.{pass_of}
 use Rattle.maptree.proofs.mapfile.pass.Goals as goal
 

@@ -1,6 +1,6 @@
 use Rattle.std.proofs.Common.{◌≡◌, Result, Ok, Err, IfOk, IfErr, MatchResult, subst}
 use Rattle.maplex.specs.Lexed.{lexed}
-use Rattle.maptree.specs.Fault.{IsFaultOf}
+use Rattle.mapwords.specs.Fault.{IsFaultOf}
 use Rattle.maptree.proofs.OnePass.{same-meaning}
 use Rattle.maptree.proofs.mapfile.read.Goals as goal
 

@@ -1,14 +1,14 @@
 use Rattle.std.proofs.Common.{◌≡◌, ◌⊎◌, inl, inr, subst, Result, option_and_then}
 use Rattle.maplex.specs.Token.{TokenValue}
-use Rattle.maptree.specs.declared.context.Block.{Block}
-use Rattle.maptree.specs.declared.context.Block.TheVariants as block
+use Rattle.mapwords.specs.declared.role.Block.{Block}
+use Rattle.mapwords.specs.declared.role.Block.TheVariants as block
 use Rattle.maptree.specs.declared.context.Context.TheVariants.{Keywords}
 use Rattle.maptree.specs.declared.context.Move.{Move}
 use Rattle.maptree.specs.declared.draft.Drafts.{Drafts}
-use Rattle.maptree.specs.declared.fault.Fault.{Fault}
-use Rattle.maptree.specs.Keyword.{keyword_at}
+use Rattle.mapwords.specs.declared.fault.Fault.{Fault}
+use Rattle.mapwords.specs.Keyword.{keyword_at}
 use Rattle.maptree.specs.Step.{pass_over, read_token}
-use Rattle.maptree.specs.Table.{role_of}
+use Rattle.mapwords.specs.Table.{role_of}
 use Rattle.maptree.proofs.step.read_token.Goals as goal
 
 -- a block that is read over

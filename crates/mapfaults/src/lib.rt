@@ -1,0 +1,16 @@
+//! Tells the first fault of a mapfile in words, for people.
+//!
+//! `explain` reads a source once more, up to its first fault, and keeps what is open there. Proved, by
+//! `IsFinding`: it has the line and the kind of the fault that the definition `tree_of` of `maptree` is
+//! for the source, the token at which it is found, and what is open there. The words, which
+//! `Explained::words` makes of that, are only tested.
+//!
+//! Words: the *openings* are the contexts that are open, with the words that opened them.
+#![tactic(auto)]
+
+mod openings;
+mod place;
+mod sentence;
+mod wanted;
+
+pub use place::{Explained, Finding, explain};

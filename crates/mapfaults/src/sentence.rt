@@ -1,0 +1,209 @@
+use crate::openings::Opening;
+use crate::place::Explained;
+use crate::wanted::wanted;
+use mapdefs::{
+    MAX_CLASSES, MAX_FEATURES, MAX_ITEMS, MAX_LAYERS, MAX_STYLES, MAX_SYMBOLS, MAX_VERTICES,
+};
+use maplex::{Shape, Token};
+use maptree::Context;
+use mapwords::{Block, Expected, Keyword, ParseKind};
+use std::alloc::{AllocError, Global};
+
+// The most characters that are shown of a word.
+const SHOWN: usize = 40;
+
+// A word as it is shown: no longer than may be read, and without control characters.
+fn shown(alloc: Global, word: &str) -> Result<String, AllocError> {
+    let mut text = String::new(alloc);
+    for (i, character) in word.chars().enumerate() {
+        if i == SHOWN {
+            text.push_str("..")?;
+            return Ok(text);
+        }
+        text.push(if character.is_control() {
+            '?'
+        } else {
+            character
+        })?;
+    }
+    Ok(text)
+}
+
+// A token as it is shown, with what stands round its text.
+fn found(alloc: Global, token: &Token) -> Result<String, AllocError> {
+    let text = shown(alloc, token.text)?;
+    match token.shape {
+        Shape::Word | Shape::Logic => Ok(text),
+        Shape::Text => format!(in alloc; "\"{text}\""),
+        Shape::List => format!(in alloc; "{{{text}}}"),
+    }
+}
+
+// A word that opened something: a keyword as it is spelt, else as it is shown.
+fn opener(alloc: Global, word: &str) -> Result<String, AllocError> {
+    match Keyword::of(word) {
+        Some(keyword) => String::from_str(alloc, keyword.spelling()),
+        None => shown(alloc, word),
+    }
+}
+
+// The innermost block of what is open.
+fn block_in<'a, 'b>(openings: &'b [Opening<'a>]) -> Option<&'b Opening<'a>> {
+    openings.iter().rev().find(|opening| opening.is_block())
+}
+
+// A block with its line.
+fn block(alloc: Global, openings: &[Opening]) -> Result<String, AllocError> {
+    match block_in(openings) {
+        Some(opening) => {
+            let (name, line) = (opener(alloc, opening.word)?, opening.line);
+            format!(in alloc; "{name} of line {line}")
+        }
+        None => String::from_str(alloc, "the mapfile"),
+    }
+}
+
+// The words on a token that is no keyword.
+fn unknown_word(alloc: Global, e: &Explained, token: &str) -> Result<String, AllocError> {
+    match block_in(e.openings.as_slice()) {
+        Some(opening) => {
+            let name = opener(alloc, opening.word)?;
+            format!(in alloc; "{token} is no keyword of {name}")
+        }
+        None if e.noted.begun => format!(in alloc; "{token} stands after the END of MAP"),
+        None => format!(in alloc; "{token} stands where MAP has to begin"),
+    }
+}
+
+// The words on a token that is no value.
+fn wrong_value(alloc: Global, inner: &Opening, token: &str) -> Result<String, AllocError> {
+    let name = opener(alloc, inner.word)?;
+    match inner.context {
+        Context::Values(expected) => {
+            let wanted = wanted(expected);
+            format!(in alloc; "{token} is no value of {name}, which takes {wanted}")
+        }
+        Context::Keywords(Block::Points) => {
+            format!(in alloc; "{token} is no longitude in {name}: a number from -1000 to 1000")
+        }
+        Context::Latitude(_) => {
+            format!(in alloc; "{token} is no latitude in {name}: a number from -1000 to 1000")
+        }
+        Context::Keywords(Block::Map) => {
+            String::from_str(alloc, "this SYMBOL names no symbol of MAP")
+        }
+        Context::Keywords(_) => format!(in alloc; "{token} is no key of {name}"),
+    }
+}
+
+// The words on an END before a value.
+fn no_value(alloc: Global, expected: Expected, name: &str) -> Result<String, AllocError> {
+    match expected {
+        Expected::Green(..)
+        | Expected::Blue(..)
+        | Expected::South(..)
+        | Expected::East(..)
+        | Expected::North(..) => format!(in alloc; "{name} has too few values"),
+        Expected::Unused(_) => format!(in alloc; "{name} lacks a value"),
+        _ => format!(in alloc; "{name} has no value"),
+    }
+}
+
+// The words on an END before all that has to be given.
+fn missing_value(alloc: Global, e: &Explained, inner: &Opening) -> Result<String, AllocError> {
+    let block = block(alloc, e.openings.as_slice())?;
+    match inner.context {
+        Context::Values(expected) => {
+            let name = opener(alloc, inner.word)?;
+            no_value(alloc, expected, name.as_str())
+        }
+        Context::Latitude(_) => { format!(in alloc; "the last vertex of {block} has no latitude") }
+        Context::Keywords(_) => {
+            let lacking = e.noted.lacking;
+            format!(in alloc; "{block} has no {lacking}")
+        }
+    }
+}
+
+// How many blocks of a keyword a block may have, where that is one number.
+fn most_blocks(keyword: Option<Keyword>) -> Option<usize> {
+    match keyword {
+        Some(Keyword::Symbol) => Some(MAX_SYMBOLS),
+        Some(Keyword::Layer) => Some(MAX_LAYERS),
+        Some(Keyword::Class) => Some(MAX_CLASSES),
+        Some(Keyword::Style) => Some(MAX_STYLES),
+        Some(Keyword::Feature) => Some(MAX_FEATURES),
+        _ => None,
+    }
+}
+
+// The words on a block more than a block may have.
+fn more_blocks(alloc: Global, block: &str, word: &str) -> Result<String, AllocError> {
+    let name = opener(alloc, word)?;
+    match most_blocks(Keyword::of(word)) {
+        Some(most) => format!(in alloc; "{block} has more than {most} {name} blocks"),
+        None => format!(in alloc; "{block} has one {name} too many"),
+    }
+}
+
+// The words on what is more than a map may have.
+fn limit(alloc: Global, e: &Explained, inner: &Opening, word: &str) -> Result<String, AllocError> {
+    match (inner.context, e.openings.as_slice()) {
+        (Context::Values(_), _) => {
+            let name = opener(alloc, inner.word)?;
+            format!(in alloc; "{name} names more than {MAX_ITEMS} items")
+        }
+        (Context::Latitude(_) | Context::Keywords(Block::Points), [outer @ .., _]) => {
+            let block = block(alloc, outer)?;
+            format!(in alloc; "{block} has more than {MAX_VERTICES} vertices")
+        }
+        (_, openings) => {
+            let block = block(alloc, openings)?;
+            more_blocks(alloc, block.as_str(), word)
+        }
+    }
+}
+
+impl<'a> Explained<'a> {
+    // The words on a fault at a token, inside the innermost of what is open.
+    fn words_inside(
+        &self,
+        alloc: Global,
+        inner: &Opening,
+        token: &Token,
+    ) -> Result<String, AllocError> {
+        let found = found(alloc, token)?;
+        match self.kind {
+            ParseKind::WrongValue => wrong_value(alloc, inner, found.as_str()),
+            ParseKind::MissingValue => missing_value(alloc, self, inner),
+            ParseKind::Limit => limit(alloc, self, inner, token.text),
+            ParseKind::DuplicateName => {
+                let name = shown(alloc, self.noted.name)?;
+                format!(in alloc; "an earlier LAYER has the NAME {name}")
+            }
+            ParseKind::BadExpression => format!(in alloc; "{found} is no expression"),
+            _ => unknown_word(alloc, self, found.as_str()),
+        }
+    }
+
+    // The words on a mapfile that ends too early.
+    fn words_after(&self, alloc: Global) -> Result<String, AllocError> {
+        if !self.noted.begun {
+            return String::from_str(alloc, "the mapfile has no MAP");
+        }
+        let block = block(alloc, self.openings.as_slice())?;
+        format!(in alloc; "the mapfile ends inside {block}, which has no END")
+    }
+
+    /// The words on the fault: one sentence without a full stop, which shows no control characters.
+    pub fn words(&self, alloc: Global) -> Result<String, AllocError> {
+        if let ParseKind::Lex(kind) = self.kind {
+            return format!(in alloc; "{kind}");
+        }
+        match (&self.token, self.openings.as_slice()) {
+            (Some(token), [.., inner]) => self.words_inside(alloc, inner, token),
+            (Some(token), []) => unknown_word(alloc, self, found(alloc, token)?.as_str()),
+            (None, _) => self.words_after(alloc),
+        }
+    }
+}

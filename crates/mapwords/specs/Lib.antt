@@ -1,0 +1,11 @@
+pub mod Colour
+pub mod Count
+pub mod Extent
+pub mod Fault
+pub mod Given
+pub mod Keyword
+pub mod Label
+pub mod Rule
+pub mod Setting
+pub mod Table
+pub mod Value

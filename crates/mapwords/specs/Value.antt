@@ -1,0 +1,139 @@
+-- Values, and how they are read (docs/MAPFILE.md, "Values").
+use Rattle.std.specs.Prelude.{ℕ, zero, suc, ℤ, int_lt, Bool, true, false, List, codes, if◌then◌else◌, Option, None, Some, Result, Ok}
+use Rattle.std.specs.Option.{option_map, ok_or}
+use Rattle.std.specs.Str.{str_eq_ignore_ascii_case}
+use Rattle.maplex.specs.declared.token.Shape.{Shape}
+use Rattle.maplex.specs.declared.token.Shape.TheVariants.{Word, Text}
+use Rattle.maplex.specs.Token.{TokenValue}
+use Rattle.geom.specs.Number.{coordinate_of}
+use Rattle.mapdefs.specs.declared.colour.Rgb.{Rgb}
+use Rattle.mapdefs.specs.declared.layer.Kind.{Kind}
+use Rattle.mapdefs.specs.declared.layer.Kind.TheVariants.{Point, Line, Polygon}
+use Rattle.mapwords.specs.declared.colour.Component.{Component}
+use Rattle.mapwords.specs.declared.role.ColourKeyword.{ColourKeyword}
+use Rattle.mapwords.specs.declared.role.OnlyWord.{OnlyWord}
+use Rattle.mapwords.specs.declared.role.OnlyWord.TheVariants.{Pixels, On}
+use Rattle.mapwords.specs.declared.role.Expected.{Expected}
+use Rattle.mapwords.specs.declared.role.Expected.TheVariants as expected
+use Rattle.mapwords.specs.declared.value.Value.TheVariants as value
+use Rattle.mapwords.specs.declared.value.ValueStep.{ValueStep}
+use Rattle.mapwords.specs.declared.value.ValueStep.TheVariants.{More, Whole}
+use Rattle.mapdefs.specs.declared.limits.TheConstants.{MAX_LINE_WIDTH, MAX_SQUARE, MAX_TOLERANCE, MAX_PRIORITY, MAX_BUFFER}
+use Rattle.mapdefs.specs.Name.{is_same_name}
+use Rattle.mapwords.specs.declared.fault.Fault.{Fault}
+use Rattle.mapwords.specs.declared.fault.ParseKind.TheVariants.{WrongValue, BadExpression}
+use Rattle.mapwords.specs.Fault.{fault_of, refused}
+use Rattle.mapwords.specs.Extent.{extent_of}
+use Rattle.mapwords.specs.Label.{position_of, flag_of, distance_of}
+use Rattle.mapwords.specs.Rule.{rule_of}
+use Rattle.mapwords.specs.Setting.{setting_step}
+use Rattle.mapwords.specs.Count.{bounded_of, number_in}
+use Rattle.mapwords.specs.Colour.{component_of, rgb_of, hex_colour}
+
+-- the kind of a layer's features that a text is
+abbrev pub kind_of : List ℕ → Option Kind
+kind_of text =
+    if str_eq_ignore_ascii_case text (codes "POINT") then Some Point
+    else if str_eq_ignore_ascii_case text (codes "LINE") then Some Line
+    else if str_eq_ignore_ascii_case text (codes "POLYGON") then Some Polygon
+    else None
+
+-- a symbol is a pixmap; the word may be in letters of either case
+abbrev pub pixmap_step : List ℕ → Option ValueStep
+pixmap_step text = if str_eq_ignore_ascii_case text (codes "PIXMAP") then Some (Whole value.Pixmap) else None
+
+-- a value is a bare word or a quoted text
+abbrev pub is_value : Shape → Bool
+is_value Word = true
+is_value Text = true
+is_value _ = false
+
+-- only a quoted text is a colour by itself
+abbrev pub hex_in : Shape → List ℕ → Option Rgb
+hex_in Text text = hex_colour text
+hex_in _ text = None
+
+-- the colour that a token is by itself
+abbrev pub hex_at : TokenValue → Option Rgb
+hex_at t = hex_in t.shape t.text
+
+-- a colour by itself, or the first of its counts
+abbrev pub colour_step : ColourKeyword → Option Rgb → Option Component → Option ValueStep
+colour_step keyword (Some colour) red = Some (Whole (value.Colour keyword (Some colour)))
+colour_step keyword None red = option_map (λ r. More (expected.Green keyword r)) red
+
+-- the word that is the only value of a keyword
+abbrev pub only_text : OnlyWord → List ℕ
+only_text Pixels = codes "PIXELS"
+only_text On = codes "ON"
+
+-- it may be in letters of either case
+abbrev pub only_step : OnlyWord → List ℕ → Option ValueStep
+only_step word text = if str_eq_ignore_ascii_case text (only_text word) then Some (Whole value.Nothing) else None
+
+-- a value that has no effect, before so many more
+abbrev pub unused_step : ℕ → ValueStep
+unused_step zero = Whole value.Nothing
+unused_step (suc fewer) = More (expected.Unused fewer)
+
+-- the east of an extent lies to the east of its west, and its north to the north of its south
+abbrev pub east_step : ℤ → ℤ → Option ℤ → Option ValueStep
+east_step minx miny None = None
+east_step minx miny (Some maxx) = if int_lt minx maxx then Some (More (expected.North minx miny maxx)) else None
+
+abbrev pub north_step : ℤ → ℤ → ℤ → Option ℤ → Option ValueStep
+north_step minx miny maxx None = None
+north_step minx miny maxx (Some maxy) = option_map (λ area. Whole (value.Extent area)) (extent_of minx miny maxx maxy)
+
+-- a CONFIG has a key and a value; the key of the labels' font is refused, since there are no fonts yet
+abbrev pub config_step : List ℕ → Option ValueStep
+config_step key = if is_same_name key (codes "LABELFONT") then None else Some (More (expected.Unused 0))
+
+-- a token as a value of which nothing is kept but numbers, if it is such a value
+abbrev pub plain_step : Expected → TokenValue → Option ValueStep
+plain_step expected.Kind t = option_map (λ kind. Whole (value.Kind kind)) (kind_of t.text)
+plain_step expected.Pixmap t = pixmap_step t.text
+plain_step expected.Width t = option_map (λ n. Whole (value.Width n)) (bounded_of 1 MAX_LINE_WIDTH t.text)
+plain_step expected.Size t = option_map (λ n. Whole (value.Size n)) (bounded_of 1 MAX_SQUARE t.text)
+plain_step expected.Tolerance t = option_map (λ n. Whole (value.Tolerance n)) (bounded_of 0 MAX_TOLERANCE t.text)
+plain_step expected.Priority t = option_map (λ n. Whole (value.Priority n)) (bounded_of 1 MAX_PRIORITY t.text)
+plain_step expected.Buffer t = option_map (λ n. Whole (value.Buffer n)) (bounded_of 0 MAX_BUFFER t.text)
+plain_step expected.Distance t = option_map (λ n. Whole (value.Distance n)) (distance_of t.text)
+plain_step expected.Position t = option_map (λ p. Whole (value.Position p)) (position_of t.text)
+plain_step (expected.Flag keyword) t = option_map (λ flag. Whole (value.Flag keyword flag)) (flag_of t.text)
+plain_step (expected.Scale keyword) t = option_map (λ scale. Whole (value.Scale keyword scale)) (number_in t.text)
+plain_step (expected.Colour keyword) t = colour_step keyword (hex_at t) (component_of t.text)
+plain_step (expected.Green keyword r) t = option_map (λ g. More (expected.Blue keyword r g)) (component_of t.text)
+plain_step (expected.Blue keyword r g) t = option_map (λ b. Whole (value.Colour keyword (rgb_of r g b))) (component_of t.text)
+plain_step expected.West t = option_map (λ x. More (expected.South x)) (coordinate_of t.text)
+plain_step (expected.South x) t = option_map (λ y. More (expected.East x y)) (coordinate_of t.text)
+plain_step (expected.East x y) t = east_step x y (coordinate_of t.text)
+plain_step (expected.North x y east) t = north_step x y east (coordinate_of t.text)
+plain_step (expected.Only word) t = only_step word t.text
+plain_step expected.ConfigKey t = config_step t.text
+plain_step (expected.Unused more) t = Some (unused_step more)
+plain_step _ t = None
+
+-- an EXPRESSION takes a rule
+abbrev pub rule_step : TokenValue → Result ValueStep Fault
+rule_step t = ok_or (option_map (λ rule. Whole (value.Rule rule)) (rule_of t.shape t.text)) (fault_of BadExpression t)
+
+-- a token as a value that a keyword expects
+abbrev pub step_in : Expected → TokenValue → Result ValueStep Fault
+step_in (expected.Text keyword) t = Ok (Whole (value.Text keyword t.text))
+step_in expected.Rule t = rule_step t
+step_in expected.Setting t = setting_step t
+step_in e t = ok_or (plain_step e t) (fault_of WrongValue t)
+
+-- a value is a bare word or a quoted text; only a rule may be a Logic or a List
+abbrev pub may_take : Expected → Shape → Bool
+may_take expected.Rule shape = true
+may_take _ shape = is_value shape
+
+-- a token of a value that a keyword expects
+abbrev pub value_step : Expected → TokenValue → Result ValueStep Fault
+value_step expected t = if may_take expected t.shape then step_in expected t else refused WrongValue t
+
+-- the coordinate that a token is
+abbrev pub coordinate_in : TokenValue → Option ℤ
+coordinate_in t = if is_value t.shape then coordinate_of t.text else None

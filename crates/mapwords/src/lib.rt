@@ -1,0 +1,44 @@
+//! The keywords of mapfiles and their values: what a token means in a block, and after a keyword.
+//!
+//! Proved: `Keyword::at` finds the keyword that a token is, `role_of` what it does in a block, and
+//! `value_step` reads the next token of its value; each gives what the definition of its name has for
+//! the token, by its clause. `ParseKind::number` is the number of the kind in its table. Two laws say more
+//! of the definitions: that a colour is read as it is written (`laws::hex_digits_are_colour`,
+//! `laws::counts_are_colour`).
+//!
+//! What takes no memory fails with a `Fault` alone.
+//!
+//! Words: a *keyword* is a bare word of a block. A *block* opens with its keyword and closes with END. The
+//! *role* of a keyword is what it does in its block. A *value* stands after the keyword that takes it. What
+//! is *expected* is the value, or the next token of it.
+#![tactic(auto)]
+
+mod bounded;
+mod capped;
+mod colour;
+mod extent;
+mod fault;
+mod keyword;
+mod label;
+pub mod laws;
+mod number;
+mod role;
+mod rule;
+mod setting;
+mod table;
+mod texts;
+mod value;
+
+pub use bounded::Bounded;
+pub use capped::Capped;
+pub use extent::Extent;
+pub use fault::{Fault, ParseFault, ParseKind, fault_of, missing};
+pub use keyword::{Keyword, is_end};
+pub use role::{
+    Block, ColourKeyword, Expected, FlagKeyword, OnlyWord, Role, ScaleKeyword, TextKeyword,
+};
+pub use rule::ClassRule;
+pub use setting::pair_expects;
+pub use table::role_of;
+pub use texts::texts_of;
+pub use value::{Value, ValueStep, coordinate_in, is_value, value_step};

@@ -1,0 +1,300 @@
+ghost use Rattle.std.specs.Prelude.{◌≡◌, option_map, Ok, MatchResult};
+ghost use Rattle.mapwords.specs.declared.value.ValueStep.TheVariants.{Whole, More};
+ghost use Rattle.mapwords.specs.Fault.{IsErrorOf};
+ghost use Rattle.mapwords.specs.declared.value.Value.TheVariants as ValueTree;
+ghost use Rattle.mapwords.specs.Colour.{component_of};
+ghost use Rattle.mapwords.specs.Value.{kind_of, pixmap_step, is_value, hex_at, colour_step, only_text, only_step, unused_step, east_step, north_step, config_step, rule_step, plain_step, step_in, may_take, value_step, coordinate_in};
+
+use crate::bounded::Bounded;
+use crate::capped::Capped;
+use crate::colour::{Component, hex_colour, rgb_of};
+use crate::extent::Extent;
+use crate::fault::{ParseFault, ParseKind, fault_of};
+use crate::label::{distance_of, flag_of, position_of};
+use crate::number::read_number;
+use crate::role::{ColourKeyword, Expected, FlagKeyword, OnlyWord, ScaleKeyword, TextKeyword};
+use crate::rule::{ClassRule, RuleError};
+use crate::setting::setting_step;
+use geom::{Coordinate, Micro};
+use mapdefs::{Kind, MAX_ITEMS, Position, Rgb, Text};
+use maplex::{Shape, Token};
+use std::alloc::Global;
+
+/// A whole value, with its keyword.
+#[derive(Drop)]
+pub enum Value {
+    Text(TextKeyword, Text),
+    Kind(Kind),
+    /// The kind of a symbol.
+    Pixmap,
+    Colour(ColourKeyword, Option<Rgb>),
+    Width(Bounded<1, 32>),
+    Size(Bounded<1, 256>),
+    Tolerance(Bounded<0, 64>),
+    Priority(Bounded<1, 10>),
+    Buffer(Bounded<0, 64>),
+    Distance(Bounded<0, 4096>),
+    Position(Position),
+    Flag(FlagKeyword, bool),
+    Scale(ScaleKeyword, Micro),
+    Rule(ClassRule),
+    /// The names of a layer's items.
+    Items(Capped<Text, MAX_ITEMS>),
+    Extent(Extent),
+    /// The end of values that have no effect.
+    Nothing,
+}
+
+/// How far a value is read after one of its tokens.
+#[derive(Drop)]
+pub enum ValueStep {
+    /// The keyword expects more.
+    More(Expected),
+    /// The value is whole.
+    Whole(Value),
+}
+
+/// Whether the token may be a value: a bare word or a quoted text.
+pub fn is_value(token: &Token) -> bool
+    ensures { result ≡ is_value token.now.shape }
+{
+    match token.shape {
+        Shape::Word | Shape::Text => true,
+        Shape::Logic | Shape::List => false,
+    }
+}
+
+// The kind of a layer's features that the text is.
+fn kind_of(text: &str) -> Option<Kind>
+    ensures { result ≡ kind_of text.now }
+{
+    if text.eq_ignore_ascii_case("POINT") {
+        Some(Kind::Point)
+    } else if text.eq_ignore_ascii_case("LINE") {
+        Some(Kind::Line)
+    } else if text.eq_ignore_ascii_case("POLYGON") {
+        Some(Kind::Polygon)
+    } else {
+        None
+    }
+}
+
+// Reads the kind of a symbol.
+fn pixmap_step(text: &str) -> Option<ValueStep>
+    ensures { result ≡ pixmap_step text.now }
+{
+    if text.eq_ignore_ascii_case("PIXMAP") {
+        Some(ValueStep::Whole(Value::Pixmap))
+    } else {
+        None
+    }
+}
+
+// The colour that the token is by itself. Only a quoted text is one.
+fn hex_at(token: &Token) -> Option<Rgb>
+    ensures { result ≡ hex_at token.now }
+{
+    match token.shape {
+        Shape::Text => hex_colour(token.text),
+        Shape::Word | Shape::Logic | Shape::List => None,
+    }
+}
+
+// Reads a colour by itself, or the first of its three counts.
+fn colour_step(keyword: ColourKeyword, token: &Token) -> Option<ValueStep>
+    ensures { result ≡ colour_step keyword (hex_at token.now) (component_of token.now.text) }
+{
+    if let Some(colour) = hex_at(token) {
+        return Some(ValueStep::Whole(Value::Colour(keyword, Some(colour))));
+    }
+    let red = Component::read(token.text)?;
+    Some(ValueStep::More(Expected::Green(keyword, red)))
+}
+
+// The word that is the only value of a keyword.
+fn only_text(word: OnlyWord) -> &'static str
+    ensures { result.now ≡ only_text word }
+{
+    match word {
+        OnlyWord::Pixels => "PIXELS",
+        OnlyWord::On => "ON",
+    }
+}
+
+// Reads the only word that a keyword takes.
+fn only_step(word: OnlyWord, text: &str) -> Option<ValueStep>
+    ensures { result ≡ only_step word text.now }
+{
+    if text.eq_ignore_ascii_case(only_text(word)) {
+        Some(ValueStep::Whole(Value::Nothing))
+    } else {
+        None
+    }
+}
+
+// The last step of a value.
+fn whole(value: Option<Value>) -> Option<ValueStep>
+    ensures { result ≡ option_map (λ v. Whole v) value }
+{
+    value.map(ValueStep::Whole)
+}
+
+// Passes over a value that has no effect, before so many more.
+fn unused_step(more: u8) -> ValueStep
+    ensures { result ≡ unused_step more }
+{
+    match more.checked_sub(1) {
+        Some(fewer) => ValueStep::More(Expected::Unused(fewer)),
+        None => ValueStep::Whole(Value::Nothing),
+    }
+}
+
+// Reads the east of an extent, which lies to the east of its west.
+fn east_step(minx: i64, miny: i64, east: Option<Coordinate>) -> Option<ValueStep>
+    ensures { result ≡ east_step minx miny east }
+{
+    let maxx = east?.get().millionths();
+    if minx < maxx {
+        Some(ValueStep::More(Expected::North(minx, miny, maxx)))
+    } else {
+        None
+    }
+}
+
+// The last step of an extent.
+fn extent_step(extent: Option<Extent>) -> Option<ValueStep>
+    ensures { result ≡ option_map (λ area. Whole (ValueTree.Extent area)) extent }
+{
+    match extent {
+        Some(extent) => Some(ValueStep::Whole(Value::Extent(extent))),
+        None => None,
+    }
+}
+
+// Reads the north of an extent, which lies to the north of its south.
+fn north_step(minx: i64, miny: i64, maxx: i64, north: Option<Coordinate>) -> Option<ValueStep>
+    ensures { result ≡ north_step minx miny maxx north }
+{
+    let maxy = north?.get();
+    let (minx, miny, maxx) = (Micro::new(minx), Micro::new(miny), Micro::new(maxx));
+    extent_step(Extent::of(minx, miny, maxx, maxy))
+}
+
+// Reads the key of a CONFIG. There are no fonts yet, so that none may be named.
+fn config_step(key: &str) -> Option<ValueStep>
+    ensures { result ≡ config_step key.now }
+{
+    if key == "LABELFONT" {
+        None
+    } else {
+        Some(ValueStep::More(Expected::Unused(0)))
+    }
+}
+
+// Reads a token of a value of which nothing is kept but numbers.
+fn plain_step(expected: Expected, token: &Token) -> Option<ValueStep>
+    ensures { result ≡ plain_step expected token.now }
+{
+    let text = token.text;
+    match expected {
+        Expected::Kind => whole(kind_of(text).map(Value::Kind)),
+        Expected::Pixmap => pixmap_step(text),
+        Expected::Width => whole(Bounded::read(text).map(Value::Width)),
+        Expected::Size => whole(Bounded::read(text).map(Value::Size)),
+        Expected::Tolerance => whole(Bounded::read(text).map(Value::Tolerance)),
+        Expected::Priority => whole(Bounded::read(text).map(Value::Priority)),
+        Expected::Buffer => whole(Bounded::read(text).map(Value::Buffer)),
+        Expected::Distance => whole(distance_of(text).map(Value::Distance)),
+        Expected::Position => whole(position_of(text).map(Value::Position)),
+        Expected::Flag(keyword) => whole(flag_of(text).map(|flag| Value::Flag(keyword, flag))),
+        Expected::Scale(keyword) => whole(read_number(text).map(|scale| Value::Scale(
+            keyword, scale,
+        ))),
+        Expected::Colour(keyword) => colour_step(keyword, token),
+        Expected::Green(keyword, red) => Component::read(text).map(|green| ValueStep::More(
+            Expected::Blue(keyword, red, green),
+        )),
+        Expected::Blue(keyword, red, green) => Component::read(text).map(|blue| {
+            ValueStep::Whole(Value::Colour(keyword, rgb_of(red, green, blue)))
+        }),
+        Expected::West => Coordinate::read(text).map(|x| ValueStep::More(Expected::South(
+            x.get().millionths(),
+        ))),
+        Expected::South(x) => Coordinate::read(text).map(|y| ValueStep::More(Expected::East(
+            x,
+            y.get().millionths(),
+        ))),
+        Expected::East(x, y) => east_step(x, y, Coordinate::read(text)),
+        Expected::North(x, y, east) => north_step(x, y, east, Coordinate::read(text)),
+        Expected::Only(word) => only_step(word, text),
+        Expected::ConfigKey => config_step(text),
+        Expected::Unused(more) => Some(unused_step(more)),
+        // They are kept as texts.
+        Expected::Text(_) | Expected::Rule | Expected::Setting => None,
+    }
+}
+
+// Reads the rule of a class.
+fn rule_step(token: &Token, alloc: Global) -> Result<ValueStep, ParseFault>
+    ensures { MatchResult result
+        (λ step. rule_step token.now ≡ Ok step)
+        (IsErrorOf (rule_step token.now)) }
+{
+    match ClassRule::read(token, alloc) {
+        Ok(rule) => Ok(ValueStep::Whole(Value::Rule(rule))),
+        Err(RuleError::NoExpression) => Err(fault_of(ParseKind::BadExpression, token).into()),
+        Err(RuleError::NoMemory) => Err(ParseFault::NoMemory),
+    }
+}
+
+// Reads a token of a value.
+fn step_in(expected: Expected, token: &Token, alloc: Global) -> Result<ValueStep, ParseFault>
+    ensures { MatchResult result
+        (λ step. step_in expected token.now ≡ Ok step)
+        (IsErrorOf (step_in expected token.now)) }
+{
+    match expected {
+        Expected::Text(keyword) => {
+            let text = Text::from_str(alloc, token.text)?;
+            Ok(ValueStep::Whole(Value::Text(keyword, text)))
+        }
+        Expected::Rule => rule_step(token, alloc),
+        Expected::Setting => setting_step(token, alloc),
+        _ => match plain_step(expected, token) {
+            Some(step) => Ok(step),
+            None => Err(fault_of(ParseKind::WrongValue, token).into()),
+        },
+    }
+}
+
+// Whether a token of this shape may be a value of a keyword. Only a rule may be a Logic or a List.
+fn may_take(expected: &Expected, token: &Token) -> bool
+    ensures { result ≡ may_take expected.now token.now.shape }
+{
+    match expected {
+        Expected::Rule => true,
+        _ => is_value(token),
+    }
+}
+
+/// Reads a token of a value.
+pub fn value_step(expected: Expected, token: &Token, alloc: Global) -> Result<ValueStep, ParseFault>
+    ensures { MatchResult result
+        (λ step. value_step expected token.now ≡ Ok step)
+        (IsErrorOf (value_step expected token.now)) }
+{
+    if !may_take(&expected, token) {
+        return Err(fault_of(ParseKind::WrongValue, token).into());
+    }
+    step_in(expected, token, alloc)
+}
+
+/// The coordinate that the token is.
+pub fn coordinate_in(token: &Token) -> Option<Coordinate>
+    ensures { result ≡ coordinate_in token.now }
+{
+    if !is_value(token) {
+        return None;
+    }
+    Coordinate::read(token.text)
+}
