@@ -240,28 +240,37 @@ fn are_covered(polygon: &Polygon, row: u16, width: PictureSide, spans: &Spans) -
     true
 }
 
-// Whether a row, the sweep and each pixel by itself say the same on that picture.
+// Whether a row, the sweep and each pixel by itself say the same on a picture of that height. What owns
+// memory is lent.
+fn rows_agree(
+    polygon: &Polygon,
+    sweep: &mut Sweep,
+    swept: &mut Spans,
+    read: &mut Spans,
+    width: PictureSide,
+    height: PictureSide,
+) -> Result<bool, AllocError> {
+    for row in 0..height.pixels() {
+        let more = sweep.next(swept)?;
+        polygon.row(row, width, read)?;
+        if !more || swept.as_slice() != read.as_slice() || !are_covered(polygon, row, width, read) {
+            return Ok(false);
+        }
+    }
+    Ok(!sweep.next(swept)?)
+}
+
+// Whether they say the same on that picture.
 fn agree(
     alloc: Global,
     polygon: &Polygon,
     width: PictureSide,
     height: PictureSide,
 ) -> Result<bool, AllocError> {
-    let mut work = Work::new();
-    let mut sweep = polygon.sweep(width, height, &mut work)?;
+    let mut sweep = polygon.sweep(width, height, &mut Work::new())?;
     let mut swept = Spans::new(alloc);
     let mut read = Spans::new(alloc);
-    for row in 0..height.pixels() {
-        let more = sweep.next(&mut swept)?;
-        polygon.row(row, width, &mut read)?;
-        if !more
-            || swept.as_slice() != read.as_slice()
-            || !are_covered(polygon, row, width, &read)
-        {
-            return Ok(false);
-        }
-    }
-    Ok(!sweep.next(&mut swept)?)
+    rows_agree(polygon, &mut sweep, &mut swept, &mut read, width, height)
 }
 
 // Whether they agree on some polygon.
@@ -291,24 +300,35 @@ fn bars(alloc: Global) -> Result<Polygon, AllocError> {
     Ok(Polygon::of(edges))
 }
 
-// The divisions of a sweep on the largest picture, where so many stood before, and how many spans its first
-// row has and which is the last. There are none where it isn't the row of the polygon.
+// How many spans the first row of a sweep has, and which is the last. There are none where it isn't the
+// row of the polygon.
+fn first_spans(
+    polygon: &Polygon,
+    sweep: &mut Sweep,
+    swept: &mut Spans,
+    read: &mut Spans,
+) -> Result<(usize, Option<Span>), AllocError> {
+    let more = sweep.next(swept)?;
+    polygon.row(2_047, side(2_048), read)?;
+    if !more || swept.as_slice() != read.as_slice() {
+        return Ok((0, None));
+    }
+    Ok((swept.as_slice().len(), swept.as_slice().last().copied()))
+}
+
+// The first row of a sweep on the largest picture, where so many divisions stood before, and how many stand
+// then.
 fn first_row(
     alloc: Global,
     polygon: &Polygon,
     divisions: u64,
-) -> Result<(u64, usize, Option<Span>), AllocError> {
+) -> Result<(u64, (usize, Option<Span>)), AllocError> {
     let mut work = Work { divisions };
     let mut sweep = polygon.sweep(side(2_048), side(2_048), &mut work)?;
     let mut swept = Spans::new(alloc);
     let mut read = Spans::new(alloc);
-    let more = sweep.next(&mut swept)?;
-    polygon.row(2_047, side(2_048), &mut read)?;
-    if !more || swept.as_slice() != read.as_slice() {
-        return Ok((work.divisions, 0, None));
-    }
-    let last = swept.as_slice().last().copied();
-    Ok((work.divisions, swept.as_slice().len(), last))
+    let first = first_spans(polygon, &mut sweep, &mut swept, &mut read)?;
+    Ok((work.divisions, first))
 }
 
 #[test]
@@ -319,7 +339,7 @@ fn widest_rows_have_many_spans(rt: HostRuntime) -> Result<(), Fail> {
         from: 2_046,
         to: 2_047,
     };
-    assert_eq!(rt; told, (u64::MAX, 1_024, Some(last)));
+    assert_eq!(rt; told, (u64::MAX, (1_024, Some(last))));
     Ok(())
 }
 

@@ -1,4 +1,4 @@
-ghost use Rattle.std.specs.Prelude.{◌≡◌, ◌<◌, ◌≤◌, [], length, sum_by, All, IfOk, IfSome};
+ghost use Rattle.std.specs.Prelude.{◌≡◌, ◌<◌, ◌≤◌, [], ◌∷◌, length, sum_by, All, IfOk, IfSome};
 ghost use Rattle.mapdefs.specs.MapLimits.{ClassNamesSymbolsOf, LayerNamesSymbolsOf, NamesSymbolOf};
 ghost use Rattle.mapdefs.specs.declared.limits.TheConstants.{MAX_LAYERS};
 
@@ -174,21 +174,47 @@ fn kind_of(word: &str) -> Result<Kind, Fail> {
     }
 }
 
+// The kind of a layer, the letters of its class's styles, and its bounds.
+fn words_of(words: &str) -> Option<(&str, &str, &str)> {
+    let (kind, words) = words.split_once(' ')?;
+    let (letters, bounded) = words.split_once(' ')?;
+    Some((kind, letters, bounded))
+}
+
+// The bounds on the scale of the class and of the layer with a comma between them, or `none`.
+fn bounds_of(bounded: &str) -> Result<(Bounds, Bounds), Fail> {
+    let (of_class, of_layer) = bounded.split_once(',').unwrap_or(("-..-", "-..-"));
+    Ok((bounds(of_class)?, bounds(of_layer)?))
+}
+
+fn classes_of(alloc: Global, letters: &str, bounds: Bounds) -> Result<Items<Class>, Fail>
+    ensures symbols { IfOk result (All (ClassNamesSymbolsOf 2)) }
+    ensures count { IfOk result (λ classes. length classes ≡ 1) }
+{
+    let mut classes = Items::new(alloc);
+    classes.push(class(alloc, letters, bounds)?)?;
+    Ok(classes)
+}
+
+fn features_of(alloc: Global, feature: Feature) -> Result<Items<Feature>, AllocError>
+    ensures { IfOk result (λ features. features ≡ feature ∷ []) }
+{
+    let mut features = Items::new(alloc);
+    features.push(feature)?;
+    Ok(features)
+}
+
 /// A layer of this feature with one class. Its kind, the letters of the class's styles, and the bounds on
 /// the scale of the class and of the layer with a comma between them, or `none`.
 pub(crate) fn layer(alloc: Global, words: &str, feature: Feature) -> Result<Layer, Fail>
     requires { feature.values ≡ [] }
     ensures { IfOk result (LayerNamesSymbolsOf 2) }
 {
-    let (kind, words) = words.split_once(' ').ok_or("no colours")?;
-    let (letters, bounded) = words.split_once(' ').ok_or("no bounds")?;
-    let (of_class, of_layer) = bounded.split_once(',').unwrap_or(("-..-", "-..-"));
-    let (min, max) = bounds(of_layer)?;
+    let (kind, letters, bounded) = words_of(words).ok_or("no colours or no bounds")?;
+    let (of_class, (min, max)) = bounds_of(bounded)?;
     let kind = kind_of(kind)?;
-    let mut classes = Items::new(alloc);
-    classes.push(class(alloc, letters, bounds(of_class)?)?)?;
-    let mut features = Items::new(alloc);
-    features.push(feature)?;
+    let features = features_of(alloc, feature)?;
+    let classes = classes_of(alloc, letters, of_class)?;
     Ok(Layer::new(LayerFields {
         name: Text::of(String::new(alloc)),
         title: Text::of(String::new(alloc)),
