@@ -1,8 +1,7 @@
-use crate::folder::Folder;
-use crate::input::{ReadFault, read_all};
 use crate::named_file::NamedFile;
 use mapdefs::Items;
 use mapmachine::Flagged;
+use sessions::{Folder, ReadFault, front_of, read_all};
 use std::alloc::{AllocError, Global};
 
 /// A folder of the machine that the program runs on.
@@ -26,14 +25,6 @@ impl<'a> HostFolder<'a> {
             rt,
             front: front_of(file),
         }
-    }
-}
-
-/// What stands before the name of a file in its path, with the last slash.
-pub fn front_of(path: &str) -> &str {
-    match path.rfind('/') {
-        Some(slash) => path.split_at(slash + 1).0,
-        None => "",
     }
 }
 

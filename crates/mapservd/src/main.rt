@@ -3,61 +3,21 @@
 //! and says how much its map has, and with `--explain` it tells a fault in words, too. `run FILE SCRIPT`
 //! plays a script on the map of a mapfile, `serve FILE` answers connections on a port.
 //!
-//! Proved: `command` finds the form of the words as `clap`'s matches have it (`command`), where the
-//! command line takes them (`taken`, `refused`; `laws` has words written out). `serve_session` reads its
-//! input up to the end and tells by its outcome what was written: the whole transcript of the map
-//! machine's replies, or exactly the first bytes of it, or the fault of the mapfile (`tells`);
-//! `check_file`, `explain_file` and `run_files` say the same of the files that they read. `split_session`
-//! parts a session at its first line of two percent signs. `play_script` and `summary` say how many bytes
-//! went out where the writer fails. What the files and standard input and output held or got is no
-//! promise of any proof.
-//!
-//! Words: a *script* is a list of commands, each a line; its *events* are what they ask of the
-//! machine. The *transcript* is what is written of the replies.
+//! What is proved stands in the crates that it calls: `command` of `commandline` finds what the words ask
+//! for, and the calls of `sessions` do it. Here the words, the streams and the files are those of the
+//! machine that the program runs on, and what they held or got is no promise of any proof.
 #![tactic(auto)]
 
-mod connection;
-mod explaining;
-mod files;
-mod folder;
-#[cfg(test)]
-mod folder_tests;
-mod form;
-#[cfg(test)]
-mod form_tests;
 mod host_folder;
-mod input;
-mod laws;
-mod line;
-mod listening;
-#[cfg(test)]
-mod listening_tests;
 mod named_file;
-mod outcome;
-mod parts;
-mod play;
-#[cfg(test)]
-mod play_tests;
-mod script;
-mod sending;
-mod session;
-#[cfg(test)]
-mod stream_tests;
-mod summary;
-#[cfg(test)]
-mod tests;
-mod words;
 
-use crate::explaining::explain_file;
-use crate::files::{check_file, read_map, run_files};
-use crate::form::Command;
 use crate::host_folder::HostFolder;
-use crate::listening::listen;
 use crate::named_file::NamedFile;
-use crate::outcome::Outcome;
-use crate::session::{serve_session, tell};
-use crate::words::{WordsFault, command};
+use commandline::{Command, WordsFault, command};
 use mapmachine::{Flagged, Machine, Sink};
+use sessions::{
+    Outcome, check_file, explain_file, listen, read_map, run_files, serve_session, tell,
+};
 use std::env;
 use std::io::{self, BufWriter};
 use std::process::ExitCode;

@@ -1,0 +1,100 @@
+-- The command line (docs/PROFILE.md, "The program").
+use Rattle.std.specs.Prelude.{◌≡◌, ℕ, pos, Ok, List, [], ◌∷◌, Option, Some, None, IsSomeAnd, Bool, true, false, codes}
+use Rattle.std.specs.Str.Parse.{ParsesUnsigned}
+use Rattle.std.specs.declared.num.ParseIntError.{ParseIntError}
+use Rattle.clap.specs.declared.builder.action.ArgAction.TheVariants.{SetTrue}
+use Rattle.clap.specs.declared.builder.value_parser.ValueParser.TheVariants as vp
+use Rattle.clap.specs.Words.{App, Row, Rule, Text, fault_of, first_of, one_of, subcommand_of, takes, new_app, new_rule, with_rule, with_subcommand}
+use Rattle.commandline.specs.declared.form.Command.{Command}
+use Rattle.commandline.specs.declared.form.Command.TheVariants.{Session, Check, Run, Serve}
+use Rattle.commandline.specs.declared.words.WordsFault.{WordsFault}
+use Rattle.commandline.specs.declared.words.WordsFault.TheVariants.{Refused, NoMemory}
+
+-- a word that names a file, and must be there
+abbrev pub file_rule : Rule
+file_rule = record (new_rule (codes "FILE")) { required = true }
+
+-- a word that names a script, and must be there
+abbrev pub script_rule : Rule
+script_rule = record (new_rule (codes "SCRIPT")) { required = true }
+
+-- `--explain`, a flag
+abbrev pub explain_rule : Rule
+explain_rule = record (new_rule (codes "explain")) { long = Some (codes "explain"); action = Some SetTrue }
+
+-- `check --explain FILE`
+abbrev pub check_app : App
+check_app = with_rule (with_rule (new_app (codes "check")) file_rule) explain_rule
+
+-- `run FILE SCRIPT`
+abbrev pub run_app : App
+run_app = with_rule (with_rule (new_app (codes "run")) file_rule) script_rule
+
+-- `--port PORT`, a number of 16 bits, 8080 where it isn't given
+abbrev pub port_rule : Rule
+port_rule = record (new_rule (codes "port")) { long = Some (codes "port"); parser = Some (vp.Signed (pos 0) (pos 65535)); defaults = codes "8080" ∷ [] }
+
+-- `--connections N`, a number of 32 bits, 0 where it isn't given
+abbrev pub connections_rule : Rule
+connections_rule = record (new_rule (codes "connections")) { long = Some (codes "connections"); parser = Some (vp.Signed (pos 0) (pos 4294967295)); defaults = codes "0" ∷ [] }
+
+-- `serve FILE --port PORT`
+abbrev pub port_app : App
+port_app = with_rule (with_rule (new_app (codes "serve")) file_rule) port_rule
+
+-- `serve FILE --port PORT --connections N`
+abbrev pub serve_app : App
+serve_app = with_rule port_app connections_rule
+
+-- the program by its name, whose words don't begin with it
+abbrev pub named_app : App
+named_app = record { top = record (new_app (codes "mapservd")).top { no_binary_name = true }; subs = [] }
+
+-- the command line: no words, or one of the three forms
+abbrev pub app : App
+app = with_subcommand (with_subcommand (with_subcommand named_app check_app.top) run_app.top) serve_app.top
+
+-- the rows of matches have a number of so many bits under a name
+abbrev pub IsNumber : ℕ → Text → List Row → ℕ → Type 0
+IsNumber bits name rows n = (t : Text) × (one_of name rows ≡ Some t) × ParsesUnsigned {E = ParseIntError} bits 10 t (Ok n)
+
+-- a flag is set in the rows of matches, or it is not
+pub record IsFlag (name : Text) (rows : List Row) (flag : Bool) : Type 0 where
+  pub set : one_of name rows ≡ Some (codes "true") → flag ≡ true
+  pub unset : one_of name rows ≡ Some (codes "false") → flag ≡ false
+  pub absent : one_of name rows ≡ None → flag ≡ false
+
+-- a command is what matches say: none of the forms, or the name of one with its files
+abbrev pub IsCommand : Option (Text × List Row) → Command → Type 0
+IsCommand None Session = Unit {0}
+IsCommand None (Check file explains) = ⊥
+IsCommand None (Run file script) = ⊥
+IsCommand None (Serve file port connections) = ⊥
+IsCommand (Some m) Session = ⊥
+IsCommand (Some m) (Check file explains) =
+    (m.0 ≡ codes "check") × (first_of (codes "FILE") m.1 ≡ Some file.now) × IsFlag (codes "explain") m.1 explains
+IsCommand (Some m) (Run file script) =
+    (m.0 ≡ codes "run") × (first_of (codes "FILE") m.1 ≡ Some file.now) × (first_of (codes "SCRIPT") m.1 ≡ Some script.now)
+IsCommand (Some m) (Serve file port connections) =
+    (m.0 ≡ codes "serve") × (first_of (codes "FILE") m.1 ≡ Some file.now) × IsNumber 16 (codes "port") m.1 port × IsNumber 32 (codes "connections") m.1 connections
+
+-- the words were refused
+abbrev pub is_refusal : WordsFault → Bool
+is_refusal (Refused text) = true
+is_refusal NoMemory = false
+
+-- the law on words that are written out: without words no form is named; `check` has its file, and its flag where that is given; `run` has the mapfile before
+-- the script; and words that lack a file, or begin with another word, are refused
+pub record FormsAreWritten : Type 0 where
+  pub none : subcommand_of app [] ≡ None
+  pub check : IsSomeAnd (subcommand_of app (codes "check" ∷ codes "a.map" ∷ [])) (λ m. (m.0 ≡ codes "check") × (first_of (codes "FILE") m.1 ≡ Some (codes "a.map")))
+  pub unexplained : IsSomeAnd (subcommand_of app (codes "check" ∷ codes "a.map" ∷ [])) (λ m. one_of (codes "explain") m.1 ≡ Some (codes "false"))
+  pub explained : IsSomeAnd (subcommand_of app (codes "check" ∷ codes "--explain" ∷ codes "a.map" ∷ []))
+      (λ m. (m.0 ≡ codes "check") × (first_of (codes "FILE") m.1 ≡ Some (codes "a.map")) × (one_of (codes "explain") m.1 ≡ Some (codes "true")))
+  pub run : IsSomeAnd (subcommand_of app (codes "run" ∷ codes "a.map" ∷ codes "b.txt" ∷ []))
+      (λ m. (m.0 ≡ codes "run") × (first_of (codes "FILE") m.1 ≡ Some (codes "a.map")) × (first_of (codes "SCRIPT") m.1 ≡ Some (codes "b.txt")))
+  pub serve : IsSomeAnd (subcommand_of app (codes "serve" ∷ codes "a.map" ∷ codes "--connections" ∷ codes "2" ∷ []))
+      (λ m. (m.0 ≡ codes "serve") × (first_of (codes "FILE") m.1 ≡ Some (codes "a.map")) × (one_of (codes "port") m.1 ≡ Some (codes "8080")) × (one_of (codes "connections") m.1 ≡ Some (codes "2")))
+  pub taken : (fault_of app [] ≡ []) × (fault_of app (codes "check" ∷ codes "a.map" ∷ []) ≡ []) × (fault_of app (codes "run" ∷ codes "a.map" ∷ codes "b.txt" ∷ []) ≡ [])
+  pub refused : (takes app (codes "check" ∷ []) ≡ false) × (takes app (codes "run" ∷ codes "a.map" ∷ []) ≡ false) × (takes app (codes "draw" ∷ codes "a.map" ∷ []) ≡ false)
+      × (takes app (codes "serve" ∷ codes "a.map" ∷ codes "--port" ∷ codes "65536" ∷ []) ≡ false)

@@ -1,0 +1,132 @@
+use crate::texts::columns;
+use commandline::{Command, WordsFault, command};
+use std::alloc::{AllocError, Global};
+
+// What is told of some words: their form, or why they were refused.
+fn told(alloc: Global, words: &[&str]) -> Result<String, AllocError> {
+    match command(alloc, words) {
+        Ok(Command::Session) => String::from_str(alloc, "a session"),
+        Ok(
+            Command::Check {
+                file,
+                explains: false,
+            },
+        ) => format!(in alloc; "check {file}"),
+        Ok(
+            Command::Check {
+                file,
+                explains: true,
+            },
+        ) => format!(in alloc; "check {file} in words"),
+        Ok(Command::Run { file, script }) => format!(in alloc; "run {file} and then {script}"),
+        Ok(
+            Command::Serve {
+                file,
+                port,
+                connections,
+            },
+        ) => format!(in alloc; "serve {file} on {port} for {connections}"),
+        Err(WordsFault::Refused { text }) => Ok(text),
+        Err(WordsFault::NoMemory) => Err(AllocError),
+    }
+}
+
+// Words with spaces between them, and what is told of them, with `~` for a line feed.
+const WORDS: &str = "\
+|a session
+check m.map|check m.map
+run a b|run a and then b
+run same same|run same and then same
+check run|check run
+check -- -m|check -m
+check --explain m.map|check m.map in words
+check m.map --explain|check m.map in words
+check -- --explain|check --explain
+check --explain|error: the following required arguments were not provided:~  <FILE>~~Usage: mapservd check --explain <FILE>~~For more information, try '--help'.~
+check --explain=no m.map|error: unexpected value 'no' for '--explain' found; no more were expected~~Usage: mapservd check --explain <FILE>~~For more information, try '--help'.~
+run --explain a b|error: unexpected argument '--explain' found~~  tip: to pass '--explain' as a value, use '-- --explain'~~Usage: mapservd run <FILE> <SCRIPT>~~For more information, try '--help'.~
+check|error: the following required arguments were not provided:~  <FILE>~~Usage: mapservd check <FILE>~~For more information, try '--help'.~
+run a|error: the following required arguments were not provided:~  <SCRIPT>~~Usage: mapservd run <FILE> <SCRIPT>~~For more information, try '--help'.~
+check a b|error: unexpected argument 'b' found~~Usage: mapservd check [OPTIONS] <FILE>~~For more information, try '--help'.~
+run a b c|error: unexpected argument 'c' found~~Usage: mapservd run <FILE> <SCRIPT>~~For more information, try '--help'.~
+m.map|error: unrecognized subcommand 'm.map'~~Usage: mapservd [COMMAND]~~For more information, try '--help'.~
+serve m.map|serve m.map on 8080 for 0
+serve m.map --port 0 --connections 4294967295|serve m.map on 0 for 4294967295
+serve --connections 2 m.map --port 65535|serve m.map on 65535 for 2
+serve m.map --port 65536|error: invalid value '65536' for '--port <port>': 65536 is not in 0..=65535~~For more information, try '--help'.~
+serve m.map --connections 4294967296|error: invalid value '4294967296' for '--connections <connections>': 4294967296 is not in 0..=4294967295~~For more information, try '--help'.~
+draw m.map|error: unrecognized subcommand 'draw'~~Usage: mapservd [COMMAND]~~For more information, try '--help'.~
+CHECK a|error: unrecognized subcommand 'CHECK'~~Usage: mapservd [COMMAND]~~For more information, try '--help'.~
+--port 80|error: unexpected argument '--port' found~~Usage: mapservd [COMMAND]~~For more information, try '--help'.~
+check --help|Reads a mapfile, and says how many layers and features it has~~Usage: mapservd check [OPTIONS] <FILE>~~Arguments:~  <FILE>  ~~Options:~      --explain  Tells the mapfile's fault in words, too~  -h, --help     Print help~
+--help|Plays map requests~~Usage: mapservd [COMMAND]~~Commands:~  check  Reads a mapfile, and says how many layers and features it has~  run    Plays a script on the map of a mapfile~  serve  Answers connections on a port of this machine~  help   Print this message or the help of the given subcommand(s)~~Options:~  -h, --help  Print help~";
+
+// Whether words have the form of their row.
+fn is_form(alloc: Global, row: &str) -> Result<bool, AllocError> {
+    let (line, form, _) = columns(row);
+    let form = form.replace(alloc, '~', "\n")?;
+    let words: Vec<&str> = line.split_whitespace().collect(alloc)?;
+    Ok(told(alloc, &words)?.as_str() == form.as_str())
+}
+
+#[test]
+fn words_have_their_forms(rt: HostRuntime) {
+    assert_eq!(rt; WORDS.lines().count(), 27);
+    for row in WORDS.lines() {
+        assert_eq!(rt; is_form(rt.alloc(), row), Ok(true), "{row}");
+    }
+}
+
+// What is told of words that were refused with a text, and of those for which there was no memory.
+fn refusals(alloc: Global) -> Result<String, AllocError> {
+    let text = String::from_str(alloc, "no such form")?;
+    format!(in alloc;
+        "{}, {}",
+        WordsFault::Refused { text },
+        WordsFault::NoMemory
+    )
+}
+
+#[test]
+fn refusals_print_their_text(rt: HostRuntime) {
+    let Ok(text) = refusals(rt.alloc()) else {
+        panic!(rt; "out of memory");
+    };
+    assert_eq!(rt; text.as_str(), "no such form, out of memory");
+}
+
+#[test]
+fn commands_that_differ_in_one_field_are_unequal(rt: HostRuntime) {
+    let commands = [
+        Command::Session,
+        Command::Check {
+            file: "a",
+            explains: false,
+        },
+        Command::Check {
+            file: "a",
+            explains: true,
+        },
+        Command::Check {
+            file: "b",
+            explains: false,
+        },
+        Command::Run {
+            file: "a",
+            script: "b",
+        },
+        Command::Run {
+            file: "a",
+            script: "a",
+        },
+        Command::Run {
+            file: "b",
+            script: "b",
+        },
+    ];
+    for (i, one) in commands.iter().enumerate() {
+        for (j, other) in commands.iter().enumerate() {
+            assert_eq!(rt; one == other, i == j, "{one:?} and {other:?}");
+        }
+    }
+}

@@ -1,0 +1,175 @@
+use crate::memory::{Memory, TwoFiles, stream_of};
+use crate::texts::{columns, spelt};
+use mapmachine::Flagged;
+use sessions::{Outcome, ReadFault, check_file, explain_file, run_files, serve_session};
+use std::alloc::{AllocError, Global};
+use std::str;
+
+// Does what a form says, after which the name of the mapfile may stand.
+fn performed(
+    alloc: Global,
+    form: &str,
+    input: &mut Flagged<Memory<'_>>,
+    script: &mut Flagged<Memory<'_>>,
+    output: &mut Flagged<Memory<'_>>,
+    errors: &mut Flagged<Memory<'_>>,
+) -> Outcome {
+    let (form, name) = form.split_once(' ').unwrap_or((form, "m.map"));
+    match form {
+        "session" => serve_session(alloc, &TwoFiles, input, output, errors),
+        "check" => check_file(alloc, &TwoFiles, name, input, output, errors),
+        "explain" => explain_file(alloc, &TwoFiles, name, input, output, errors),
+        _ => run_files(
+            alloc, &TwoFiles, name, input, "s.txt", script, output, errors,
+        ),
+    }
+}
+
+// The number of the call of a stream that fails.
+fn call_of(failing: Option<(usize, usize)>, stream: usize) -> Option<usize> {
+    match failing {
+        Some((at, call)) if at == stream => Some(call),
+        _ => None,
+    }
+}
+
+/// What becomes of a form over two texts, its mapfile or session and its script, with streams that move so
+/// many bytes at once: its exit status, its outcome and what the two writers hold, with bars between them;
+/// and how often its first input, its output and its errors were called. Of these three streams one call
+/// may fail, that of this number.
+pub fn ended(
+    alloc: Global,
+    form: &str,
+    texts: (&str, &str),
+    at_once: usize,
+    failing: Option<(usize, usize)>,
+) -> Result<(String, [usize; 3]), AllocError> {
+    let mut input = stream_of(alloc, texts.0, at_once, call_of(failing, 0));
+    let mut script = stream_of(alloc, texts.1, at_once, None);
+    let mut output = stream_of(alloc, "", at_once, call_of(failing, 1));
+    let mut errors = stream_of(alloc, "", at_once, call_of(failing, 2));
+    let outcome = performed(
+        alloc,
+        form,
+        &mut input,
+        &mut script,
+        &mut output,
+        &mut errors,
+    );
+    let (input, output, errors) = (input.into_inner(), output.into_inner(), errors.into_inner());
+    let text = format!(in alloc;
+        "{} {outcome:?}|{}|{}",
+        outcome.status(),
+        str::from_utf8(&output.held).unwrap_or("?"),
+        str::from_utf8(&errors.held).unwrap_or("?")
+    )?;
+    Ok((text, [input.calls, output.calls, errors.calls]))
+}
+
+/// Whether all that is written of a script is this.
+pub fn is_played(alloc: Global, map: &str, script: &str, text: &str) -> Result<bool, AllocError> {
+    let (found, _) = ended(alloc, "run", (map, script), 100_000, None)?;
+    let expected = format!(in alloc; "0 Played|{text}|")?;
+    Ok(found.as_str() == expected.as_str())
+}
+
+// Forms with their mapfile and their script, then the exit status with the outcome, the output and the
+// errors. `!` is a file that can't be read, `*` the map of 2 layers, `@` the exception of a query without
+// parameters. A mapfile and a script have several faults where the first is to be told.
+const FORMS: &str = "\
+check|MAP END||0 Checked|ok 0 layers 0 features~|
+check|*||0 Checked|ok 2 layers 3 features~|
+check|*|!|0 Checked|ok 2 layers 3 features~|
+check|MAP~~FOO END||1 MapfileFault||fault line 3 kind 2~
+check|(||1 MapfileFault||fault line 1 kind 1~
+check|||1 MapfileFault||fault line 1 kind 4~
+check|!||1 FileFailed||fault file m.map~
+explain|*||0 Checked|ok 2 layers 3 features~|
+explain|MAP~~FOO END||1 MapfileFault||fault line 3 kind 2~m.map:3: FOO is no keyword of MAP~
+explain|MAP~LAYER NAME a~~END~END||1 MapfileFault||fault line 4 kind 5~m.map:4: LAYER of line 2 has no TYPE~
+explain|||1 MapfileFault||fault line 1 kind 4~m.map:1: the mapfile has no MAP~
+explain|!||1 FileFailed||fault file m.map~
+run|MAP END|QUERY a~|0 Played|@|
+run|*|QUERY a~QUERY b~|0 Played|@@|
+run|*||0 Played||
+run|MAP END|QUERY a~x~|0 Played|fault script 2~|
+run|MAP~END~END|!|1 MapfileFault||fault line 3 kind 2~
+run|MAP END|!|1 FileFailed||fault file s.txt~
+run|!|!|1 FileFailed||fault file m.map~
+run|!|x~|1 FileFailed||fault file m.map~";
+
+// Scripts on the map of the square: an unreadable one plays nothing.
+const SCRIPTS: &str = "\
+run|$||0 Played||
+run|$|QUERY ~|0 Played|@|
+run|$|QUERY a~QUERY b\r~|0 Played|@@|
+run|$|QUERY a~QUERY b|0 Played|fault script 2~|
+run|$|QUERY|0 Played|fault script 1~|
+run|$|QUERY~|0 Played|fault script 1~|
+run|$|query a~|0 Played|fault script 1~|
+run|$|~|0 Played|fault script 1~|
+run|$|QUERY a~BATCH 0~QUERY b~|0 Played|fault script 2~|
+run|$|QUERY a~QUERY b~QUERY c~ QUERY d~|0 Played|fault script 4~|";
+
+/// Sessions. The last has a fault in the mapfile and one in the script.
+pub const SESSIONS: &str = "\
+session|MAP END~%%~QUERY a~||0 Played|@|
+session|MAP END||0 Played||
+session|MAP END~%%~QUERY a~QUERY b~QUIT~||0 Played|fault script 3~|
+session|MAP~~~~FOO END~%%~QUERY a~||1 MapfileFault||fault line 5 kind 2~
+session|MAP~ LAYER~ TYPE BLOB~%%~||1 MapfileFault||fault line 3 kind 3~
+session|MAP~%%~QUIT~||1 MapfileFault||fault line 2 kind 4~";
+
+// Mapfiles with the symbol of a file. The pixmap has its corner a column to the left of the point's pixel.
+const SYMBOLS: &str = "\
+session|<p.ppm>%%~QUERY ^~||0 Played|ANSWER image/x-portable-pixmap 59~50360a3420340a3235350affffffffffffffffffffffffffffff0a141effffff~ffffffffffffffffffffffffffffffffffffffffffffffffffffff~|
+session|<bad.ppm>%%~QUERY ^~||1 MapfileFault||fault line 4 kind 10~
+session|<none.ppm>%%~QUERY ^~||1 MapfileFault||fault line 4 kind 7~
+session|<P.ppm>%%~QUERY ^~||1 MapfileFault||fault line 4 kind 7~
+explain maps/m.map|MAP SYMBOL NAME s~TYPE PIXMAP~IMAGE p.ppm~END END||0 Checked|ok 0 layers 0 features~|
+explain maps/m.map|MAP SYMBOL NAME s~TYPE PIXMAP~IMAGE bad.ppm~END END||1 MapfileFault||fault line 3 kind 10~maps/m.map:3: the file that IMAGE names is no pixmap in Netpbm's P6 format of at most 256 by 256 pixels~
+explain maps/m.map|MAP SYMBOL NAME s~TYPE PIXMAP~IMAGE none.ppm~END END||1 MapfileFault||fault line 3 kind 7~maps/m.map:3: the file that IMAGE names can't be read~";
+
+// Whether a form ends as its row says, however many bytes its streams move at once.
+fn is_ended(alloc: Global, line: &str) -> Result<bool, AllocError> {
+    let row = spelt(alloc, line)?;
+    let (form, mapfile, rest) = columns(row.as_str());
+    let (script, expected) = rest.split_once('|').unwrap_or(("", "no row"));
+    for at_once in [1, 7, 100_000] {
+        let (found, _) = ended(alloc, form, (mapfile, script), at_once, None)?;
+        if found.as_str() != expected {
+            return Ok(false);
+        }
+    }
+    Ok(true)
+}
+
+#[test]
+fn forms_end_as_they_should(rt: HostRuntime) {
+    for (table, count) in [(FORMS, 20), (SCRIPTS, 10), (SESSIONS, 6), (SYMBOLS, 7)] {
+        assert_eq!(rt; table.lines().count(), count);
+        for row in table.lines() {
+            assert_eq!(rt; is_ended(rt.alloc(), row), Ok(true), "{row}");
+        }
+    }
+}
+
+#[test]
+fn statuses_are_those_of_the_profile(rt: HostRuntime) {
+    assert_eq!(rt; Outcome::Played.status(), 0);
+    assert_eq!(rt; Outcome::Checked.status(), 0);
+    assert_eq!(rt; Outcome::MapfileFault.status(), 1);
+    assert_eq!(rt; Outcome::FileFailed.status(), 1);
+    assert_eq!(rt; Outcome::WordsRefused.status(), 2);
+    assert_eq!(rt; Outcome::InputFailed.status(), 3);
+    assert_eq!(rt; Outcome::OutputFailed.status(), 3);
+    assert_eq!(rt; Outcome::NoMemory.status(), 4);
+}
+
+#[test]
+fn messages_are_whole(rt: HostRuntime) {
+    let Ok(text) = format!(in rt.alloc(); "{}, {}", ReadFault::Input, ReadFault::NoMemory) else {
+        panic!(rt; "out of memory");
+    };
+    assert_eq!(rt; text.as_str(), "the reader failed, out of memory");
+}

@@ -1,0 +1,25 @@
+//! Tests of what the program does for its words: of its command line, its sessions, the files that it reads
+//! and its port, by public calls alone. Each test checks a value that was worked by hand, or that no clause
+//! can say.
+#![tactic(auto)]
+
+#[cfg(test)]
+mod answers;
+#[cfg(test)]
+mod command_lines;
+#[cfg(test)]
+mod cuts;
+#[cfg(test)]
+mod endings;
+#[cfg(test)]
+mod long_inputs;
+#[cfg(test)]
+mod memory;
+#[cfg(test)]
+mod parts;
+#[cfg(test)]
+mod ports;
+#[cfg(test)]
+mod stops;
+#[cfg(test)]
+mod texts;

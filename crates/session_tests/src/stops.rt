@@ -1,0 +1,86 @@
+use crate::endings::{SESSIONS, ended};
+use crate::texts::{columns, spelt};
+use std::alloc::{AllocError, Global};
+
+// Forms, the number of their output's call that fails, of those that write 5 bytes at most and of the flush
+// after them, and what becomes of it. The line of `check` has seven such calls, the fault of a script five.
+const FAILING: &str = "\
+check|0|3 OutputFailed||
+check|3|3 OutputFailed|ok 0 laye|
+check|7|3 OutputFailed|ok 0 layers 0 features~|
+check|8|0 Checked|ok 0 layers 0 features~|
+explain|0|3 OutputFailed||
+explain|7|3 OutputFailed|ok 0 layers 0 features~|
+explain|8|0 Checked|ok 0 layers 0 features~|
+run|0|3 OutputFailed||
+run|2|3 OutputFailed|fault scri|
+run|5|3 OutputFailed|fault script 1~|
+run|6|0 Played|fault script 1~|";
+
+// Whether a form whose output fails ends as its row says.
+fn is_failed(alloc: Global, line: &str) -> Result<bool, AllocError> {
+    let row = spelt(alloc, line)?;
+    let (form, failing, expected) = columns(row.as_str());
+    let failing: usize = failing.parse().unwrap_or(99);
+    let (found, _) = ended(alloc, form, ("MAP END", "x\n"), 5, Some((1, failing)))?;
+    Ok(found.as_str() == expected)
+}
+
+#[test]
+fn outputs_that_fail_end_a_form(rt: HostRuntime) {
+    assert_eq!(rt; FAILING.lines().count(), 11);
+    for line in FAILING.lines() {
+        assert_eq!(rt; is_failed(rt.alloc(), line), Ok(true), "{line}");
+    }
+}
+
+// Whether some text is the front of another, and not all of it before the last call.
+fn is_front(held: &str, text: &str, is_last: bool) -> bool {
+    text.starts_with(held) && (is_last || held.len() < text.len())
+}
+
+// Whether a session of which a call of a stream failed ended so, with what it would have written by itself:
+// a reader that fails leaves nothing written, a writer that fails holds the first bytes of its text, and
+// the other writer got nothing.
+fn is_stop(found: &str, stream: usize, whole: &str, is_last: bool) -> bool {
+    let (end, output, errors) = columns(found);
+    let (_, all_output, all_errors) = columns(whole);
+    match stream {
+        0 => found == "3 InputFailed||",
+        1 => {
+            end == "3 OutputFailed" && is_front(output, all_output, is_last) && errors.is_empty()
+        }
+        _ => {
+            end == "1 MapfileFault" && is_front(errors, all_errors, is_last) && output.is_empty()
+        }
+    }
+}
+
+// Whether a session ends right where any call of one of its three streams fails.
+fn is_stopped(alloc: Global, line: &str, stream: usize) -> Result<bool, AllocError> {
+    let row = spelt(alloc, line)?;
+    let (_, session, rest) = columns(row.as_str());
+    let whole = rest.split_once('|').unwrap_or(("", "no row")).1;
+    let (_, calls) = ended(alloc, "session", (session, ""), 5, None)?;
+    let count = calls.get(stream).copied().unwrap_or(0);
+    for call in 0..count {
+        let (found, _) = ended(alloc, "session", (session, ""), 5, Some((stream, call)))?;
+        if !is_stop(found.as_str(), stream, whole, call == count - 1) {
+            return Ok(false);
+        }
+    }
+    Ok(true)
+}
+
+#[test]
+fn streams_that_fail_end_a_session(rt: HostRuntime) {
+    for line in SESSIONS.lines() {
+        for stream in 0..3 {
+            assert_eq!(rt;
+                is_stopped(rt.alloc(), line, stream),
+                Ok(true),
+                "{line}, {stream}"
+            );
+        }
+    }
+}

@@ -1,0 +1,9 @@
+pub mod Commands
+pub mod HexLines
+pub mod Lines
+pub mod Outgoing
+pub mod Parting
+pub mod Playing
+pub mod Rests
+pub mod ScriptSteps
+pub mod Serving

@@ -1,0 +1,54 @@
+-- How a session ends.
+use Rattle.std.proofs.Common.{ℕ, Bool, List, Option, Ok, length, arith, take_all}
+use Rattle.std.specs.Io.KnownBytes.{Keeps}
+use Rattle.std.proofs.KnownBytes.{Appends-kept}
+use Rattle.mapdefs.specs.declared.map.MapFields.{MapFields}
+use Rattle.mapmachine.specs.Machine.{State}
+use Rattle.sessions.specs.Folder.{Giving, ComesTo}
+use Rattle.sessions.specs.Forms.{HasReadFile, HasReadMap, RunsTo}
+use Rattle.sessions.specs.Sent.{IsSent}
+use Rattle.sessions.specs.Session.{Streams, HasRead, Ends, IsTold, Tells, opened}
+use Rattle.sessions.specs.declared.outcome.Outcome.{Outcome}
+use Rattle.sessions.specs.declared.outcome.Outcome.TheVariants.{Played, Checked, MapfileFault, FileFailed, WordsRefused, InputFailed, OutputFailed, NoMemory, Served, SocketFailed}
+
+-- a line that went out whole and was flushed was told
+pub told-whole : (a b c : Option (List ℕ)) (line : List ℕ) (before after : ℕ) (failed : Bool) → IsSent a b line before after → Keeps b c → IsTold a c line failed
+told-whole a b c line before after failed sent kept = record {
+  count = length line;
+  bytes = rw (take_all (length line) line (omega arith)) (Appends-kept a b c line sent.bytes kept);
+  all = λ _. omega arith;
+}
+
+-- what is told of a script that was played, by the outcome
+pub served : (gives : Giving) (outcome : Outcome) (old new : Streams) (failed : Bool) (mapfile script : List ℕ) (map : MapFields) (state : State) →
+    HasRead old.input new.input mapfile script → ComesTo gives mapfile (Ok map) → Ends outcome (opened map) script state old.output new.output →
+    Keeps old.errors new.errors → Tells gives outcome old new failed
+served gives Played old new failed mapfile script map state read is_map ends kept =
+    record { mapfile = mapfile; script = script; read = read; map = map; is_map = is_map; state = state; ends = ends; errors = kept }
+served gives Checked old new failed mapfile script map state read is_map ends kept = absurd ends
+served gives Served old new failed mapfile script map state read is_map ends kept = absurd ends
+served gives SocketFailed old new failed mapfile script map state read is_map ends kept = absurd ends
+served gives FileFailed old new failed mapfile script map state read is_map ends kept = absurd ends
+served gives WordsRefused old new failed mapfile script map state read is_map ends kept = absurd ends
+served gives MapfileFault old new failed mapfile script map state read is_map ends kept = absurd ends
+served gives InputFailed old new failed mapfile script map state read is_map ends kept = absurd ends
+served gives OutputFailed old new failed mapfile script map state read is_map ends kept =
+    record { mapfile = mapfile; script = script; read = read; map = map; is_map = is_map; state = state; ends = ends; errors = kept }
+served gives NoMemory old new failed mapfile script map state read is_map ends kept = absurd ends
+
+-- what is told of a script that was read after its mapfile, by the outcome
+pub ran : (gives : Giving) (outcome : Outcome) (file script : List ℕ) (before after : Option (List ℕ)) (old new : Streams) (failed : Bool) (map : MapFields) (bytes : List ℕ) (state : State) →
+    HasReadMap gives before after map → HasReadFile old.input new.input bytes → Ends outcome (opened map) bytes state old.output new.output →
+    Keeps old.errors new.errors → RunsTo gives outcome file script before after old new failed
+ran gives Played file script before after old new failed map bytes state read read_script ends kept =
+    record { map = map; read = read; script = bytes; read_script = read_script; state = state; ends = ends; errors = kept }
+ran gives OutputFailed file script before after old new failed map bytes state read read_script ends kept =
+    record { map = map; read = read; script = bytes; read_script = read_script; state = state; ends = ends; errors = kept }
+ran gives Checked file script before after old new failed map bytes state read read_script ends kept = absurd ends
+ran gives Served file script before after old new failed map bytes state read read_script ends kept = absurd ends
+ran gives SocketFailed file script before after old new failed map bytes state read read_script ends kept = absurd ends
+ran gives MapfileFault file script before after old new failed map bytes state read read_script ends kept = absurd ends
+ran gives FileFailed file script before after old new failed map bytes state read read_script ends kept = absurd ends
+ran gives WordsRefused file script before after old new failed map bytes state read read_script ends kept = absurd ends
+ran gives InputFailed file script before after old new failed map bytes state read read_script ends kept = absurd ends
+ran gives NoMemory file script before after old new failed map bytes state read read_script ends kept = absurd ends

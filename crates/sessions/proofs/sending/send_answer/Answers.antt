@@ -1,0 +1,8 @@
+use Rattle.sessions.proofs.Outgoing.{on-err-so, sent-partly}
+use Rattle.sessions.proofs.sending.send_answer.Goals as goal
+
+pub returns-clause-part : goal.returns-clause-part
+returns-clause-part g c =
+    on-err-so c.send_body.result _ _
+    (λ p. sent-partly _ _ _ _ _ _ _ _ c.in_ok-send_answer_line.ensures.ok (rw c.as_slice.ensures at p))
+    c.send_body.ensures.part

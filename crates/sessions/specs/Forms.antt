@@ -1,0 +1,121 @@
+-- The forms that read files, from their bytes to what the writers get (docs/PROFILE.md, "The program").
+use Rattle.std.specs.Prelude.{ℕ, Bool, true, false, List, ◌++◌, Option, None, Some, Ok, Err, ◌⊎◌, codes}
+use Rattle.std.specs.Fmt.{decimal}
+use Rattle.std.specs.Io.KnownBytes.{Keeps, Appends, Consumes, IsAtEnd}
+use Rattle.mapdefs.specs.declared.map.MapFields.{MapFields}
+use Rattle.mapmachine.specs.Machine.{State}
+use Rattle.mapwords.specs.declared.fault.Fault.{Fault}
+use Rattle.mapwords.specs.Fault.{number_of}
+use Rattle.sessions.specs.Folder.{Giving, ComesTo}
+use Rattle.sessions.specs.Session.{Streams, IsTold, HasToldFault, Ends, opened}
+use Rattle.sessions.specs.Summary.{summary_line, HasPartlySummed}
+use Rattle.sessions.specs.Transcript.{file_fault, mapfile_fault}
+use Rattle.sessions.specs.declared.outcome.Outcome.{Outcome}
+use Rattle.sessions.specs.declared.outcome.Outcome.TheVariants.{Played, Checked, MapfileFault, FileFailed, OutputFailed, NoMemory}
+
+-- all of a file was read, up to its end
+pub record HasReadFile (before after : Option (List ℕ)) (bytes : List ℕ) : Type 0 where
+  pub consumed : Consumes before after bytes
+  pub end : IsAtEnd after
+
+-- a file was not read: that was told to the errors by its name, or memory was refused and nothing told
+abbrev pub IsUnread : Outcome → List ℕ → Option (List ℕ) → Option (List ℕ) → Bool → Type 0
+IsUnread FileFailed name errors_before errors_after failed = IsTold errors_before errors_after (file_fault name) failed
+IsUnread NoMemory name errors_before errors_after failed = Keeps errors_before errors_after
+IsUnread _ name errors_before errors_after failed = ⊥
+
+-- a mapfile was read, and it describes a map
+pub record HasReadMap (gives : Giving) (before after : Option (List ℕ)) (map : MapFields) : Type 0 where
+  pub mapfile : List ℕ
+  pub read : HasReadFile before after mapfile
+  pub is_map : ComesTo gives mapfile (Ok map)
+
+-- a mapfile was read, and its fault told
+pub record HasReadFault (gives : Giving) (before after errors_before errors_after : Option (List ℕ)) (failed : Bool) : Type 0 where
+  pub mapfile : List ℕ
+  pub read : HasReadFile before after mapfile
+  pub told : HasToldFault gives mapfile errors_before errors_after failed
+
+-- a mapfile gave no map: it has a fault, or was not read
+abbrev pub GivesNoMap : Giving → Outcome → List ℕ → Option (List ℕ) → Option (List ℕ) → Option (List ℕ) → Option (List ℕ) → Bool → Type 0
+GivesNoMap gives MapfileFault name before after errors_before errors_after failed = HasReadFault gives before after errors_before errors_after failed
+GivesNoMap gives outcome name before after errors_before errors_after failed = IsUnread outcome name errors_before errors_after failed
+
+-- what the output got of the line of a map, by the outcome: all of it; or exactly its first so many bytes, or all of them
+-- where the flush failed
+abbrev pub SumsUp : Outcome → MapFields → Option (List ℕ) → Option (List ℕ) → Type 0
+SumsUp Checked map before after = Appends before after (summary_line map)
+SumsUp OutputFailed map before after =
+    ((written : ℕ) × HasPartlySummed map before after written) ⊎ Appends before after (summary_line map)
+SumsUp _ map before after = ⊥
+
+-- a mapfile describes a map, whose line was written with this outcome
+pub record IsChecked (gives : Giving) (outcome : Outcome) (old new : Streams) : Type 0 where
+  pub map : MapFields
+  pub read : HasReadMap gives old.input new.input map
+  pub sums : SumsUp outcome map old.output new.output
+  pub errors : Keeps old.errors new.errors
+
+-- what checking a mapfile tells of the streams by its outcome, with the name of the mapfile, which is their input; `failed`
+-- says whether the writer of errors has failed
+abbrev pub ChecksTo : Giving → Outcome → List ℕ → Streams → Streams → Bool → Type 0
+ChecksTo gives Checked name old new failed = IsChecked gives Checked old new
+ChecksTo gives OutputFailed name old new failed = IsChecked gives OutputFailed old new
+ChecksTo gives outcome name old new failed =
+    Keeps old.output new.output × GivesNoMap gives outcome name old.input new.input old.errors new.errors failed
+
+-- what is told of a fault in words: its line, and then the words, with the name of the mapfile and the fault's line before
+-- them; or its line alone, where memory was refused for words
+abbrev pub told_in_words : List ℕ → Fault → Option (List ℕ) → List ℕ
+told_in_words name fault None = mapfile_fault fault.line (number_of fault.kind)
+told_in_words name fault (Some words) =
+    mapfile_fault fault.line (number_of fault.kind) ++ (name ++ (codes ":" ++ (decimal fault.line ++ (codes ": " ++ (words ++ codes "\n")))))
+
+-- a mapfile was read, and its fault told in words
+pub record HasExplainedFault (gives : Giving) (name : List ℕ) (before after errors_before errors_after : Option (List ℕ)) (failed : Bool) : Type 0 where
+  pub mapfile : List ℕ
+  pub read : HasReadFile before after mapfile
+  pub fault : Fault
+  pub is_fault : ComesTo gives mapfile (Err fault)
+  pub words : Option (List ℕ)
+  pub told : IsTold errors_before errors_after (told_in_words name fault words) failed
+
+-- what checking a mapfile in words tells of the streams: as `ChecksTo`, but that a fault is told in words, too
+abbrev pub ExplainsTo : Giving → Outcome → List ℕ → Streams → Streams → Bool → Type 0
+ExplainsTo gives Checked name old new failed = IsChecked gives Checked old new
+ExplainsTo gives OutputFailed name old new failed = IsChecked gives OutputFailed old new
+ExplainsTo gives MapfileFault name old new failed =
+    Keeps old.output new.output × HasExplainedFault gives name old.input new.input old.errors new.errors failed
+ExplainsTo gives outcome name old new failed = Keeps old.output new.output × IsUnread outcome name old.errors new.errors failed
+
+-- a mapfile describes a map, on which a script was played with this outcome; the script is the input of the streams, and
+-- `before` and `after` are what is left of the mapfile
+pub record IsRun (gives : Giving) (outcome : Outcome) (before after : Option (List ℕ)) (old new : Streams) : Type 0 where
+  pub map : MapFields
+  pub read : HasReadMap gives before after map
+  pub script : List ℕ
+  pub read_script : HasReadFile old.input new.input script
+  pub state : State
+  pub ends : Ends outcome (opened map) script state old.output new.output
+  pub errors : Keeps old.errors new.errors
+
+-- a mapfile describes a map, but the script was not read
+pub record IsWithoutScript (gives : Giving) (outcome : Outcome) (name : List ℕ) (before after errors_before errors_after : Option (List ℕ)) (failed : Bool) : Type 0 where
+  pub map : MapFields
+  pub read : HasReadMap gives before after map
+  pub unread : IsUnread outcome name errors_before errors_after failed
+
+-- what running a script tells of the streams by its outcome, with the names of the mapfile and of the script
+abbrev pub RunsTo : Giving → Outcome → List ℕ → List ℕ → Option (List ℕ) → Option (List ℕ) → Streams → Streams → Bool → Type 0
+RunsTo gives Played file script before after old new failed = IsRun gives Played before after old new
+RunsTo gives OutputFailed file script before after old new failed = IsRun gives OutputFailed before after old new
+RunsTo gives outcome file script before after old new failed =
+    Keeps old.output new.output
+    × (GivesNoMap gives outcome file before after old.errors new.errors failed
+    ⊎ IsWithoutScript gives outcome script before after old.errors new.errors failed)
+
+-- something was told to the errors: a fault of a mapfile, or a file that was not read
+abbrev pub has_told : Outcome → Bool
+has_told MapfileFault = true
+has_told FileFailed = true
+has_told _ = false

@@ -1,0 +1,12 @@
+pub mod Connections
+pub mod Folder
+pub mod Forms
+pub mod Lines
+pub mod Parts
+pub mod Playing
+pub mod Reading
+pub mod Script
+pub mod Sent
+pub mod Session
+pub mod Summary
+pub mod Transcript

@@ -1,0 +1,123 @@
+ghost use Rattle.std.specs.Prelude.{◌≡◌, ◌||◌, IfOk, IfErr, OnOk, Ok, true, false};
+ghost use Rattle.std.specs.List.{flat_map};
+ghost use Rattle.sessions.specs.Folder.{ComesTo, ComesToFault};
+ghost use Rattle.sessions.specs.declared.outcome.Outcome.TheVariants.{Played, MapfileFault};
+ghost use Rattle.sessions.specs.Session.{Tells, Ends, IsTold, IsWithoutMap, is_input_failed, is_output_failed};
+ghost use Rattle.sessions.specs.Transcript.{mapfile_fault};
+
+use crate::folder::{Folder, files_of};
+use crate::input::{ReadFault, read_all};
+use crate::outcome::Outcome;
+use crate::parts::split_session;
+use crate::play::play_script;
+use crate::sending::{send_mapfile_fault, send_pieces};
+use mapdefs::Map;
+use mapmachine::{Machine, Sink, Source};
+use mapparse::{Mapfile, ParseFault};
+use std::alloc::Global;
+
+/// Reads a session from the input up to its end, and plays it: the transcript goes to the output, or
+/// the fault of the mapfile to the errors. The outcome tells what the writers got.
+pub fn serve_session<F: Folder, I: Source, O: Sink, E: Sink>(
+    alloc: Global,
+    folder: &F,
+    input: &mut I,
+    output: &mut O,
+    errors: &mut E,
+) -> Outcome
+    ensures tells { Tells (F.gives folder.now) result
+        (record { input = I.left input.old; output = O.held output.old; errors = E.held errors.old })
+        (record { input = I.left input.new; output = O.held output.new; errors = E.held errors.new })
+        (E.put_failed errors.new) }
+    ensures flushed { result ≡ Played → O.is_flushed output.new ≡ true }
+    ensures errors_flushed { result ≡ MapfileFault → E.put_failed errors.new ≡ false → E.is_flushed errors.new ≡ true }
+    ensures input_flag { I.take_failed input.new ≡ (is_input_failed result || I.take_failed input.old) }
+    ensures output_flag { O.put_failed output.new ≡ (is_output_failed result || O.put_failed output.old) }
+{
+    let session = match read_all(alloc, input) {
+        Ok(session) => session,
+        Err(ReadFault::Input) => return Outcome::InputFailed,
+        Err(ReadFault::NoMemory) => return Outcome::NoMemory,
+    };
+    let (mapfile, script) = split_session(&session);
+    match open_map(alloc, folder, mapfile, errors) {
+        Ok(map) => play_out(&mut Machine::open(alloc, map), script, output),
+        Err(outcome) => outcome,
+    }
+}
+
+/// The map of a mapfile with the files of its folder, or its first fault. The source is read once.
+pub fn read_map_of<F: Folder>(alloc: Global, folder: &F, source: &[u8]) -> Result<Map, ParseFault>
+    ensures map { IfOk result (λ map. ComesTo (F.gives folder.now) source.now (Ok map)) }
+    ensures fault { IfErr result (ComesToFault (F.gives folder.now) source.now) }
+{
+    let mapfile = Mapfile::read(alloc, source)?;
+    let files = files_of(alloc, folder, &mapfile)?;
+    mapfile.into_map(&files, alloc)
+}
+
+/// The map of a mapfile, or how the program ends without it. The mapfile's fault is told.
+pub fn open_map<F: Folder, E: Sink>(
+    alloc: Global,
+    folder: &F,
+    mapfile: &[u8],
+    errors: &mut E,
+) -> Result<Map, Outcome>
+    ensures map { IfOk result (λ map. ComesTo (F.gives folder.now) mapfile.now (Ok map)) }
+    ensures same { OnOk result (errors.new ≡ errors.old) }
+    ensures without { IfErr result (λ outcome. IsWithoutMap (F.gives folder.now) outcome mapfile.now (E.held errors.old) (E.held errors.new) (E.put_failed errors.new)) }
+    ensures flushed { IfErr result (λ outcome. outcome ≡ MapfileFault → E.put_failed errors.new ≡ false → E.is_flushed errors.new ≡ true) }
+{
+    match read_map_of(alloc, folder, mapfile) {
+        Ok(map) => Ok(map),
+        Err(ParseFault::At { line, kind }) => {
+            tell_mapfile_fault(errors, line, kind.number());
+            Err(Outcome::MapfileFault)
+        }
+        Err(ParseFault::NoMemory) => Err(Outcome::NoMemory),
+    }
+}
+
+/// Plays a script, and flushes what it wrote.
+pub fn play_out<O: Sink>(machine: &mut Machine, script: &[u8], output: &mut O) -> Outcome
+    ensures ends { Ends result machine.old script.now machine.new (O.held output.old) (O.held output.new) }
+    ensures flushed { result ≡ Played → O.is_flushed output.new ≡ true }
+    ensures flag { O.put_failed output.new ≡ (is_output_failed result || O.put_failed output.old) }
+    ensures read { is_input_failed result ≡ false }
+{
+    match play_script(machine, script, output) {
+        Ok(()) => match output.flush() {
+            Ok(()) => Outcome::Played,
+            Err(_) => Outcome::OutputFailed,
+        },
+        Err(_) => Outcome::OutputFailed,
+    }
+}
+
+/// Tells the fault of a mapfile.
+pub fn tell_mapfile_fault<E: Sink>(errors: &mut E, line: u64, kind: u8)
+    ensures told { IsTold (E.held errors.old) (E.held errors.new) (mapfile_fault line kind) (E.put_failed errors.new) }
+    ensures flushed { E.put_failed errors.new ≡ false → E.is_flushed errors.new ≡ true }
+{
+    // Where it can't be written, the outcome still tells.
+    match send_mapfile_fault(errors, line, kind) {
+        Ok(()) => {
+            let _ = errors.flush();
+        }
+        Err(_) => {}
+    }
+}
+
+/// Tells a line, in pieces.
+pub fn tell<E: Sink>(errors: &mut E, pieces: &[&[u8]])
+    ensures told { IsTold (E.held errors.old) (E.held errors.new) (flat_map (λ piece. piece.now) pieces.now) (E.put_failed errors.new) }
+    ensures flushed { E.put_failed errors.new ≡ false → E.is_flushed errors.new ≡ true }
+{
+    // Where it can't be written, the outcome still tells.
+    match send_pieces(errors, pieces) {
+        Ok(()) => {
+            let _ = errors.flush();
+        }
+        Err(_) => {}
+    }
+}
