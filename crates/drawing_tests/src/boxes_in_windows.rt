@@ -39,24 +39,27 @@ fn assert_found(
     Ok(())
 }
 
+// Asks a grid of three boxes, adds one, and begins anew.
+fn assert_steps(rt: &impl Abort, alloc: Global, grid: &mut Grid) -> Result<(), Fail>
+    requires { length grid.old < 2 ^ 31 }
+{
+    let window = degrees("0 0 1 1");
+    assert_found(rt, alloc, grid, window, &[0, 2])?;
+    grid.add(degrees("1 1 1 1"))?;
+    assert_found(rt, alloc, grid, window, &[0, 2, 3])?;
+    assert_found(rt, alloc, grid, degrees("6 -9 7 5"), &[1, 2])?;
+    grid.clear();
+    assert_found(rt, alloc, grid, window, &[])?;
+    grid.add(degrees("1 1 1 1"))?;
+    assert_found(rt, alloc, grid, window, &[0])
+}
+
 #[test]
 fn windows_find_worked_boxes(rt: HostRuntime) -> Result<(), Fail> {
     let alloc = rt.alloc();
-    let rows = ["0 0 0 0", "5 5 6 6", "-1 -1 9 9"];
-    let mut grid = Grid::build(
-        alloc,
-        vec![in alloc; degrees(rows[0]), degrees(rows[1]), degrees(rows[2])]?,
-    )?;
-    let window = degrees("0 0 1 1");
-    assert_found(&rt, alloc, &grid, window, &[0, 2])?;
-    grid.add(degrees("1 1 1 1"))?;
-    assert_found(&rt, alloc, &grid, window, &[0, 2, 3])?;
-    assert_found(&rt, alloc, &grid, degrees("6 -9 7 5"), &[1, 2])?;
-    grid.clear();
-    assert_found(&rt, alloc, &grid, window, &[])?;
-    grid.add(degrees("1 1 1 1"))?;
-    assert_found(&rt, alloc, &grid, window, &[0])?;
-    Ok(())
+    let rows = ["0 0 0 0", "5 5 6 6", "-1 -1 9 9"].map(degrees);
+    let mut grid = Grid::build(alloc, vec![in alloc; rows[0], rows[1], rows[2]]?)?;
+    assert_steps(&rt, alloc, &mut grid)
 }
 
 // The next number of a sequence, from 0 to before the limit.

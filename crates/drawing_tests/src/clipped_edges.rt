@@ -49,20 +49,28 @@ fn class(word: &str, rows: Rows) -> Class {
     }
 }
 
+// The class that is found for the words of a row, and that of the row.
+fn classes(words: &[&str]) -> Result<(Class, Class), Fail> {
+    let [ax, ay, bx, by, width, height, word, from, to] = *words else {
+        return Err("not nine words".into());
+    };
+    let rows = Rows {
+        from: from.parse()?,
+        to: to.parse()?,
+    };
+    let edge = Edge::new(point(ax, ay)?, point(bx, by)?);
+    Ok((
+        classify(edge, side(width)?, side(height)?),
+        class(word, rows),
+    ))
+}
+
 #[test]
 fn edges_have_worked_classes(rt: HostRuntime) -> Result<(), Fail> {
     for row in CLASSES.lines() {
         let words: Vec<&str> = row.split(' ').collect(rt.alloc())?;
-        let [ax, ay, bx, by, width, height, word, from, to] = *words.as_slice() else {
-            return Err("not nine words".into());
-        };
-        let rows = Rows {
-            from: from.parse()?,
-            to: to.parse()?,
-        };
-        let edge = Edge::new(point(ax, ay)?, point(bx, by)?);
-        let found = classify(edge, side(width)?, side(height)?);
-        assert_eq!(rt; found, class(word, rows), "{row}");
+        let (found, expected) = classes(&words)?;
+        assert_eq!(rt; found, expected, "{row}");
     }
     Ok(())
 }
@@ -70,15 +78,23 @@ fn edges_have_worked_classes(rt: HostRuntime) -> Result<(), Fail> {
 // Classes that differ in one number, or in their name alone, are two.
 #[test]
 fn classes_differ_where_one_field_does(rt: HostRuntime) {
-    let rows = Rows { from: 3, to: 5 };
-    assert_eq!(rt; class("walk", rows), class("walk", rows));
-    assert_ne!(rt; class("walk", rows), class("left", rows));
-    assert_ne!(rt; class("walk", rows), Class::Drop);
-    for other in [Rows { from: 2, to: 5 }, Rows { from: 3, to: 6 }] {
-        assert_ne!(rt; class("walk", rows), class("walk", other));
-        assert_ne!(rt; class("left", rows), class("left", other));
-    }
-    let held = [2, 3, 4, 5].map(|row| rows.has(row));
+    let walk = class("walk", rows(3, 5));
+    let left = class("left", rows(3, 5));
+    let are_equal = [
+        walk == class("walk", rows(3, 5)),
+        left == class("left", rows(3, 5)),
+        walk == left,
+        walk == Class::Drop,
+        walk == class("walk", rows(2, 5)),
+        walk == class("walk", rows(3, 6)),
+        left == class("left", rows(2, 5)),
+        left == class("left", rows(3, 6)),
+    ];
+    assert_eq!(rt;
+        are_equal,
+        [true, true, false, false, false, false, false, false]
+    );
+    let held = [2, 3, 4, 5].map(|row| rows(3, 5).has(row));
     assert_eq!(rt; held, [false, true, true, false]);
 }
 
@@ -88,12 +104,18 @@ fn rows(from: u16, to: u16) -> Rows {
 
 #[test]
 fn joined_rows_go_from_the_first_to_the_last(rt: HostRuntime) {
-    assert_eq!(rt; rows(2, 4).joined(rows(7, 9)), rows(2, 9));
-    assert_eq!(rt; rows(7, 9).joined(rows(2, 4)), rows(2, 9));
-    assert_eq!(rt; rows(1, 8).joined(rows(3, 5)), rows(1, 8));
-    // No rows add none, wherever they stand.
-    assert_eq!(rt; rows(3, 5).joined(rows(0, 0)), rows(3, 5));
-    assert_eq!(rt; rows(9, 6).joined(rows(3, 5)), rows(3, 5));
+    let joined = [
+        rows(2, 4).joined(rows(7, 9)),
+        rows(7, 9).joined(rows(2, 4)),
+        rows(1, 8).joined(rows(3, 5)),
+        // no rows add none, wherever they stand
+        rows(3, 5).joined(rows(0, 0)),
+        rows(9, 6).joined(rows(3, 5)),
+    ];
+    assert_eq!(rt;
+        joined,
+        [rows(2, 9), rows(2, 9), rows(1, 8), rows(3, 5), rows(3, 5)]
+    );
 }
 
 // An index, an end and what comes of them.

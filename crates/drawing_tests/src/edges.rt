@@ -36,23 +36,29 @@ fn edges_cross_at_or_left_of_points(rt: HostRuntime) {
 #[test]
 fn edges_rise_downwards(rt: HostRuntime) {
     let edge = Edge::new(point_at((3, 50)), point_at((41, 7)));
-    assert_eq!(rt; (edge.rise(), edge.run()), (43, -38));
-    assert_eq!(rt;
-        (edge.low_end(), edge.high_end()),
-        (point_at((41, 7)), point_at((3, 50)))
-    );
+    let told = (edge.rise(), edge.run(), edge.low_end(), edge.high_end());
+    assert_eq!(rt; told, (43, -38, point_at((41, 7)), point_at((3, 50))));
 }
 
 // Points, pixels and edges that differ in one number are two.
 #[test]
 fn values_differ_where_one_number_does(rt: HostRuntime) {
     let point = point_at((3, 5));
-    assert_eq!(rt; point, point_at((3, 5)));
-    assert_ne!(rt; point, point_at((4, 5)));
-    assert_ne!(rt; point, point_at((3, 6)));
-    assert_ne!(rt; Pixel::new(3, 5), Pixel::new(4, 5));
-    assert_ne!(rt; Pixel::new(3, 5), Pixel::new(3, 6));
+    let pixel = Pixel::new(3, 5);
     let edge = Edge::new(point, point_at((7, 9)));
-    assert_ne!(rt; edge, Edge::new(point, point_at((8, 9))));
-    assert_ne!(rt; edge, Edge::new(point_at((3, 6)), point_at((7, 9))));
+    let are_equal = [
+        point == point_at((3, 5)),
+        point == point_at((4, 5)),
+        point == point_at((3, 6)),
+        pixel == Pixel::new(3, 5),
+        pixel == Pixel::new(4, 5),
+        pixel == Pixel::new(3, 6),
+        edge == Edge::new(point, point_at((7, 9))),
+        edge == Edge::new(point, point_at((8, 9))),
+        edge == Edge::new(point_at((3, 6)), point_at((7, 9))),
+    ];
+    assert_eq!(rt;
+        are_equal,
+        [true, false, false, true, false, false, true, false, false]
+    );
 }

@@ -1,3 +1,4 @@
+use crate::rows::assert_row;
 use geom::{Device, Edge, PictureSide};
 use scanfill::{Cover, Polygon, Reading, Rows, Span, Spans, Sweep, Work};
 use std::alloc::{AllocError, Global};
@@ -120,7 +121,7 @@ fn sweeps_have_worked_rows(rt: HostRuntime) -> Result<(), Fail> {
         let (rings, rest) = line.split_once('|').ok_or("no sides")?;
         let (sides, expected) = rest.split_once('|').ok_or("no divisions")?;
         let told = swept_rings(rt.alloc(), rings, sides)?;
-        assert_eq!(rt; told.as_str(), expected, "{line}");
+        assert_row(&rt, told.as_str(), expected, line);
     }
     Ok(())
 }
@@ -184,7 +185,7 @@ fn polygons_have_worked_rows(rt: HostRuntime) -> Result<(), Fail> {
         let (rings, rest) = line.split_once('|').ok_or("no sides")?;
         let (sides, expected) = rest.split_once('|').ok_or("no rows")?;
         let told = rows_of_rings(rt.alloc(), rings, sides)?;
-        assert_eq!(rt; told.as_str(), expected, "{line}");
+        assert_row(&rt, told.as_str(), expected, line);
     }
     Ok(())
 }

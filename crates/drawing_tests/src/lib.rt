@@ -29,4 +29,6 @@ mod placed_boxes;
 #[cfg(test)]
 mod places;
 #[cfg(test)]
+mod rows;
+#[cfg(test)]
 mod views;

@@ -1,9 +1,20 @@
 ghost use Rattle.std.specs.Prelude.{◌^◌, ◌<◌};
 
+use crate::rows::assert_row;
 use geom::{COORDINATE_LIMIT, Micro, NUMBER_LIMIT, NumberFault};
-use std::alloc::Global;
+use std::alloc::{AllocError, Global};
 use std::process::Abort;
 use std::test::Fail;
+
+// The number that a text means in millionths, or its fault.
+fn told(alloc: Global, text: &str, limit: u64) -> Result<String, AllocError>
+    requires { limit < 2 ^ 63 }
+{
+    match Micro::read(text.as_bytes(), limit) {
+        Ok(number) => format!(in alloc; "{}", number.millionths()),
+        Err(fault) => format!(in alloc; "{fault:?}"),
+    }
+}
 
 // Asserts of that many rows that the text means the number. A row is the number in millionths, or the
 // fault, `=` and the text. A line that begins with `# ` is a heading.
@@ -20,11 +31,8 @@ fn assert_read(
     for row in rows.lines() {
         if !row.starts_with("# ") {
             let (expected, text) = row.split_once('=').ok_or("a row without a text")?;
-            let told = match Micro::read(text.as_bytes(), limit) {
-                Ok(number) => format!(in alloc; "{}", number.millionths())?,
-                Err(fault) => format!(in alloc; "{fault:?}")?,
-            };
-            assert_eq!(rt; told.as_str(), expected, "{row}");
+            let told = told(alloc, text, limit)?;
+            assert_row(rt, told.as_str(), expected, row);
             asserted = asserted.saturating_add(1);
         }
     }
@@ -145,8 +153,8 @@ fn halves_are_rounded_away_from_zero(rt: HostRuntime) -> Result<(), Fail> {
 // A definition cites the same constant as the code, so only a test can tell a wrong limit.
 #[test]
 fn limits_have_their_numbers(rt: HostRuntime) {
-    assert_eq!(rt; COORDINATE_LIMIT, 1_000_000_000);
-    assert_eq!(rt; NUMBER_LIMIT, 1_000_000_000_000_000_000);
+    let limits = (COORDINATE_LIMIT, NUMBER_LIMIT);
+    assert_eq!(rt; limits, (1_000_000_000, 1_000_000_000_000_000_000));
 }
 
 #[test]
@@ -172,7 +180,7 @@ fn faults_are_told_in_words(rt: HostRuntime) -> Result<(), Fail> {
     ];
     for (fault, message) in messages {
         let text = format!(in rt.alloc(); "{fault}")?;
-        assert_eq!(rt; text.as_str(), message);
+        assert_row(&rt, text.as_str(), message, message);
     }
     assert_ne!(rt; NumberFault::NotANumber, NumberFault::TooLarge);
     Ok(())

@@ -19,25 +19,22 @@ fn points_lie_in_the_pixels_below_them(rt: HostRuntime) {
         let pixel = Device::new(x, 40).pixel();
         assert_eq!(rt; (pixel.i(), pixel.j()), (column, 2), "at {x}");
     }
+}
+
+#[test]
+fn pixel_centres_lie_in_the_middle(rt: HostRuntime) {
     let centre = Device::pixel_centre(3, 0);
     assert_eq!(rt; (centre.x(), centre.y()), (56, 8));
 }
 
 #[test]
 fn sides_have_1_to_2048_pixels(rt: HostRuntime) {
-    for pixels in [1, 2, 2_047, 2_048] {
-        assert_eq!(rt;
-            PictureSide::new(pixels).map(PictureSide::pixels),
-            Some(pixels)
-        );
-    }
-    assert_eq!(rt;
-        Some(PictureSide::with_last(2_047)),
-        PictureSide::new(2_048)
-    );
-    for pixels in [0, 2_049, 65_535] {
-        assert_eq!(rt; PictureSide::new(pixels), None, "{pixels} pixels");
-    }
+    let told = [0, 1, 2, 2_047, 2_048, 2_049, 65_535].map(|pixels| PictureSide::new(pixels).map_or(
+        0,
+        PictureSide::pixels,
+    ));
+    let last = PictureSide::with_last(2_047).pixels();
+    assert_eq!(rt; (told, last), ([0, 1, 2, 2_047, 2_048, 0, 0], 2_048));
 }
 
 // The greatest size of a side that may grow.
@@ -69,25 +66,24 @@ fn boxed(sides: [i64; 4]) -> PxBox {
 #[test]
 fn boxes_meet_where_they_share_a_pixel(rt: HostRuntime) {
     for (a, b, shared) in MEETINGS {
-        assert_eq!(rt; boxed(a).meets(boxed(b)), shared, "{a:?} and {b:?}");
-        assert_eq!(rt; boxed(b).meets(boxed(a)), shared, "{b:?} and {a:?}");
+        let meet = [boxed(a).meets(boxed(b)), boxed(b).meets(boxed(a))];
+        assert_eq!(rt; meet, [shared, shared], "{a:?} and {b:?}");
     }
 }
 
 #[test]
 fn boxes_grow_on_each_side(rt: HostRuntime) {
-    let area = PxBox::new(-5, 7, 20, 31).grown(3);
-    assert_eq!(rt; (area.left(), area.top()), (-8, 4));
-    assert_eq!(rt; (area.right(), area.bottom()), (23, 34));
     let area = PxBox::new(-FAR, 1 - FAR, FAR - 1, FAR);
-    assert_eq!(rt; area.grown(0), area);
     let most = PxBox::new(
         -1_103_806_595_070,
         -1_103_806_595_069,
         1_103_806_595_069,
         1_103_806_595_070,
     );
-    assert_eq!(rt; area.grown(4_294_967_295), most);
+    let small = PxBox::new(-5, 7, 20, 31).grown(3);
+    let sides = [small.left(), small.top(), small.right(), small.bottom()];
+    let grown = [area.grown(0), area.grown(4_294_967_295)];
+    assert_eq!(rt; (sides, grown), ([-8, 4, 23, 34], [area, most]));
 }
 
 // The sides of a box, and whether a picture of 8 by 5 pixels has it inside.

@@ -1,3 +1,4 @@
+use crate::rows::assert_row;
 use geom::{PictureSide, Pixel};
 use mapdefs::{Items, Picture, PictureFields, Pixmap, Rgb};
 use scanfill::{Cover, Spans};
@@ -21,24 +22,25 @@ fn two(text: &str, between: char) -> Result<(i64, i64), Fail> {
     Ok((first.parse()?, second.parse()?))
 }
 
-// A pixmap as its sides and its last colour, or the name of its fault.
-fn told(alloc: Global, bytes: &[u8]) -> Result<String, Fail> {
-    let text = match read(alloc, bytes) {
-        Ok(pixmap) => {
-            let fields = pixmap.get();
-            let Some(Rgb { red, green, blue }) = fields.pixels.as_slice().last().copied() else {
-                return Err("a pixmap without pixels".into());
-            };
-            let (width, height) = (fields.width, fields.height);
-            format!(in alloc; "{width}x{height} {red}.{green}.{blue}")?
+// A pixmap as its sides and its last colour.
+fn summed_up(alloc: Global, pixmap: &Pixmap) -> Result<String, AllocError> {
+    let fields = pixmap.get();
+    let (width, height) = (fields.width, fields.height);
+    match fields.pixels.as_slice().last() {
+        Some(Rgb { red, green, blue }) => {
+            format!(in alloc; "{width}x{height} {red}.{green}.{blue}")
         }
-        Err(PixFault::Magic) => String::from_str(alloc, "Magic")?,
-        Err(PixFault::Header) => String::from_str(alloc, "Header")?,
-        Err(PixFault::Short) => String::from_str(alloc, "Short")?,
-        Err(PixFault::Limit) => String::from_str(alloc, "Limit")?,
-        Err(PixFault::NoMemory) => return Err("out of memory".into()),
-    };
-    Ok(text)
+        None => format!(in alloc; "{width}x{height} without pixels"),
+    }
+}
+
+// A pixmap, or the name of its fault.
+fn told(alloc: Global, bytes: &[u8]) -> Result<String, AllocError> {
+    match read(alloc, bytes) {
+        Ok(pixmap) => summed_up(alloc, &pixmap),
+        Err(PixFault::NoMemory) => Err(AllocError),
+        Err(fault) => format!(in alloc; "{fault:?}"),
+    }
 }
 
 // Bytes, and after `=` the pixmap that they are or their fault, with `;` after each pair.
@@ -87,7 +89,7 @@ fn files_are_read_or_have_their_faults(rt: HostRuntime) -> Result<(), Fail> {
     for row in FILES.split(';') {
         let (bytes, expected) = row.split_once('=').ok_or("a row without a result")?;
         let found = told(rt.alloc(), bytes.as_bytes())?;
-        assert_eq!(rt; found.as_str(), expected, "{bytes}");
+        assert_row(&rt, found.as_str(), expected, bytes);
     }
     Ok(())
 }
@@ -106,7 +108,7 @@ fn faults_have_their_messages(rt: HostRuntime) -> Result<(), Fail> {
     ];
     for (fault, message) in messages {
         let told = format!(in rt.alloc(); "{fault}")?;
-        assert_eq!(rt; told.as_str(), message);
+        assert_row(&rt, told.as_str(), message, message);
     }
     Ok(())
 }
@@ -182,20 +184,26 @@ const STAMPS: &str = "\
 #|17592186044415,0|2 2|.. ..|0 0
 #|0,-17592186044415|2 2|.. ..|0 0";
 
+// Four parts of a row with bars between them.
+fn four(row: &str) -> Option<(&str, &str, &str, &str)> {
+    let (first, row) = row.split_once('|')?;
+    let (second, row) = row.split_once('|')?;
+    let (third, fourth) = row.split_once('|')?;
+    Some((first, second, third, fourth))
+}
+
 // Whether a row of the table holds.
 fn is_stamp(alloc: Global, row: &str) -> Result<bool, Fail> {
-    let words: Vec<&str> = row.split('|').collect(alloc)?;
-    let [pixels, at, size, rows, some] = *words.as_slice() else {
-        return Err("not five parts".into());
-    };
-    let pixmap = pixmap(alloc, pixels)?;
+    let (pixels, rest) = row.split_once('|').ok_or("no pixel")?;
+    let (at, size, rows, some) = four(rest).ok_or("not five parts")?;
     let (i, j) = two(at, ',')?;
     let (width, height) = two(size, ' ')?;
     let width = side(width.clamp(1, 99) as u16);
     let height = side(height.clamp(1, 99) as u16);
+    let (from, to) = two(some, ' ')?;
+    let pixmap = pixmap(alloc, pixels)?;
     let stamp = Stamp::new(&pixmap, pixel(i, j));
     let found = stamp.rows(width, height);
-    let (from, to) = two(some, ' ')?;
     let are_rows = if from < to {
         i64::from(found.from) == from && i64::from(found.to) == to
     } else {
@@ -218,16 +226,13 @@ fn stamps_have_the_colours_of_their_pixmap(rt: HostRuntime) -> Result<(), Fail> 
     let bytes = b"P6 2 1 255\n\xff\x00\xff\x00\xff\x00";
     let pixmap = read(rt.alloc(), bytes.as_slice())?;
     let stamp = Stamp::new(&pixmap, pixel(2, 2));
-    assert!(rt; !stamp.covers(1, 2));
-    assert!(rt; stamp.covers(2, 2));
-    if stamp.covers(2, 2) {
-        let green = Rgb {
-            red: 0,
-            green: 255,
-            blue: 0,
-        };
-        assert_eq!(rt; stamp.colour(2, 2), green);
-    }
+    let green = Rgb {
+        red: 0,
+        green: 255,
+        blue: 0,
+    };
+    let is_green = stamp.covers(2, 2) && stamp.colour(2, 2) == green;
+    assert_eq!(rt; (stamp.covers(1, 2), is_green), (false, true));
     Ok(())
 }
 
@@ -258,14 +263,18 @@ fn picture(alloc: Global, pixels: u16) -> Result<Picture, Fail> {
 fn told_again(alloc: Global, pixels: u16) -> Result<String, Fail> {
     let picture = picture(alloc, pixels)?;
     let bytes = write_ppm(alloc, &picture)?;
-    told(alloc, bytes.as_slice())
+    Ok(told(alloc, bytes.as_slice())?)
 }
 
 #[test]
 fn written_pictures_are_read(rt: HostRuntime) -> Result<(), Fail> {
-    assert_eq!(rt; told_again(rt.alloc(), 7)?.as_str(), "7x7 6.6.20");
-    assert_eq!(rt; told_again(rt.alloc(), 256)?.as_str(), "256x256 255.255.20");
-    assert_eq!(rt; told_again(rt.alloc(), 257)?.as_str(), "Limit");
+    for (pixels, expected) in [
+        (7, "7x7 6.6.20"),
+        (256, "256x256 255.255.20"),
+        (257, "Limit"),
+    ] {
+        assert_eq!(rt; told_again(rt.alloc(), pixels)?.as_str(), expected);
+    }
     Ok(())
 }
 

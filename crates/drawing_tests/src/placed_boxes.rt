@@ -1,6 +1,6 @@
 use collide::Boxes;
 use geom::{PictureSide, PxBox};
-use std::alloc::Global;
+use std::alloc::{AllocError, Global};
 use std::test::Fail;
 
 // The greatest position that a box may grow from.
@@ -19,12 +19,11 @@ fn no_boxes(alloc: Global, pixels: u16) -> Result<Boxes, Fail> {
 #[test]
 fn a_box_hits_what_it_shares_a_pixel_with(rt: HostRuntime) -> Result<(), Fail> {
     let mut boxes = no_boxes(rt.alloc(), 130)?;
-    assert!(rt; !boxes.hits(boxed([2, 2, 4, 4])));
+    let before = boxes.hits(boxed([2, 2, 4, 4]));
     boxes.add(boxed([0, 0, 3, 3]))?;
     boxes.add(boxed([-9, -9, -5, -5]))?;
-    assert!(rt; !boxes.hits(boxed([3, 0, 5, 2])));
-    assert!(rt; boxes.hits(boxed([2, 2, 4, 4])));
-    assert!(rt; boxes.hits(boxed([-6, -6, 0, 0])));
+    let after = [[3, 0, 5, 2], [2, 2, 4, 4], [-6, -6, 0, 0]].map(|area| boxes.hits(boxed(area)));
+    assert_eq!(rt; (before, after), (false, [false, true, true]));
     Ok(())
 }
 
@@ -44,29 +43,29 @@ const PLACED: [[i64; 4]; 12] = [
     [100, 1 - FAR, 102, FAR],
 ];
 
+// Adds a box. Whether it is hit before, and its first and its last pixel are hit after.
+fn added(boxes: &mut Boxes, area: [i64; 4]) -> Result<[bool; 3], AllocError> {
+    let before = boxes.hits(boxed(area));
+    boxes.add(boxed(area))?;
+    let [left, top, right, bottom] = area;
+    let first = [left, top, left.saturating_add(1), top.saturating_add(1)];
+    let last = [
+        right.saturating_sub(1),
+        bottom.saturating_sub(1),
+        right,
+        bottom,
+    ];
+    Ok([before, boxes.hits(boxed(first)), boxes.hits(boxed(last))])
+}
+
 #[test]
 fn boxes_anywhere_are_kept(rt: HostRuntime) -> Result<(), Fail> {
     let mut boxes = no_boxes(rt.alloc(), 130)?;
     for area in PLACED {
-        assert!(rt; !boxes.hits(boxed(area)), "{area:?} before");
-        boxes.add(boxed(area))?;
-        let [left, top, right, bottom] = area;
-        assert!(rt;
-            boxes.hits(boxed([left, top, left.saturating_add(1), top.saturating_add(1)])),
-            "{area:?}, first pixel"
-        );
-        assert!(rt;
-            boxes.hits(boxed([
-                right.saturating_sub(1),
-                bottom.saturating_sub(1),
-                right,
-                bottom
-            ])),
-            "{area:?}, last pixel"
-        );
+        assert_eq!(rt; added(&mut boxes, area)?, [false, true, true], "{area:?}");
     }
-    assert!(rt; boxes.hits(boxed([-FAR, -FAR, FAR, FAR])));
-    assert!(rt; !boxes.hits(boxed([103, 0, 140, 130])));
+    let told = [[-FAR, -FAR, FAR, FAR], [103, 0, 140, 130]].map(|area| boxes.hits(boxed(area)));
+    assert_eq!(rt; told, [true, false]);
     Ok(())
 }
 
@@ -75,12 +74,16 @@ fn an_empty_box_hits_nothing_and_is_not_hit(rt: HostRuntime) -> Result<(), Fail>
     let mut boxes = no_boxes(rt.alloc(), 64)?;
     boxes.add(boxed([5, 5, 5, 9]))?;
     boxes.add(boxed([7, 9, 12, 6]))?;
-    assert!(rt; !boxes.hits(boxed([0, 0, 64, 64])));
+    let before = boxes.hits(boxed([0, 0, 64, 64]));
     boxes.add(boxed([0, 0, 64, 64]))?;
-    assert!(rt; boxes.hits(boxed([0, 0, 64, 64])));
-    assert!(rt; !boxes.hits(boxed([5, 5, 5, 9])));
-    assert!(rt; !boxes.hits(boxed([7, 9, 12, 6])));
-    assert!(rt; !boxes.hits(boxed([FAR, FAR, -FAR, -FAR])));
+    let after = [
+        [0, 0, 64, 64],
+        [5, 5, 5, 9],
+        [7, 9, 12, 6],
+        [FAR, FAR, -FAR, -FAR],
+    ]
+    .map(|area| boxes.hits(boxed(area)));
+    assert_eq!(rt; (before, after), (false, [true, false, false, false]));
     Ok(())
 }
 
@@ -129,14 +132,11 @@ fn thousands_of_boxes_fit(rt: HostRuntime) -> Result<(), Fail> {
     for i in 0..5_000_i64 {
         let left = i % 100 * 20;
         let top = i / 100 * 40;
-        let area = PxBox::new(left, top, left + 20, top + 40);
-        assert!(rt; !boxes.hits(area), "{area:?} before");
-        boxes.add(area)?;
-        assert!(rt; boxes.hits(area), "{area:?}");
+        let told = added(&mut boxes, [left, top, left + 20, top + 40])?;
+        assert_eq!(rt; told, [false, true, true], "{i}");
     }
-    assert!(rt; boxes.hits(boxed([0, 0, 2_048, 2_048])));
-    assert!(rt; boxes.hits(boxed([1_999, 1_999, 2_048, 2_048])));
-    assert!(rt; !boxes.hits(boxed([2_000, 0, 2_048, 2_048])));
-    assert!(rt; !boxes.hits(boxed([0, 2_000, 2_048, 2_048])));
+    let corners = [[0, 0], [1_999, 1_999], [2_000, 0], [0, 2_000]];
+    let told = corners.map(|[left, top]| boxes.hits(boxed([left, top, 2_048, 2_048])));
+    assert_eq!(rt; told, [true, true, false, false]);
     Ok(())
 }

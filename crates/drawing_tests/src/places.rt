@@ -7,18 +7,21 @@ fn values_differ_where_one_coordinate_does(rt: HostRuntime) {
     let (a, b, c) = (Micro::new(-4), Micro::new(3), Micro::new(5));
     let (d, e) = (Micro::new(7), Micro::new(9));
     let place = World::new(Coordinate::new(b), Coordinate::new(c));
-    assert_eq!(rt; (place.x().get(), place.y().get()), (b, c));
-    assert_ne!(rt; place, World::new(Coordinate::new(a), Coordinate::new(c)));
-    assert_ne!(rt; place, World::new(Coordinate::new(b), Coordinate::new(a)));
     let area = WorldBox::new(b, c, d, e);
-    for other in [
-        WorldBox::new(a, c, d, e),
-        WorldBox::new(b, a, d, e),
-        WorldBox::new(b, c, a, e),
-        WorldBox::new(b, c, d, a),
-    ] {
-        assert_ne!(rt; other, area);
-    }
+    let are_equal = [
+        place.x().get() == b && place.y().get() == c,
+        place == World::new(Coordinate::new(a), Coordinate::new(c)),
+        place == World::new(Coordinate::new(b), Coordinate::new(a)),
+        area == WorldBox::new(b, c, d, e),
+        area == WorldBox::new(a, c, d, e),
+        area == WorldBox::new(b, a, d, e),
+        area == WorldBox::new(b, c, a, e),
+        area == WorldBox::new(b, c, d, a),
+    ];
+    assert_eq!(rt;
+        are_equal,
+        [true, false, false, true, false, false, false, false]
+    );
 }
 
 // The sides of two boxes, west, south, east and north, and whether they share a place.
@@ -42,23 +45,23 @@ const MEETINGS: &str = "\
 4 6 5 5 0 0 9 9 no
 -9223372036854775808 1 9223372036854775807 1 7 1 7 1 yes";
 
-fn boxed(sides: &[i64]) -> WorldBox {
-    let side = |i: usize| Micro::new(sides.get(i).copied().unwrap_or(0));
-    WorldBox::new(side(0), side(1), side(2), side(3))
+fn boxed(sides: [i64; 4]) -> WorldBox {
+    let [west, south, east, north] = sides.map(Micro::new);
+    WorldBox::new(west, south, east, north)
 }
 
 #[test]
 fn boxes_meet_where_they_share_a_place(rt: HostRuntime) -> Result<(), Fail> {
     for row in MEETINGS.lines() {
-        let mut sides = Vec::new(rt.alloc());
-        let mut words = row.split(' ');
-        for word in words.by_ref().take(8) {
-            sides.push(word.parse::<i64>()?)?;
+        let mut sides = [0_i64; 8];
+        for (side, word) in sides.iter_mut().zip(row.split(' ')) {
+            *side = word.parse::<i64>()?;
         }
-        let share = words.next() == Some("yes");
-        let (a, b) = (boxed(&sides), boxed(sides.get(4..).unwrap_or(&[])));
-        assert_eq!(rt; a.meets(b), share, "{row}");
-        assert_eq!(rt; b.meets(a), share, "{row}, the other way round");
+        let share = row.ends_with("yes");
+        let [west, south, east, north, left, bottom, right, top] = sides;
+        let a = boxed([west, south, east, north]);
+        let b = boxed([left, bottom, right, top]);
+        assert_eq!(rt; [a.meets(b), b.meets(a)], [share, share], "{row}");
     }
     Ok(())
 }

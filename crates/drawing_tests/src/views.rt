@@ -1,4 +1,5 @@
 use geom::{Coordinate, MAX_PICTURE_SIDE, Micro, PictureSide, World, WorldBox};
+use std::alloc::Global;
 use std::test::Fail;
 use viewport::{MAX_MARGIN, View};
 
@@ -96,8 +97,8 @@ fn places_lie_at_worked_points(rt: HostRuntime) {
             let place = place_at(*x, *y);
             let point = view.device(place);
             let pixel = view.pixel(place);
-            assert_eq!(rt; (point.x(), point.y()), (*right, *down), "at {x}, {y}");
-            assert_eq!(rt; (pixel.i(), pixel.j()), (*column, *row), "at {x}, {y}");
+            let found = [point.x(), point.y(), pixel.i(), pixel.j()];
+            assert_eq!(rt; found, [*right, *down, *column, *row], "at {x}, {y}");
         }
     }
 }
@@ -126,33 +127,48 @@ world 1 -1666666667 -3000000000 1666666667 3000000000
 world 3 -3000000000 -7000000000 3000000000 7000000000
 world 4096 -2731666666667 -8193000000000 2731666666667 8193000000000";
 
+// The window of a view and a margin, as the row that begins with them.
+fn told(alloc: Global, row: &str) -> Result<String, Fail> {
+    let (name, rest) = row.split_once(' ').ok_or("no margin")?;
+    let (margin, _) = rest.split_once(' ').ok_or("no sides")?;
+    let view = match name {
+        "square" => square(),
+        "oblong" => oblong(),
+        "dot" => dot(),
+        _ => world(),
+    };
+    let window = view.window(margin.parse::<u16>()?.min(MAX_MARGIN));
+    let [west, south, east, north] = [
+        window.minx(),
+        window.miny(),
+        window.maxx(),
+        window.maxy(),
+    ].map(|side| side.millionths());
+    Ok(format!(in alloc; "{name} {margin} {west} {south} {east} {north}")?)
+}
+
 #[test]
 fn windows_have_worked_sides(rt: HostRuntime) -> Result<(), Fail> {
     for row in WINDOWS.lines() {
-        let mut words = row.split(' ');
-        let view = match words.next() {
-            Some("square") => square(),
-            Some("oblong") => oblong(),
-            Some("dot") => dot(),
-            _ => world(),
-        };
-        let margin = words.next().unwrap_or("").parse::<u16>()?;
-        let window = view.window(margin.min(MAX_MARGIN));
-        let sides = [window.minx(), window.miny(), window.maxx(), window.maxy()];
-        for (side, word) in sides.iter().zip(words) {
-            assert_eq!(rt; side.millionths(), word.parse::<i64>()?, "{row}");
-        }
+        assert_eq!(rt; told(rt.alloc(), row)?.as_str(), row);
     }
-    assert_eq!(rt; MAX_MARGIN, 4_096);
     Ok(())
+}
+
+#[test]
+fn margins_have_at_most_4096_pixels(rt: HostRuntime) {
+    assert_eq!(rt; MAX_MARGIN, 4_096);
 }
 
 // Views that differ in their area or in one side are two.
 #[test]
 fn views_differ_where_one_field_does(rt: HostRuntime) {
     let area = square().area();
-    assert_eq!(rt; View::new(area, side(4), side(4)), square());
-    assert_ne!(rt; View::new(area, side(5), side(4)), square());
-    assert_ne!(rt; View::new(area, side(4), side(5)), square());
-    assert_ne!(rt; View::new(oblong().area(), side(4), side(4)), square());
+    let are_equal = [
+        View::new(area, side(4), side(4)) == square(),
+        View::new(area, side(5), side(4)) == square(),
+        View::new(area, side(4), side(5)) == square(),
+        View::new(oblong().area(), side(4), side(4)) == square(),
+    ];
+    assert_eq!(rt; are_equal, [true, false, false, false]);
 }

@@ -1,3 +1,4 @@
+use crate::rows::assert_row;
 use expressions::{ExprError, ExprFault, read};
 use mapdefs::{Comparison, Expr, Operand};
 use std::alloc::{AllocError, Global};
@@ -100,7 +101,7 @@ fn assert_told(rt: &impl Abort, alloc: Global, rows: &str, count: usize) -> Resu
         if !row.starts_with("# ") {
             let (expected, letters) = row.split_once('~').ok_or("a row without a text")?;
             let told = told_letters(alloc, letters)?;
-            assert_eq!(rt; told.as_str(), expected, "{row}");
+            assert_row(rt, told.as_str(), expected, row);
             asserted = asserted.saturating_add(1);
         }
     }
@@ -244,7 +245,7 @@ const NESTED: [(&str, usize, usize, &str); 3] = [
 fn sixty_four_brackets_may_stand_within_one_another(rt: HostRuntime) -> Result<(), Fail> {
     for (opens, count, closing, expected) in NESTED {
         let told = told_nested(rt.alloc(), opens, count, closing)?;
-        assert_eq!(rt; told.as_str(), expected);
+        assert_row(&rt, told.as_str(), expected, expected);
     }
     let nots = nested(rt.alloc(), "!", 63, 1)?;
     assert!(rt; read(rt.alloc(), nots.as_str().as_bytes()).is_ok());
@@ -274,7 +275,7 @@ fn long_texts_are_read_to_their_fault(rt: HostRuntime) -> Result<(), Fail> {
     for row in LONG.lines() {
         let (expected, repeated) = row.split_once('~').ok_or("a row without a text")?;
         let told = told_long(rt.alloc(), repeated)?;
-        assert_eq!(rt; told.as_str(), expected, "{row}");
+        assert_row(&rt, told.as_str(), expected, row);
     }
     Ok(())
 }

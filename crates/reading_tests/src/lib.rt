@@ -15,4 +15,6 @@ mod mapfiles;
 #[cfg(test)]
 mod point_tables;
 #[cfg(test)]
+mod rows;
+#[cfg(test)]
 mod tokens;

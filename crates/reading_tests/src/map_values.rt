@@ -2,6 +2,7 @@ ghost use Rattle.std.specs.Prelude.{◌≡◌, ◌≤◌, [], length, All, IfOk}
 ghost use Rattle.mapdefs.specs.MapLimits.{LayerNamesSymbolsOf};
 ghost use Rattle.mapdefs.specs.declared.limits.TheConstants.{MAX_LAYERS};
 
+use crate::rows::assert_row;
 use geom::{Micro, PictureSide, WorldBox};
 use mapdefs::{
     BitmapBox, Items, Kind, Layer, LayerFields, MAX_BUFFER, MAX_CLASSES, MAX_DISTANCE,
@@ -73,7 +74,7 @@ fn layers_are_found_by_the_first_of_their_names(rt: HostRuntime) -> Result<(), F
     for row in NAMES.lines() {
         let (name, index) = row.split_once('=').ok_or("a row without an index")?;
         let told = format!(in rt.alloc(); "{:?}", map.find(name))?;
-        assert_eq!(rt; told.as_str(), index, "{name}");
+        assert_row(&rt, told.as_str(), index, name);
     }
     Ok(())
 }

@@ -1,3 +1,4 @@
+use crate::rows::assert_row;
 use csvpoints::{CsvError, CsvFault, CsvKind, Table, read};
 use mapdefs::Text;
 use std::alloc::{AllocError, Global};
@@ -109,7 +110,7 @@ fn assert_told(rt: &impl Abort, alloc: Global, lines: &str) -> Result<(), Fail> 
         let (text, expected) = line.split_once('|').unwrap_or((line, ""));
         let told = read_told(alloc, text, ("x", "y"), 3)?;
         let told = told.replace(alloc, "\n", "/")?.replace(alloc, "\r", "^")?;
-        assert_eq!(rt; told.as_str(), expected, "{text}");
+        assert_row(rt, told.as_str(), expected, text);
     }
     Ok(())
 }
@@ -124,22 +125,26 @@ fn the_first_fault_is_told(rt: HostRuntime) -> Result<(), Fail> {
     assert_told(&rt, rt.alloc(), FAULTS)
 }
 
+// Texts, the columns and the limit that are asked for, and what is told.
+const ASKED: [(&str, (&str, &str), u32, &str); 5] = [
+    (
+        "x,y,n/1,2,a/",
+        ("x", "y"),
+        0,
+        "row 2: more columns or rows than a table may have",
+    ),
+    ("x,y,n/", ("x", "y"), 0, "x+y+n"),
+    ("x,y/3,4", ("y", "x"), 1, "x+y;4000000 3000000 3+4"),
+    ("x,y/3,4", ("y", "y"), u32::MAX, "x+y;4000000 4000000 3+4"),
+    ("Länge,/3,4", ("Länge", ""), 1, "Länge+;3000000 4000000 3+4"),
+];
+
 #[test]
 fn columns_and_limits_are_those_asked_for(rt: HostRuntime) -> Result<(), Fail> {
-    let alloc = rt.alloc();
-    let told = read_told(alloc, "x,y,n/1,2,a/", ("x", "y"), 0)?;
-    assert_eq!(rt;
-        told.as_str(),
-        "row 2: more columns or rows than a table may have"
-    );
-    let told = read_told(alloc, "x,y,n/", ("x", "y"), 0)?;
-    assert_eq!(rt; told.as_str(), "x+y+n");
-    let told = read_told(alloc, "x,y/3,4", ("y", "x"), 1)?;
-    assert_eq!(rt; told.as_str(), "x+y;4000000 3000000 3+4");
-    let told = read_told(alloc, "x,y/3,4", ("y", "y"), u32::MAX)?;
-    assert_eq!(rt; told.as_str(), "x+y;4000000 4000000 3+4");
-    let told = read_told(alloc, "Länge,/3,4", ("Länge", ""), 1)?;
-    assert_eq!(rt; told.as_str(), "Länge+;3000000 4000000 3+4");
+    for (text, names, limit, expected) in ASKED {
+        let told = read_told(rt.alloc(), text, names, limit)?;
+        assert_row(&rt, told.as_str(), expected, text);
+    }
     Ok(())
 }
 
@@ -181,7 +186,7 @@ fn a_table_may_have_many_rows(rt: HostRuntime) -> Result<(), Fail> {
 }
 
 #[test]
-fn kinds_have_their_numbers(rt: HostRuntime) -> Result<(), Fail> {
+fn kinds_have_their_numbers(rt: HostRuntime) {
     let kinds = [
         (CsvKind::NoHeader, 1),
         (CsvKind::NoColumn, 2),
@@ -191,22 +196,32 @@ fn kinds_have_their_numbers(rt: HostRuntime) -> Result<(), Fail> {
         (CsvKind::Limit, 6),
     ];
     for (kind, number) in kinds {
-        assert_eq!(rt; kind.number(), number);
-        for (other, number) in kinds {
-            assert_eq!(rt; kind == other, kind.number() == number);
+        for (other, least) in kinds {
+            let told = (kind.number(), kind == other);
+            assert_eq!(rt; told, (number, number == least), "{kind:?} and {other:?}");
         }
     }
+}
+
+#[test]
+fn faults_that_differ_in_one_field_are_unequal(rt: HostRuntime) {
     let fault = |row: u64, kind: CsvKind| CsvFault { row, kind };
-    assert_eq!(rt; fault(2, CsvKind::Limit), fault(2, CsvKind::Limit));
-    assert_ne!(rt; fault(2, CsvKind::Limit), fault(3, CsvKind::Limit));
-    assert_ne!(rt; fault(2, CsvKind::Limit), fault(2, CsvKind::Uneven));
-    let error = CsvError::Fault(fault(2, CsvKind::Limit));
-    assert_eq!(rt; error, CsvError::Fault(fault(2, CsvKind::Limit)));
-    assert_ne!(rt; error, CsvError::Fault(fault(3, CsvKind::Limit)));
-    assert_ne!(rt; error, CsvError::NoMemory);
-    assert_eq!(rt;
-        CsvError::NoMemory.to_string(rt.alloc())?.as_str(),
-        "out of memory"
-    );
+    let one = fault(2, CsvKind::Limit);
+    let error = CsvError::Fault(one);
+    let are_equal = [
+        one == fault(2, CsvKind::Limit),
+        one == fault(3, CsvKind::Limit),
+        one == fault(2, CsvKind::Uneven),
+        error == CsvError::Fault(fault(2, CsvKind::Limit)),
+        error == CsvError::Fault(fault(3, CsvKind::Limit)),
+        error == CsvError::NoMemory,
+    ];
+    assert_eq!(rt; are_equal, [true, false, false, true, false, false]);
+}
+
+#[test]
+fn being_out_of_memory_is_told(rt: HostRuntime) -> Result<(), Fail> {
+    let told = CsvError::NoMemory.to_string(rt.alloc())?;
+    assert_eq!(rt; told.as_str(), "out of memory");
     Ok(())
 }

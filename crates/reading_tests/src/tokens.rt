@@ -1,3 +1,4 @@
+use crate::rows::assert_row;
 use maplex::Shape::{List, Logic, Text, Word};
 use maplex::{LexFault, LexKind, TOKEN_LIMIT, Tail, Tokens};
 use std::alloc::{AllocError, Global};
@@ -56,7 +57,7 @@ fn assert_told(rt: &impl Abort, alloc: Global, rows: &str, count: usize) -> Resu
                 source.push(u8::try_from(u32::from(letter))?)?;
             }
             let told = told(alloc, &source)?;
-            assert_eq!(rt; told.as_str(), expected);
+            assert_row(rt, told.as_str(), expected, expected);
             asserted = asserted.saturating_add(1);
         }
     }
@@ -279,7 +280,7 @@ fn faults_are_printed(rt: HostRuntime) -> Result<(), Fail> {
     ];
     for (kind, message) in rows {
         let printed = format!(in rt.alloc(); "{kind}")?;
-        assert_eq!(rt; printed.as_str(), message);
+        assert_row(&rt, printed.as_str(), message, message);
     }
     let fault = LexFault {
         line: 7,
@@ -287,7 +288,7 @@ fn faults_are_printed(rt: HostRuntime) -> Result<(), Fail> {
     };
     let printed = format!(in rt.alloc(); "{fault}")?;
     let message = "line 7: the quoted text, expression or list that begins here is not closed";
-    assert_eq!(rt; printed.as_str(), message);
+    assert_row(&rt, printed.as_str(), message, message);
     Ok(())
 }
 

@@ -1,3 +1,4 @@
+use crate::rows::assert_row;
 use crsaxes::{AxisFault, Crs, bbox};
 use std::alloc::{AllocError, Global};
 use std::test::Fail;
@@ -46,7 +47,7 @@ fn boxes_are_read_in_the_axis_order(rt: HostRuntime) -> Result<(), Fail> {
             let (expected, row) = row.split_once('=').ok_or("a row without a system")?;
             let (crs, text) = row.split_once('=').ok_or("a row without a text")?;
             let told = told(rt.alloc(), crs, text)?;
-            assert_eq!(rt; told.as_str(), expected, "{row}");
+            assert_row(&rt, told.as_str(), expected, row);
             asserted = asserted.saturating_add(1);
         }
     }
@@ -70,7 +71,7 @@ fn faults_are_told_in_words(rt: HostRuntime) -> Result<(), Fail> {
     ];
     for (i, (fault, message)) in messages.iter().enumerate() {
         let text = format!(in rt.alloc(); "{fault}")?;
-        assert_eq!(rt; text.as_str(), *message);
+        assert_row(&rt, text.as_str(), message, message);
         for (j, (other, _)) in messages.iter().enumerate() {
             assert_eq!(rt; fault == other, i == j);
         }

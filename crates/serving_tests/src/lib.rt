@@ -13,6 +13,8 @@ mod queries;
 #[cfg(test)]
 mod request_heads;
 #[cfg(test)]
+mod rows;
+#[cfg(test)]
 mod service_exceptions;
 #[cfg(test)]
 mod streams;

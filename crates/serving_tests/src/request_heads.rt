@@ -126,18 +126,18 @@ x 400";
 
 #[test]
 fn streams_mean_what_their_heads_say(rt: HostRuntime) -> Result<(), Fail> {
-    let alloc = rt.alloc();
-    let mut count = 0_u8;
+    assert_eq!(rt; STREAMS.lines().count(), 44);
     for row in STREAMS.lines() {
-        let Some((text, told)) = row.split_once(' ') else {
-            panic!(rt; "a row without a status: {row}");
-        };
-        let stream = stream_of(alloc, text)?;
-        assert!(rt; means(alloc, &stream, told.as_bytes())?, "{row}");
-        count = count.saturating_add(1);
+        let (text, told) = row.split_once(' ').ok_or("a row without a status")?;
+        let stream = stream_of(rt.alloc(), text)?;
+        assert!(rt; means(rt.alloc(), &stream, told.as_bytes())?, "{row}");
     }
-    assert_eq!(rt; count, 44);
-    assert!(rt; means(alloc, b"", b"")?);
+    Ok(())
+}
+
+#[test]
+fn no_bytes_mean_nothing(rt: HostRuntime) -> Result<(), Fail> {
+    assert!(rt; means(rt.alloc(), b"", b"")?);
     Ok(())
 }
 
@@ -154,11 +154,10 @@ fn with_fields(alloc: Global, count: usize) -> Result<Vec<u8>, AllocError> {
 
 #[test]
 fn heads_have_at_most_64_fields(rt: HostRuntime) -> Result<(), Fail> {
-    let alloc = rt.alloc();
-    let stream = with_fields(alloc, 64)?;
-    assert!(rt; means(alloc, &stream, b"200 a=b")?);
-    let stream = with_fields(alloc, 65)?;
-    assert!(rt; means(alloc, &stream, b"400")?);
+    for (count, told) in [(64, b"200 a=b".as_slice()), (65, b"400".as_slice())] {
+        let stream = with_fields(rt.alloc(), count)?;
+        assert!(rt; means(rt.alloc(), &stream, told)?, "{count}");
+    }
     Ok(())
 }
 
@@ -185,15 +184,21 @@ fn has_status(alloc: Global, stream: &[u8], cut: usize, status: &[u8]) -> Result
 
 #[test]
 fn heads_have_at_most_16384_bytes(rt: HostRuntime) -> Result<(), Fail> {
-    let alloc = rt.alloc();
-    let stream = of_bytes(alloc, HEAD_BYTES)?;
-    assert_eq!(rt; stream.len(), HEAD_BYTES);
-    assert!(rt; has_status(alloc, &stream, stream.len() / 2, b"200 a")?);
-    let stream = of_bytes(alloc, HEAD_BYTES + 1)?;
-    assert_eq!(rt; stream.len(), HEAD_BYTES + 1);
-    assert!(rt; has_status(alloc, &stream, stream.len() / 2, b"400")?);
-    let stream = vec![in alloc; b'a'; HEAD_BYTES + 1]?;
-    assert!(rt; has_status(alloc, &stream, 1, b"400")?);
+    for (count, status) in [
+        (HEAD_BYTES, b"200 a".as_slice()),
+        (HEAD_BYTES + 1, b"400".as_slice()),
+    ] {
+        let stream = of_bytes(rt.alloc(), count)?;
+        let is_told = has_status(rt.alloc(), &stream, stream.len() / 2, status)?;
+        assert_eq!(rt; (stream.len(), is_told), (count, true));
+    }
+    Ok(())
+}
+
+#[test]
+fn bytes_without_a_head_are_refused_at_the_limit(rt: HostRuntime) -> Result<(), Fail> {
+    let stream = vec![in rt.alloc(); b'a'; HEAD_BYTES + 1]?;
+    assert!(rt; has_status(rt.alloc(), &stream, 1, b"400")?);
     Ok(())
 }
 
@@ -208,14 +213,6 @@ fn steps(alloc: Global, piece: &[u8]) -> Result<(Step, Step, End, Step), AllocEr
 
 #[test]
 fn decisions_stay(rt: HostRuntime) -> Result<(), Fail> {
-    let alloc = rt.alloc();
-    let asked = (Step::Ask, Step::Ask, End::Ask, Step::Ask);
-    assert_eq!(rt; steps(alloc, b"GET /?a=b HTTP/1.1\r\n\r\n")?, asked);
-    // no piece is no end
-    assert_eq!(rt;
-        steps(alloc, b"")?,
-        (Step::More, Step::Ask, End::Ask, Step::Ask)
-    );
     let refusals: [(&[u8], Refusal); 3] = [
         (b"POST / HTTP/1.1\r\n\r\n", Refusal::MethodNotAllowed),
         (b"GET /x HTTP/1.1\r\n\r\n", Refusal::NotFound),
@@ -224,10 +221,22 @@ fn decisions_stay(rt: HostRuntime) -> Result<(), Fail> {
     ];
     for (piece, refusal) in refusals {
         let step = Step::Http(refusal);
-        assert_eq!(rt;
-            steps(alloc, piece)?,
-            (step, step, End::Http(refusal), step)
-        );
+        let found = steps(rt.alloc(), piece)?;
+        assert_eq!(rt; found, (step, step, End::Http(refusal), step));
+    }
+    Ok(())
+}
+
+#[test]
+fn queries_are_asked_once_and_for_all(rt: HostRuntime) -> Result<(), Fail> {
+    let pieces: [(&[u8], Step); 2] = [
+        (b"GET /?a=b HTTP/1.1\r\n\r\n", Step::Ask),
+        // no piece is no end
+        (b"", Step::More),
+    ];
+    for (piece, first) in pieces {
+        let found = steps(rt.alloc(), piece)?;
+        assert_eq!(rt; found, (first, Step::Ask, End::Ask, Step::Ask));
     }
     Ok(())
 }
@@ -242,9 +251,13 @@ fn after_end(alloc: Global, piece: &[u8]) -> Result<(End, Step), AllocError> {
 
 #[test]
 fn ends_refuse_what_came(rt: HostRuntime) -> Result<(), Fail> {
-    let alloc = rt.alloc();
-    assert_eq!(rt; after_end(alloc, b"")?, (End::Nothing, Step::Ask));
     let bad = Refusal::BadRequest;
-    assert_eq!(rt; after_end(alloc, b"G")?, (End::Http(bad), Step::Http(bad)));
+    let ends: [(&[u8], (End, Step)); 2] = [
+        (b"", (End::Nothing, Step::Ask)),
+        (b"G", (End::Http(bad), Step::Http(bad))),
+    ];
+    for (piece, expected) in ends {
+        assert_eq!(rt; after_end(rt.alloc(), piece)?, expected);
+    }
     Ok(())
 }

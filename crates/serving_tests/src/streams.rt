@@ -88,6 +88,19 @@ const PUTS: [(usize, usize, usize, Result<(), WriteFault>); 8] = [
     (0, 5, 0, Ok(())),
 ];
 
+// Whether bytes that are put into a writer have this outcome, and the writer holds those that went out.
+fn are_put(bytes: &[u8], writer: Narrow<'_>, outcome: Result<(), WriteFault>) -> bool {
+    let count = match outcome {
+        Ok(()) => bytes.len(),
+        Err(fault) => fault.written as usize,
+    };
+    let mut sink = Flagged::new(writer);
+    put_all(&mut sink, bytes) == outcome
+        && flags(&sink) == (outcome.is_err(), false)
+        && sink.taken() == count as u128
+        && bytes.get(..count) == Some(sink.inner().held.as_slice())
+}
+
 #[test]
 fn sinks_take_all_or_say_where_they_failed(rt: HostRuntime) -> Result<(), Fail> {
     let alloc = rt.alloc();
@@ -96,17 +109,11 @@ fn sinks_take_all_or_say_where_they_failed(rt: HostRuntime) -> Result<(), Fail> 
             let bytes = pattern(alloc, len)?;
             let mut writer = holding_nothing(alloc, &[], at_once, calls);
             writer.fails = fails;
-            let mut sink = Flagged::new(writer);
-            assert_eq!(rt; put_all(&mut sink, &bytes), outcome);
-            assert_eq!(rt; sink.put_failed(), outcome.is_err());
-            assert_eq!(rt; sink.take_failed(), false);
-            let count = match outcome {
-                Ok(()) => len,
-                Err(fault) => fault.written as usize,
-            };
-            assert_eq!(rt; sink.taken(), count as u128);
-            let held = sink.into_inner().held;
-            assert_eq!(rt; bytes.get(..count), Some(held.as_slice()));
+            let is_right = are_put(&bytes, writer, outcome);
+            assert!(rt;
+                is_right,
+                "{len} bytes, {at_once} at once, {calls} calls, {fails}"
+            );
         }
     }
     Ok(())
@@ -115,50 +122,58 @@ fn sinks_take_all_or_say_where_they_failed(rt: HostRuntime) -> Result<(), Fail> 
 // The bytes of three pieces that went out with the first so many calls of a writer that takes 3 at once.
 const FRONTS: [usize; 5] = [0, 2, 5, 7, 8];
 
-#[test]
-fn pieces_go_out_up_to_a_failure(rt: HostRuntime) -> Result<(), Fail> {
-    let alloc = rt.alloc();
-    for fails in [true, false] {
-        for (calls, count) in FRONTS.into_iter().enumerate() {
-            let mut writer = holding_nothing(alloc, &[], 3, calls);
-            writer.fails = fails;
-            let mut sink = Flagged::new(writer);
-            let written = count as u128;
-            let outcome = if calls == 4 {
-                Ok(())
-            } else {
-                Err(WriteFault { written })
-            };
-            assert_eq!(rt;
-                put_pieces(&mut sink, &[b"ab", b"", b"cdefg", b"h"]),
-                outcome
-            );
-            assert_eq!(rt; (sink.put_failed(), sink.taken()), (calls < 4, written));
-            assert_eq!(rt;
-                Some(sink.inner().held.as_slice()),
-                b"abcdefgh".get(..count)
-            );
-        }
-    }
-    Ok(())
+// Whether so many bytes of the pieces go out by a writer of so many calls.
+fn are_pieces_put(writer: Narrow<'_>, calls: usize, count: usize) -> bool {
+    let written = count as u128;
+    let outcome = if calls == 4 {
+        Ok(())
+    } else {
+        Err(WriteFault { written })
+    };
+    let mut sink = Flagged::new(writer);
+    put_pieces(&mut sink, &[b"ab", b"", b"cdefg", b"h"]) == outcome
+        && (sink.put_failed(), sink.taken()) == (calls < 4, written)
+        && Some(sink.inner().held.as_slice()) == b"abcdefgh".get(..count)
 }
 
 #[test]
+fn pieces_go_out_up_to_a_failure(rt: HostRuntime) {
+    for fails in [true, false] {
+        for (calls, count) in FRONTS.into_iter().enumerate() {
+            let mut writer = holding_nothing(rt.alloc(), &[], 3, calls);
+            writer.fails = fails;
+            let is_right = are_pieces_put(writer, calls, count);
+            assert!(rt; is_right, "{calls} calls, {fails}");
+        }
+    }
+}
+
+// What the calls of a source of 100,000 bytes give, from where, and whether its flag is set then.
+const TAKES: [(usize, Result<usize, TakeFailed>, bool); 4] = [
+    (0, Ok(70_000), false),
+    (70_000, Ok(30_000), false),
+    (100_000, Ok(0), false),
+    (100_000, Err(TakeFailed), true),
+];
+
+#[test]
 fn sources_give_bytes_up_to_their_end(rt: HostRuntime) -> Result<(), Fail> {
-    let alloc = rt.alloc();
-    let bytes = pattern(alloc, 100_000)?;
-    let mut source = Flagged::new(holding_nothing(alloc, &bytes, 70_000, 4));
-    let mut room = pattern(alloc, 90_000)?;
-    assert_eq!(rt; source.take(&mut []), Ok(0));
-    assert_eq!(rt; source.take(&mut room), Ok(70_000));
-    assert_eq!(rt; room.get(..70_000) == bytes.get(..70_000), true);
-    assert_eq!(rt; source.take(&mut room), Ok(30_000));
-    assert_eq!(rt; room.get(..30_000) == bytes.get(70_000..), true);
-    assert_eq!(rt; source.take(&mut room), Ok(0));
-    assert_eq!(rt; source.take_failed(), false);
-    assert_eq!(rt; source.take(&mut room), Err(TakeFailed));
-    assert_eq!(rt; source.take_failed(), true);
-    assert_eq!(rt; source.inner().held.len(), 0);
+    let bytes = pattern(rt.alloc(), 100_000)?;
+    let mut room = pattern(rt.alloc(), 90_000)?;
+    let mut source = Flagged::new(holding_nothing(rt.alloc(), &bytes, 70_000, 4));
+    let nothing = source.take(&mut []);
+    for (from, outcome, has_failed) in TAKES {
+        let found = source.take(&mut room);
+        let count = outcome.unwrap_or(0);
+        let given = bytes.get(from..).and_then(|rest| rest.get(..count));
+        let is_right = found == outcome && room.get(..count) == given;
+        assert_eq!(rt;
+            (is_right, source.take_failed()),
+            (true, has_failed),
+            "{from}"
+        );
+    }
+    assert_eq!(rt; (nothing, source.inner().held.len()), (Ok(0), 0));
     Ok(())
 }
 
@@ -171,24 +186,28 @@ fn assert_writing_stays_failed(rt: &impl Abort, alloc: Global) {
     let mut inner = holding_nothing(alloc, b"nine left", 2, 0);
     inner.calls_after = 4;
     let mut stream = Flagged::new(inner);
-    assert_eq!(rt; stream.put(b"square"), Err(PutFailed));
-    assert_eq!(rt; flags(&stream), (true, false));
-    assert_eq!(rt; stream.take(&mut [0; 4]), Ok(2));
-    assert_eq!(rt; stream.put(b"square"), Ok(2));
-    assert_eq!(rt; stream.put(b""), Ok(0));
-    assert_eq!(rt; stream.flush(), Ok(()));
-    assert_eq!(rt; flags(&stream), (true, false));
+    let first = (stream.put(b"square"), flags(&stream));
+    let taken = stream.take(&mut [0; 4]);
+    let put = [stream.put(b"square"), stream.put(b"")];
+    let flushed = stream.flush();
+    assert_eq!(rt; first, (Err(PutFailed), (true, false)));
+    let then = (taken, put, flushed, flags(&stream));
+    assert_eq!(rt; then, (Ok(2), [Ok(2), Ok(0)], Ok(()), (true, false)));
 }
 
 fn assert_reading_stays_failed(rt: &impl Abort, alloc: Global) {
     let mut inner = holding_nothing(alloc, b"nine left", 2, 0);
     inner.calls_after = 3;
     let mut stream = Flagged::new(inner);
-    assert_eq!(rt; stream.take(&mut [0; 4]), Err(TakeFailed));
-    assert_eq!(rt; stream.put(b"square"), Ok(2));
-    assert_eq!(rt; stream.take(&mut [0; 4]), Ok(2));
-    assert_eq!(rt; stream.flush(), Ok(()));
-    assert_eq!(rt; flags(&stream), (false, true));
+    let first = stream.take(&mut [0; 4]);
+    let put = stream.put(b"square");
+    let taken = [first, stream.take(&mut [0; 4])];
+    let flushed = stream.flush();
+    let told = (taken, put, flushed, flags(&stream));
+    assert_eq!(rt;
+        told,
+        ([Err(TakeFailed), Ok(2)], Ok(2), Ok(()), (false, true))
+    );
 }
 
 #[test]
@@ -201,27 +220,25 @@ fn each_flag_stays_as_it_was_set(rt: HostRuntime) {
 #[test]
 fn no_bytes_set_no_flag(rt: HostRuntime) {
     let mut stream = Flagged::new(holding_nothing(rt.alloc(), b"nine left", 2, 1));
-    assert_eq!(rt; stream.put(b""), Ok(0));
-    assert_eq!(rt; flags(&stream), (false, false));
+    let put = stream.put(b"");
+    assert_eq!(rt; (put, flags(&stream)), (Ok(0), (false, false)));
 }
 
 #[test]
 fn failed_flushes_set_the_flag_of_writing(rt: HostRuntime) {
     let mut stream = Flagged::new(holding_nothing(rt.alloc(), b"nine left", 2, 0));
-    assert_eq!(rt; stream.flush(), Err(PutFailed));
-    assert_eq!(rt; flags(&stream), (true, false));
-    assert_eq!(rt; stream.taken(), 0);
+    let flushed = stream.flush();
+    let told = (flushed, flags(&stream), stream.taken());
+    assert_eq!(rt; told, (Err(PutFailed), (true, false), 0));
 }
 
 #[test]
 fn messages_are_whole(rt: HostRuntime) -> Result<(), Fail> {
-    let alloc = rt.alloc();
-    assert_eq!(rt; TakeFailed.to_string(alloc)?.as_str(), "the reader failed");
-    assert_eq!(rt; PutFailed.to_string(alloc)?.as_str(), "the writer failed");
     let fault = WriteFault { written: 98 };
+    let told = format!(in rt.alloc(); "{}, {}, {}", TakeFailed, PutFailed, fault)?;
     assert_eq!(rt;
-        fault.to_string(alloc)?.as_str(),
-        "the writer failed after 98 bytes"
+        told.as_str(),
+        "the reader failed, the writer failed, the writer failed after 98 bytes"
     );
     Ok(())
 }

@@ -166,9 +166,8 @@ fn largest_pictures_are_written_whole(rt: HostRuntime) {
     // 17 bytes of header and 2,048 times 2,048 pixels are 12,582,929 bytes in 393,217 lines
     let front = "ANSWER image/x-portable-pixmap 12582929\n\
 50360a3230343820323034380a3235350affffffffffffffffffffffffffffff\n";
-    assert_eq!(rt; end, "0 Played");
-    assert_eq!(rt; text.len(), 40 + 2 * 12_582_929 + 393_217);
-    assert!(rt; text.starts_with(front));
+    let told = (end, text.len(), text.starts_with(front));
+    assert_eq!(rt; told, ("0 Played", 40 + 2 * 12_582_929 + 393_217, true));
     for row in SAMPLES.lines() {
         assert_eq!(rt; has_sample(text, row), Some(true), "{row}");
     }

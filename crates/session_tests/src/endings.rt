@@ -156,14 +156,19 @@ fn forms_end_as_they_should(rt: HostRuntime) {
 
 #[test]
 fn statuses_are_those_of_the_profile(rt: HostRuntime) {
-    assert_eq!(rt; Outcome::Played.status(), 0);
-    assert_eq!(rt; Outcome::Checked.status(), 0);
-    assert_eq!(rt; Outcome::MapfileFault.status(), 1);
-    assert_eq!(rt; Outcome::FileFailed.status(), 1);
-    assert_eq!(rt; Outcome::WordsRefused.status(), 2);
-    assert_eq!(rt; Outcome::InputFailed.status(), 3);
-    assert_eq!(rt; Outcome::OutputFailed.status(), 3);
-    assert_eq!(rt; Outcome::NoMemory.status(), 4);
+    let statuses = [
+        (Outcome::Played, 0),
+        (Outcome::Checked, 0),
+        (Outcome::MapfileFault, 1),
+        (Outcome::FileFailed, 1),
+        (Outcome::WordsRefused, 2),
+        (Outcome::InputFailed, 3),
+        (Outcome::OutputFailed, 3),
+        (Outcome::NoMemory, 4),
+    ];
+    for (outcome, status) in statuses {
+        assert_eq!(rt; outcome.status(), status, "{outcome:?}");
+    }
 }
 
 #[test]

@@ -63,14 +63,11 @@ fn a_port_answers_its_connections_in_turn(rt: HostRuntime) -> Result<(), Fail> {
         streams: Vec::new(alloc),
     });
     let outcome = listen(&rt, &mut machine, 0, 2, &mut output);
-    assert_eq!(rt; outcome, Outcome::Served);
     let mut answers = Vec::new(alloc);
     for mut stream in output.into_inner().streams {
-        let count = stream.read_to_end(&mut answers)?;
-        assert_eq!(rt; count, 298);
+        assert_eq!(rt; stream.read_to_end(&mut answers)?, 298);
     }
-    assert_eq!(rt; answers.len(), 596);
-    assert_eq!(rt; answers.get(..298), Some(RESPONSE));
-    assert_eq!(rt; answers.get(298..), Some(RESPONSE));
+    let told = (outcome, answers.get(..298), answers.get(298..));
+    assert_eq!(rt; told, (Outcome::Served, Some(RESPONSE), Some(RESPONSE)));
     Ok(())
 }

@@ -1,4 +1,5 @@
 use super::{TINY, edited, told};
+use crate::rows::assert_row;
 use bdffont::{FontError, FontFault, FontKind};
 use std::alloc::Global;
 use std::process::Abort;
@@ -129,7 +130,7 @@ fn assert_told(rt: &impl Abort, alloc: Global, rows: &str) -> Result<(), Fail> {
         let (text, expected) = rest.rsplit_once('|').unwrap_or((rest, ""));
         let (kind, line) = told(alloc, &edited(alloc, number, text)?);
         let printed = format!(in alloc; "{kind} {line}")?;
-        assert_eq!(rt; printed.as_str(), expected, "{row}");
+        assert_row(rt, printed.as_str(), expected, row);
     }
     Ok(())
 }
@@ -156,9 +157,9 @@ fn lines_without_a_fault_pass(rt: HostRuntime) -> Result<(), Fail> {
 
 #[test]
 fn no_bytes_have_no_first_line(rt: HostRuntime) {
-    assert_eq!(rt; told(rt.alloc(), b""), (1, 1));
-    assert_eq!(rt; told(rt.alloc(), b"STARTFONT 2.1"), (6, 2));
-    assert_eq!(rt; told(rt.alloc(), TINY.as_bytes()), (0, 0));
+    for (source, fault) in [("", (1, 1)), ("STARTFONT 2.1", (6, 2)), (TINY, (0, 0))] {
+        assert_eq!(rt; told(rt.alloc(), source.as_bytes()), fault, "{source}");
+    }
 }
 
 // The number of a kind and its message.
@@ -190,7 +191,7 @@ const MESSAGES: [(FontKind, &str); 6] = [
 fn kinds_are_told_in_words(rt: HostRuntime) -> Result<(), Fail> {
     for (kind, message) in MESSAGES.iter() {
         let printed = format!(in rt.alloc(); "{} {kind}", kind.number())?;
-        assert_eq!(rt; printed.as_str(), *message);
+        assert_row(&rt, printed.as_str(), message, message);
     }
     Ok(())
 }
@@ -215,7 +216,7 @@ fn faults_are_told_in_words(rt: HostRuntime) -> Result<(), Fail> {
     let printed = format!(in rt.alloc(); "{fault}; {error}; {memory}")?;
     let message =
         "line 7: another number of glyphs than CHARS says; line 7: another number of glyphs than CHARS says; out of memory";
-    assert_eq!(rt; printed.as_str(), message);
+    assert_row(&rt, printed.as_str(), message, message);
     Ok(())
 }
 

@@ -1,4 +1,5 @@
 use super::{TINY, edited, told};
+use crate::rows::assert_row;
 use bdffont::{MAX_CHARACTERS, extent, ink, is_short, read};
 use geom::Pixel;
 use mapdefs::{BitmapBox, Font, Glyph};
@@ -86,7 +87,7 @@ fn texts_are_drawn_as_worked(rt: HostRuntime) -> Result<(), Fail> {
         let (at, expected) = rest.split_once('|').unwrap_or((rest, ""));
         let source = edited(alloc, number, line)?;
         let picture = drawn_in(alloc, &source, text, pixel(at))?;
-        assert_eq!(rt; picture.as_str(), expected, "{row}");
+        assert_row(&rt, picture.as_str(), expected, row);
     }
     Ok(())
 }
@@ -209,14 +210,13 @@ fn has_ink_in(alloc: Global, source: &str, text: &str, i: i64) -> Option<bool> {
 #[test]
 fn texts_have_at_most_256_characters(rt: HostRuntime) -> Result<(), Fail> {
     let alloc = rt.alloc();
-    assert_eq!(rt; MAX_CHARACTERS, 256);
-    let mut text = "\u{1F600}".repeat(alloc, 256)?;
-    assert!(rt; is_short(text.as_str()));
-    assert_eq!(rt; extent_in(alloc, MIXED, text.as_str()), Some((4352, 3)));
-    assert_eq!(rt; has_ink_in(alloc, MIXED, text.as_str(), 4350), Some(true));
-    assert_eq!(rt; has_ink_in(alloc, MIXED, text.as_str(), 4351), Some(false));
-    text.push('a')?;
-    assert!(rt; !is_short(text.as_str()));
+    let text = "\u{1F600}".repeat(alloc, 256)?;
+    let inked = [4350, 4351].map(|column| has_ink_in(alloc, MIXED, text.as_str(), column));
+    let told = (extent_in(alloc, MIXED, text.as_str()), inked);
+    assert_eq!(rt; told, (Some((4352, 3)), [Some(true), Some(false)]));
+    let further = format!(in alloc; "{text}a")?;
+    let are_short = (is_short(text.as_str()), is_short(further.as_str()));
+    assert_eq!(rt; (MAX_CHARACTERS, are_short), (256, (true, false)));
     Ok(())
 }
 
@@ -265,8 +265,9 @@ fn fonts_have_at_most_65536_glyphs(rt: HostRuntime) -> Result<(), Fail> {
     let ends = ends_of_falling(alloc, 65_536)?;
     assert_eq!(rt; ends, (65_536, Some(1), Some(65_536)));
     // three lines of the header, and six of each glyph
-    assert_eq!(rt; told_falling(alloc, 65_537)?, (5, 393_220));
-    assert_eq!(rt; told_falling(alloc, 65_535)?, (4, 393_214));
+    for (count, fault) in [(65_537, (5, 393_220)), (65_535, (4, 393_214))] {
+        assert_eq!(rt; told_falling(alloc, count)?, fault);
+    }
     Ok(())
 }
 

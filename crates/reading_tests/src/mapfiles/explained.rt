@@ -1,3 +1,4 @@
+use crate::rows::assert_row;
 use mapfaults::{Finding, explain};
 use std::alloc::{AllocError, Global};
 use std::test::Fail;
@@ -77,7 +78,7 @@ fn faults_are_told_in_words(rt: HostRuntime) -> Result<(), Fail> {
     for row in ROWS.lines() {
         let (source, expected) = row.rsplit_once('|').ok_or("a row without a bar")?;
         let found = row_told(rt.alloc(), source)?;
-        assert_eq!(rt; found.as_str(), expected, "{row}");
+        assert_row(&rt, found.as_str(), expected, row);
     }
     Ok(())
 }
@@ -119,7 +120,7 @@ fn limits_are_told_in_words(rt: HostRuntime) -> Result<(), Fail> {
             source.push_str(part)?;
         }
         let found = told(rt.alloc(), source.as_str())?;
-        assert_eq!(rt; found.as_str(), expected);
+        assert_row(&rt, found.as_str(), expected, expected);
     }
     Ok(())
 }

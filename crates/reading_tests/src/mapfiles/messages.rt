@@ -1,3 +1,4 @@
+use crate::rows::assert_row;
 use maplex::LexKind;
 use mapparse::{ParseFault, ParseKind};
 use std::test::Fail;
@@ -41,7 +42,7 @@ fn faults_have_numbers_and_messages(rt: HostRuntime) -> Result<(), Fail> {
             kind: *kind,
         };
         let told = format!(in alloc; "{} {fault}", kind.number())?;
-        assert_eq!(rt; told.as_str(), expected);
+        assert_row(&rt, told.as_str(), expected, expected);
     }
     let told = format!(in alloc; "{}", ParseFault::NoMemory)?;
     assert_eq!(rt; told.as_str(), "out of memory");

@@ -1,3 +1,4 @@
+use crate::rows::assert_row;
 use mapdefs::{Items, Layer, Map, Text};
 use mapparse::{Files, ParseFault, parse, wanted};
 use std::alloc::{AllocError, Global};
@@ -107,14 +108,17 @@ p 1 by 2,:a.ppm,:MAP SYMBOL TRANSPARENT 3 ANCHORPOINT 0.5 1 NAME p TYPE PIXMAP I
 3 MissingFile:a.ppm,none.ppm,bad.ppm,:MAP SYMBOL NAME p TYPE PIXMAP|IMAGE a.ppm END SYMBOL NAME q TYPE PIXMAP|IMAGE none.ppm END SYMBOL NAME r TYPE PIXMAP|IMAGE bad.ppm END END
 3 UnknownWord:3 UnknownWord:MAP SYMBOL NAME p TYPE PIXMAP|IMAGE none.ppm END END|END";
 
-fn assert_row(rt: &impl Abort, alloc: Global, row: &str) -> Result<(), Fail> {
+fn assert_source(rt: &impl Abort, alloc: Global, row: &str) -> Result<(), Fail> {
     let (expected, rest) = row.split_once(':').ok_or("a row without a colon")?;
     let (uses, source) = rest.split_once(':').ok_or("a row with one colon")?;
     let source = source.replace(alloc, '|', "\n")?;
     let drawn = drawn(alloc, source.as_str())?;
-    assert_eq!(rt; drawn.as_str(), expected, "{source}");
     let used = used(alloc, source.as_str())?;
-    assert_eq!(rt; used.as_str(), uses, "{source}");
+    assert_eq!(rt;
+        (drawn.as_str(), used.as_str()),
+        (expected, uses),
+        "{source}"
+    );
     Ok(())
 }
 
@@ -123,7 +127,7 @@ fn symbols_have_their_pixmaps(rt: HostRuntime) -> Result<(), Fail> {
     let mut asserted = 0_usize;
     for row in ROWS.lines() {
         if !row.starts_with("# ") {
-            assert_row(&rt, rt.alloc(), row)?;
+            assert_source(&rt, rt.alloc(), row)?;
             asserted = asserted.saturating_add(1);
         }
     }
@@ -135,21 +139,22 @@ fn symbols_have_their_pixmaps(rt: HostRuntime) -> Result<(), Fail> {
 fn a_map_has_at_most_64_symbols(rt: HostRuntime) -> Result<(), Fail> {
     let alloc = rt.alloc();
     let symbols = "SYMBOL NAME p TYPE PIXMAP IMAGE a.ppm END\n".repeat(alloc, 64)?;
-    let whole = format!(in alloc; "MAP\n{symbols}END")?;
-    let uses = used(alloc, whole.as_str())?;
-    assert_eq!(rt; uses.as_str(), "a.ppm,");
-    let further = format!(in alloc; "MAP\n{symbols}# one more\nSYMBOL")?;
-    let fault = drawn(alloc, further.as_str())?;
-    assert_eq!(rt; fault.as_str(), "67 Limit");
+    for (end, expected) in [("END", "a.ppm,"), ("# one more\nSYMBOL", "67 Limit")] {
+        let source = format!(in alloc; "MAP\n{symbols}{end}")?;
+        let told = used(alloc, source.as_str())?;
+        assert_row(&rt, told.as_str(), expected, expected);
+    }
     Ok(())
 }
 
-fn has_bytes(files: &Files, name: &str, expected: &[u8]) -> bool {
-    match files.bytes(name) {
-        Some(bytes) => bytes == expected,
-        None => false,
-    }
-}
+// The files of the names, after two that were added.
+const ADDED: [(&str, Option<&[u8]>); 5] = [
+    ("a.ppm", Some(b"P6 1 2 255\nabcdef")),
+    ("b.ppm", Some(b"new")),
+    ("bad.ppm", Some(b"P5")),
+    ("c.ppm", Some(b"other")),
+    ("B.ppm", None),
+];
 
 #[test]
 fn a_file_takes_the_place_of_one_of_its_name(rt: HostRuntime) -> Result<(), Fail> {
@@ -157,10 +162,8 @@ fn a_file_takes_the_place_of_one_of_its_name(rt: HostRuntime) -> Result<(), Fail
     let mut files = some_files(alloc)?;
     add(&mut files, alloc, "b.ppm", b"new")?;
     add(&mut files, alloc, "c.ppm", b"other")?;
-    assert!(rt; has_bytes(&files, "a.ppm", b"P6 1 2 255\nabcdef"));
-    assert!(rt; has_bytes(&files, "b.ppm", b"new"));
-    assert!(rt; has_bytes(&files, "bad.ppm", b"P5"));
-    assert!(rt; has_bytes(&files, "c.ppm", b"other"));
-    assert!(rt; files.bytes("B.ppm").is_none());
+    for (name, bytes) in ADDED {
+        assert_eq!(rt; files.bytes(name), bytes, "{name}");
+    }
     Ok(())
 }

@@ -1,3 +1,4 @@
+use crate::rows::assert_row;
 use mapdefs::{Layer, Map};
 use mapparse::{Files, ParseFault, parse};
 use std::alloc::{AllocError, Global};
@@ -66,7 +67,7 @@ pub fn assert_told(
     expected: &str,
 ) -> Result<(), Fail> {
     let told = told(alloc, source)?;
-    assert_eq!(rt; told.as_str(), expected, "{source}");
+    assert_row(rt, told.as_str(), expected, source);
     Ok(())
 }
 
