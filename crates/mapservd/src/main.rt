@@ -15,9 +15,7 @@ use crate::host_folder::HostFolder;
 use crate::named_file::NamedFile;
 use commandline::{Command, WordsFault, command};
 use mapmachine::{Flagged, Machine, Sink};
-use sessions::{
-    Outcome, check_file, explain_file, listen, read_map, run_files, serve_session, tell,
-};
+use sessions::{Outcome, check_file, listen, read_map, run_files, serve_session, tell};
 use std::env;
 use std::io::{self, BufWriter};
 use std::process::ExitCode;
@@ -42,25 +40,12 @@ fn perform<O: Sink, E: Sink>(
             output,
             errors,
         ),
-        Command::Check {
-            file,
-            explains: false,
-        } => check_file(
+        Command::Check { file, explains } => check_file(
             rt.alloc(),
             &HostFolder::of(rt, file),
             file,
             &mut Flagged::new(NamedFile::new(rt, file)),
-            output,
-            errors,
-        ),
-        Command::Check {
-            file,
-            explains: true,
-        } => explain_file(
-            rt.alloc(),
-            &HostFolder::of(rt, file),
-            file,
-            &mut Flagged::new(NamedFile::new(rt, file)),
+            explains,
             output,
             errors,
         ),

@@ -1,7 +1,7 @@
 use crate::memory::{Memory, TwoFiles, stream_of};
 use crate::texts::{columns, spelt};
 use mapmachine::Flagged;
-use sessions::{Outcome, ReadFault, check_file, explain_file, run_files, serve_session};
+use sessions::{Outcome, ReadFault, check_file, run_files, serve_session};
 use std::alloc::{AllocError, Global};
 use std::str;
 
@@ -17,8 +17,8 @@ fn performed(
     let (form, name) = form.split_once(' ').unwrap_or((form, "m.map"));
     match form {
         "session" => serve_session(alloc, &TwoFiles, input, output, errors),
-        "check" => check_file(alloc, &TwoFiles, name, input, output, errors),
-        "explain" => explain_file(alloc, &TwoFiles, name, input, output, errors),
+        "check" => check_file(alloc, &TwoFiles, name, input, false, output, errors),
+        "explain" => check_file(alloc, &TwoFiles, name, input, true, output, errors),
         _ => run_files(
             alloc, &TwoFiles, name, input, "s.txt", script, output, errors,
         ),

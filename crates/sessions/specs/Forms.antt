@@ -1,5 +1,5 @@
 -- The forms that read files, from their bytes to what the writers get (docs/PROFILE.md, "The program").
-use Rattle.std.specs.Prelude.{ℕ, Bool, true, false, List, ◌++◌, Option, None, Some, Ok, Err, ◌⊎◌, codes}
+use Rattle.std.specs.Prelude.{◌≡◌, ℕ, Bool, true, false, List, ◌++◌, Option, None, Some, Ok, Err, ◌⊎◌, codes}
 use Rattle.std.specs.Fmt.{decimal}
 use Rattle.std.specs.Io.KnownBytes.{Keeps, Appends, Consumes, IsAtEnd}
 use Rattle.mapdefs.specs.declared.map.MapFields.{MapFields}
@@ -56,37 +56,31 @@ pub record IsChecked (gives : Giving) (outcome : Outcome) (old new : Streams) : 
   pub sums : SumsUp outcome map old.output new.output
   pub errors : Keeps old.errors new.errors
 
--- what checking a mapfile tells of the streams by its outcome, with the name of the mapfile, which is their input; `failed`
--- says whether the writer of errors has failed
-abbrev pub ChecksTo : Giving → Outcome → List ℕ → Streams → Streams → Bool → Type 0
-ChecksTo gives Checked name old new failed = IsChecked gives Checked old new
-ChecksTo gives OutputFailed name old new failed = IsChecked gives OutputFailed old new
-ChecksTo gives outcome name old new failed =
-    Keeps old.output new.output × GivesNoMap gives outcome name old.input new.input old.errors new.errors failed
-
--- what is told of a fault in words: its line, and then the words, with the name of the mapfile and the fault's line before
--- them; or its line alone, where memory was refused for words
+-- what is told of a fault: its line, and then words on it, with the name of the mapfile and the fault's line before them; or its
+-- line alone, where there are no words
 abbrev pub told_in_words : List ℕ → Fault → Option (List ℕ) → List ℕ
 told_in_words name fault None = mapfile_fault fault.line (number_of fault.kind)
 told_in_words name fault (Some words) =
     mapfile_fault fault.line (number_of fault.kind) ++ (name ++ (codes ":" ++ (decimal fault.line ++ (codes ": " ++ (words ++ codes "\n")))))
 
--- a mapfile was read, and its fault told in words
-pub record HasExplainedFault (gives : Giving) (name : List ℕ) (before after errors_before errors_after : Option (List ℕ)) (failed : Bool) : Type 0 where
+-- a mapfile was read, and its fault told; without words where `explains` is false, or where memory was refused for them
+pub record HasExplainedFault (gives : Giving) (explains : Bool) (name : List ℕ) (before after errors_before errors_after : Option (List ℕ)) (failed : Bool) : Type 0 where
   pub mapfile : List ℕ
   pub read : HasReadFile before after mapfile
   pub fault : Fault
   pub is_fault : ComesTo gives mapfile (Err fault)
   pub words : Option (List ℕ)
+  pub unasked : explains ≡ false → words ≡ None
   pub told : IsTold errors_before errors_after (told_in_words name fault words) failed
 
--- what checking a mapfile in words tells of the streams: as `ChecksTo`, but that a fault is told in words, too
-abbrev pub ExplainsTo : Giving → Outcome → List ℕ → Streams → Streams → Bool → Type 0
-ExplainsTo gives Checked name old new failed = IsChecked gives Checked old new
-ExplainsTo gives OutputFailed name old new failed = IsChecked gives OutputFailed old new
-ExplainsTo gives MapfileFault name old new failed =
-    Keeps old.output new.output × HasExplainedFault gives name old.input new.input old.errors new.errors failed
-ExplainsTo gives outcome name old new failed = Keeps old.output new.output × IsUnread outcome name old.errors new.errors failed
+-- what checking a mapfile tells of the streams by its outcome, with the name of the mapfile, which is their input; `explains` says
+-- whether a fault is told in words, too, and `failed` whether the writer of errors has failed
+abbrev pub ChecksTo : Giving → Bool → Outcome → List ℕ → Streams → Streams → Bool → Type 0
+ChecksTo gives explains Checked name old new failed = IsChecked gives Checked old new
+ChecksTo gives explains OutputFailed name old new failed = IsChecked gives OutputFailed old new
+ChecksTo gives explains MapfileFault name old new failed =
+    Keeps old.output new.output × HasExplainedFault gives explains name old.input new.input old.errors new.errors failed
+ChecksTo gives explains outcome name old new failed = Keeps old.output new.output × IsUnread outcome name old.errors new.errors failed
 
 -- a mapfile describes a map, on which a script was played with this outcome; the script is the input of the streams, and
 -- `before` and `after` are what is left of the mapfile

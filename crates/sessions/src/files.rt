@@ -1,7 +1,7 @@
 ghost use Rattle.std.specs.Prelude.{◌≡◌, ◌||◌, IfOk, IfErr, OnOk, MatchResult, true, false};
 ghost use Rattle.sessions.specs.declared.outcome.Outcome.TheVariants.{Played, Checked, FileFailed};
 ghost use Rattle.sessions.specs.Session.{is_file_failed, is_input_failed, is_output_failed};
-ghost use Rattle.sessions.specs.Forms.{HasReadFile, IsUnread, HasReadMap, GivesNoMap, SumsUp, ChecksTo, RunsTo, has_told};
+ghost use Rattle.sessions.specs.Forms.{HasReadFile, IsUnread, HasReadMap, GivesNoMap, SumsUp, RunsTo, has_told};
 
 use crate::folder::Folder;
 use crate::input::{ReadFault, read_all};
@@ -73,31 +73,6 @@ pub fn sum_up<O: Sink>(map: &Map, output: &mut O) -> Outcome
             Err(_) => Outcome::OutputFailed,
         },
         Err(_) => Outcome::OutputFailed,
-    }
-}
-
-/// Reads a mapfile up to its end, and writes the line of its map to the output, or tells the errors its
-/// fault, or its name if it can't be read.
-pub fn check_file<F: Folder, I: Source, O: Sink, E: Sink>(
-    alloc: Global,
-    folder: &F,
-    name: &str,
-    file: &mut I,
-    output: &mut O,
-    errors: &mut E,
-) -> Outcome
-    ensures tells { ChecksTo (F.gives folder.now) result name.now
-        (record { input = I.left file.old; output = O.held output.old; errors = E.held errors.old })
-        (record { input = I.left file.new; output = O.held output.new; errors = E.held errors.new })
-        (E.put_failed errors.new) }
-    ensures flushed { result ≡ Checked → O.is_flushed output.new ≡ true }
-    ensures errors_flushed { has_told result ≡ true → E.put_failed errors.new ≡ false → E.is_flushed errors.new ≡ true }
-    ensures file_flag { I.take_failed file.new ≡ (is_file_failed result || I.take_failed file.old) }
-    ensures output_flag { O.put_failed output.new ≡ (is_output_failed result || O.put_failed output.old) }
-{
-    match read_map(alloc, folder, name, file, errors) {
-        Ok(map) => sum_up(&map, output),
-        Err(outcome) => outcome,
     }
 }
 

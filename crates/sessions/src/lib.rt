@@ -3,17 +3,17 @@
 //!
 //! Proved: `serve_session` reads its input up to the end and tells by its outcome what was written: the
 //! whole transcript of the map machine's replies, or exactly the first bytes of it, or the fault of the
-//! mapfile (`tells`); `check_file`, `explain_file` and `run_files` say the same of the files that they
-//! read. `split_session` parts a session at its first line of two percent signs. `play_script` and
-//! `summary` say how many bytes went out where the writer fails. `serve_connection` answers the stream of
-//! one connection. `listen`, which takes connections from a port, promises nothing.
+//! mapfile (`tells`); `check_file` and `run_files` say the same of the files that they read.
+//! `split_session` parts a session at its first line of two percent signs. `play_script` and `summary` say
+//! how many bytes went out where the writer fails. `serve_connection` answers the stream of one
+//! connection. `listen`, which takes connections from a port, promises nothing.
 //!
 //! Words: a *script* is a list of commands, each a line; its *events* are what they ask of the
 //! machine. The *transcript* is what is written of the replies.
 #![tactic(auto)]
 
+mod checking;
 mod connection;
-mod explaining;
 mod files;
 mod folder;
 mod input;
@@ -27,9 +27,9 @@ mod sending;
 mod session;
 mod summing;
 
+pub use checking::check_file;
 pub use connection::serve_connection;
-pub use explaining::explain_file;
-pub use files::{check_file, read_map, run_files};
+pub use files::{read_map, run_files};
 pub use folder::{Folder, front_of};
 pub use input::{ReadFault, read_all};
 pub use listening::listen;

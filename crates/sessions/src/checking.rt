@@ -1,7 +1,7 @@
-ghost use Rattle.std.specs.Prelude.{◌≡◌, ◌||◌, option_map, true, false};
+ghost use Rattle.std.specs.Prelude.{◌≡◌, ◌||◌, None, option_map, true, false};
 ghost use Rattle.sessions.specs.declared.outcome.Outcome.TheVariants.{Checked};
 ghost use Rattle.sessions.specs.Session.{IsTold, is_file_failed, is_output_failed};
-ghost use Rattle.sessions.specs.Forms.{ExplainsTo, told_in_words, has_told};
+ghost use Rattle.sessions.specs.Forms.{ChecksTo, told_in_words, has_told};
 
 use crate::files::{read_file, sum_up};
 use crate::folder::Folder;
@@ -13,8 +13,14 @@ use mapmachine::{Sink, Source};
 use mapwords::{ParseFault, ParseKind};
 use std::alloc::Global;
 
-// The words on the fault of a mapfile, whose kind is known. There are none where memory is refused.
-fn words_on(alloc: Global, mapfile: &[u8], kind: ParseKind) -> Option<String> {
+// The words on the fault of a mapfile, whose kind is known, where they are asked for. There are none where
+// memory is refused.
+fn words_on(alloc: Global, mapfile: &[u8], kind: ParseKind, explains: bool) -> Option<String>
+    ensures { explains ≡ false → result ≡ None }
+{
+    if !explains {
+        return None;
+    }
     match explain(alloc, mapfile) {
         Finding::Faulty(explained) => explained.words(alloc).ok(),
         // What is written in it is right, so the fault is of a file.
@@ -32,7 +38,7 @@ fn words_on_file(kind: ParseKind) -> &'static str {
     }
 }
 
-// Tells the fault of a mapfile, and the words on it.
+// Tells the fault of a mapfile, and the words on it, where there are any.
 fn tell_in_words<E: Sink>(
     errors: &mut E,
     name: &str,
@@ -68,17 +74,19 @@ fn tell_in_words<E: Sink>(
     );
 }
 
-/// As `check_file`, but that a fault of the mapfile is told in words, too, on a second line, unless
-/// memory is refused for these.
-pub fn explain_file<F: Folder, I: Source, O: Sink, E: Sink>(
+/// Reads a mapfile up to its end, and writes the line of its map to the output, or tells the errors its
+/// fault, or its name if it can't be read. Where it `explains`, the fault is told in words, too, on a second
+/// line, unless memory is refused for these.
+pub fn check_file<F: Folder, I: Source, O: Sink, E: Sink>(
     alloc: Global,
     folder: &F,
     name: &str,
     file: &mut I,
+    explains: bool,
     output: &mut O,
     errors: &mut E,
 ) -> Outcome
-    ensures tells { ExplainsTo (F.gives folder.now) result name.now
+    ensures tells { ChecksTo (F.gives folder.now) explains result name.now
         (record { input = I.left file.old; output = O.held output.old; errors = E.held errors.old })
         (record { input = I.left file.new; output = O.held output.new; errors = E.held errors.new })
         (E.put_failed errors.new) }
@@ -94,7 +102,7 @@ pub fn explain_file<F: Folder, I: Source, O: Sink, E: Sink>(
     match read_map_of(alloc, folder, &mapfile) {
         Ok(map) => sum_up(&map, output),
         Err(ParseFault::At { line, kind }) => {
-            let words = words_on(alloc, &mapfile, kind);
+            let words = words_on(alloc, &mapfile, kind, explains);
             tell_in_words(errors, name, line, kind, words.as_ref().map(String::as_str));
             Outcome::MapfileFault
         }
