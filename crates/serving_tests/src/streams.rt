@@ -92,7 +92,7 @@ const PUTS: [(usize, usize, usize, Result<(), WriteFault>); 8] = [
 fn are_put(bytes: &[u8], writer: Narrow<'_>, outcome: Result<(), WriteFault>) -> bool {
     let count = match outcome {
         Ok(()) => bytes.len(),
-        Err(fault) => fault.written as usize,
+        Err(fault) => usize::try_from(fault.written).unwrap_or(usize::MAX),
     };
     let mut sink = Flagged::new(writer);
     put_all(&mut sink, bytes) == outcome
