@@ -5,6 +5,7 @@ use Rattle.std.proofs.lemmas.Int.{ints, to_z-of_z}
 use Rattle.std.proofs.lemmas.List.{get_or-set_same, get_or-set_other, get_or_append_left, length-set, length-append, take_all, drop_all, append-nil}
 use Rattle.std.proofs.lemmas.List.Elements.{Contains-push, Contains-append_left}
 use Rattle.std.proofs.lemmas.Option.{slice_get_within, slice_get-get_or, get_or_from_slice_get}
+use Rattle.std.proofs.Math.Nat.{mul-le-mul_right}
 use Rattle.std.proofs.Math.Seq.{get_or-append_seam}
 use Rattle.std.specs.List.{Any, Contains, slice_get}
 use borrow.Author.Count.{below_more}
@@ -152,3 +153,7 @@ noted-more old new boxes area all d e g n k x is = ⊎_elim
     let r : x ≡ area = cc in
     rw (q, r) n)
     (cases_lt k (length boxes))
+
+-- a cell of a row and a column is one of the cells
+pub number-below : (row rows column columns n : ℕ) → row < rows → column < columns → n ≡ rows * columns → row * columns + column < n
+number-below row rows column columns n below_row below_column is = omega (arith, is, mul-le-mul_right {m = row + 1} {n = rows} columns (omega (arith, below_row)))

@@ -1,10 +1,16 @@
 -- What a subcommand's name and matches say of the rows.
-use Rattle.std.proofs.Common.{◌≡◌, ◌∙◌, sym, refl, subst, Bool, true, false, ℕ, List, Option, Some, None, Result, Ok, option_map}
+use Rattle.std.proofs.Common.{[], ◌≡◌, ◌∙◌, sym, refl, subst, Bool, true, false, ℕ, List, Option, Some, None, Result, Ok, Err, option_map}
+use Rattle.std.specs.Option.{IfSome, ok_or}
 use Rattle.std.specs.Prelude.{Box}
+use Rattle.std.specs.Result.{IfOk, OnOk}
 use Rattle.std.specs.Box.{box_value}
-use Rattle.clap.specs.Words.{App, ReadsOne, Row, Text, subcommand_rows, takes}
+use Rattle.clap.proofs.OnLiterals.{clap_on_literals}
+use Rattle.clap.specs.Simple.{HasMatchesOf, is_simple}
+use Rattle.clap.specs.Words.{App, ReadsOne, Row, Text, fault_of, is_simple_and_free, subcommand_of, subcommand_rows, subcommand_rows_of, takes}
+use Rattle.clap.specs.declared.parser.matches.ArgMatches.{ArgMatches}
 use Rattle.clap.specs.declared.parser.matches.SubCommand.{SubCommand}
 use Rattle.clap.specs.declared.parser.matches.ArgMatches.TheViews.{out-SubCommand}
+use Rattle.commandline.specs.Words.{app}
 
 pub named : {Z : Type 0} (o : Option (Box SubCommand Z)) (n : Text) (rows : List Row) → Some n ≡ option_map (λ b. (out-SubCommand (box_value b)).name.now) o
     → Some rows ≡ option_map (λ p. p.1) (subcommand_rows o) → subcommand_rows o ≡ Some (n, rows)
@@ -27,3 +33,28 @@ pub not-taken : (forms line : App) (words : List Text) (refusal : Bool) (K : Typ
 not-taken forms line words refusal K same passes none is =
     let P : App → Type 0 = λ a. takes a words ≡ true → K in
     so-not (takes line words) (λ t. none is (subst P same passes t))
+
+-- the forms are among those of which the definitions of words speak
+simple : is_simple app ≡ true
+unfolding clap_on_literals
+simple = refl
+
+free : is_simple_and_free app ≡ true
+unfolding clap_on_literals
+free = refl
+
+-- so the matches are those of the words, which are taken
+pub parsed : (forms : App) (words : List Text) (m : ArgMatches) → forms ≡ app → HasMatchesOf forms words m → subcommand_rows_of m ≡ subcommand_of app words
+parsed forms words m same has = (subst (λ a. HasMatchesOf a words m) same has simple).1
+
+pub taken : (forms : App) (words : List Text) → forms ≡ app → (is_simple_and_free forms ≡ true → fault_of forms words ≡ []) → fault_of app words ≡ []
+taken forms words same has = subst (λ a. is_simple_and_free a ≡ true → fault_of a words ≡ []) same has free
+
+-- what is made of an option meets what its value meets
+pub given : {A E : Type 0} (o : Option A) (e : E) (P : A → Type 0) → IfSome o P → IfOk (ok_or o e) P
+given None e P h = tt
+given (Some x) e P h = h
+
+pub on-ok : {A E : Type 0} (r : Result A E) (P : Type 0) → P → OnOk r P
+on-ok (Ok x) P h = h
+on-ok (Err e) P h = tt

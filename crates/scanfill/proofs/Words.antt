@@ -5,7 +5,7 @@ use Rattle.std.proofs.lemmas.Nat.{mul-lt}
 use Rattle.std.specs.Int.RustNames.{unsigned_abs}
 use lib.IntN.{ℤ, pos, negsuc, neg_ℤ, ◌+ℤ◌, ◌-ℤ◌, ◌*ℤ◌}
 use mir.Syntax.{w64, w128}
-use mir.Val.{to_z, of_z}
+use mir.Val.{SFits, to_z, of_z}
 use Rattle.geom.specs.Range.{IsBelow}
 use Rattle.geom.proofs.Integers.{size-below}
 
@@ -15,6 +15,15 @@ word limit z most h = omega (arith, ints)
 
 pub wide : (limit : ℕ) (z : ℤ) → limit ≤ 2 ^ 127 → IsBelow limit z → to_z w128 (of_z w128 z) ≡ z
 wide limit z most h = omega (arith, ints)
+
+pub fits-word : (limit : ℕ) (z : ℤ) → limit ≤ 2 ^ 63 → IsBelow limit z → SFits w64 z
+fits-word limit z most h = omega (arith, ints)
+
+pub fits-wide : (limit : ℕ) (z : ℤ) → limit ≤ 2 ^ 127 → IsBelow limit z → SFits w128 z
+fits-wide limit z most h = omega (arith, ints)
+
+pub fits-opposite : (z : ℤ) → IsBelow (2 ^ 44) z → SFits w64 (pos 0 -ℤ z)
+fits-opposite z h = omega (arith, ints)
 
 -- a number below a limit is below a greater one
 pub below-more : (m n : ℕ) (z : ℤ) → m ≤ n → IsBelow m z → IsBelow n z

@@ -1,6 +1,6 @@
-use Rattle.std.proofs.Common.{rules, arith, refl}
+use Rattle.std.proofs.Common.{rules, arith, length, refl}
 use Rattle.collide.specs.Grid.{FindsInRow}
-use Rattle.collide.proofs.Cells.{cell-is, none-more, row-found, row-finds}
+use Rattle.collide.proofs.Cells.{cell-is, none-more, number-below, row-found, row-finds}
 use Rattle.collide.proofs.grid.Grid.hits.Goals as goal
 
 pub returns-then-hits_between : goal.returns-then-hits_between
@@ -30,3 +30,23 @@ returns c =
           let q = f.last in
           absurd (c.loop-row.invariant f.row (rw t p) (omega arith) f.finds),
     )
+
+pub overflow_mul-start : goal.overflow_mul-start
+overflow_mul-start c =
+    let columns = c.args.self.now.columns in
+    let below = number-below c.loop-row.row c.args.self.now.rows 0 columns (length c.args.self.now.cells.items) (omega arith) c.requires.columns (omega (arith, c.requires.cells)) in
+    omega (arith, below, c.requires.cells)
+
+pub overflow_add-start : goal.overflow_add-start
+overflow_add-start c =
+    let below = number-below c.loop-row.row c.args.self.now.rows c.cell_of-left.result c.args.self.now.columns (length c.args.self.now.cells.items) (omega arith) c.cell_of-left.ensures.bound (omega (arith, c.requires.cells)) in
+    omega (arith, below, c.requires.cells)
+
+pub overflow_add-start-in-loop-row : goal.overflow_add-start-in-loop-row
+overflow_add-start-in-loop-row c =
+    let below = number-below c.loop-row.row c.args.self.now.rows c.cell_of-right.result c.args.self.now.columns (length c.args.self.now.cells.items) (omega arith) c.cell_of-right.ensures.bound (omega (arith, c.requires.cells)) in
+    omega (arith, below, c.requires.cells)
+
+pub hits_between-requires : goal.hits_between-requires
+hits_between-requires c =
+    rw c.deref.ensures.value (number-below c.loop-row.row c.args.self.now.rows c.cell_of-right.result c.args.self.now.columns _ (omega arith) c.cell_of-right.ensures.bound (omega (arith, c.requires.cells)))

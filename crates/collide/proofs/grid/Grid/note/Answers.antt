@@ -1,8 +1,8 @@
-use Rattle.std.proofs.Common.{rules, ◌≡◌, ◌<◌, ◌≤◌, ◌+◌, ◌*◌, arith, ⊎_elim}
+use Rattle.std.proofs.Common.{rules, ◌≡◌, ◌<◌, ◌≤◌, ◌+◌, ◌*◌, arith, length, ⊎_elim}
 use Rattle.std.proofs.lemmas.Bool.{cases_lt}
 use Rattle.std.proofs.lemmas.Int.{ints}
 use Rattle.collide.specs.Grid.{cell_of}
-use Rattle.collide.proofs.Cells.{cell-mono, cell-is, grows-trans, written-back}
+use Rattle.collide.proofs.Cells.{cell-mono, cell-is, grows-trans, number-below, written-back}
 use Rattle.collide.proofs.grid.Grid.note.Goals as goal
 
 pub returns-in_err-note_between-clause-kept : goal.returns-in_err-note_between-clause-kept
@@ -39,3 +39,27 @@ returns-clause-noted c =
     let y : c.cell_of-top.result ≤ cell_of c.args.self.now.rows row = rw t (cell-mono _ _ _ h.top) in
     let z : cell_of c.args.self.now.rows row ≤ c.cell_of-bottom.result = rw b (cell-mono _ _ _ (omega (arith, ints, h.bottom))) in
     rw (inv.columns, inv.rows) (rw inv.columns at (inv.noted (cell_of c.args.self.now.rows row) y (omega arith)) (cell_of c.args.self.now.rows row * c.args.self.now.columns + cell_of c.args.self.now.columns column) (omega arith) (omega arith))
+
+pub overflow_mul-start : goal.overflow_mul-start
+overflow_mul-start c =
+    let grid = c.args.self.now in
+    let below = number-below c.loop-row.row grid.rows 0 grid.columns (length grid.cells.items) (omega arith) c.requires.columns (omega (arith, c.requires.cells)) in
+    rw c.loop-row.invariant.columns (omega (arith, below, c.requires.cells))
+
+pub overflow_add-start : goal.overflow_add-start
+overflow_add-start c =
+    let grid = c.args.self.now in
+    let below = number-below c.loop-row.row grid.rows c.cell_of-left.result grid.columns (length grid.cells.items) (omega arith) c.cell_of-left.ensures.bound (omega (arith, c.requires.cells)) in
+    rw c.loop-row.invariant.columns (omega (arith, below, c.requires.cells))
+
+pub overflow_add-start-in-loop-row : goal.overflow_add-start-in-loop-row
+overflow_add-start-in-loop-row c =
+    let grid = c.args.self.now in
+    let below = number-below c.loop-row.row grid.rows c.cell_of-right.result grid.columns (length grid.cells.items) (omega arith) c.cell_of-right.ensures.bound (omega (arith, c.requires.cells)) in
+    rw c.loop-row.invariant.columns (omega (arith, below, c.requires.cells))
+
+pub note_between-requires : goal.note_between-requires
+note_between-requires c =
+    let grid = c.args.self.now in
+    let below = number-below c.loop-row.row grid.rows c.cell_of-right.result grid.columns (length grid.cells.items) (omega arith) c.cell_of-right.ensures.bound (omega (arith, c.requires.cells)) in
+    rw (c.deref_mut.ensures.value, c.loop-row.invariant.grows.same, c.loop-row.invariant.columns) below
