@@ -1,0 +1,75 @@
+//! Tables of tests: a table is one text, a row a line, and a function of the test tells what stands for
+//! the left side of a row.
+//!
+//! Nothing is proved here but that each call is safe and ends. What a call answers is tested in
+//! `reading_tests`, with tables that differ in each way.
+#![tactic(auto)]
+
+use std::alloc::{AllocError, Global};
+use std::test::Fail;
+
+/// Why a table doesn't hold.
+#[derive(Debug, Drop)]
+pub enum TableFault {
+    /// The line, counted from 1, has no separator.
+    NoSeparator(usize),
+    /// What is told of the line, counted from 1, isn't what its row expects.
+    Differs(usize, String),
+    /// The table has another number of rows, this one.
+    Count(usize),
+    /// Out of memory.
+    NoMemory,
+}
+
+impl From<AllocError> for TableFault {
+    fn from(_: AllocError) -> TableFault {
+        TableFault::NoMemory
+    }
+}
+
+/// Checks that a table has so many rows, and that of each the function tells what the row expects. A row
+/// is what is expected, the separator and the rest, of which the function tells. A line that begins with
+/// `# ` is a heading.
+pub fn check_rows<F: Fn(Global, &str) -> Result<String, AllocError>>(
+    alloc: Global,
+    rows: &str,
+    separator: char,
+    count: usize,
+    tell: F,
+) -> Result<(), TableFault>
+    requires { F.IsAlwaysCallable tell }
+{
+    let mut found = 0_usize;
+    let mut line = 0_usize;
+    for row in rows.lines() {
+        line = line.saturating_add(1);
+        if !row.starts_with("# ") {
+            let Some((expected, rest)) = row.split_once(separator) else {
+                return Err(TableFault::NoSeparator(line));
+            };
+            let told = tell(alloc, rest)?;
+            if told.as_str() != expected {
+                return Err(TableFault::Differs(line, told));
+            }
+            found = found.saturating_add(1);
+        }
+    }
+    if found == count {
+        Ok(())
+    } else {
+        Err(TableFault::Count(found))
+    }
+}
+
+/// Ends a test where `check_rows` finds a fault.
+pub fn assert_rows<F: Fn(Global, &str) -> Result<String, AllocError>>(
+    alloc: Global,
+    rows: &str,
+    separator: char,
+    count: usize,
+    tell: F,
+) -> Result<(), Fail>
+    requires { F.IsAlwaysCallable tell }
+{
+    Ok(check_rows(alloc, rows, separator, count, tell)?)
+}
