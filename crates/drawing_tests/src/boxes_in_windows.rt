@@ -1,65 +1,87 @@
 ghost use Rattle.std.specs.Prelude.{◌≡◌, ◌≤◌, ◌<◌, ◌+◌, ◌-◌, ◌^◌, length, IfOk, OnOk};
 
-use geom::{Micro, WorldBox};
+use crate::shapes::area;
+use geom::WorldBox;
 use gridindex::Grid;
 use std::alloc::{AllocError, Global};
-use std::process::Abort;
 use std::test::Fail;
+use test_tables::assert_rows;
 
-// The greatest number of millionths.
+// The greatest number of millionths, the one before it, and the least.
 const FAR: i64 = i64::MAX;
 
-fn boxed(west: i64, south: i64, east: i64, north: i64) -> WorldBox {
-    WorldBox::new(
-        Micro::new(west),
-        Micro::new(south),
-        Micro::new(east),
-        Micro::new(north),
-    )
+const NEARLY: i64 = i64::MAX - 1;
+
+const LEAST: i64 = i64::MIN;
+
+// The box of the whole degrees of its sides.
+fn degrees(sides: [i64; 4]) -> WorldBox {
+    area(sides.map(|side| side.wrapping_mul(1_000_000)))
 }
 
-// The box of the degrees of its west, south, east and north side, with blanks between.
-fn degrees(row: &str) -> WorldBox {
-    let mut sides = [0_i64; 4];
-    for (side, word) in sides.iter_mut().zip(row.split(' ')) {
-        *side = word.parse::<i64>().unwrap_or(0).wrapping_mul(1_000_000);
-    }
-    boxed(sides[0], sides[1], sides[2], sides[3])
-}
-
-// Tells whether the window finds exactly the boxes of those indices.
-fn assert_found(
-    rt: &impl Abort,
-    alloc: Global,
-    grid: &Grid,
-    window: WorldBox,
-    indices: &[u32],
-) -> Result<(), Fail> {
-    assert_eq!(rt; grid.candidates(window)?.as_slice(), indices);
-    Ok(())
+// Adds the indices of the boxes that the window finds.
+fn ask(out: &mut String, grid: &Grid, window: WorldBox) -> Result<(), AllocError> {
+    let found = grid.candidates(window)?;
+    write!(out, "{:?}", found.as_slice())
 }
 
 // Asks a grid of three boxes, adds one, and begins anew.
-fn assert_steps(rt: &impl Abort, alloc: Global, grid: &mut Grid) -> Result<(), Fail>
+fn ask_of_three(out: &mut String, grid: &mut Grid) -> Result<(), AllocError>
     requires { length grid.old < 2 ^ 31 }
 {
-    let window = degrees("0 0 1 1");
-    assert_found(rt, alloc, grid, window, &[0, 2])?;
-    grid.add(degrees("1 1 1 1"))?;
-    assert_found(rt, alloc, grid, window, &[0, 2, 3])?;
-    assert_found(rt, alloc, grid, degrees("6 -9 7 5"), &[1, 2])?;
+    let window = degrees([0, 0, 1, 1]);
+    ask(out, grid, window)?;
+    grid.add(degrees([1, 1, 1, 1]))?;
+    ask(out, grid, window)?;
+    ask(out, grid, degrees([6, -9, 7, 5]))?;
     grid.clear();
-    assert_found(rt, alloc, grid, window, &[])?;
-    grid.add(degrees("1 1 1 1"))?;
-    assert_found(rt, alloc, grid, window, &[0])
+    ask(out, grid, window)?;
+    grid.add(degrees([1, 1, 1, 1]))?;
+    ask(out, grid, window)
+}
+
+// Asks a grid without boxes, and adds one.
+fn ask_of_none(out: &mut String, grid: &mut Grid) -> Result<(), AllocError>
+    requires { length grid.old < 2 ^ 31 }
+{
+    let world = area([LEAST, LEAST, FAR, FAR]);
+    ask(out, grid, world)?;
+    grid.add(area([FAR, LEAST, FAR, LEAST]))?;
+    ask(out, grid, world)?;
+    ask(out, grid, area([FAR, FAR, LEAST, LEAST]))
+}
+
+// What is told of three boxes.
+fn of_three(alloc: Global, _of: &str) -> Result<String, AllocError> {
+    let rows = [[0, 0, 0, 0], [5, 5, 6, 6], [-1, -1, 9, 9]].map(degrees);
+    let mut grid = Grid::build(alloc, vec![in alloc; rows[0], rows[1], rows[2]]?)?;
+    let mut text = String::new(alloc);
+    ask_of_three(&mut text, &mut grid)?;
+    Ok(text)
 }
 
 #[test]
 fn windows_find_worked_boxes(rt: HostRuntime) -> Result<(), Fail> {
-    let alloc = rt.alloc();
-    let rows = ["0 0 0 0", "5 5 6 6", "-1 -1 9 9"].map(degrees);
-    let mut grid = Grid::build(alloc, vec![in alloc; rows[0], rows[1], rows[2]]?)?;
-    assert_steps(&rt, alloc, &mut grid)
+    assert_rows(
+        rt.alloc(),
+        "[0, 2][0, 2, 3][1, 2][][0]=three",
+        '=',
+        1,
+        of_three,
+    )
+}
+
+// What is told of no boxes.
+fn of_none(alloc: Global, _of: &str) -> Result<String, AllocError> {
+    let mut grid = Grid::build(alloc, Vec::new(alloc))?;
+    let mut text = String::new(alloc);
+    ask_of_none(&mut text, &mut grid)?;
+    Ok(text)
+}
+
+#[test]
+fn no_boxes_and_one_are_asked(rt: HostRuntime) -> Result<(), Fail> {
+    assert_rows(rt.alloc(), "[][0][]=none", '=', 1, of_none)
 }
 
 // The next number of a sequence, from 0 to before the limit.
@@ -79,21 +101,21 @@ fn next_box(state: &mut u64) -> WorldBox {
         |side| side.wrapping_sub(30).wrapping_mul(1_000_000),
     );
     match next(state, 20) {
-        0 => boxed(
+        0 => area([
             west.wrapping_mul(9),
             south,
             east.wrapping_add(FAR >> 8),
             north.wrapping_add(32_000_000),
-        ),
-        1 => boxed(east.wrapping_add(1), south, west, north),
-        2 => boxed(-FAR, -FAR, west, FAR),
-        3 => boxed(FAR, FAR, FAR, FAR),
-        4 => boxed(-1 - FAR, north, -1 - FAR, FAR),
-        5 => boxed(west, -FAR, west, -FAR),
-        6 => boxed(FAR - 1, south, FAR, south),
-        7 => boxed(-1 - FAR, -1 - FAR, -1 - FAR, -FAR),
-        8 => boxed(west, FAR - 1, east, FAR),
-        _ => boxed(west, south, east, north),
+        ]),
+        1 => area([east.wrapping_add(1), south, west, north]),
+        2 => area([-FAR, -FAR, west, FAR]),
+        3 => area([FAR, FAR, FAR, FAR]),
+        4 => area([LEAST, north, LEAST, FAR]),
+        5 => area([west, -FAR, west, -FAR]),
+        6 => area([NEARLY, south, FAR, south]),
+        7 => area([LEAST, LEAST, LEAST, -FAR]),
+        8 => area([west, NEARLY, east, FAR]),
+        _ => area([west, south, east, north]),
     }
 }
 
@@ -136,48 +158,90 @@ fn some_boxes(alloc: Global, state: &mut u64, count: u16) -> Result<Vec<WorldBox
     Ok(boxes)
 }
 
-// Asks for windows, and tells whether the list answers the same.
-fn assert_same(
-    rt: &impl Abort,
+// Adds 300 boxes to both.
+fn add_some(
+    alloc: Global,
+    grid: &mut Grid,
+    list: &mut Vec<WorldBox>,
+    state: &mut u64,
+) -> Result<(), AllocError>
+    requires { length grid.old ≤ 5000 }
+{
+    for _number in 0..300_u16 {
+        add_next(alloc, grid, list, next_box(state))?;
+    }
+    Ok(())
+}
+
+// Whether the boxes of a grid that a window finds are those of the list, and how many they are.
+fn found_in_both(
     alloc: Global,
     grid: &Grid,
     list: &[WorldBox],
-    windows: u32,
-) -> Result<(), Fail> {
-    let mut state = 20_262;
-    let mut found = 0_usize;
-    for _ in 0..windows {
-        let window = next_box(&mut state);
-        let indices = grid.candidates(window)?;
-        assert_eq!(rt; indices, asked(alloc, list, window)?, "{window:?}");
-        found = found.saturating_add(indices.len());
-    }
-    // many windows find some, and none finds most
-    assert!(rt; found > windows as usize, "{found} found");
-    Ok(())
+    window: WorldBox,
+) -> Result<(bool, usize), AllocError> {
+    let found = grid.candidates(window)?;
+    let asked = asked(alloc, list, window)?;
+    Ok((found == asked, found.len()))
 }
 
-#[test]
-fn answers_are_those_of_a_plain_list(rt: HostRuntime) -> Result<(), Fail> {
-    let alloc = rt.alloc();
-    let mut state = 20_261;
+// Asks for a thousand windows. How many boxes they find, or the first window of which the list says
+// something else.
+fn found_by_all(
+    alloc: Global,
+    grid: &Grid,
+    list: &[WorldBox],
+) -> Result<Result<usize, WorldBox>, AllocError> {
+    let mut state = 20_262;
+    let mut count = 0_usize;
+    for _ in 0..1_000_u16 {
+        let window = next_box(&mut state);
+        let (is_same, found) = found_in_both(alloc, grid, list, window)?;
+        if !is_same {
+            return Ok(Err(window));
+        }
+        count = count.saturating_add(found);
+    }
+    Ok(Ok(count))
+}
+
+// Adds what is told of the windows: many where they find more boxes than they are themselves, `few`, or the
+// window of which the list says something else.
+fn tell(out: &mut String, alloc: Global, grid: &Grid, list: &[WorldBox]) -> Result<(), AllocError> {
+    match found_by_all(alloc, grid, list)? {
+        Ok(found) if found > 1_000 => out.push_str("many "),
+        Ok(_) => out.push_str("few "),
+        Err(window) => write!(out, "{window:?} "),
+    }
+}
+
+// Tells of a grid that was built, and again after boxes were added.
+fn tell_twice(
+    out: &mut String,
+    alloc: Global,
+    grid: &mut Grid,
+    list: &mut Vec<WorldBox>,
+    state: &mut u64,
+) -> Result<(), AllocError>
+    requires { length grid.old ≤ 5000 }
+{
+    tell(out, alloc, grid, list)?;
+    add_some(alloc, grid, list, state)?;
+    tell(out, alloc, grid, list)
+}
+
+// What is told of boxes that a sequence from that number on makes.
+fn of_sequence(alloc: Global, number: &str) -> Result<String, AllocError> {
+    let mut state = number.parse::<u64>().unwrap_or(0);
     let mut list = some_boxes(alloc, &mut state, 5_000)?;
     let mut grid = Grid::build(alloc, Vec::from_slice(alloc, &list)?)?;
-    assert_same(&rt, alloc, &grid, &list, 1_000)?;
-    for _number in 0..300_u16 {
-        add_next(alloc, &mut grid, &mut list, next_box(&mut state))?;
-    }
-    assert_same(&rt, alloc, &grid, &list, 1_000)
+    let mut text = String::new(alloc);
+    tell_twice(&mut text, alloc, &mut grid, &mut list, &mut state)?;
+    Ok(text)
 }
 
+// Many windows find some, and none finds most.
 #[test]
-fn no_boxes_and_one_are_asked(rt: HostRuntime) -> Result<(), Fail> {
-    let alloc = rt.alloc();
-    let mut grid = Grid::build(alloc, Vec::new(alloc))?;
-    let world = boxed(-1 - FAR, -1 - FAR, FAR, FAR);
-    assert_found(&rt, alloc, &grid, world, &[])?;
-    grid.add(boxed(FAR, -1 - FAR, FAR, -1 - FAR))?;
-    assert_found(&rt, alloc, &grid, world, &[0])?;
-    assert_found(&rt, alloc, &grid, boxed(FAR, FAR, -1 - FAR, -1 - FAR), &[])?;
-    Ok(())
+fn answers_are_those_of_a_plain_list(rt: HostRuntime) -> Result<(), Fail> {
+    assert_rows(rt.alloc(), "many many =20261", '=', 1, of_sequence)
 }

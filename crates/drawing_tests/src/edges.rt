@@ -1,64 +1,64 @@
-use geom::{Device, Edge, Pixel};
+use crate::shapes::{edge, numbers, point};
+use std::alloc::{AllocError, Global};
+use std::test::Fail;
+use test_tables::assert_rows;
 
-// The ends of an edge, a point, and whether the edge crosses its height at it or left of it.
-const CROSSINGS: [((i16, i16), (i16, i16), (i16, i16), bool); 10] = [
-    // upright, left of the point, through it, right of it
-    ((16, 0), (16, 64), (24, 24), true),
-    ((24, 0), (24, 64), (24, 24), true),
-    ((25, 0), (25, 64), (24, 24), false),
-    // the same upwards
-    ((24, 64), (24, 0), (24, 24), true),
-    // the upper end at the height counts, the lower end at it doesn't
-    ((0, 24), (0, 64), (24, 24), true),
-    ((0, 0), (0, 24), (24, 24), false),
-    // horizontal edges never count
-    ((0, 24), (8, 24), (24, 24), false),
-    // slanted, a quarter of the way down at x = 16
-    ((0, 8), (64, 72), (16, 24), true),
-    ((0, 8), (64, 72), (15, 24), false),
-    // above and below the point
-    ((0, 32), (0, 64), (24, 24), false),
-];
+// Whether an edge crosses the height of a point at it or left of it, the ends of the edge, and the point.
+const CROSSINGS: &str = "\
+# upright, left of the point, through it, right of it
+true=16 0 16 64|24 24
+true=24 0 24 64|24 24
+false=25 0 25 64|24 24
+# the same upwards
+true=24 64 24 0|24 24
+# the upper end at the height counts, the lower end at it doesn't
+true=0 24 0 64|24 24
+false=0 0 0 24|24 24
+# horizontal edges never count
+false=0 24 8 24|24 24
+# slanted, a quarter of the way down at x = 16
+true=0 8 64 72|16 24
+false=0 8 64 72|15 24
+# above and below the point
+false=0 32 0 64|24 24";
 
-fn point_at((x, y): (i16, i16)) -> Device {
-    Device::new(i64::from(x), i64::from(y))
+// Whether the edge of a row crosses.
+fn crossing(row: &str) -> Option<bool> {
+    let (ends, at) = row.split_once('|')?;
+    Some(edge(numbers(ends, ' ')?).crosses_at_or_left(point(numbers(at, ' ')?)))
 }
 
-#[test]
-fn edges_cross_at_or_left_of_points(rt: HostRuntime) {
-    for (from, to, point, expected) in CROSSINGS {
-        let edge = Edge::new(point_at(from), point_at(to));
-        let crosses = edge.crosses_at_or_left(point_at(point));
-        assert_eq!(rt; crosses, expected, "{from:?} to {to:?} at {point:?}");
+fn crosses(alloc: Global, row: &str) -> Result<String, AllocError> {
+    match crossing(row) {
+        Some(crosses) => format!(in alloc; "{crosses}"),
+        None => format!(in alloc; "malformed"),
     }
 }
 
 #[test]
-fn edges_rise_downwards(rt: HostRuntime) {
-    let edge = Edge::new(point_at((3, 50)), point_at((41, 7)));
-    let told = (edge.rise(), edge.run(), edge.low_end(), edge.high_end());
-    assert_eq!(rt; told, (43, -38, point_at((41, 7)), point_at((3, 50))));
+fn edges_cross_at_or_left_of_points(rt: HostRuntime) -> Result<(), Fail> {
+    assert_rows(rt.alloc(), CROSSINGS, '=', 10, crosses)
 }
 
-// Points, pixels and edges that differ in one number are two.
+// How far an edge goes down and to the right, its upper end and its lower end, and its ends.
+const RISES: &str = "43 -38 41,7 3,50=3 50 41 7";
+
+fn rise(alloc: Global, row: &str) -> Result<String, AllocError> {
+    let Some(ends) = numbers(row, ' ') else {
+        return format!(in alloc; "malformed");
+    };
+    let edge = edge(ends);
+    let (rise, run, low, high) = (edge.rise(), edge.run(), edge.low_end(), edge.high_end());
+    format!(in alloc;
+        "{rise} {run} {},{} {},{}",
+        low.x(),
+        low.y(),
+        high.x(),
+        high.y()
+    )
+}
+
 #[test]
-fn values_differ_where_one_number_does(rt: HostRuntime) {
-    let point = point_at((3, 5));
-    let pixel = Pixel::new(3, 5);
-    let edge = Edge::new(point, point_at((7, 9)));
-    let are_equal = [
-        point == point_at((3, 5)),
-        point == point_at((4, 5)),
-        point == point_at((3, 6)),
-        pixel == Pixel::new(3, 5),
-        pixel == Pixel::new(4, 5),
-        pixel == Pixel::new(3, 6),
-        edge == Edge::new(point, point_at((7, 9))),
-        edge == Edge::new(point, point_at((8, 9))),
-        edge == Edge::new(point_at((3, 6)), point_at((7, 9))),
-    ];
-    assert_eq!(rt;
-        are_equal,
-        [true, false, false, true, false, false, true, false, false]
-    );
+fn edges_rise_downwards(rt: HostRuntime) -> Result<(), Fail> {
+    assert_rows(rt.alloc(), RISES, '=', 1, rise)
 }

@@ -1,61 +1,9 @@
-use crate::rows::assert_row;
+use crate::shapes::{draw_spans, point, rings, side, sides, told_rows};
 use geom::{Device, Edge, PictureSide};
-use scanfill::{Cover, Polygon, Reading, Rows, Span, Spans, Sweep, Work};
+use scanfill::{Cover, Polygon, Span, Spans, Sweep, Work};
 use std::alloc::{AllocError, Global};
-use std::process::Abort;
 use std::test::Fail;
-
-fn side(pixels: u16) -> PictureSide {
-    PictureSide::new(pixels.clamp(1, 2_048)).unwrap()
-}
-
-fn point(x: i64, y: i64) -> Device {
-    let limit = 140_737_488_355_327;
-    Device::new(x.clamp(-limit, limit), y.clamp(-limit, limit))
-}
-
-// A point as `16,48`.
-fn vertex(word: &str) -> Result<Device, Fail> {
-    let (x, y) = word.split_once(',').ok_or("a point without a comma")?;
-    Ok(point(x.parse()?, y.parse()?))
-}
-
-// A ring of points with blanks between.
-fn ring(alloc: Global, text: &str) -> Result<Vec<Device>, Fail> {
-    let mut ring = Vec::new(alloc);
-    for word in text.split_whitespace() {
-        ring.push(vertex(word)?)?;
-    }
-    Ok(ring)
-}
-
-// A polygon of rings that `/` parts.
-fn polygon(alloc: Global, text: &str) -> Result<Polygon, Fail> {
-    let mut rings = Vec::new(alloc);
-    for part in text.split('/') {
-        rings.push(ring(alloc, part)?)?;
-    }
-    Ok(Polygon::new(alloc, rings.as_slice())?)
-}
-
-// The sides of a picture, with a blank between.
-fn sides(text: &str) -> Result<(PictureSide, PictureSide), Fail> {
-    let (width, height) = text.split_once(' ').ok_or("not two sides")?;
-    Ok((side(width.parse()?), side(height.parse()?)))
-}
-
-// Adds a row as its spans, as `1-3`, or `-` where it has none.
-fn draw(out: &mut String, spans: &Spans) -> Result<(), AllocError> {
-    if spans.as_slice().is_empty() {
-        return out.push('-');
-    }
-    let mut between = "";
-    for span in spans.as_slice() {
-        write!(out, "{between}{}-{}", span.from, span.to)?;
-        between = "+";
-    }
-    Ok(())
-}
+use test_tables::assert_rows;
 
 // Adds the rows of a sweep with a blank before each, and `!` where it doesn't end after so many, or leaves
 // spans at its end.
@@ -70,7 +18,7 @@ fn draw_rows(
             return out.push('!');
         }
         out.push(' ')?;
-        draw(out, spans)?;
+        draw_spans(out, spans)?;
     }
     if sweep.next(spans)? || !spans.as_slice().is_empty() {
         out.push('!')?;
@@ -87,107 +35,81 @@ fn swept(
 ) -> Result<String, AllocError> {
     let mut work = Work::new();
     let mut sweep = polygon.sweep(width, height, &mut work)?;
-    let mut text = format!(in alloc; "{}|", work.divisions)?;
+    let mut text = format!(in alloc; "{}:", work.divisions)?;
     draw_rows(&mut text, &mut sweep, &mut Spans::new(alloc), height)?;
     Ok(text)
 }
 
-// Rings, the sides of a picture, the divisions of a sweep and its rows, worked by hand. The first four are
+// The divisions of a sweep and its rows, worked by hand, rings, and the sides of a picture. The first four are
 // squares and a bow tie of two to four degrees on 4 by 4 pixels of a degree each, one of them much larger
 // than the picture and one left of it.
 const SWEEPS: &str = "\
-16,48 48,48 48,16 16,16|4 4|4| - 1-3 1-3 -
-16,48 48,16 48,48 16,16|4 4|8| - 2-3 2-3 -
--3200,3264 3200,3264 3200,-3136 -3200,-3136|4 4|0| 0-4 0-4 0-4 0-4
--48,48 -16,48 -16,16 -48,16|4 4|0| - - - -
-0,0 64,0 64,64 0,64/16,16 48,16 48,48 16,48|4 4|4| 0-4 0-1+3-4 0-1+3-4 0-4
-9,8 40,8 40,40 9,40|5 3|4| 1-2 1-2 -
-24,8 56,8 56,40 24,40|5 3|4| 1-3 1-3 -
-8,0 8,48 40,48 40,0|3 3|2| 0-2 0-2 0-2
-24,24|4 4|0| - - - -
-0,0 64,64|4 4|4| - - - -
-0,0 64,0 64,64 0,64/0,0 64,0 64,64 0,64|4 2|0| - -";
+4: - 1-3 1-3 -=16,48 48,48 48,16 16,16|4 4
+8: - 2-3 2-3 -=16,48 48,16 48,48 16,16|4 4
+0: 0-4 0-4 0-4 0-4=-3200,3264 3200,3264 3200,-3136 -3200,-3136|4 4
+0: - - - -=-48,48 -16,48 -16,16 -48,16|4 4
+4: 0-4 0-1+3-4 0-1+3-4 0-4=0,0 64,0 64,64 0,64/16,16 48,16 48,48 16,48|4 4
+4: 1-2 1-2 -=9,8 40,8 40,40 9,40|5 3
+4: 1-3 1-3 -=24,8 56,8 56,40 24,40|5 3
+2: 0-2 0-2 0-2=8,0 8,48 40,48 40,0|3 3
+0: - - - -=24,24|4 4
+4: - - - -=0,0 64,64|4 4
+0: - -=0,0 64,0 64,64 0,64/0,0 64,0 64,64 0,64|4 2";
 
-// What is told of the sweep of rings.
-fn swept_rings(alloc: Global, rings: &str, of: &str) -> Result<String, Fail> {
-    let (width, height) = sides(of)?;
+// The polygon of rings.
+fn polygon(alloc: Global, text: &str) -> Result<Polygon, AllocError> {
+    let rings = rings(alloc, text)?;
+    Polygon::new(alloc, rings.as_slice())
+}
+
+// The rings and the sides of a row.
+fn parts(row: &str) -> Option<(&str, PictureSide, PictureSide)> {
+    let (rings, size) = row.split_once('|')?;
+    let (width, height) = sides(size)?;
+    Some((rings, width, height))
+}
+
+fn swept_rings(alloc: Global, row: &str) -> Result<String, AllocError> {
+    let Some((rings, width, height)) = parts(row) else {
+        return format!(in alloc; "malformed");
+    };
     let polygon = polygon(alloc, rings)?;
-    Ok(swept(alloc, &polygon, width, height)?)
+    swept(alloc, &polygon, width, height)
 }
 
 #[test]
 fn sweeps_have_worked_rows(rt: HostRuntime) -> Result<(), Fail> {
-    for line in SWEEPS.lines() {
-        let (rings, rest) = line.split_once('|').ok_or("no sides")?;
-        let (sides, expected) = rest.split_once('|').ok_or("no divisions")?;
-        let told = swept_rings(rt.alloc(), rings, sides)?;
-        assert_row(&rt, told.as_str(), expected, line);
-    }
-    Ok(())
+    assert_rows(rt.alloc(), SWEEPS, '=', 11, swept_rings)
 }
 
-// Rings, the sides of a picture, and the rows outside of which no pixel is covered, `-` for none, worked by
-// hand: on the picture, partly above it and below it, wholly above, below and on its left, two rings apart
+// The rows outside of which no pixel is covered, `-` for none, worked by hand, rings, and the sides of a
+// picture: on the picture, partly above it and below it, wholly above, below and on its left, two rings apart
 // in both orders, thin ones about a pixel centre, one point and none.
 const ROWS: &str = "\
-16,48 48,48 48,16 16,16|4 5|1-3
-0,-40 40,-40 40,25 0,25|5 4|0-2
-0,40 40,40 40,90 0,90|4 3|2-3
-0,-40 40,-40 40,-8 0,-8|4 6|-
-0,48 40,48 40,90 0,90|4 3|-
--48,16 -16,16 -16,64 -48,64|3 6|1-4
-0,0 32,0 32,16 0,16/0,64 32,64 32,80 0,80|5 7|0-5
-0,64 32,64 32,80 0,80/0,16 32,16 32,32 0,32|5 7|1-5
-8,24 8,25 9,25|4 5|1-2
-8,25 8,40 9,40|4 5|-
-24,24|4 4|-
-|4 4|-";
+1-3=16,48 48,48 48,16 16,16|4 5
+0-2=0,-40 40,-40 40,25 0,25|5 4
+2-3=0,40 40,40 40,90 0,90|4 3
+-=0,-40 40,-40 40,-8 0,-8|4 6
+-=0,48 40,48 40,90 0,90|4 3
+1-4=-48,16 -16,16 -16,64 -48,64|3 6
+0-5=0,0 32,0 32,16 0,16/0,64 32,64 32,80 0,80|5 7
+1-5=0,64 32,64 32,80 0,80/0,16 32,16 32,32 0,32|5 7
+1-2=8,24 8,25 9,25|4 5
+-=8,25 8,40 9,40|4 5
+-=24,24|4 4
+-=|4 4";
 
-// Rows as `1-3`, or `-` where there are none.
-fn drawn_rows(alloc: Global, rows: Rows) -> Result<String, AllocError> {
-    if rows.from < rows.to {
-        format!(in alloc; "{}-{}", rows.from, rows.to)
-    } else {
-        format!(in alloc; "-")
-    }
-}
-
-// The rows of a polygon, or the first one outside of them that covers a pixel.
-fn rows_of(
-    alloc: Global,
-    polygon: &Polygon,
-    width: PictureSide,
-    height: PictureSide,
-) -> Result<String, AllocError> {
-    let rows = polygon.rows(width, height);
-    let mut spans = Spans::new(alloc);
-    for row in 0..height.pixels() {
-        if !rows.has(row) {
-            polygon.row(row, width, &mut spans)?;
-            if !spans.as_slice().is_empty() {
-                return format!(in alloc; "row {row} has pixels");
-            }
-        }
-    }
-    drawn_rows(alloc, rows)
-}
-
-// What is told of the rows of rings.
-fn rows_of_rings(alloc: Global, rings: &str, of: &str) -> Result<String, Fail> {
-    let (width, height) = sides(of)?;
+fn rows_of_rings(alloc: Global, row: &str) -> Result<String, AllocError> {
+    let Some((rings, width, height)) = parts(row) else {
+        return format!(in alloc; "malformed");
+    };
     let polygon = polygon(alloc, rings)?;
-    Ok(rows_of(alloc, &polygon, width, height)?)
+    told_rows(alloc, &polygon, width, height, false)
 }
 
 #[test]
 fn polygons_have_worked_rows(rt: HostRuntime) -> Result<(), Fail> {
-    for line in ROWS.lines() {
-        let (rings, rest) = line.split_once('|').ok_or("no sides")?;
-        let (sides, expected) = rest.split_once('|').ok_or("no rows")?;
-        let told = rows_of_rings(rt.alloc(), rings, sides)?;
-        assert_row(&rt, told.as_str(), expected, line);
-    }
-    Ok(())
+    assert_rows(rt.alloc(), ROWS, '=', 12, rows_of_rings)
 }
 
 // The next number of a sequence, below 1,000.
@@ -213,7 +135,7 @@ fn some_ring(alloc: Global, state: &mut u64, kind: u16) -> Result<Vec<Device>, A
     let mut ring = Vec::new(alloc);
     for _vertex in 0..next(state) % 8 {
         let x = number(state, kind);
-        ring.push(point(x, number(state, kind)))?;
+        ring.push(point([x, number(state, kind)]))?;
     }
     Ok(ring)
 }
@@ -277,15 +199,27 @@ fn agree(
 // Whether they agree on some polygon.
 fn agree_on_some(alloc: Global, state: &mut u64, kind: u16) -> Result<bool, AllocError> {
     let polygon = some_polygon(alloc, state, kind)?;
-    agree(alloc, &polygon, side(1 + kind % 7), side(1 + kind % 5))
+    agree(
+        alloc,
+        &polygon,
+        side(1 + i64::from(kind % 7)),
+        side(1 + i64::from(kind % 5)),
+    )
+}
+
+// The first of 300 polygons on which they don't agree.
+fn first_without(alloc: Global, mut state: u64) -> Result<Option<u16>, AllocError> {
+    for kind in 0..300_u16 {
+        if !agree_on_some(alloc, &mut state, kind)? {
+            return Ok(Some(kind));
+        }
+    }
+    Ok(None)
 }
 
 #[test]
 fn rows_sweeps_and_pixels_agree(rt: HostRuntime) -> Result<(), Fail> {
-    let mut state = 20_261_123;
-    for kind in 0..300_u16 {
-        assert!(rt; agree_on_some(rt.alloc(), &mut state, kind)?, "{kind}");
-    }
+    assert_eq!(rt; first_without(rt.alloc(), 20_261_123)?, None);
     Ok(())
 }
 
@@ -295,8 +229,8 @@ fn bars(alloc: Global) -> Result<Polygon, AllocError> {
     let mut edges = Vec::new(alloc);
     for bar in 0..1_024_u16 {
         let x = 32 * i64::from(bar);
-        edges.push(Edge::new(point(x, 0), point(x, 32_768)))?;
-        edges.push(Edge::new(point(x + 16, 32_768), point(x + 16, 0)))?;
+        edges.push(Edge::new(point([x, 0]), point([x, 32_768])))?;
+        edges.push(Edge::new(point([x + 16, 32_768]), point([x + 16, 0])))?;
     }
     Ok(Polygon::of(edges))
 }
@@ -332,10 +266,15 @@ fn first_row(
     Ok((work.divisions, first))
 }
 
+// What is told of the bars.
+fn told_bars(alloc: Global, divisions: u64) -> Result<(u64, (usize, Option<Span>)), AllocError> {
+    let polygon = bars(alloc)?;
+    first_row(alloc, &polygon, divisions)
+}
+
 #[test]
 fn widest_rows_have_many_spans(rt: HostRuntime) -> Result<(), Fail> {
-    let polygon = bars(rt.alloc())?;
-    let told = first_row(rt.alloc(), &polygon, u64::MAX - 4_093)?;
+    let told = told_bars(rt.alloc(), u64::MAX - 4_093)?;
     let last = Span {
         from: 2_046,
         to: 2_047,
@@ -362,51 +301,36 @@ fn draw_skips(
 }
 
 // What is told of five skips.
-fn skipped(alloc: Global, polygon: &Polygon) -> Result<String, AllocError> {
+fn skipped(alloc: Global, rings: &str) -> Result<String, AllocError> {
+    let polygon = polygon(alloc, rings)?;
     let mut sweep = polygon.sweep(side(9), side(14), &mut Work::new())?;
     let mut text = String::new(alloc);
     draw_skips(&mut text, &mut sweep, &mut Spans::new(alloc), 5)?;
     Ok(text)
 }
 
+// The rows to which a sweep skips, and rings.
+const SKIPS: &str = " 5 6 10 11 14!=16,88 48,88 48,120/16,168 48,168 48,200";
+
 #[test]
 fn sweeps_skip_rows_without_edges(rt: HostRuntime) -> Result<(), Fail> {
-    let polygon = polygon(rt.alloc(), "16,88 48,88 48,120/16,168 48,168 48,200")?;
-    let told = skipped(rt.alloc(), &polygon)?;
-    assert_eq!(rt; told.as_str(), " 5 6 10 11 14!");
-    Ok(())
+    assert_rows(rt.alloc(), SKIPS, '=', 1, skipped)
 }
 
 // The polygon of one edge.
-fn edge(alloc: Global) -> Result<Polygon, AllocError> {
+fn one_edge(alloc: Global) -> Result<Polygon, AllocError> {
     let mut edges = Vec::new(alloc);
-    edges.push(Edge::new(point(16, 16), point(48, 48)))?;
+    edges.push(Edge::new(point([16, 16]), point([48, 48])))?;
     Ok(Polygon::of(edges))
+}
+
+fn swept_edge(alloc: Global, _of: &str) -> Result<String, AllocError> {
+    let polygon = one_edge(alloc)?;
+    swept(alloc, &polygon, side(4), side(4))
 }
 
 // One edge by itself: the pixels from its column on lie inside.
 #[test]
 fn walks_have_worked_columns(rt: HostRuntime) -> Result<(), Fail> {
-    let polygon = edge(rt.alloc())?;
-    let told = swept(rt.alloc(), &polygon, side(4), side(4))?;
-    assert_eq!(rt; told.as_str(), "2| - 1-4 2-4 -");
-    Ok(())
-}
-
-// Values that differ in one field, or in their name alone, are two.
-#[test]
-fn values_differ_where_one_field_does(rt: HostRuntime) {
-    let span = Span { from: 3, to: 5 };
-    let inside = Reading::Inside { from: 3 };
-    let work = Work { divisions: 1 };
-    let are_equal = [
-        span == Span { from: 3, to: 5 },
-        span == Span { from: 2, to: 5 },
-        span == Span { from: 3, to: 6 },
-        inside == Reading::Inside { from: 3 },
-        inside == Reading::Inside { from: 4 },
-        inside == Reading::Outside,
-        work == Work { divisions: 2 },
-    ];
-    assert_eq!(rt; are_equal, [true, false, false, true, false, false, false]);
+    assert_rows(rt.alloc(), "2: - 1-4 2-4 -=one edge", '=', 1, swept_edge)
 }

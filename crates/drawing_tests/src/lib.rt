@@ -7,6 +7,8 @@ mod boxes_in_windows;
 #[cfg(test)]
 mod clipped_edges;
 #[cfg(test)]
+mod differences;
+#[cfg(test)]
 mod edges;
 #[cfg(test)]
 mod filled_rows;
@@ -29,6 +31,6 @@ mod placed_boxes;
 #[cfg(test)]
 mod places;
 #[cfg(test)]
-mod rows;
+mod shapes;
 #[cfg(test)]
 mod views;

@@ -1,22 +1,14 @@
-ghost use Rattle.std.specs.Prelude.{◌≡◌, ◌<◌, ◌≤◌, length, All, IfOk};
+ghost use Rattle.std.specs.Prelude.{◌≡◌, ◌<◌, ◌≤◌, [], length, All, IfOk};
 
 use crate::painted_maps::{feature_of, layer, map_of};
+use crate::shapes::place;
 use compose::picture;
-use geom::{Coordinate, Micro, PictureSide, World, WorldBox};
-use mapdefs::{Items, Map, Picture, Rgb};
+use geom::{Micro, PictureSide, World, WorldBox};
+use mapdefs::{Feature, Items, Map, Picture, Rgb};
 use scaledenom::Scale;
 use std::alloc::{AllocError, Global};
-use std::process::Abort;
 use std::test::Fail;
 use viewport::View;
-
-// The place of these millionths of a degree, of at most 1,000 degrees.
-fn place(x: i64, y: i64) -> World {
-    let limit = 1_000_000_000;
-    let x = Coordinate::new(Micro::new(x.clamp(-limit, limit)));
-    let y = Coordinate::new(Micro::new(y.clamp(-limit, limit)));
-    World::new(x, y)
-}
 
 // A square from 1 to 3 degrees, whose left side has 65,533 vertices.
 fn long_ring(alloc: Global) -> Result<Items<World>, AllocError>
@@ -24,23 +16,29 @@ fn long_ring(alloc: Global) -> Result<Items<World>, AllocError>
 {
     let mut ring = Items::new(alloc);
     for k in 0..65_533_u16 {
-        ring.push(place(1_000_000, 3_000_000 - 30 * i64::from(k)))?;
+        ring.push(place([1_000_000, 3_000_000 - 30 * i64::from(k)]))?;
     }
-    ring.push(place(1_000_000, 1_000_000))?;
-    ring.push(place(3_000_000, 1_000_000))?;
-    ring.push(place(3_000_000, 3_000_000))?;
+    ring.push(place([1_000_000, 1_000_000]))?;
+    ring.push(place([3_000_000, 1_000_000]))?;
+    ring.push(place([3_000_000, 3_000_000]))?;
     Ok(ring)
 }
 
-// A map of one layer, with that ring.
-fn map_of_long_ring(alloc: Global) -> Result<Map, Fail>
+// A feature of that ring.
+fn long_feature(alloc: Global) -> Result<Feature, AllocError>
+    ensures { IfOk result (λ feature. feature.values ≡ []) }
+{
+    let ring = long_ring(alloc)?;
+    Ok(feature_of(alloc, Items::of(vec![in alloc; ring]?)))
+}
+
+// A map of one layer, with that feature.
+fn map_of_long_ring(alloc: Global) -> Result<Map, AllocError>
     ensures { IfOk result (λ map. length map.layers ≡ 1) }
 {
-    let mut parts = Items::new(alloc);
-    parts.push(long_ring(alloc)?)?;
-    let mut layers = Items::new(alloc);
-    layers.push(layer(alloc, "polygon o/- none", feature_of(alloc, parts))?)?;
-    map_of(alloc, layers)
+    let feature = long_feature(alloc)?;
+    let layer = layer(alloc, "polygon o/- none", feature)?;
+    map_of(alloc, Items::of(vec![in alloc; layer]?))
 }
 
 // The index of the first layer, 64 times.
@@ -66,10 +64,10 @@ fn is_dark_square(picture: &Picture) -> bool {
     true
 }
 
-// A body that asks each edge for each pixel would make 2^44 tests.
-#[test]
-fn a_ring_of_65536_vertices_is_painted_64_times(rt: HostRuntime) -> Result<(), Fail> {
-    let map = map_of_long_ring(rt.alloc())?;
+// Whether the map is painted as that square, its layer so many times.
+fn is_painted(alloc: Global, map: &Map, chosen: &[usize]) -> Result<bool, AllocError>
+    requires { All (λ index. index < length map.now.layers) chosen.now }
+{
     let low = Micro::new(0);
     let high = Micro::new(4_000_000);
     let side = PictureSide::new(2_048).unwrap();
@@ -80,8 +78,20 @@ fn a_ring_of_65536_vertices_is_painted_64_times(rt: HostRuntime) -> Result<(), F
         green: 255,
         blue: 255,
     };
-    let chosen = first_64_times(rt.alloc())?;
-    let picture = picture(rt.alloc(), &map, view, scale, &chosen, white)?;
-    assert!(rt; is_dark_square(&picture));
+    let picture = picture(alloc, map, view, scale, chosen, white)?;
+    Ok(is_dark_square(&picture))
+}
+
+// Whether the map of that ring is.
+fn is_long_ring_painted(alloc: Global) -> Result<bool, AllocError> {
+    let chosen = first_64_times(alloc)?;
+    let map = map_of_long_ring(alloc)?;
+    is_painted(alloc, &map, &chosen)
+}
+
+// A body that asks each edge for each pixel would make 2^44 tests.
+#[test]
+fn a_ring_of_65536_vertices_is_painted_64_times(rt: HostRuntime) -> Result<(), Fail> {
+    assert!(rt; is_long_ring_painted(rt.alloc())?);
     Ok(())
 }

@@ -1,45 +1,27 @@
-ghost use Rattle.std.specs.Prelude.{◌^◌, ◌<◌};
-
-use crate::rows::assert_row;
 use geom::{COORDINATE_LIMIT, Micro, NUMBER_LIMIT, NumberFault};
 use std::alloc::{AllocError, Global};
-use std::process::Abort;
 use std::test::Fail;
+use test_tables::assert_rows;
 
 // The number that a text means in millionths, or its fault.
-fn told(alloc: Global, text: &str, limit: u64) -> Result<String, AllocError>
-    requires { limit < 2 ^ 63 }
-{
-    match Micro::read(text.as_bytes(), limit) {
+fn told(alloc: Global, read: Result<Micro, NumberFault>) -> Result<String, AllocError> {
+    match read {
         Ok(number) => format!(in alloc; "{}", number.millionths()),
         Err(fault) => format!(in alloc; "{fault:?}"),
     }
 }
 
-// Asserts of that many rows that the text means the number. A row is the number in millionths, or the
-// fault, `=` and the text. A line that begins with `# ` is a heading.
-fn assert_read(
-    rt: &impl Abort,
-    alloc: Global,
-    rows: &str,
-    limit: u64,
-    count: usize,
-) -> Result<(), Fail>
-    requires { limit < 2 ^ 63 }
-{
-    let mut asserted = 0_usize;
-    for row in rows.lines() {
-        if !row.starts_with("# ") {
-            let (expected, text) = row.split_once('=').ok_or("a row without a text")?;
-            let told = told(alloc, text, limit)?;
-            assert_row(rt, told.as_str(), expected, row);
-            asserted = asserted.saturating_add(1);
-        }
-    }
-    assert_eq!(rt; asserted, count);
-    Ok(())
+// What a text means as a coordinate.
+fn coordinate(alloc: Global, text: &str) -> Result<String, AllocError> {
+    told(alloc, Micro::read(text.as_bytes(), COORDINATE_LIMIT))
 }
 
+// What a text means as another number.
+fn other_number(alloc: Global, text: &str) -> Result<String, AllocError> {
+    told(alloc, Micro::read(text.as_bytes(), NUMBER_LIMIT))
+}
+
+// The number in millionths, or the fault, and the text.
 const NUMBERS: &str = "\
 500000=.5
 -1=-.000001
@@ -94,7 +76,7 @@ NotANumber=1e5E5";
 
 #[test]
 fn texts_mean_their_numbers(rt: HostRuntime) -> Result<(), Fail> {
-    assert_read(&rt, rt.alloc(), NUMBERS, COORDINATE_LIMIT, 46)
+    assert_rows(rt.alloc(), NUMBERS, '=', 46, coordinate)
 }
 
 // Numbers among many zeros: `*` stands for a million of them.
@@ -111,7 +93,7 @@ fn long_texts_mean_their_numbers(rt: HostRuntime) -> Result<(), Fail> {
     let alloc = rt.alloc();
     let zeros = "0".repeat(alloc, 1_000_000)?;
     let rows = LONG.replace(alloc, '*', zeros.as_str())?;
-    assert_read(&rt, alloc, rows.as_str(), COORDINATE_LIMIT, 6)
+    assert_rows(alloc, rows.as_str(), '=', 6, coordinate)
 }
 
 // At the limit of other numbers, and one millionth above it.
@@ -122,66 +104,90 @@ TooLarge=1000000000000.000001
 
 #[test]
 fn numbers_are_read_up_to_their_limit(rt: HostRuntime) -> Result<(), Fail> {
-    assert_read(&rt, rt.alloc(), LARGE, NUMBER_LIMIT, 3)
+    assert_rows(rt.alloc(), LARGE, '=', 3, other_number)
 }
 
-// Millionths, and the nearest whole number.
-const WHOLES: [(i64, i64); 9] = [
-    (0, 0),
-    (499_999, 0),
-    (500_000, 1),
-    (-499_999, 0),
-    (-500_000, -1),
-    (2_500_000, 3),
-    (-2_500_000, -3),
-    (255_000_000, 255),
-    (i64::MIN, -9_223_372_036_855),
-];
+// The nearest whole number, and millionths.
+const WHOLES: &str = "\
+0=0
+0=499999
+1=500000
+0=-499999
+-1=-500000
+3=2500000
+-3=-2500000
+255=255000000
+-9223372036855=-9223372036854775808";
+
+// The whole number that is nearest to so many millionths.
+fn whole(alloc: Global, row: &str) -> Result<String, AllocError> {
+    match row.parse::<i64>() {
+        Ok(millionths) => format!(in alloc; "{}", Micro::new(millionths).whole()),
+        Err(_) => format!(in alloc; "malformed"),
+    }
+}
 
 #[test]
 fn halves_are_rounded_away_from_zero(rt: HostRuntime) -> Result<(), Fail> {
-    for (millionths, whole) in WHOLES {
-        assert_eq!(rt;
-            Micro::new(millionths).whole(),
-            whole,
-            "{millionths} millionths"
-        );
-    }
-    Ok(())
+    assert_rows(rt.alloc(), WHOLES, '=', 9, whole)
 }
 
 // A definition cites the same constant as the code, so only a test can tell a wrong limit.
 #[test]
 fn limits_have_their_numbers(rt: HostRuntime) {
-    let limits = (COORDINATE_LIMIT, NUMBER_LIMIT);
-    assert_eq!(rt; limits, (1_000_000_000, 1_000_000_000_000_000_000));
+    let limits = [COORDINATE_LIMIT, NUMBER_LIMIT];
+    assert_eq!(rt; limits, [1_000_000_000, 1_000_000_000_000_000_000]);
+}
+
+// What a number is to each of the six, from the smallest on: below it, equal to it or above it.
+const ORDERED: &str = "\
+=<<<<<|-1000001
+>=<<<<|-1000000
+>>=<<<|-1
+>>>=<<|0
+>>>>=<|2
+>>>>>=|1000000";
+
+// How two numbers are ordered, `?` where the comparisons don't agree.
+fn order(x: Micro, y: Micro) -> char {
+    match (x < y, x == y, x > y) {
+        (true, false, false) => '<',
+        (false, true, false) => '=',
+        (false, false, true) => '>',
+        _ => '?',
+    }
+}
+
+// The order of a number and each of the six.
+fn orders(alloc: Global, row: &str) -> Result<String, AllocError> {
+    let number = Micro::new(row.parse::<i64>().unwrap_or(7));
+    let mut text = String::new(alloc);
+    for other in [-1_000_001, -1_000_000, -1, 0, 2, 1_000_000] {
+        text.push(order(number, Micro::new(other)))?;
+    }
+    Ok(text)
 }
 
 #[test]
-fn numbers_are_ordered_by_their_size(rt: HostRuntime) {
-    let numbers = [-1_000_001, -1_000_000, -1, 0, 2, 1_000_000];
-    for (i, a) in numbers.iter().enumerate() {
-        for (j, b) in numbers.iter().enumerate() {
-            let (x, y) = (Micro::new(*a), Micro::new(*b));
-            assert_eq!(rt;
-                (x < y, x == y, x > y),
-                (i < j, i == j, i > j),
-                "{a} and {b}"
-            );
-        }
+fn numbers_are_ordered_by_their_size(rt: HostRuntime) -> Result<(), Fail> {
+    assert_rows(rt.alloc(), ORDERED, '|', 6, orders)
+}
+
+// The words on a fault, and its name.
+const FAULTS: &str = "\
+not a decimal number=NotANumber
+a number beyond the limit=TooLarge";
+
+// The words on the fault of a name.
+fn words(alloc: Global, name: &str) -> Result<String, AllocError> {
+    match name {
+        "NotANumber" => format!(in alloc; "{}", NumberFault::NotANumber),
+        "TooLarge" => format!(in alloc; "{}", NumberFault::TooLarge),
+        _ => format!(in alloc; "malformed"),
     }
 }
 
 #[test]
 fn faults_are_told_in_words(rt: HostRuntime) -> Result<(), Fail> {
-    let messages = [
-        (NumberFault::NotANumber, "not a decimal number"),
-        (NumberFault::TooLarge, "a number beyond the limit"),
-    ];
-    for (fault, message) in messages {
-        let text = format!(in rt.alloc(); "{fault}")?;
-        assert_row(&rt, text.as_str(), message, message);
-    }
-    assert_ne!(rt; NumberFault::NotANumber, NumberFault::TooLarge);
-    Ok(())
+    assert_rows(rt.alloc(), FAULTS, '=', 2, words)
 }

@@ -2,17 +2,15 @@ ghost use Rattle.std.specs.Prelude.{◌≡◌, ◌<◌, ◌≤◌, [], ◌∷◌
 ghost use Rattle.mapdefs.specs.MapLimits.{ClassNamesSymbolsOf, LayerNamesSymbolsOf, NamesSymbolOf};
 ghost use Rattle.mapdefs.specs.declared.limits.TheConstants.{MAX_LAYERS};
 
-use crate::rows::assert_row;
+use crate::shapes::{numbers, place};
 use compose::picture;
-use geom::{Coordinate, Micro, NUMBER_LIMIT, PictureSide, World, WorldBox};
+use geom::{Micro, NUMBER_LIMIT, PictureSide, World, WorldBox};
 use mapdefs::{
     Class, ClassFields, Feature, FeatureFields, Items, Kind, Layer, LayerFields, MAX_VERTICES, Map,
     MapFields, Picture, Rgb, Rule, Style, StyleFields, Symbol, Text,
 };
 use scaledenom::Scale;
 use std::alloc::{AllocError, Global};
-use std::process::Abort;
-use std::test::Fail;
 use viewport::View;
 
 // The colours by their letters: `#` is brown, `o` dark and `.` white. Any other letter is none.
@@ -78,60 +76,69 @@ fn style(letters: &str) -> Style
 type Bounds = (Option<Micro>, Option<Micro>);
 
 // A bound, `-` for none.
-fn bound(text: &str) -> Result<Option<Micro>, Fail> {
+fn bound(text: &str) -> Option<Option<Micro>> {
     match text {
-        "-" => Ok(None),
-        number => Ok(Some(Micro::read(number.as_bytes(), NUMBER_LIMIT)?)),
+        "-" => Some(None),
+        number => Some(Some(Micro::read(number.as_bytes(), NUMBER_LIMIT).ok()?)),
     }
 }
 
 // Bounds with `..` between them.
-fn bounds(text: &str) -> Result<Bounds, Fail> {
-    let (min, max) = text.split_once("..").ok_or("no two bounds")?;
-    Ok((bound(min)?, bound(max)?))
+fn bounds(text: &str) -> Option<Bounds> {
+    let (min, max) = text.split_once("..")?;
+    Some((bound(min)?, bound(max)?))
 }
 
-// A class of these two styles, which `/` parts.
-fn class(alloc: Global, letters: &str, bounds: Bounds) -> Result<Class, Fail>
-    ensures { IfOk result (ClassNamesSymbolsOf 2) }
+// The two styles whose letters `/` parts.
+fn styles_of(alloc: Global, letters: &str) -> Result<Items<Style>, AllocError>
+    ensures symbols { IfOk result (All (NamesSymbolOf 2)) }
+    ensures count { IfOk result (λ styles. length styles ≡ 2) }
 {
-    let (min, max) = bounds;
-    let (first, second) = letters.split_once('/').ok_or("not two styles")?;
+    let (first, second) = letters.split_once('/').ok_or(AllocError)?;
     let mut styles = Items::new(alloc);
     styles.push(style(first))?;
     styles.push(style(second))?;
-    Ok(Class::new(ClassFields {
+    Ok(styles)
+}
+
+// One class of these two styles.
+fn classes_of(alloc: Global, letters: &str, bounds: Bounds) -> Result<Items<Class>, AllocError>
+    ensures symbols { IfOk result (All (ClassNamesSymbolsOf 2)) }
+    ensures count { IfOk result (λ classes. length classes ≡ 1) }
+{
+    let (min, max) = bounds;
+    let styles = styles_of(alloc, letters)?;
+    let mut classes = Items::new(alloc);
+    classes.push(Class::new(ClassFields {
         rule: Rule::Always,
         min,
         max,
         styles,
         label: None,
-    }))
+    }))?;
+    Ok(classes)
 }
 
-// That many tenths of a degree, of at most 1,000 degrees.
-fn tenths(count: &str) -> Result<Coordinate, Fail> {
-    let count: i16 = count.parse()?;
-    let limit = 1_000_000_000;
-    Ok(Coordinate::new(Micro::new((i64::from(count) * 100_000).clamp(-limit, limit))))
-}
-
-fn vertex(text: &str) -> Result<World, Fail> {
-    let (x, y) = text.split_once(',').ok_or("a vertex without a comma")?;
-    Ok(World::new(tenths(x)?, tenths(y)?))
+// A vertex of two counts of tenths of a degree, as `15,-5`.
+fn vertex(text: &str) -> Option<World> {
+    let [x, y] = numbers::<2>(text, ',')?;
+    Some(place([
+        x.clamp(-10_000, 10_000) * 100_000,
+        y.clamp(-10_000, 10_000) * 100_000,
+    ]))
 }
 
 // A ring of at most eight vertices.
-fn ring(alloc: Global, text: &str) -> Result<Items<World>, Fail>
+fn ring(alloc: Global, text: &str) -> Result<Items<World>, AllocError>
     ensures { IfOk result (λ ring. length ring ≤ 8) }
 {
     let vertices: Vec<&str> = text.split_whitespace().collect(alloc)?;
     if vertices.len() > 8 {
-        return Err("more than eight vertices".into());
+        return Err(AllocError);
     }
     let mut ring = Items::new(alloc);
     for text in vertices.as_slice() {
-        ring.push(vertex(text)?)?;
+        ring.push(vertex(text).ok_or(AllocError)?)?;
     }
     Ok(ring)
 }
@@ -149,7 +156,7 @@ pub(crate) fn feature_of(alloc: Global, parts: Items<Items<World>>) -> Feature
 }
 
 // A feature of at most four rings, which `/` parts. `-` is none.
-fn feature(alloc: Global, text: &str) -> Result<Feature, Fail>
+fn feature(alloc: Global, text: &str) -> Result<Feature, AllocError>
     ensures { IfOk result (λ feature. feature.values ≡ []) }
 {
     let mut rings = Vec::new(alloc);
@@ -157,7 +164,7 @@ fn feature(alloc: Global, text: &str) -> Result<Feature, Fail>
         rings = text.split('/').collect(alloc)?;
     }
     if rings.len() > 4 {
-        return Err("more than four rings".into());
+        return Err(AllocError);
     }
     let mut parts = Items::new(alloc);
     for text in rings.as_slice() {
@@ -166,35 +173,27 @@ fn feature(alloc: Global, text: &str) -> Result<Feature, Fail>
     Ok(feature_of(alloc, parts))
 }
 
-fn kind_of(word: &str) -> Result<Kind, Fail> {
+fn kind_of(word: &str) -> Option<Kind> {
     match word {
-        "polygon" => Ok(Kind::Polygon),
-        "line" => Ok(Kind::Line),
-        "point" => Ok(Kind::Point),
-        _ => Err("no kind".into()),
+        "polygon" => Some(Kind::Polygon),
+        "line" => Some(Kind::Line),
+        "point" => Some(Kind::Point),
+        _ => None,
     }
 }
 
-// The kind of a layer, the letters of its class's styles, and its bounds.
-fn words_of(words: &str) -> Option<(&str, &str, &str)> {
+// The bounds on the scale of the class and of the layer with a comma between them, or `none`.
+fn bounds_of(bounded: &str) -> Option<(Bounds, Bounds)> {
+    let (of_class, of_layer) = bounded.split_once(',').unwrap_or(("-..-", "-..-"));
+    Some((bounds(of_class)?, bounds(of_layer)?))
+}
+
+// The kind of a layer, the letters of its class's styles, and the bounds of both.
+fn words_of(words: &str) -> Option<(Kind, &str, Bounds, Bounds)> {
     let (kind, words) = words.split_once(' ')?;
     let (letters, bounded) = words.split_once(' ')?;
-    Some((kind, letters, bounded))
-}
-
-// The bounds on the scale of the class and of the layer with a comma between them, or `none`.
-fn bounds_of(bounded: &str) -> Result<(Bounds, Bounds), Fail> {
-    let (of_class, of_layer) = bounded.split_once(',').unwrap_or(("-..-", "-..-"));
-    Ok((bounds(of_class)?, bounds(of_layer)?))
-}
-
-fn classes_of(alloc: Global, letters: &str, bounds: Bounds) -> Result<Items<Class>, Fail>
-    ensures symbols { IfOk result (All (ClassNamesSymbolsOf 2)) }
-    ensures count { IfOk result (λ classes. length classes ≡ 1) }
-{
-    let mut classes = Items::new(alloc);
-    classes.push(class(alloc, letters, bounds)?)?;
-    Ok(classes)
+    let (of_class, of_layer) = bounds_of(bounded)?;
+    Some((kind_of(kind)?, letters, of_class, of_layer))
 }
 
 fn features_of(alloc: Global, feature: Feature) -> Result<Items<Feature>, AllocError>
@@ -205,18 +204,22 @@ fn features_of(alloc: Global, feature: Feature) -> Result<Items<Feature>, AllocE
     Ok(features)
 }
 
-/// A layer of this feature with one class. Its kind, the letters of the class's styles, and the bounds on
-/// the scale of the class and of the layer with a comma between them, or `none`.
-pub(crate) fn layer(alloc: Global, words: &str, feature: Feature) -> Result<Layer, Fail>
-    requires { feature.values ≡ [] }
-    ensures { IfOk result (LayerNamesSymbolsOf 2) }
+// A layer of that kind, with these bounds on the scale.
+fn layer_of(
+    alloc: Global,
+    kind: Kind,
+    bounds: Bounds,
+    classes: Items<Class>,
+    features: Items<Feature>,
+) -> Layer
+    requires feature { length features ≡ 1 }
+    requires values { All (λ f. f.values ≡ []) features }
+    requires symbols { All (ClassNamesSymbolsOf 2) classes }
+    requires class { length classes ≡ 1 }
+    ensures { LayerNamesSymbolsOf 2 result }
 {
-    let (kind, letters, bounded) = words_of(words).ok_or("no colours or no bounds")?;
-    let (of_class, (min, max)) = bounds_of(bounded)?;
-    let kind = kind_of(kind)?;
-    let features = features_of(alloc, feature)?;
-    let classes = classes_of(alloc, letters, of_class)?;
-    Ok(Layer::new(LayerFields {
+    let (min, max) = bounds;
+    Layer::new(LayerFields {
         name: Text::of(String::new(alloc)),
         title: Text::of(String::new(alloc)),
         kind,
@@ -233,30 +236,48 @@ pub(crate) fn layer(alloc: Global, words: &str, feature: Feature) -> Result<Laye
         max,
         classes,
         features,
-    }))
+    })
+}
+
+/// A layer of this feature with one class. Its kind, the letters of the class's styles, and the bounds on
+/// the scale of the class and of the layer with a comma between them, or `none`. Malformed ones end a test as
+/// those for which memory is refused.
+pub(crate) fn layer(alloc: Global, words: &str, feature: Feature) -> Result<Layer, AllocError>
+    requires { feature.values ≡ [] }
+    ensures { IfOk result (LayerNamesSymbolsOf 2) }
+{
+    let features = features_of(alloc, feature)?;
+    let Some((kind, letters, of_class, of_layer)) = words_of(words) else {
+        return Err(AllocError);
+    };
+    let classes = classes_of(alloc, letters, of_class)?;
+    Ok(layer_of(alloc, kind, of_layer, classes, features))
 }
 
 // The symbol of a pixmap's file.
-fn symbol(alloc: Global, file: &[u8]) -> Result<Symbol, Fail> {
-    let pixmap = symbols::read(alloc, file)?;
-    let name = Text::of(String::new(alloc));
-    Ok(Symbol { name, pixmap })
+fn symbol(alloc: Global, file: &[u8]) -> Result<Symbol, AllocError> {
+    match symbols::read(alloc, file) {
+        Ok(pixmap) => Ok(Symbol {
+            name: Text::of(String::new(alloc)),
+            pixmap,
+        }),
+        Err(_) => Err(AllocError),
+    }
 }
 
 // Two symbols: `#` and `o` above nothing and `#`; and three pixels one below another, `o`, nothing and `#`.
-fn two_symbols(alloc: Global) -> Result<Items<Symbol>, Fail>
+fn two_symbols(alloc: Global) -> Result<Items<Symbol>, AllocError>
     ensures { IfOk result (λ symbols. length symbols ≡ 2) }
 {
     let square = b"P6 2 2 255\n\x64\x3c\x14\x0a\x14\x1e\xff\x00\xff\x64\x3c\x14";
     let column = b"P6 1 3 255\n\x0a\x14\x1e\xff\x00\xff\x64\x3c\x14";
-    let mut symbols = Items::new(alloc);
-    symbols.push(symbol(alloc, square)?)?;
-    symbols.push(symbol(alloc, column)?)?;
-    Ok(symbols)
+    let square = symbol(alloc, square)?;
+    let column = symbol(alloc, column)?;
+    Ok(Items::of(vec![in alloc; square, column]?))
 }
 
 /// A map of four degrees by four, with these layers and two symbols.
-pub(crate) fn map_of(alloc: Global, layers: Items<Layer>) -> Result<Map, Fail>
+pub(crate) fn map_of(alloc: Global, layers: Items<Layer>) -> Result<Map, AllocError>
     requires count { length layers ≤ MAX_LAYERS }
     requires symbols { All (LayerNamesSymbolsOf 2) layers }
     ensures { IfOk result (λ map. map.layers ≡ layers) }
@@ -274,29 +295,36 @@ pub(crate) fn map_of(alloc: Global, layers: Items<Layer>) -> Result<Map, Fail>
     }))
 }
 
+// The layer of these words and rings.
+fn layer_of_rings(alloc: Global, words: &str, rings: &str) -> Result<Layer, AllocError>
+    ensures { IfOk result (LayerNamesSymbolsOf 2) }
+{
+    let feature = feature(alloc, rings)?;
+    layer(alloc, words, feature)
+}
+
 // A map of two layers. The first has these words and rings, the second paints the inner square dark.
-fn map_of_two(alloc: Global, words: &str, rings: &str) -> Result<Map, Fail>
+fn map_of_two(alloc: Global, words: &str, rings: &str) -> Result<Map, AllocError>
     ensures { IfOk result (λ map. length map.layers ≡ 2) }
 {
-    let mut layers = Items::new(alloc);
-    layers.push(layer(alloc, words, feature(alloc, rings)?)?)?;
-    let square = feature(alloc, "10,10 30,10 30,30 10,30")?;
-    layers.push(layer(alloc, "polygon o/- none", square)?)?;
+    let first = layer_of_rings(alloc, words, rings)?;
+    let second = layer_of_rings(alloc, "polygon o/- none", "10,10 30,10 30,30 10,30")?;
+    let layers = Items::of(vec![in alloc; first, second]?);
     map_of(alloc, layers)
 }
 
 // The indices of the layers that are chosen.
-fn chosen_of(digits: &str) -> Result<&'static [usize], Fail>
-    ensures { IfOk result (λ chosen. All (λ index. index < 2) chosen.now) }
+fn chosen_of(digits: &str) -> Option<&'static [usize]>
+    ensures { IfSome result (λ chosen. All (λ index. index < 2) chosen.now) }
 {
     match digits {
-        "none" => Ok(&[]),
-        "0" => Ok(&[0]),
-        "1" => Ok(&[1]),
-        "0 1" => Ok(&[0, 1]),
-        "1 0" => Ok(&[1, 0]),
-        "1 0 1" => Ok(&[1, 0, 1]),
-        _ => Err("no indices".into()),
+        "none" => Some(&[]),
+        "0" => Some(&[0]),
+        "1" => Some(&[1]),
+        "0 1" => Some(&[0, 1]),
+        "1 0" => Some(&[1, 0]),
+        "1 0 1" => Some(&[1, 0, 1]),
+        _ => None,
     }
 }
 
@@ -314,50 +342,58 @@ fn letters_of(alloc: Global, picture: &Picture) -> Result<String, AllocError> {
     Ok(text)
 }
 
+// The colour of a background and the number of degrees and pixels on a side, from one letter or two.
+fn ground_of(letters: &str) -> Option<(Rgb, u8)> {
+    match *letters.as_bytes() {
+        [letter] => Some((colour_of(letter)?, 4)),
+        [letter, _] => Some((colour_of(letter)?, 8)),
+        _ => None,
+    }
+}
+
 // The picture of four degrees by four in four pixels by four, or of eight by eight in eight by eight where
 // the background is written twice: the pixel centres are at half degrees. The scale that is given is that
 // of 0.28 degrees in a pixel.
-fn drawn(alloc: Global, map: &Map, chosen: &[usize], background: &str) -> Result<String, Fail>
+fn drawn(
+    alloc: Global,
+    map: &Map,
+    chosen: &[usize],
+    background: Rgb,
+    degrees: u8,
+) -> Result<String, AllocError>
     requires { All (λ index. index < length map.now.layers) chosen.now }
 {
-    let (letter, degrees) = match *background.as_bytes() {
-        [letter] => (letter, 4_u8),
-        [letter, _] => (letter, 8),
-        _ => return Err("not one letter or two".into()),
-    };
-    let background = colour_of(letter).ok_or("no colour")?;
+    let degrees = degrees.clamp(1, 8);
     let low = Micro::new(0);
     let high = Micro::new(i64::from(degrees) * 1_000_000);
     let side = PictureSide::new(u16::from(degrees)).unwrap();
     let view = View::new(WorldBox::new(low, low, high, high), side, side);
     let scale = Scale::of(280_000, PictureSide::new(1).unwrap());
     let picture = picture(alloc, map, view, scale, chosen, background)?;
-    Ok(letters_of(alloc, &picture)?)
+    letters_of(alloc, &picture)
 }
 
-// The picture of the fields of a row after the picture.
-fn drawn_row(alloc: Global, fields: &str) -> Result<String, Fail> {
-    let (background, fields) = fields.split_once(';').ok_or("no layers")?;
-    let (chosen, fields) = fields.split_once(';').ok_or("no words")?;
-    let (words, rings) = fields.split_once(';').ok_or("no rings")?;
-    let chosen = chosen_of(chosen)?;
+// The fields of a row after the picture: the background, the layers that are chosen, words and rings.
+fn fields_of(fields: &str) -> Option<(&str, &str, &str, &str)> {
+    let (background, fields) = fields.split_once(';')?;
+    let (chosen, fields) = fields.split_once(';')?;
+    let (words, rings) = fields.split_once(';')?;
+    Some((background, chosen, words, rings))
+}
+
+/// The picture of the fields of a row after the picture. A row is the picture in letters, the letter of the
+/// background, the layers that are chosen, and the words and the rings of the first layer, in tenths of a
+/// degree.
+pub(crate) fn drawn_row(alloc: Global, fields: &str) -> Result<String, AllocError> {
+    let Some((background, chosen, words, rings)) = fields_of(fields) else {
+        return format!(in alloc; "malformed");
+    };
+    let Some((background, degrees)) = ground_of(background) else {
+        return format!(in alloc; "malformed");
+    };
+    let Some(chosen) = chosen_of(chosen) else {
+        return format!(in alloc; "malformed");
+    };
     let map = map_of_two(alloc, words, rings)?;
-    drawn(alloc, &map, chosen, background)
-}
-
-/// Asserts of that many rows their pictures. A row is the picture in letters, the letter of the background,
-/// the layers that are chosen, and the words and the rings of the first layer, in tenths of a degree. A
-/// line that begins with `# ` is a heading.
-pub fn assert_drawn(rt: &impl Abort, alloc: Global, rows: &str, count: usize) -> Result<(), Fail> {
-    let mut asserted = 0_usize;
-    for row in rows.lines() {
-        if !row.starts_with("# ") {
-            let (expected, fields) = row.split_once(';').ok_or("no background")?;
-            let drawn = drawn_row(alloc, fields)?;
-            assert_row(rt, drawn.as_str(), expected, row);
-            asserted = asserted.saturating_add(1);
-        }
-    }
-    assert_eq!(rt; asserted, count);
-    Ok(())
+    drawn(alloc, &map, chosen, background, degrees)
 }

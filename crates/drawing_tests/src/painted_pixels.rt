@@ -1,7 +1,8 @@
-use crate::painted_maps::assert_drawn;
+use crate::painted_maps::drawn_row;
 use std::test::Fail;
+use test_tables::assert_rows;
 
-// Polygons, and the pixels that they cover.
+// Polygons, and the pixels that they cover, in the form of `drawn_row`.
 const POLYGONS: &str = "\
 .... .##. .##. ....;.;0;polygon #/- none;10,10 30,10 30,30 10,30
 # edges through the pixel centres of a column: one on the left covers them, one on the right doesn't
@@ -33,7 +34,7 @@ const POLYGONS: &str = "\
 
 #[test]
 fn polygons_cover_worked_pixels(rt: HostRuntime) -> Result<(), Fail> {
-    assert_drawn(&rt, rt.alloc(), POLYGONS, 15)
+    assert_rows(rt.alloc(), POLYGONS, ';', 15, drawn_row)
 }
 
 // All of the picture, and the square within it.
@@ -44,7 +45,7 @@ const LAYERS: &str = "\
 
 #[test]
 fn later_layers_lie_over_earlier_ones(rt: HostRuntime) -> Result<(), Fail> {
-    assert_drawn(&rt, rt.alloc(), LAYERS, 3)
+    assert_rows(rt.alloc(), LAYERS, ';', 3, drawn_row)
 }
 
 const BACKGROUNDS: &str = "\
@@ -53,7 +54,7 @@ const BACKGROUNDS: &str = "\
 
 #[test]
 fn background_is_seen_where_nothing_is_painted(rt: HostRuntime) -> Result<(), Fail> {
-    assert_drawn(&rt, rt.alloc(), BACKGROUNDS, 2)
+    assert_rows(rt.alloc(), BACKGROUNDS, ';', 2, drawn_row)
 }
 
 // The inner square in some styles.
@@ -74,7 +75,7 @@ const STYLES: &str = "\
 
 #[test]
 fn styles_paint_in_order(rt: HostRuntime) -> Result<(), Fail> {
-    assert_drawn(&rt, rt.alloc(), STYLES, 9)
+    assert_rows(rt.alloc(), STYLES, ';', 9, drawn_row)
 }
 
 // Lines along the parts, which stay open.
@@ -94,7 +95,7 @@ o#o# #### .... ....;.;0;line #-3/o none;5,35/25,35
 
 #[test]
 fn lines_cover_worked_pixels(rt: HostRuntime) -> Result<(), Fail> {
-    assert_drawn(&rt, rt.alloc(), LINES, 7)
+    assert_rows(rt.alloc(), LINES, ';', 7, drawn_row)
 }
 
 // Points: squares of a size, and pixmaps.
@@ -117,7 +118,7 @@ const POINTS: &str = "\
 
 #[test]
 fn points_cover_worked_pixels(rt: HostRuntime) -> Result<(), Fail> {
-    assert_drawn(&rt, rt.alloc(), POINTS, 10)
+    assert_rows(rt.alloc(), POINTS, ';', 10, drawn_row)
 }
 
 // Bounds on the scale denominator, which is 111,319,491, of the class and of the layer.
@@ -143,5 +144,5 @@ const SCALES: &str = "\
 
 #[test]
 fn things_are_visible_between_their_bounds(rt: HostRuntime) -> Result<(), Fail> {
-    assert_drawn(&rt, rt.alloc(), SCALES, 14)
+    assert_rows(rt.alloc(), SCALES, ';', 14, drawn_row)
 }

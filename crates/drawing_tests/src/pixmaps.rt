@@ -1,26 +1,11 @@
-use crate::rows::assert_row;
+use crate::shapes::{drawn, numbers, pixel, side, sides, three};
 use geom::{PictureSide, Pixel};
 use mapdefs::{Items, Picture, PictureFields, Pixmap, Rgb};
-use scanfill::{Cover, Spans};
+use scanfill::Cover;
 use std::alloc::{AllocError, Global};
-use std::process::Abort;
 use std::test::Fail;
 use symbols::{PixFault, Stamp, read, write_ppm};
-
-fn side(pixels: u16) -> PictureSide {
-    PictureSide::new(pixels.clamp(1, 2_048)).unwrap()
-}
-
-fn pixel(i: i64, j: i64) -> Pixel {
-    let limit = 17_592_186_044_415;
-    Pixel::new(i.clamp(-limit, limit), j.clamp(-limit, limit))
-}
-
-// Two numbers with a character between them.
-fn two(text: &str, between: char) -> Result<(i64, i64), Fail> {
-    let (first, second) = text.split_once(between).ok_or("not two numbers")?;
-    Ok((first.parse()?, second.parse()?))
-}
+use test_tables::assert_rows;
 
 // A pixmap as its sides and its last colour.
 fn summed_up(alloc: Global, pixmap: &Pixmap) -> Result<String, AllocError> {
@@ -43,83 +28,98 @@ fn told(alloc: Global, bytes: &[u8]) -> Result<String, AllocError> {
     }
 }
 
-// Bytes, and after `=` the pixmap that they are or their fault, with `;` after each pair.
+// The pixmap that bytes are, or their fault, and the bytes, `~` for a line feed and `^` for a carriage return.
 const FILES: &str = "\
-P6 1 1 255\nabc=1x1 97.98.99;\
-P6\t2\x0b1\x0c255\rabcdef=2x1 100.101.102;\
-P6 1 2 255 abcdef=1x2 100.101.102;\
-P6 #c\n1 # d\r1#e\n255 xyz more=1x1 120.121.122;\
-P6\n#\n#\n  \n1 1 255 abc=1x1 97.98.99;\
-P6 001 01 0000255 abc=1x1 97.98.99;\
-P6 1 1 255  bc=1x1 32.98.99;\
-P6 1 1 255 #bc=1x1 35.98.99;\
-P6 1 1 255 ab=Short;\
-P6 2 1 255 abcde=Short;\
-P6 256 256 255 a=Short;\
-=Magic;\
-P=Magic;\
-6P 1 1 255 abc=Magic;\
-P5 1 1 255 abc=Magic;\
-p6 1 1 255 abc=Magic;\
-P6=Header;\
-P61 1 255 abc=Header;\
-P6#c\n1 1 255 abc=Header;\
-P6 1 1 255abc=Header;\
-P6 1 1 255#abc=Header;\
-P6 1 1 255=Header;\
-P6 1 1 254 abc=Header;\
-P6 1 1 256 abc=Header;\
-P6 1 1 65535 abcdef=Header;\
-P6 1 1 65791 abcdef=Header;\
-P6 0 1 255 abc=Header;\
-P6 1 0 255 abc=Header;\
-P6 1x1 255 abc=Header;\
-P6 -1 1 255 abc=Header;\
-P6 1 1=Header;\
-P6 # 1 1 255 abc=Header;\
-P6 257 0 255 abc=Header;\
-P6 257 1 254 abc=Header;\
-P6 257 1 255 abc=Limit;\
-P6 1 257 255 abc=Limit;\
-P6 65537 1 255 abc=Limit;\
-P6 99999999999999999999999 1 255 abc=Limit";
+1x1 97.98.99=P6 1 1 255~abc
+2x1 100.101.102=P6\t2\x0b1\x0c255^abcdef
+1x2 100.101.102=P6 1 2 255 abcdef
+1x1 120.121.122=P6 #c~1 # d^1#e~255 xyz more
+1x1 97.98.99=P6~#~#~  ~1 1 255 abc
+1x1 97.98.99=P6 001 01 0000255 abc
+1x1 32.98.99=P6 1 1 255  bc
+1x1 35.98.99=P6 1 1 255 #bc
+Short=P6 1 1 255 ab
+Short=P6 2 1 255 abcde
+Short=P6 256 256 255 a
+Magic=
+Magic=P
+Magic=6P 1 1 255 abc
+Magic=P5 1 1 255 abc
+Magic=p6 1 1 255 abc
+Header=P6
+Header=P61 1 255 abc
+Header=P6#c~1 1 255 abc
+Header=P6 1 1 255abc
+Header=P6 1 1 255#abc
+Header=P6 1 1 255
+Header=P6 1 1 254 abc
+Header=P6 1 1 256 abc
+Header=P6 1 1 65535 abcdef
+Header=P6 1 1 65791 abcdef
+Header=P6 0 1 255 abc
+Header=P6 1 0 255 abc
+Header=P6 1x1 255 abc
+Header=P6 -1 1 255 abc
+Header=P6 1 1
+Header=P6 # 1 1 255 abc
+Header=P6 257 0 255 abc
+Header=P6 257 1 254 abc
+Limit=P6 257 1 255 abc
+Limit=P6 1 257 255 abc
+Limit=P6 65537 1 255 abc
+Limit=P6 99999999999999999999999 1 255 abc";
+
+fn read_bytes(alloc: Global, row: &str) -> Result<String, AllocError> {
+    let mut bytes = Vec::from_slice(alloc, row.as_bytes())?;
+    for byte in bytes.as_mut_slice().iter_mut() {
+        match *byte {
+            b'~' => *byte = b'\n',
+            b'^' => *byte = b'\r',
+            _ => {}
+        }
+    }
+    told(alloc, bytes.as_slice())
+}
 
 #[test]
 fn files_are_read_or_have_their_faults(rt: HostRuntime) -> Result<(), Fail> {
-    for row in FILES.split(';') {
-        let (bytes, expected) = row.split_once('=').ok_or("a row without a result")?;
-        let found = told(rt.alloc(), bytes.as_bytes())?;
-        assert_row(&rt, found.as_str(), expected, bytes);
+    assert_rows(rt.alloc(), FILES, '=', 38, read_bytes)
+}
+
+// The words on a fault, and its name.
+const FAULTS: &str = "\
+the bytes don't begin with P6=Magic
+a header that can't be read, or without pixels=Header
+fewer bytes than the pixels need=Short
+more than 256 pixels on a side=Limit
+out of memory=NoMemory";
+
+// The fault of a name.
+fn fault(name: &str) -> Option<PixFault> {
+    match name {
+        "Magic" => Some(PixFault::Magic),
+        "Header" => Some(PixFault::Header),
+        "Short" => Some(PixFault::Short),
+        "Limit" => Some(PixFault::Limit),
+        "NoMemory" => Some(PixFault::NoMemory),
+        _ => None,
     }
-    Ok(())
+}
+
+fn words(alloc: Global, name: &str) -> Result<String, AllocError> {
+    match fault(name) {
+        Some(fault) => format!(in alloc; "{fault}"),
+        None => format!(in alloc; "malformed"),
+    }
 }
 
 #[test]
 fn faults_have_their_messages(rt: HostRuntime) -> Result<(), Fail> {
-    let messages = [
-        (PixFault::Magic, "the bytes don't begin with P6"),
-        (
-            PixFault::Header,
-            "a header that can't be read, or without pixels",
-        ),
-        (PixFault::Short, "fewer bytes than the pixels need"),
-        (PixFault::Limit, "more than 256 pixels on a side"),
-        (PixFault::NoMemory, "out of memory"),
-    ];
-    for (fault, message) in messages {
-        let told = format!(in rt.alloc(); "{fault}")?;
-        assert_row(&rt, told.as_str(), message, message);
-    }
-    Ok(())
+    assert_rows(rt.alloc(), FAULTS, '=', 5, words)
 }
 
-// The pixmap of rows that `/` separates, transparent where they have a `.`.
-fn pixmap(alloc: Global, rows: &str) -> Result<Pixmap, Fail> {
-    let width = rows.split('/').next().ok_or("no row")?.len();
-    let height = rows.split('/').count();
-    let mut bytes = Vec::new(alloc);
-    let header = format!(in alloc; "P6 {width} {height} 255 ")?;
-    bytes.extend_from_slice(header.as_bytes())?;
+// Adds the pixels of rows that `/` parts, transparent where they have a `.`.
+fn add_pixels(bytes: &mut Vec<u8>, rows: &str) -> Result<(), AllocError> {
     for pixel in rows.bytes() {
         match pixel {
             b'.' => bytes.extend_from_slice(&[255, 0, 255])?,
@@ -127,119 +127,94 @@ fn pixmap(alloc: Global, rows: &str) -> Result<Pixmap, Fail> {
             _ => {}
         }
     }
-    Ok(read(alloc, bytes.as_slice())?)
+    Ok(())
 }
 
-// The rows of a stamp, one after another.
-fn drawn(
-    alloc: Global,
-    stamp: &Stamp<'_>,
-    width: PictureSide,
-    height: PictureSide,
-) -> Result<String, AllocError> {
-    let mut text = String::new(alloc);
-    let mut spans = Spans::new(alloc);
-    for j in 0..height.pixels() {
-        if j > 0 {
-            text.push(' ')?;
-        }
-        stamp.row(j, width, &mut spans)?;
-        for i in 0..width.pixels() {
-            let is_in = spans
-                .as_slice()
-                .iter()
-                .any(|span| span.from <= i && i < span.to);
-            let is_covered = stamp.covers(i, j);
-            text.push(match (is_in, is_covered) {
-                (true, true) => '#',
-                (false, false) => '.',
-                _ => '?',
-            })?;
-        }
-    }
-    Ok(text)
+// The file of a pixmap of rows that `/` parts.
+fn file(alloc: Global, rows: &str) -> Result<Vec<u8>, AllocError> {
+    let width = rows.split('/').next().map_or(0, str::len);
+    let height = rows.split('/').count();
+    let mut bytes = format!(in alloc; "P6 {width} {height} 255 ")?.into_bytes();
+    add_pixels(&mut bytes, rows)?;
+    Ok(bytes)
 }
 
-// The rows of a pixmap, the pixel that it is stamped at, the sides of a picture and its rows, and the first
-// row of the pixmap on the picture and the one after its last, worked by hand.
+// The first row of a pixmap on the picture and the one after its last, the rows of the picture, worked by
+// hand, the rows of the pixmap, the pixel that it is stamped at, and the sides of the picture.
 const STAMPS: &str = "\
-.#|2,2|4 4|.... .... ..#. ....|2 3
-###/#.#/###|1,1|4 4|###. #.#. ###. ....|0 3
-###/#.#/###|0,0|3 3|.#. ##. ...|0 2
-##/.#|1,1|3 3|##. .#. ...|0 2
-##/#.|0,1|3 3|#.. ... ...|0 2
-#.#.#|0,1|4 3|.... #.#. ....|1 2
-#.#.#|4,1|4 3|.... ..#. ....|1 2
-#.#.#|5,1|4 3|.... ...# ....|1 2
-#.#.#|6,1|4 3|.... .... ....|0 0
-##/##|-1,1|3 3|... ... ...|0 0
-#/./#|1,-1|3 3|.#. ... ...|0 1
-#/./#|1,3|3 4|... ... .#. ...|2 4
-#/./#|1,4|3 4|... ... ... .#.|3 4
-#/#|1,5|3 4|... ... ... ...|0 0
-../..|1,1|3 3|... ... ...|0 2
-#|-1,0|2 2|.. ..|0 0
-#|2,0|2 2|.. ..|0 0
-#..#|1,0|4 1|..#.|0 1
-#|17592186044415,0|2 2|.. ..|0 0
-#|0,-17592186044415|2 2|.. ..|0 0";
+2-3 .... .... ..#. ....=.#|2 2|4 4
+0-3 ###. #.#. ###. ....=###/#.#/###|1 1|4 4
+0-2 .#. ##. ...=###/#.#/###|0 0|3 3
+0-2 ##. .#. ...=##/.#|1 1|3 3
+0-2 #.. ... ...=##/#.|0 1|3 3
+1-2 .... #.#. ....=#.#.#|0 1|4 3
+1-2 .... ..#. ....=#.#.#|4 1|4 3
+1-2 .... ...# ....=#.#.#|5 1|4 3
+- .... .... ....=#.#.#|6 1|4 3
+- ... ... ...=##/##|-1 1|3 3
+0-1 .#. ... ...=#/./#|1 -1|3 3
+2-4 ... ... .#. ...=#/./#|1 3|3 4
+3-4 ... ... ... .#.=#/./#|1 4|3 4
+- ... ... ... ...=#/#|1 5|3 4
+0-2 ... ... ...=../..|1 1|3 3
+- .. ..=#|-1 0|2 2
+- .. ..=#|2 0|2 2
+0-1 ..#.=#..#|1 0|4 1
+- .. ..=#|17592186044415 0|2 2
+- .. ..=#|0 -17592186044415|2 2";
 
-// Four parts of a row with bars between them.
-fn four(row: &str) -> Option<(&str, &str, &str, &str)> {
-    let (first, row) = row.split_once('|')?;
-    let (second, row) = row.split_once('|')?;
-    let (third, fourth) = row.split_once('|')?;
-    Some((first, second, third, fourth))
+// The rows of a pixmap, and where it is stamped.
+fn parts(row: &str) -> Option<(&str, Pixel, PictureSide, PictureSide)> {
+    let (rows, at, size) = three(row)?;
+    let (width, height) = sides(size)?;
+    Some((rows, pixel(numbers(at, ' ')?), width, height))
 }
 
-// Whether a row of the table holds.
-fn is_stamp(alloc: Global, row: &str) -> Result<bool, Fail> {
-    let (pixels, rest) = row.split_once('|').ok_or("no pixel")?;
-    let (at, size, rows, some) = four(rest).ok_or("not five parts")?;
-    let (i, j) = two(at, ',')?;
-    let (width, height) = two(size, ' ')?;
-    let width = side(width.clamp(1, 99) as u16);
-    let height = side(height.clamp(1, 99) as u16);
-    let (from, to) = two(some, ' ')?;
-    let pixmap = pixmap(alloc, pixels)?;
-    let stamp = Stamp::new(&pixmap, pixel(i, j));
-    let found = stamp.rows(width, height);
-    let are_rows = if from < to {
-        i64::from(found.from) == from && i64::from(found.to) == to
-    } else {
-        found.from >= found.to
+fn stamped(alloc: Global, row: &str) -> Result<String, AllocError> {
+    let Some((rows, at, width, height)) = parts(row) else {
+        return format!(in alloc; "malformed");
     };
-    Ok(are_rows && drawn(alloc, &stamp, width, height)?.as_str() == rows)
+    let bytes = file(alloc, rows)?;
+    match read(alloc, bytes.as_slice()) {
+        Ok(pixmap) => drawn(alloc, &Stamp::new(&pixmap, at), width, height),
+        Err(_) => format!(in alloc; "malformed"),
+    }
 }
 
 #[test]
 fn stamps_have_worked_pixels(rt: HostRuntime) -> Result<(), Fail> {
-    for row in STAMPS.lines() {
-        assert!(rt; is_stamp(rt.alloc(), row)?, "{row}");
-    }
-    Ok(())
+    assert_rows(rt.alloc(), STAMPS, '=', 20, stamped)
 }
 
-// Two pixels, the first one transparent.
+// The colour of a stamp at a pixel, if it covers it.
+fn colour(stamp: &Stamp<'_>, i: u16) -> Option<Rgb> {
+    if stamp.covers(i.min(9), 2) {
+        return Some(stamp.colour(i.min(9), 2));
+    }
+    None
+}
+
+// The colours of two pixels of a pixmap's stamp, the first one transparent.
+fn colours(alloc: Global) -> Result<[Option<Rgb>; 2], PixFault> {
+    let pixmap = read(alloc, b"P6 2 1 255\n\xff\x00\xff\x00\xff\x00".as_slice())?;
+    let stamp = Stamp::new(&pixmap, pixel([2, 2]));
+    Ok([colour(&stamp, 1), colour(&stamp, 2)])
+}
+
 #[test]
 fn stamps_have_the_colours_of_their_pixmap(rt: HostRuntime) -> Result<(), Fail> {
-    let bytes = b"P6 2 1 255\n\xff\x00\xff\x00\xff\x00";
-    let pixmap = read(rt.alloc(), bytes.as_slice())?;
-    let stamp = Stamp::new(&pixmap, pixel(2, 2));
     let green = Rgb {
         red: 0,
         green: 255,
         blue: 0,
     };
-    let is_green = stamp.covers(2, 2) && stamp.colour(2, 2) == green;
-    assert_eq!(rt; (stamp.covers(1, 2), is_green), (false, true));
+    assert_eq!(rt; colours(rt.alloc())?, [None, Some(green)]);
     Ok(())
 }
 
-// A picture of that many pixels on each side, all of different colours as far as there are so many.
-fn picture(alloc: Global, pixels: u16) -> Result<Picture, Fail> {
-    let side = side(pixels);
-    let mut colours = Items::new(alloc);
+// Adds the pixels of a picture of that many pixels on each side, all of different colours as far as there are
+// so many.
+fn fill(colours: &mut Items<Rgb>, side: PictureSide) -> Result<(), AllocError> {
     for j in 0..side.pixels() {
         for i in 0..side.pixels() {
             colours.push(Rgb {
@@ -249,54 +224,65 @@ fn picture(alloc: Global, pixels: u16) -> Result<Picture, Fail> {
             })?;
         }
     }
-    if colours.len() != usize::from(side.pixels()) * usize::from(side.pixels()) {
-        return Err("another number of pixels".into());
+    Ok(())
+}
+
+// The picture of these pixels, if they are as many as its sides say.
+fn picture(width: PictureSide, height: PictureSide, pixels: Items<Rgb>) -> Option<Picture> {
+    if pixels.len() != usize::from(width.pixels()) * usize::from(height.pixels()) {
+        return None;
     }
-    Ok(Picture::new(PictureFields {
-        width: side,
-        height: side,
-        pixels: colours,
+    Some(Picture::new(PictureFields {
+        width,
+        height,
+        pixels,
     }))
 }
 
-// What a picture is read as that was written.
-fn told_again(alloc: Global, pixels: u16) -> Result<String, Fail> {
-    let picture = picture(alloc, pixels)?;
-    let bytes = write_ppm(alloc, &picture)?;
-    Ok(told(alloc, bytes.as_slice())?)
+// That picture as bytes, none where it isn't one.
+fn written(alloc: Global, side: PictureSide) -> Result<Items<u8>, AllocError> {
+    let mut colours = Items::new(alloc);
+    fill(&mut colours, side)?;
+    match picture(side, side, colours) {
+        Some(picture) => write_ppm(alloc, &picture),
+        None => Ok(Items::new(alloc)),
+    }
+}
+
+// What a picture is read as that was written, and the pixels on each of its sides.
+const WRITTEN: &str = "\
+7x7 6.6.20=7
+256x256 255.255.20=256
+Limit=257";
+
+fn told_again(alloc: Global, row: &str) -> Result<String, AllocError> {
+    let bytes = written(alloc, side(row.parse::<i64>().unwrap_or(1)))?;
+    told(alloc, bytes.as_slice())
 }
 
 #[test]
 fn written_pictures_are_read(rt: HostRuntime) -> Result<(), Fail> {
-    for (pixels, expected) in [
-        (7, "7x7 6.6.20"),
-        (256, "256x256 255.255.20"),
-        (257, "Limit"),
-    ] {
-        assert_eq!(rt; told_again(rt.alloc(), pixels)?.as_str(), expected);
+    assert_rows(rt.alloc(), WRITTEN, '=', 3, told_again)
+}
+
+// A picture of two pixels, written.
+fn two_written(alloc: Global) -> Result<Items<u8>, AllocError> {
+    let [first, second] = [2, 5].map(|blue| Rgb {
+        red: 10,
+        green: 20,
+        blue,
+    });
+    let pixels = Items::of(vec![in alloc; first, second]?);
+    match picture(side(2), side(1), pixels) {
+        Some(picture) => write_ppm(alloc, &picture),
+        None => Ok(Items::new(alloc)),
     }
-    Ok(())
 }
 
 #[test]
 fn pictures_are_written_as_pixmaps(rt: HostRuntime) -> Result<(), Fail> {
-    let mut pixels = Items::new(rt.alloc());
-    for blue in [2, 5] {
-        pixels.push(Rgb {
-            red: 10,
-            green: 20,
-            blue,
-        })?;
-    }
-    assert_eq!(rt; pixels.len(), 2);
-    let picture = Picture::new(PictureFields {
-        width: PictureSide::new(2).unwrap(),
-        height: PictureSide::new(1).unwrap(),
-        pixels,
-    });
-    let bytes = write_ppm(rt.alloc(), &picture)?;
     assert_eq!(rt;
-        bytes.as_slice(),
+        two_written(rt.alloc())?.as_slice(),
         b"P6\n2 1\n255\n\x0a\x14\x02\x0a\x14\x05".as_slice()
     );
     Ok(())

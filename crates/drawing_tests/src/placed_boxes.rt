@@ -1,90 +1,94 @@
+use crate::shapes::{numbers, pixels, side};
 use collide::Boxes;
-use geom::{PictureSide, PxBox};
+use geom::PxBox;
 use std::alloc::{AllocError, Global};
 use std::test::Fail;
+use test_tables::assert_rows;
 
-// The greatest position that a box may grow from.
-const FAR: i64 = 1_099_511_627_775;
+// What is told of steps, the side of the picture in pixels, and the steps, which begin with no boxes. `ask`
+// tells whether a box is hit, `#` or `-`, `add` adds one, and `note` tells whether it is hit before, adds it,
+// and tells whether its first and its last pixel are hit after.
+const STEPS: &str = "\
+# a box hits what it shares a pixel with
+--##=130|ask 2 2 4 4|add 0 0 3 3|add -9 -9 -5 -5|ask 3 0 5 2|ask 2 2 4 4|ask -6 -6 0 0
+# an empty box hits nothing and isn't hit
+-#---=64|add 5 5 5 9|add 7 9 12 6|ask 0 0 64 64|add 0 0 64 64|ask 0 0 64 64|ask 5 5 5 9|ask 7 9 12 6|ask 1099511627775 1099511627775 -1099511627775 -1099511627775
+# boxes on the picture, off it on each side and at each corner, and across cells
+(-##)(-##)(-##)(-##)(-##)(-##)(-##)(-##)(-##)(-##)(-##)(-##)#-=130|note 60 61 70 66|note -40 20 -30 27|note 140 30 150 39|note 40 -30 47 -20|note 50 140 59 150|note -90 -91 -80 -82|note 180 -93 190 -84|note -94 180 -85 190|note 180 181 190 192|note -1099511627775 100 -1099511627774 101|note 1099511627774 101 1099511627775 102|note 100 -1099511627774 102 1099511627775|ask -1099511627775 -1099511627775 1099511627775 1099511627775|ask 103 0 140 130";
 
-fn boxed(sides: [i64; 4]) -> PxBox {
-    PxBox::new(sides[0], sides[1], sides[2], sides[3])
+// The mark of what is hit.
+fn mark(is_hit: bool) -> char {
+    if is_hit { '#' } else { '-' }
 }
 
-// No boxes, on a picture of that many pixels on each side.
-fn no_boxes(alloc: Global, pixels: u16) -> Result<Boxes, Fail> {
-    let side = PictureSide::new(pixels).ok_or("not a side of a picture")?;
-    Ok(Boxes::new(alloc, side, side)?)
+// The first pixel of a box.
+fn first_pixel(area: PxBox) -> PxBox {
+    let (left, top) = (area.left(), area.top());
+    pixels([left, top, left.saturating_add(1), top.saturating_add(1)])
 }
 
-#[test]
-fn a_box_hits_what_it_shares_a_pixel_with(rt: HostRuntime) -> Result<(), Fail> {
-    let mut boxes = no_boxes(rt.alloc(), 130)?;
-    let before = boxes.hits(boxed([2, 2, 4, 4]));
-    boxes.add(boxed([0, 0, 3, 3]))?;
-    boxes.add(boxed([-9, -9, -5, -5]))?;
-    let after = [[3, 0, 5, 2], [2, 2, 4, 4], [-6, -6, 0, 0]].map(|area| boxes.hits(boxed(area)));
-    assert_eq!(rt; (before, after), (false, [false, true, true]));
-    Ok(())
-}
-
-// Boxes on the picture, off it on each side and at each corner, and across cells.
-const PLACED: [[i64; 4]; 12] = [
-    [60, 61, 70, 66],
-    [-40, 20, -30, 27],
-    [140, 30, 150, 39],
-    [40, -30, 47, -20],
-    [50, 140, 59, 150],
-    [-90, -91, -80, -82],
-    [180, -93, 190, -84],
-    [-94, 180, -85, 190],
-    [180, 181, 190, 192],
-    [-FAR, 100, 1 - FAR, 101],
-    [FAR - 1, 101, FAR, 102],
-    [100, 1 - FAR, 102, FAR],
-];
-
-// Adds a box. Whether it is hit before, and its first and its last pixel are hit after.
-fn added(boxes: &mut Boxes, area: [i64; 4]) -> Result<[bool; 3], AllocError> {
-    let before = boxes.hits(boxed(area));
-    boxes.add(boxed(area))?;
-    let [left, top, right, bottom] = area;
-    let first = [left, top, left.saturating_add(1), top.saturating_add(1)];
-    let last = [
+// The last pixel of a box.
+fn last_pixel(area: PxBox) -> PxBox {
+    let (right, bottom) = (area.right(), area.bottom());
+    pixels([
         right.saturating_sub(1),
         bottom.saturating_sub(1),
         right,
         bottom,
-    ];
-    Ok([before, boxes.hits(boxed(first)), boxes.hits(boxed(last))])
+    ])
 }
 
-#[test]
-fn boxes_anywhere_are_kept(rt: HostRuntime) -> Result<(), Fail> {
-    let mut boxes = no_boxes(rt.alloc(), 130)?;
-    for area in PLACED {
-        assert_eq!(rt; added(&mut boxes, area)?, [false, true, true], "{area:?}");
+// Adds a box. The marks of it before, and of its first and its last pixel after.
+fn added(boxes: &mut Boxes, area: PxBox) -> Result<(char, char, char), AllocError> {
+    let before = mark(boxes.hits(area));
+    boxes.add(area)?;
+    let first = mark(boxes.hits(first_pixel(area)));
+    Ok((before, first, mark(boxes.hits(last_pixel(area)))))
+}
+
+// The word and the box of a step.
+fn parts(step: &str) -> Option<(&str, PxBox)> {
+    let (word, sides) = step.split_once(' ')?;
+    Some((word, pixels(numbers(sides, ' ')?)))
+}
+
+// Makes a step, and adds what it tells.
+fn make(out: &mut String, boxes: &mut Boxes, step: &str) -> Result<(), AllocError> {
+    let Some((word, area)) = parts(step) else {
+        return out.push('?');
+    };
+    match word {
+        "ask" => out.push(mark(boxes.hits(area))),
+        "add" => boxes.add(area),
+        "note" => {
+            let (before, first, last) = added(boxes, area)?;
+            write!(out, "({before}{first}{last})")
+        }
+        _ => out.push('?'),
     }
-    let told = [[-FAR, -FAR, FAR, FAR], [103, 0, 140, 130]].map(|area| boxes.hits(boxed(area)));
-    assert_eq!(rt; told, [true, false]);
+}
+
+// Makes all steps.
+fn make_all(out: &mut String, boxes: &mut Boxes, steps: &str) -> Result<(), AllocError> {
+    for step in steps.split('|') {
+        make(out, boxes, step)?;
+    }
     Ok(())
 }
 
+// What the steps of a row tell.
+fn steps(alloc: Global, row: &str) -> Result<String, AllocError> {
+    let (pixels, steps) = row.split_once('|').unwrap_or(("", ""));
+    let side = side(pixels.parse::<i64>().unwrap_or(0));
+    let mut boxes = Boxes::new(alloc, side, side)?;
+    let mut text = String::new(alloc);
+    make_all(&mut text, &mut boxes, steps)?;
+    Ok(text)
+}
+
 #[test]
-fn an_empty_box_hits_nothing_and_is_not_hit(rt: HostRuntime) -> Result<(), Fail> {
-    let mut boxes = no_boxes(rt.alloc(), 64)?;
-    boxes.add(boxed([5, 5, 5, 9]))?;
-    boxes.add(boxed([7, 9, 12, 6]))?;
-    let before = boxes.hits(boxed([0, 0, 64, 64]));
-    boxes.add(boxed([0, 0, 64, 64]))?;
-    let after = [
-        [0, 0, 64, 64],
-        [5, 5, 5, 9],
-        [7, 9, 12, 6],
-        [FAR, FAR, -FAR, -FAR],
-    ]
-    .map(|area| boxes.hits(boxed(area)));
-    assert_eq!(rt; (before, after), (false, [true, false, false, false]));
-    Ok(())
+fn boxes_hit_what_they_share_a_pixel_with(rt: HostRuntime) -> Result<(), Fail> {
+    assert_rows(rt.alloc(), STEPS, '=', 3, steps)
 }
 
 // The next number of a sequence.
@@ -104,39 +108,73 @@ fn next_box(state: &mut u64) -> PxBox {
     PxBox::new(left, top, right, bottom)
 }
 
-#[test]
-fn answers_are_those_of_a_plain_list(rt: HostRuntime) -> Result<(), Fail> {
-    let mut state = 20_261;
-    let mut boxes = no_boxes(rt.alloc(), 130)?;
-    let mut list = Vec::new(rt.alloc());
+// Adds 200 boxes to both.
+fn add_some(boxes: &mut Boxes, list: &mut Vec<PxBox>, state: &mut u64) -> Result<(), AllocError> {
     for _ in 0..200 {
-        let area = next_box(&mut state);
+        let area = next_box(state);
         boxes.add(area)?;
         list.push(area)?;
     }
+    Ok(())
+}
+
+// How many of 500 boxes are hit, or the first one of which the list says something else.
+fn hits(boxes: &Boxes, list: &[PxBox], state: &mut u64) -> Result<u32, PxBox> {
     let mut hits = 0_u32;
     for _ in 0..500 {
-        let area = next_box(&mut state);
+        let area = next_box(state);
         let is_hit = list.iter().any(|other| area.meets(*other));
-        assert_eq!(rt; boxes.hits(area), is_hit, "{area:?}");
+        if boxes.hits(area) != is_hit {
+            return Err(area);
+        }
         hits = hits.wrapping_add(u32::from(is_hit));
     }
+    Ok(hits)
+}
+
+// The hits of the boxes and the list that a sequence from that number on makes.
+fn hits_from(alloc: Global, mut state: u64) -> Result<Result<u32, PxBox>, AllocError> {
+    let mut boxes = Boxes::new(alloc, side(130), side(130))?;
+    let mut list = Vec::new(alloc);
+    add_some(&mut boxes, &mut list, &mut state)?;
+    Ok(hits(&boxes, &list, &mut state))
+}
+
+#[test]
+fn answers_are_those_of_a_plain_list(rt: HostRuntime) -> Result<(), Fail> {
+    let hits = hits_from(rt.alloc(), 20_261)?;
     // both answers are met often
-    assert!(rt; 125 < hits && hits < 375, "{hits} hits");
+    assert!(rt; matches!(hits, Ok(126..375)), "{hits:?}");
     Ok(())
+}
+
+// Adds 5,000 boxes that touch. How many aren't hit before, and are hit after.
+fn tile(boxes: &mut Boxes) -> Result<u32, AllocError> {
+    let mut count = 0_u32;
+    for i in 0..5_000_i64 {
+        let left = i % 100 * 20;
+        let top = i / 100 * 40;
+        if added(boxes, pixels([left, top, left + 20, top + 40]))? == ('-', '#', '#') {
+            count = count.wrapping_add(1);
+        }
+    }
+    Ok(count)
+}
+
+// How many of the 5,000 boxes fit, and whether the parts of a picture from four corners on are hit.
+fn tiled(alloc: Global) -> Result<(u32, [bool; 4]), AllocError> {
+    let mut boxes = Boxes::new(alloc, side(2_048), side(2_048))?;
+    let count = tile(&mut boxes)?;
+    let corners = [[0, 0], [1_999, 1_999], [2_000, 0], [0, 2_000]];
+    Ok((
+        count,
+        corners.map(|[left, top]| boxes.hits(pixels([left, top, 2_048, 2_048]))),
+    ))
 }
 
 #[test]
 fn thousands_of_boxes_fit(rt: HostRuntime) -> Result<(), Fail> {
-    let mut boxes = no_boxes(rt.alloc(), 2_048)?;
-    for i in 0..5_000_i64 {
-        let left = i % 100 * 20;
-        let top = i / 100 * 40;
-        let told = added(&mut boxes, [left, top, left + 20, top + 40])?;
-        assert_eq!(rt; told, [false, true, true], "{i}");
-    }
-    let corners = [[0, 0], [1_999, 1_999], [2_000, 0], [0, 2_000]];
-    let told = corners.map(|[left, top]| boxes.hits(boxed([left, top, 2_048, 2_048])));
-    assert_eq!(rt; told, [true, true, false, false]);
+    let told = tiled(rt.alloc())?;
+    assert_eq!(rt; told, (5_000, [true, true, false, false]));
     Ok(())
 }
