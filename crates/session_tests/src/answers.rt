@@ -1,6 +1,8 @@
 use crate::endings::{ended, is_played};
 use crate::texts::{QUERY, SQUARE, SQUARE_MAP, columns};
 use std::alloc::{AllocError, Global};
+use std::test::Fail;
+use test_tables::{assert_all, assert_rows};
 
 // What a session writes of a service exception. The document has 187 bytes beside the code and the
 // name of the parameter.
@@ -84,10 +86,8 @@ pub fn is_answered(alloc: Global, row: &str) -> Result<bool, AllocError> {
 }
 
 #[test]
-fn sessions_answer_their_queries(rt: HostRuntime) {
-    for row in ANSWERS.lines() {
-        assert_eq!(rt; is_answered(rt.alloc(), row), Ok(true), "{row}");
-    }
+fn sessions_answer_their_queries(rt: HostRuntime) -> Result<(), Fail> {
+    assert_all(rt.alloc(), ANSWERS, 22, is_answered)
 }
 
 // Layers up to their feature's points, scripts of one query, and what is written of them, worked by hand: the square by itself; with a
@@ -123,10 +123,8 @@ fn is_written(alloc: Global, row: &str) -> Result<bool, AllocError> {
 }
 
 #[test]
-fn pictures_are_written_as_worked(rt: HostRuntime) {
-    for row in WRITTEN.lines() {
-        assert_eq!(rt; is_written(rt.alloc(), row), Ok(true), "{row}");
-    }
+fn pictures_are_written_as_worked(rt: HostRuntime) -> Result<(), Fail> {
+    assert_all(rt.alloc(), WRITTEN, 14, is_written)
 }
 
 // Columns, rows and components of pixels beside the corners of the square, which are at 512 and 1536,
@@ -155,20 +153,33 @@ fn has_sample(text: &str, row: &str) -> Option<bool> {
     Some(there.starts_with(columns.next()?.as_bytes()))
 }
 
-#[test]
-fn largest_pictures_are_written_whole(rt: HostRuntime) {
-    let script =
-        "QUERY WIDTH=2048&HEIGHT=2048&VERSION=1.3.0&REQUEST=GetMap&LAYERS=a&STYLES=&CRS=CRS:84&BBOX=0,0,4,4&FORMAT=image/x-portable-pixmap\n";
-    let Ok((found, _)) = ended(rt.alloc(), "run", (SQUARE_MAP, script), 1_000_000, None) else {
-        panic!(rt; "out of memory");
-    };
-    let (end, text, _) = columns(found.as_str());
-    // 17 bytes of header and 2,048 times 2,048 pixels are 12,582,929 bytes in 393,217 lines
-    let front = "ANSWER image/x-portable-pixmap 12582929\n\
+// The largest picture: how its session ended, the length of its text, whether that begins with the header,
+// and how many of the samples it has. 17 bytes of header and 2,048 times 2,048 pixels are 12,582,929 bytes
+// in 393,217 lines.
+const LARGEST: &str = "0 Played 25559115 true 8=2048";
+
+// The header, and the line on which it stands.
+const LARGEST_FRONT: &str = "ANSWER image/x-portable-pixmap 12582929\n\
 50360a3230343820323034380a3235350affffffffffffffffffffffffffffff\n";
-    let told = (end, text.len(), text.starts_with(front));
-    assert_eq!(rt; told, ("0 Played", 40 + 2 * 12_582_929 + 393_217, true));
+
+// What is told of the text of a picture with so many columns and rows.
+fn told_of_picture(alloc: Global, side: &str) -> Result<String, AllocError> {
+    let query =
+        "VERSION=1.3.0&REQUEST=GetMap&LAYERS=a&STYLES=&CRS=CRS:84&BBOX=0,0,4,4&FORMAT=image/x-portable-pixmap";
+    let script = format!(in alloc; "QUERY WIDTH={side}&HEIGHT={side}&{query}\n")?;
+    let (found, _) = ended(alloc, "run", (SQUARE_MAP, script.as_str()), 1_000_000, None)?;
+    let (end, text, _) = columns(found.as_str());
+    let mut samples = 0_usize;
     for row in SAMPLES.lines() {
-        assert_eq!(rt; has_sample(text, row), Some(true), "{row}");
+        if has_sample(text, row) == Some(true) {
+            samples = samples.saturating_add(1);
+        }
     }
+    let is_front = text.starts_with(LARGEST_FRONT);
+    format!(in alloc; "{end} {} {is_front} {samples}", text.len())
+}
+
+#[test]
+fn largest_pictures_are_written_whole(rt: HostRuntime) -> Result<(), Fail> {
+    assert_rows(rt.alloc(), LARGEST, '=', 1, told_of_picture)
 }

@@ -1,6 +1,8 @@
 use crate::texts::columns;
 use commandline::{Command, WordsFault, command};
 use std::alloc::{AllocError, Global};
+use std::test::Fail;
+use test_tables::{assert_all, assert_rows};
 
 // What is told of some words: their form, or why they were refused.
 fn told(alloc: Global, words: &[&str]) -> Result<String, AllocError> {
@@ -70,63 +72,78 @@ fn is_form(alloc: Global, row: &str) -> Result<bool, AllocError> {
 }
 
 #[test]
-fn words_have_their_forms(rt: HostRuntime) {
-    assert_eq!(rt; WORDS.lines().count(), 27);
-    for row in WORDS.lines() {
-        assert_eq!(rt; is_form(rt.alloc(), row), Ok(true), "{row}");
-    }
+fn words_have_their_forms(rt: HostRuntime) -> Result<(), Fail> {
+    assert_all(rt.alloc(), WORDS, 27, is_form)
 }
 
-// What is told of words that were refused with a text, and of those for which there was no memory.
-fn refusals(alloc: Global) -> Result<String, AllocError> {
-    let text = String::from_str(alloc, "no such form")?;
-    format!(in alloc;
-        "{}, {}",
-        WordsFault::Refused { text },
-        WordsFault::NoMemory
-    )
+// What is told of words that were refused with this text, and of those for which there was no memory.
+fn refusals(alloc: Global, text: &str) -> Result<String, AllocError> {
+    let text = String::from_str(alloc, text)?;
+    let refused = WordsFault::Refused { text };
+    let told = format!(in alloc; "{refused}, {}", WordsFault::NoMemory);
+    drop(refused);
+    told
 }
 
 #[test]
-fn refusals_print_their_text(rt: HostRuntime) {
-    let Ok(text) = refusals(rt.alloc()) else {
-        panic!(rt; "out of memory");
-    };
-    assert_eq!(rt; text.as_str(), "no such form, out of memory");
+fn refusals_print_their_text(rt: HostRuntime) -> Result<(), Fail> {
+    let row = "no such form, out of memory=no such form";
+    assert_rows(rt.alloc(), row, '=', 1, refusals)
+}
+
+// Commands of which each differs from another one in one field.
+const COMMANDS: [Command<'static>; 9] = [
+    Command::Session,
+    Command::Check {
+        file: "a",
+        explains: false,
+    },
+    Command::Check {
+        file: "a",
+        explains: true,
+    },
+    Command::Check {
+        file: "b",
+        explains: false,
+    },
+    Command::Run {
+        file: "a",
+        script: "b",
+    },
+    Command::Run {
+        file: "a",
+        script: "a",
+    },
+    Command::Run {
+        file: "b",
+        script: "b",
+    },
+    Command::Serve {
+        file: "a",
+        port: 8_081,
+        connections: 2,
+    },
+    Command::Serve {
+        file: "a",
+        port: 8_081,
+        connections: 3,
+    },
+];
+
+// How many pairs of commands are equal though they are two, or unequal though they are one.
+fn wrong_pairs() -> usize {
+    let mut wrong = 0_usize;
+    for (i, one) in COMMANDS.iter().enumerate() {
+        for (j, other) in COMMANDS.iter().enumerate() {
+            if (one == other) != (i == j) {
+                wrong = wrong.saturating_add(1);
+            }
+        }
+    }
+    wrong
 }
 
 #[test]
 fn commands_that_differ_in_one_field_are_unequal(rt: HostRuntime) {
-    let commands = [
-        Command::Session,
-        Command::Check {
-            file: "a",
-            explains: false,
-        },
-        Command::Check {
-            file: "a",
-            explains: true,
-        },
-        Command::Check {
-            file: "b",
-            explains: false,
-        },
-        Command::Run {
-            file: "a",
-            script: "b",
-        },
-        Command::Run {
-            file: "a",
-            script: "a",
-        },
-        Command::Run {
-            file: "b",
-            script: "b",
-        },
-    ];
-    for (i, one) in commands.iter().enumerate() {
-        for (j, other) in commands.iter().enumerate() {
-            assert_eq!(rt; one == other, i == j, "{one:?} and {other:?}");
-        }
-    }
+    assert!(rt; wrong_pairs() == 0);
 }

@@ -4,6 +4,8 @@ use mapmachine::{Flagged, Machine, WriteFault};
 use mapparse::{Files, parse};
 use sessions::{play_script, summary};
 use std::alloc::{AllocError, Global};
+use std::test::Fail;
+use test_tables::assert_rows;
 
 /// The machine of a mapfile. Its error is out of memory, or a fault, which the tests don't expect.
 pub fn opened(alloc: Global, map: &str) -> Result<Machine, AllocError> {
@@ -33,39 +35,54 @@ fn is_cut(
         && Some(sink.into_inner().held.as_slice()) == whole.as_bytes().get(..count)
 }
 
-#[test]
-fn summaries_are_written_up_to_a_failure(rt: HostRuntime) {
-    let Ok(map) = parse(rt.alloc(), SOME_MAP.as_bytes(), &Files::new(rt.alloc())) else {
-        panic!(rt; "the map is refused");
+// The text of a summary that is written, and the first number of bytes after which a failing writer doesn't
+// end it right, of so many.
+fn told_of_summary(alloc: Global, rooms: &str) -> Result<String, AllocError> {
+    let Ok(map) = parse(alloc, SOME_MAP.as_bytes(), &Files::new(alloc)) else {
+        return Err(AllocError);
     };
-    for room in 0..30 {
-        let mut sink = stream_of(rt.alloc(), "", 1, Some(room));
+    let wrong = (0..rooms.parse().unwrap_or(0)).find(|room| {
+        let mut sink = stream_of(alloc, "", 1, Some(*room));
         let outcome = summary(&map, &mut sink);
-        let is_right = is_cut(outcome, sink, "ok 2 layers 3 features\n", room);
-        assert!(rt; is_right, "{room}");
-    }
+        !is_cut(outcome, sink, "ok 2 layers 3 features\n", *room)
+    });
+    drop(map);
+    format!(in alloc; "{wrong:?}")
 }
 
-// Whether a script of the square and of an exception is written up to a failure after so many bytes.
-fn is_script_cut(alloc: Global, machine: &mut Machine, room: usize) -> Result<bool, AllocError> {
+#[test]
+fn summaries_are_written_up_to_a_failure(rt: HostRuntime) -> Result<(), Fail> {
+    assert_rows(rt.alloc(), "None=30", '=', 1, told_of_summary)
+}
+
+// The first number of bytes after which a failing writer doesn't end a script of the square and of an
+// exception right, of so many. The picture has 154 bytes and the exception 235.
+fn told_of_script(alloc: Global, rooms: &str) -> Result<String, AllocError> {
+    let mut machine = opened(alloc, SQUARE_MAP)?;
+    let wrong = first_wrong(alloc, &mut machine, rooms.parse().unwrap_or(0));
+    drop(machine);
+    let wrong = wrong?;
+    format!(in alloc; "{wrong:?}")
+}
+
+fn first_wrong(
+    alloc: Global,
+    machine: &mut Machine,
+    rooms: usize,
+) -> Result<Option<usize>, AllocError> {
     let script = spelt(alloc, "QUERY ^~QUERY x~")?;
     let whole = spelt(alloc, "#@")?;
-    let mut sink = stream_of(alloc, "", 1, Some(room));
-    let outcome = play_script(machine, script.as_bytes(), &mut sink);
-    Ok(is_cut(outcome, sink, whole.as_str(), room))
+    for room in 0..rooms {
+        let mut sink = stream_of(alloc, "", 1, Some(room));
+        let outcome = play_script(machine, script.as_bytes(), &mut sink);
+        if !is_cut(outcome, sink, whole.as_str(), room) {
+            return Ok(Some(room));
+        }
+    }
+    Ok(None)
 }
 
 #[test]
-fn writers_that_fail_hold_the_first_bytes(rt: HostRuntime) {
-    let Ok(mut machine) = opened(rt.alloc(), SQUARE_MAP) else {
-        panic!(rt; "the map is refused");
-    };
-    // the picture has 154 bytes and the exception 235
-    for room in 0..400 {
-        assert_eq!(rt;
-            is_script_cut(rt.alloc(), &mut machine, room),
-            Ok(true),
-            "{room}"
-        );
-    }
+fn writers_that_fail_hold_the_first_bytes(rt: HostRuntime) -> Result<(), Fail> {
+    assert_rows(rt.alloc(), "None=400", '=', 1, told_of_script)
 }

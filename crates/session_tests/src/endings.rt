@@ -4,6 +4,8 @@ use mapmachine::Flagged;
 use sessions::{Outcome, ReadFault, check_file, run_files, serve_session};
 use std::alloc::{AllocError, Global};
 use std::str;
+use std::test::Fail;
+use test_tables::{assert_all, assert_rows};
 
 // Does what a form says, after which the name of the mapfile may stand.
 fn performed(
@@ -96,10 +98,8 @@ run|MAP END|QUERY a~x~|0 Played|fault script 2~|
 run|MAP~END~END|!|1 MapfileFault||fault line 3 kind 2~
 run|MAP END|!|1 FileFailed||fault file s.txt~
 run|!|!|1 FileFailed||fault file m.map~
-run|!|x~|1 FileFailed||fault file m.map~";
-
-// Scripts on the map of the square: an unreadable one plays nothing.
-const SCRIPTS: &str = "\
+run|!|x~|1 FileFailed||fault file m.map~
+# Scripts on the map of the square: an unreadable one plays nothing.
 run|$||0 Played||
 run|$|QUERY ~|0 Played|@|
 run|$|QUERY a~QUERY b\r~|0 Played|@@|
@@ -109,7 +109,15 @@ run|$|QUERY~|0 Played|fault script 1~|
 run|$|query a~|0 Played|fault script 1~|
 run|$|~|0 Played|fault script 1~|
 run|$|QUERY a~BATCH 0~QUERY b~|0 Played|fault script 2~|
-run|$|QUERY a~QUERY b~QUERY c~ QUERY d~|0 Played|fault script 4~|";
+run|$|QUERY a~QUERY b~QUERY c~ QUERY d~|0 Played|fault script 4~|
+# Mapfiles with the symbol of a file. The pixmap has its corner a column to the left of the point's pixel.
+session|<p.ppm>%%~QUERY ^~||0 Played|ANSWER image/x-portable-pixmap 59~50360a3420340a3235350affffffffffffffffffffffffffffff0a141effffff~ffffffffffffffffffffffffffffffffffffffffffffffffffffff~|
+session|<bad.ppm>%%~QUERY ^~||1 MapfileFault||fault line 4 kind 10~
+session|<none.ppm>%%~QUERY ^~||1 MapfileFault||fault line 4 kind 7~
+session|<P.ppm>%%~QUERY ^~||1 MapfileFault||fault line 4 kind 7~
+explain maps/m.map|MAP SYMBOL NAME s~TYPE PIXMAP~IMAGE p.ppm~END END||0 Checked|ok 0 layers 0 features~|
+explain maps/m.map|MAP SYMBOL NAME s~TYPE PIXMAP~IMAGE bad.ppm~END END||1 MapfileFault||fault line 3 kind 10~maps/m.map:3: the file that IMAGE names is no pixmap in Netpbm's P6 format of at most 256 by 256 pixels~
+explain maps/m.map|MAP SYMBOL NAME s~TYPE PIXMAP~IMAGE none.ppm~END END||1 MapfileFault||fault line 3 kind 7~maps/m.map:3: the file that IMAGE names can't be read~";
 
 /// Sessions. The last has a fault in the mapfile and one in the script.
 pub const SESSIONS: &str = "\
@@ -119,16 +127,6 @@ session|MAP END~%%~QUERY a~QUERY b~QUIT~||0 Played|fault script 3~|
 session|MAP~~~~FOO END~%%~QUERY a~||1 MapfileFault||fault line 5 kind 2~
 session|MAP~ LAYER~ TYPE BLOB~%%~||1 MapfileFault||fault line 3 kind 3~
 session|MAP~%%~QUIT~||1 MapfileFault||fault line 2 kind 4~";
-
-// Mapfiles with the symbol of a file. The pixmap has its corner a column to the left of the point's pixel.
-const SYMBOLS: &str = "\
-session|<p.ppm>%%~QUERY ^~||0 Played|ANSWER image/x-portable-pixmap 59~50360a3420340a3235350affffffffffffffffffffffffffffff0a141effffff~ffffffffffffffffffffffffffffffffffffffffffffffffffffff~|
-session|<bad.ppm>%%~QUERY ^~||1 MapfileFault||fault line 4 kind 10~
-session|<none.ppm>%%~QUERY ^~||1 MapfileFault||fault line 4 kind 7~
-session|<P.ppm>%%~QUERY ^~||1 MapfileFault||fault line 4 kind 7~
-explain maps/m.map|MAP SYMBOL NAME s~TYPE PIXMAP~IMAGE p.ppm~END END||0 Checked|ok 0 layers 0 features~|
-explain maps/m.map|MAP SYMBOL NAME s~TYPE PIXMAP~IMAGE bad.ppm~END END||1 MapfileFault||fault line 3 kind 10~maps/m.map:3: the file that IMAGE names is no pixmap in Netpbm's P6 format of at most 256 by 256 pixels~
-explain maps/m.map|MAP SYMBOL NAME s~TYPE PIXMAP~IMAGE none.ppm~END END||1 MapfileFault||fault line 3 kind 7~maps/m.map:3: the file that IMAGE names can't be read~";
 
 // Whether a form ends as its row says, however many bytes its streams move at once.
 fn is_ended(alloc: Global, line: &str) -> Result<bool, AllocError> {
@@ -145,36 +143,58 @@ fn is_ended(alloc: Global, line: &str) -> Result<bool, AllocError> {
 }
 
 #[test]
-fn forms_end_as_they_should(rt: HostRuntime) {
-    for (table, count) in [(FORMS, 20), (SCRIPTS, 10), (SESSIONS, 6), (SYMBOLS, 7)] {
-        assert_eq!(rt; table.lines().count(), count);
-        for row in table.lines() {
-            assert_eq!(rt; is_ended(rt.alloc(), row), Ok(true), "{row}");
-        }
+fn forms_end_as_they_should(rt: HostRuntime) -> Result<(), Fail> {
+    assert_all(rt.alloc(), FORMS, 37, is_ended)
+}
+
+#[test]
+fn sessions_end_as_they_should(rt: HostRuntime) -> Result<(), Fail> {
+    assert_all(rt.alloc(), SESSIONS, 6, is_ended)
+}
+
+// The statuses of some outcomes, and the messages of faults.
+const TOLD: &str = "\
+Played 0, Checked 0, Served 0=ends
+MapfileFault 1, FileFailed 1, WordsRefused 2=refusals
+InputFailed 3, OutputFailed 3, NoMemory 4=failures
+the reader failed, out of memory=messages";
+
+// The statuses of three outcomes.
+fn statuses(alloc: Global, outcomes: [Outcome; 3]) -> Result<String, AllocError> {
+    let [one, two, three] = outcomes;
+    format!(in alloc;
+        "{one:?} {}, {two:?} {}, {three:?} {}",
+        one.status(),
+        two.status(),
+        three.status()
+    )
+}
+
+// What is told of a row's outcomes or faults.
+fn told(alloc: Global, row: &str) -> Result<String, AllocError> {
+    match row {
+        "ends" => statuses(alloc, [Outcome::Played, Outcome::Checked, Outcome::Served]),
+        "refusals" => statuses(
+            alloc,
+            [
+                Outcome::MapfileFault,
+                Outcome::FileFailed,
+                Outcome::WordsRefused,
+            ],
+        ),
+        "failures" => statuses(
+            alloc,
+            [
+                Outcome::InputFailed,
+                Outcome::OutputFailed,
+                Outcome::NoMemory,
+            ],
+        ),
+        _ => format!(in alloc; "{}, {}", ReadFault::Input, ReadFault::NoMemory),
     }
 }
 
 #[test]
-fn statuses_are_those_of_the_profile(rt: HostRuntime) {
-    let statuses = [
-        (Outcome::Played, 0),
-        (Outcome::Checked, 0),
-        (Outcome::MapfileFault, 1),
-        (Outcome::FileFailed, 1),
-        (Outcome::WordsRefused, 2),
-        (Outcome::InputFailed, 3),
-        (Outcome::OutputFailed, 3),
-        (Outcome::NoMemory, 4),
-    ];
-    for (outcome, status) in statuses {
-        assert_eq!(rt; outcome.status(), status, "{outcome:?}");
-    }
-}
-
-#[test]
-fn messages_are_whole(rt: HostRuntime) {
-    let Ok(text) = format!(in rt.alloc(); "{}, {}", ReadFault::Input, ReadFault::NoMemory) else {
-        panic!(rt; "out of memory");
-    };
-    assert_eq!(rt; text.as_str(), "the reader failed, out of memory");
+fn statuses_are_those_of_the_profile(rt: HostRuntime) -> Result<(), Fail> {
+    assert_rows(rt.alloc(), TOLD, '=', 4, told)
 }

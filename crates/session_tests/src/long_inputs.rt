@@ -1,10 +1,12 @@
 use crate::answers::is_answered;
 use crate::cuts::opened;
 use crate::endings::{ended, is_played};
-use crate::texts::{QUERY, SQUARE, SQUARE_MAP, SQUARE_TEXT, spelt};
+use crate::texts::{QUERY, SQUARE, SQUARE_MAP, SQUARE_TEXT, columns, spelt};
 use mapdefs::Items;
 use mapmachine::{Bytes, Event, Mime, Reply};
 use std::alloc::{AllocError, Global};
+use std::test::Fail;
+use test_tables::{assert_all, assert_rows};
 
 // A query of 100,000 bytes, most of them the zeros before a number.
 fn long_query(alloc: Global) -> Result<String, AllocError> {
@@ -13,9 +15,10 @@ fn long_query(alloc: Global) -> Result<String, AllocError> {
     QUERY.replace(alloc, "BBOX=0", bbox.as_str())
 }
 
-// Whether a script of 300 queries, a long one and a last command has what is written of them: a fault,
-// where that command has none.
-fn is_long_told(alloc: Global, last: &str, fault: &str) -> Result<bool, AllocError> {
+// Whether a script of 300 queries, a long one and a row's last command has what is written of them: the
+// row's fault, where there is such a command.
+fn is_long_told(alloc: Global, row: &str) -> Result<bool, AllocError> {
+    let (last, fault, _) = columns(row);
     let turns = spelt(alloc, "QUERY ^~QUERY a~QUERY a~")?.repeat(alloc, 100)?;
     let long = long_query(alloc)?;
     let script = format!(in alloc; "{turns}QUERY {long}\n{last}")?;
@@ -23,33 +26,33 @@ fn is_long_told(alloc: Global, last: &str, fault: &str) -> Result<bool, AllocErr
         let told = spelt(alloc, "#@@")?.repeat(alloc, 100)?;
         format!(in alloc; "{told}{SQUARE_TEXT}")?
     } else {
-        String::from_str(alloc, fault)?
+        format!(in alloc; "{fault}\n")?
     };
     Ok(long.len() == 100_000 && is_played(alloc, SQUARE_MAP, script.as_str(), text.as_str())?)
 }
 
 #[test]
-fn long_scripts_are_played_to_their_end(rt: HostRuntime) {
-    for (last, fault) in [("", ""), ("QUERY b", "fault script 302\n")] {
-        assert_eq!(rt; is_long_told(rt.alloc(), last, fault), Ok(true), "{last}");
-    }
+fn long_scripts_are_played_to_their_end(rt: HostRuntime) -> Result<(), Fail> {
+    assert_all(rt.alloc(), "|\nQUERY b|fault script 302", 2, is_long_told)
 }
 
-// Whether the square so many times, as rings of one feature, has this picture.
-fn has_rings(alloc: Global, count: usize, rows: &str) -> Result<bool, AllocError> {
-    let rings = format!(in alloc; "{SQUARE}\n")?.repeat(alloc, count)?;
+// How often the square is a ring of one feature, and the picture.
+const RINGS: &str = "\
+1000|.... .... .... ....
+1001|.... .##. .##. ....";
+
+// Whether the square as so many rings has the picture of its row.
+fn has_rings(alloc: Global, row: &str) -> Result<bool, AllocError> {
+    let (count, rows, _) = columns(row);
+    let ring = format!(in alloc; "{SQUARE}\n")?;
+    let rings = ring.repeat(alloc, count.parse().unwrap_or(0))?;
     let row = format!(in alloc; "{rings}||{rows}")?;
     is_answered(alloc, row.as_str())
 }
 
 #[test]
-fn a_thousand_rings_count_together(rt: HostRuntime) {
-    for (count, rows) in [
-        (1_000, ".... .... .... ...."),
-        (1_001, ".... .##. .##. ...."),
-    ] {
-        assert_eq!(rt; has_rings(rt.alloc(), count, rows), Ok(true), "{count}");
-    }
+fn a_thousand_rings_count_together(rt: HostRuntime) -> Result<(), Fail> {
+    assert_all(rt.alloc(), RINGS, 2, has_rings)
 }
 
 // The replies to so many pairs of a query without VERSION and one without a fault, and the sequence of
@@ -76,37 +79,46 @@ fn is_reply(reply: &Reply, number: usize) -> bool {
     }
 }
 
-#[test]
-fn machines_run_over_many_events(rt: HostRuntime) {
-    let Ok((replies, sequence)) = replies(rt.alloc(), 150) else {
-        panic!(rt; "out of memory");
-    };
-    assert_eq!(rt; (replies.len(), sequence), (300, 0));
+// How many replies there are to so many pairs of events, how many of them are right, and the sequence.
+fn told_of_replies(alloc: Global, count: &str) -> Result<String, AllocError> {
+    let (replies, sequence) = replies(alloc, count.parse().unwrap_or(0))?;
+    let mut right = 0_usize;
     for (number, reply) in replies.as_slice().iter().enumerate() {
-        assert!(rt; is_reply(reply, number), "reply {number}");
+        if is_reply(reply, number) {
+            right = right.saturating_add(1);
+        }
     }
+    let told = format!(in alloc; "{} {right} {sequence}", replies.len());
+    drop(replies);
+    told
+}
+
+#[test]
+fn machines_run_over_many_events(rt: HostRuntime) -> Result<(), Fail> {
+    assert_rows(rt.alloc(), "300 300 0=150", '=', 1, told_of_replies)
 }
 
 // Comments, blank lines and lines that are nearly those of two percent signs: 100 bytes, 5 lines.
 const TURN: &str =
     "# %%\n\n#%%\n  # a comment of some length, so that the mapfile has twenty megabytes #\n   \t           #\n";
 
+// Rests of sessions, and how they end.
+const RESTS: &str = "\
+$%%~QUERY ^~|0 Played|#|
+MAP~FOO END~|1 MapfileFault||fault line 1000002 kind 2~";
+
 // Whether a session ends so whose mapfile has 20,000,000 bytes and a million lines that describe nothing,
-// and then goes on as a row says.
-fn is_large(alloc: Global, rest: &str, expected: &str) -> Result<bool, AllocError> {
-    let (rest, expected) = (spelt(alloc, rest)?, spelt(alloc, expected)?);
+// and then goes on as its row says.
+fn is_large(alloc: Global, row: &str) -> Result<bool, AllocError> {
+    let row = spelt(alloc, row)?;
+    let (rest, expected) = row.split_once('|').unwrap_or(("", "no row"));
     let mut session = TURN.repeat(alloc, 200_000)?;
-    session.push_str(rest.as_str())?;
+    session.push_str(rest)?;
     let (found, _) = ended(alloc, "session", (session.as_str(), ""), 1_000_000, None)?;
-    Ok(TURN.len() == 100 && found.as_str() == expected.as_str())
+    Ok(TURN.len() == 100 && found.as_str() == expected)
 }
 
 #[test]
-fn large_sessions_are_played(rt: HostRuntime) {
-    for (rest, expected) in [
-        ("$%%~QUERY ^~", "0 Played|#|"),
-        ("MAP~FOO END~", "1 MapfileFault||fault line 1000002 kind 2~"),
-    ] {
-        assert_eq!(rt; is_large(rt.alloc(), rest, expected), Ok(true), "{rest}");
-    }
+fn large_sessions_are_played(rt: HostRuntime) -> Result<(), Fail> {
+    assert_all(rt.alloc(), RESTS, 2, is_large)
 }

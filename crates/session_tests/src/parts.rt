@@ -2,6 +2,7 @@ use crate::texts::columns;
 use sessions::{front_of, split_session};
 use std::alloc::{AllocError, Global};
 use std::test::Fail;
+use test_tables::{assert_all, assert_rows};
 
 // Sessions, their mapfiles and their scripts, with `~` for a line feed.
 const SESSIONS: &str = "\
@@ -24,23 +25,23 @@ fn is_parted(alloc: Global, row: &str) -> Result<bool, AllocError> {
 }
 
 #[test]
-fn sessions_part_at_their_first_such_line(rt: HostRuntime) {
-    for row in SESSIONS.lines() {
-        assert_eq!(rt; is_parted(rt.alloc(), row), Ok(true), "{row:?}");
-    }
+fn sessions_part_at_their_first_such_line(rt: HostRuntime) -> Result<(), Fail> {
+    assert_all(rt.alloc(), SESSIONS, 9, is_parted)
+}
+
+// What stands before the names of files, and their paths.
+const FRONTS: &str = "\
+=m.map
+maps/=maps/m.map
+/=/m.map
+../a/b.c/=../a/b.c/m.map
+é/=é/ü.map";
+
+fn front(alloc: Global, path: &str) -> Result<String, AllocError> {
+    String::from_str(alloc, front_of(path))
 }
 
 #[test]
 fn a_file_is_in_the_folder_before_its_name(rt: HostRuntime) -> Result<(), Fail> {
-    let rows = [
-        ("m.map", ""),
-        ("maps/m.map", "maps/"),
-        ("/m.map", "/"),
-        ("../a/b.c/m.map", "../a/b.c/"),
-        ("é/ü.map", "é/"),
-    ];
-    for (path, front) in rows {
-        assert_eq!(rt; front_of(path), front);
-    }
-    Ok(())
+    assert_rows(rt.alloc(), FRONTS, '=', 5, front)
 }

@@ -1,6 +1,8 @@
 use crate::endings::{SESSIONS, ended};
 use crate::texts::{columns, spelt};
 use std::alloc::{AllocError, Global};
+use std::test::Fail;
+use test_tables::assert_all;
 
 // Forms, the number of their output's call that fails, of those that write 5 bytes at most and of the flush
 // after them, and what becomes of it. The line of `check` has seven such calls, the fault of a script five.
@@ -27,11 +29,8 @@ fn is_failed(alloc: Global, line: &str) -> Result<bool, AllocError> {
 }
 
 #[test]
-fn outputs_that_fail_end_a_form(rt: HostRuntime) {
-    assert_eq!(rt; FAILING.lines().count(), 11);
-    for line in FAILING.lines() {
-        assert_eq!(rt; is_failed(rt.alloc(), line), Ok(true), "{line}");
-    }
+fn outputs_that_fail_end_a_form(rt: HostRuntime) -> Result<(), Fail> {
+    assert_all(rt.alloc(), FAILING, 11, is_failed)
 }
 
 // Whether some text is the front of another, and not all of it before the last call.
@@ -56,11 +55,13 @@ fn is_stop(found: &str, stream: usize, whole: &str, is_last: bool) -> bool {
     }
 }
 
-// Whether a session ends right where any call of one of its three streams fails.
-fn is_stopped(alloc: Global, line: &str, stream: usize) -> Result<bool, AllocError> {
-    let row = spelt(alloc, line)?;
-    let (_, session, rest) = columns(row.as_str());
-    let whole = rest.split_once('|').unwrap_or(("", "no row")).1;
+// Whether a session ends right where any call of that one of its streams fails.
+fn is_stopped(
+    alloc: Global,
+    session: &str,
+    stream: usize,
+    whole: &str,
+) -> Result<bool, AllocError> {
     let (_, calls) = ended(alloc, "session", (session, ""), 5, None)?;
     let count = calls.get(stream).copied().unwrap_or(0);
     for call in 0..count {
@@ -72,15 +73,20 @@ fn is_stopped(alloc: Global, line: &str, stream: usize) -> Result<bool, AllocErr
     Ok(true)
 }
 
-#[test]
-fn streams_that_fail_end_a_session(rt: HostRuntime) {
-    for line in SESSIONS.lines() {
-        for stream in 0..3 {
-            assert_eq!(rt;
-                is_stopped(rt.alloc(), line, stream),
-                Ok(true),
-                "{line}, {stream}"
-            );
+// Whether the session of a row ends right where any call of one of its three streams fails.
+fn is_stopped_anywhere(alloc: Global, line: &str) -> Result<bool, AllocError> {
+    let row = spelt(alloc, line)?;
+    let (_, session, rest) = columns(row.as_str());
+    let whole = rest.split_once('|').unwrap_or(("", "no row")).1;
+    for stream in 0..3 {
+        if !is_stopped(alloc, session, stream, whole)? {
+            return Ok(false);
         }
     }
+    Ok(true)
+}
+
+#[test]
+fn streams_that_fail_end_a_session(rt: HostRuntime) -> Result<(), Fail> {
+    assert_all(rt.alloc(), SESSIONS, 6, is_stopped_anywhere)
 }

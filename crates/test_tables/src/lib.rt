@@ -15,6 +15,8 @@ pub enum TableFault {
     NoSeparator(usize),
     /// What is told of the line, counted from 1, isn't what its row expects.
     Differs(usize, String),
+    /// The function doesn't hold of the row on this line, counted from 1.
+    Fails(usize),
     /// The table has another number of rows, this one.
     Count(usize),
     /// Out of memory.
@@ -24,6 +26,31 @@ pub enum TableFault {
 impl From<AllocError> for TableFault {
     fn from(_: AllocError) -> TableFault {
         TableFault::NoMemory
+    }
+}
+
+// Checks that a table has so many rows, and each of them, which stands on this line. A line that begins
+// with `# ` is a heading.
+fn check_each<F: Fn(usize, &str) -> Result<(), TableFault>>(
+    rows: &str,
+    count: usize,
+    check: F,
+) -> Result<(), TableFault>
+    requires { F.IsAlwaysCallable check }
+{
+    let mut found = 0_usize;
+    let mut line = 0_usize;
+    for row in rows.lines() {
+        line = line.saturating_add(1);
+        if !row.starts_with("# ") {
+            check(line, row)?;
+            found = found.saturating_add(1);
+        }
+    }
+    if found == count {
+        Ok(())
+    } else {
+        Err(TableFault::Count(found))
     }
 }
 
@@ -39,26 +66,36 @@ pub fn check_rows<F: Fn(Global, &str) -> Result<String, AllocError>>(
 ) -> Result<(), TableFault>
     requires { F.IsAlwaysCallable tell }
 {
-    let mut found = 0_usize;
-    let mut line = 0_usize;
-    for row in rows.lines() {
-        line = line.saturating_add(1);
-        if !row.starts_with("# ") {
-            let Some((expected, rest)) = row.split_once(separator) else {
-                return Err(TableFault::NoSeparator(line));
-            };
-            let told = tell(alloc, rest)?;
-            if told.as_str() != expected {
-                return Err(TableFault::Differs(line, told));
-            }
-            found = found.saturating_add(1);
+    check_each(rows, count, |line, row| {
+        let Some((expected, rest)) = row.split_once(separator) else {
+            return Err(TableFault::NoSeparator(line));
+        };
+        let told = tell(alloc, rest)?;
+        if told.as_str() == expected {
+            Ok(())
+        } else {
+            Err(TableFault::Differs(line, told))
         }
-    }
-    if found == count {
-        Ok(())
-    } else {
-        Err(TableFault::Count(found))
-    }
+    })
+}
+
+/// Checks that a table has so many rows, and that the function holds of each of them. A line that begins
+/// with `# ` is a heading.
+pub fn check_all<F: Fn(Global, &str) -> Result<bool, AllocError>>(
+    alloc: Global,
+    rows: &str,
+    count: usize,
+    holds: F,
+) -> Result<(), TableFault>
+    requires { F.IsAlwaysCallable holds }
+{
+    check_each(rows, count, |line, row| {
+        if holds(alloc, row)? {
+            Ok(())
+        } else {
+            Err(TableFault::Fails(line))
+        }
+    })
 }
 
 /// Ends a test where `check_rows` finds a fault.
@@ -72,4 +109,16 @@ pub fn assert_rows<F: Fn(Global, &str) -> Result<String, AllocError>>(
     requires { F.IsAlwaysCallable tell }
 {
     Ok(check_rows(alloc, rows, separator, count, tell)?)
+}
+
+/// Ends a test where `check_all` finds a fault.
+pub fn assert_all<F: Fn(Global, &str) -> Result<bool, AllocError>>(
+    alloc: Global,
+    rows: &str,
+    count: usize,
+    holds: F,
+) -> Result<(), Fail>
+    requires { F.IsAlwaysCallable holds }
+{
+    Ok(check_all(alloc, rows, count, holds)?)
 }
