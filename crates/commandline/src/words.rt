@@ -1,8 +1,9 @@
 ghost use Rattle.std.specs.Prelude.{◌≡◌, ◌≢◌, IfOk, IfErr, IfSome, OnOk, map, [], true, false};
-ghost use Rattle.clap.specs.Words.{app_of, fault_of, kind_of, subcommand_of, subcommand_rows_of, takes};
+ghost use Rattle.clap.specs.Words.{app_of, fault_of, kind_of, new_app, subcommand_of, subcommand_rows_of, takes, with_rule};
 ghost use Rattle.clap.specs.declared.error.kind.ErrorKind.TheVariants.{OutOfMemory};
 ghost use Rattle.clap.specs.declared.builder.command.Command.TheViews.{out-Command};
-ghost use Rattle.commandline.specs.Words.{app, check_app, run_app, port_app, serve_app, IsCommand, is_refusal};
+ghost use Rattle.commandline.specs.Forms.{IsWithForm};
+ghost use Rattle.commandline.specs.Words.{app, named_app, file_rule, check_app, run_app, port_app, serve_app, IsCommand, is_refusal};
 
 use crate::form::Command;
 use clap::error::ErrorKind;
@@ -24,20 +25,31 @@ pub enum WordsFault {
     NoMemory,
 }
 
+// A form of its name, which a mapfile's name follows.
+fn file_form<'a>(
+    alloc: Global,
+    name: &'a str,
+    about: &'a str,
+) -> Result<clap::Command<'a>, AllocError>
+    ensures app { IfOk result (λ c. app_of c ≡ with_rule (new_app name.now) file_rule) }
+    ensures local { IfOk result (λ c. (out-Command c).has_globals ≡ false) }
+{
+    let file = Arg::new(alloc, "FILE").required(true);
+    clap::Command::new(alloc, name).about(about).arg(file)
+}
+
 // The form `check --explain FILE`.
 fn check_form<'a>(alloc: Global) -> Result<clap::Command<'a>, AllocError>
     ensures app { IfOk result (λ c. app_of c ≡ check_app) }
     ensures local { IfOk result (λ c. (out-Command c).has_globals ≡ false) }
 {
-    let file = Arg::new(alloc, "FILE").required(true);
+    let about = "Reads a mapfile, and says how many layers and features it has";
+    let form = file_form(alloc, "check", about)?;
     let explain = Arg::new(alloc, "explain")
         .long("explain")
         .help("Tells the mapfile's fault in words, too")
         .action(ArgAction::SetTrue);
-    clap::Command::new(alloc, "check")
-        .about("Reads a mapfile, and says how many layers and features it has")
-        .arg(file)?
-        .arg(explain)
+    form.arg(explain)
 }
 
 // The form `run FILE SCRIPT`.
@@ -45,12 +57,8 @@ fn run_form<'a>(alloc: Global) -> Result<clap::Command<'a>, AllocError>
     ensures app { IfOk result (λ c. app_of c ≡ run_app) }
     ensures local { IfOk result (λ c. (out-Command c).has_globals ≡ false) }
 {
-    let file = Arg::new(alloc, "FILE").required(true);
-    let script = Arg::new(alloc, "SCRIPT").required(true);
-    clap::Command::new(alloc, "run")
-        .about("Plays a script on the map of a mapfile")
-        .arg(file)?
-        .arg(script)
+    let form = file_form(alloc, "run", "Plays a script on the map of a mapfile")?;
+    form.arg(Arg::new(alloc, "SCRIPT").required(true))
 }
 
 // The form `serve FILE --port PORT`, to which an option is still to come.
@@ -58,15 +66,13 @@ fn port_form<'a>(alloc: Global) -> Result<clap::Command<'a>, AllocError>
     ensures app { IfOk result (λ c. app_of c ≡ port_app) }
     ensures local { IfOk result (λ c. (out-Command c).has_globals ≡ false) }
 {
-    let file = Arg::new(alloc, "FILE").required(true);
+    let about = "Answers connections on a port of this machine";
+    let form = file_form(alloc, "serve", about)?;
     let port = Arg::new(alloc, "port")
         .long("port")
         .value_parser(value_parser!(u16))
         .default_value("8080");
-    clap::Command::new(alloc, "serve")
-        .about("Answers connections on a port of this machine")
-        .arg(file)?
-        .arg(port)
+    form.arg(port)
 }
 
 // The form `serve FILE --port PORT --connections N`.
@@ -74,24 +80,46 @@ fn serve_form<'a>(alloc: Global) -> Result<clap::Command<'a>, AllocError>
     ensures app { IfOk result (λ c. app_of c ≡ serve_app) }
     ensures local { IfOk result (λ c. (out-Command c).has_globals ≡ false) }
 {
+    let form = port_form(alloc)?;
     let connections = Arg::new(alloc, "connections")
         .long("connections")
         .value_parser(value_parser!(u32))
         .default_value("0");
-    port_form(alloc)?.arg(connections)
+    form.arg(connections)
+}
+
+// The program by its name, without forms.
+fn named<'a>(alloc: Global) -> Result<clap::Command<'a>, AllocError>
+    ensures { IfOk result (λ c. app_of c ≡ named_app) }
+{
+    let program = clap::Command::new(alloc, "mapservd").bin_name("mapservd")?;
+    Ok(program.about("Plays map requests").no_binary_name(true))
+}
+
+// The forms so far with one more, if that was made.
+fn with_form<'a>(
+    forms: clap::Command<'a>,
+    form: Result<clap::Command<'a>, AllocError>,
+) -> Result<clap::Command<'a>, AllocError>
+    ensures { IfOk result (λ c. IsWithForm forms.entry form.entry c) }
+{
+    match form {
+        Ok(form) => forms.subcommand(form),
+        Err(error) => {
+            drop(forms);
+            Err(error)
+        }
+    }
 }
 
 // All forms.
 fn forms<'a>(alloc: Global) -> Result<clap::Command<'a>, AllocError>
     ensures { IfOk result (λ c. app_of c ≡ app) }
 {
-    clap::Command::new(alloc, "mapservd")
-        .bin_name("mapservd")?
-        .about("Plays map requests")
-        .no_binary_name(true)
-        .subcommand(check_form(alloc)?)?
-        .subcommand(run_form(alloc)?)?
-        .subcommand(serve_form(alloc)?)
+    let none = named(alloc)?;
+    let one = with_form(none, check_form(alloc))?;
+    let two = with_form(one, run_form(alloc))?;
+    with_form(two, serve_form(alloc))
 }
 
 // The command of matches.

@@ -3,7 +3,7 @@ ghost use Rattle.std.specs.Option.{option_copied};
 ghost use Rattle.mapdefs.specs.ClassLimits.{IsExprWithinLimits};
 ghost use Rattle.expressions.specs.Fault.{IsStop, IsRefusal};
 ghost use Rattle.expressions.specs.Grammar.{IsLogic};
-ghost use Rattle.expressions.specs.Reading.{after_joint, after_spaced, joined, compare_at, part_of, joined_at, part_at, logic_of};
+ghost use Rattle.expressions.specs.Reading.{after_joint, after_spaced, joined, compare_at, closed, part_of, joined_at, part_at, logic_of};
 
 use crate::fault::{ExprError, ExprFault, Stop};
 use crate::operand::operand_at;
@@ -70,8 +70,13 @@ fn compare_at(alloc: Global, text: &[u8]) -> Result<(Expr, &[u8]), Stop>
         let left = left_without(&COMPARISONS, after);
         return Err(Stop::Fault { left });
     };
-    let (right, rest) = operand_at(alloc, rest)?;
-    Ok((Expr::Compare(comparison, left, right), rest))
+    match operand_at(alloc, rest) {
+        Ok((right, rest)) => Ok((Expr::Compare(comparison, left, right), rest)),
+        Err(stop) => {
+            drop(left);
+            Err(stop)
+        }
+    }
 }
 
 // What stands after spaces and a closing bracket.
@@ -84,6 +89,20 @@ fn after_bracket(text: &[u8]) -> Result<&[u8], Stop>
         None => {
             let left = left_without(&AFTER_PART, text);
             Err(Stop::Fault { left })
+        }
+    }
+}
+
+// An expression in brackets, and what stands after the one that closes it.
+fn closed(expr: Expr, rest: &[u8]) -> Result<(Expr, &[u8]), Stop>
+    ensures value { MatchResult result (λ r. closed (expr, rest.now) ≡ Some (r.0, r.1.now)) (IsStop (closed (expr, rest.now))) }
+    ensures shorter { IfOk result (λ r. length r.1.now < length rest.now) }
+{
+    match after_bracket(rest) {
+        Ok(after) => Ok((expr, after)),
+        Err(stop) => {
+            drop(expr);
+            Err(stop)
         }
     }
 }
@@ -143,7 +162,7 @@ fn part_at(alloc: Global, text: &[u8], room: usize) -> Result<(Expr, &[u8]), Sto
             return Err(Stop::Fault { left });
         }
         let (expr, rest) = joined_at(alloc, Joint::Or, rest, room - 1)?;
-        return Ok((expr, after_bracket(rest)?));
+        return closed(expr, rest);
     }
     compare_at(alloc, text)
 }
@@ -157,10 +176,11 @@ fn logic_of(alloc: Global, text: &[u8]) -> Result<Expr, Stop>
         return Err(Stop::Fault { left: text.len() });
     };
     let (expr, rest) = joined_at(alloc, Joint::Or, rest, MAX_NESTING - 1)?;
-    let rest = after_bracket(rest)?;
+    let (expr, rest) = closed(expr, rest)?;
     if rest.is_empty() {
         Ok(expr)
     } else {
+        drop(expr);
         Err(Stop::Fault { left: rest.len() })
     }
 }

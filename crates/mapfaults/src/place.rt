@@ -222,7 +222,12 @@ pub fn explain<'a>(alloc: Global, source: &'a [u8]) -> Finding<'a>
     let mut tokens = Tokens::new(source);
     match next_token(&mut tokens) {
         Ok(token) if Keyword::Map.is_at(&token) => match Walker::new(&token, alloc) {
-            Ok(mut walker) => walk(&mut walker, &mut tokens, alloc),
+            Ok(mut walker) => {
+                let found = walk(&mut walker, &mut tokens, alloc);
+                // Dropped by name, through the one drop of its type.
+                drop(walker);
+                found
+            }
             Err(_) => Finding::NoMemory,
         },
         Ok(token) => {

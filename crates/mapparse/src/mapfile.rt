@@ -74,7 +74,10 @@ pub fn wanted(alloc: Global, source: &[u8]) -> Result<Items<Text>, ParseFault>
     ensures fault { IfErr result (IsFaultOf (wanted source.now)) }
 {
     let mapfile = Mapfile::read(alloc, source)?;
-    Ok(mapfile.wanted(alloc)?)
+    let names = mapfile.wanted(alloc);
+    // Dropped by name, through the one drop of its type.
+    drop(mapfile);
+    Ok(names?)
 }
 
 /// Reads a mapfile: the map that it describes with these files, or its first fault with its line.

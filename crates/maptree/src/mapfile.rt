@@ -64,7 +64,10 @@ fn pass(source: &[u8], alloc: Global) -> Result<MapTree, ParseFault>
     let mut tokens = Tokens::new(source);
     begin(&mut tokens)?;
     let mut reader = Reader::new(alloc)?;
-    read_tokens(&mut reader, &mut tokens, alloc)
+    let found = read_tokens(&mut reader, &mut tokens, alloc);
+    // Dropped by name, through the one drop of its type.
+    drop(reader);
+    found
 }
 
 /// Reads a mapfile in one pass: what its blocks say, or its first fault with its line.

@@ -1,24 +1,18 @@
 use Rattle.std.proofs.Common.{◌≡◌, ◌∙◌, ap, false, true}
 use Rattle.std.proofs.lemmas.Result.{IfOk-weaker}
-use Rattle.clap.specs.Simple.{app_of_fields}
 use Rattle.clap.specs.Words.{Rule, rule_of}
 use Rattle.clap.specs.declared.builder.arg.Arg.{Arg}
-use Rattle.commandline.specs.Words.{file_rule, script_rule}
+use Rattle.commandline.specs.Words.{script_rule}
 use Rattle.commandline.proofs.Forms.{added, stays-local}
 use Rattle.commandline.proofs.words.run_form.Goals as goal
 
 pub returns-clause-app : goal.returns-clause-app
 returns-clause-app c =
-    let file : rule_of c.required-file.result ≡ file_rule = ap rule_of c.required-file.ensures ∙ ap (λ (r : Rule). record r { required = true }) c.new.ensures.rule in
-    let script : rule_of c.required-script.result ≡ script_rule = ap rule_of c.required-script.ensures ∙ ap (λ (r : Rule). record r { required = true }) c.new-2.ensures.rule in
-    let file-local : c.required-file.result.global ≡ false = ap (λ (a : Arg). a.global) c.required-file.ensures ∙ c.new.ensures.optional.1 in
-    let script-local : c.required-script.result.global ≡ false = ap (λ (a : Arg). a.global) c.required-script.ensures ∙ c.new-2.ensures.optional.1 in
-    let first = added _ _ _ _ _ (ap app_of_fields c.about.ensures ∙ c.new-3.ensures.app) file file-local c.in_ok-arg.ensures in
-    IfOk-weaker c.arg-2.result _ _ (λ r adds. added _ _ _ _ _ first script script-local adds) c.arg-2.ensures
+    let script : rule_of c.required.result ≡ script_rule = ap rule_of c.required.ensures ∙ ap (λ (r : Rule). record r { required = true }) c.new.ensures.rule in
+    let local : c.required.result.global ≡ false = ap (λ (a : Arg). a.global) c.required.ensures ∙ c.new.ensures.optional.1 in
+    IfOk-weaker c.arg.result _ _ (λ r adds. added _ _ _ _ _ c.in_ok-form.ensures.app script local adds) c.arg.ensures
 
 pub returns-clause-local : goal.returns-clause-local
 returns-clause-local c =
-    let file-local : c.required-file.result.global ≡ false = ap (λ (a : Arg). a.global) c.required-file.ensures ∙ c.new.ensures.optional.1 in
-    let script-local : c.required-script.result.global ≡ false = ap (λ (a : Arg). a.global) c.required-script.ensures ∙ c.new-2.ensures.optional.1 in
-    let first = stays-local _ _ _ (ap (λ a. a.has_globals) c.about.ensures ∙ c.new-3.ensures.local) file-local c.in_ok-arg.ensures in
-    IfOk-weaker c.arg-2.result _ _ (λ r adds. stays-local _ _ _ first script-local adds) c.arg-2.ensures
+    let local : c.required.result.global ≡ false = ap (λ (a : Arg). a.global) c.required.ensures ∙ c.new.ensures.optional.1 in
+    IfOk-weaker c.arg.result _ _ (λ r adds. stays-local _ _ _ c.in_ok-form.ensures.local local adds) c.arg.ensures

@@ -18,10 +18,10 @@ returns-clause-app c =
     ) in
     let local : c.default_value-connections.result.global ≡ false =
     ap (λ (a : Arg). a.global) c.default_value-connections.ensures ∙ ap (λ (a : Arg). a.global) c.value_parser-2.ensures.others ∙ ap (λ (a : Arg). a.global) c.long.ensures ∙ c.new.ensures.optional.1 in
-    IfOk-weaker c.arg.result _ _ (λ r adds. added _ _ _ _ _ c.in_ok-port_form.ensures.app connections local adds) c.arg.ensures
+    IfOk-weaker c.arg.result _ _ (λ r adds. added _ _ _ _ _ c.in_ok-form.ensures.app connections local adds) c.arg.ensures
 
 pub returns-clause-local : goal.returns-clause-local
 returns-clause-local c =
     let local : c.default_value-connections.result.global ≡ false =
     ap (λ (a : Arg). a.global) c.default_value-connections.ensures ∙ ap (λ (a : Arg). a.global) c.value_parser-2.ensures.others ∙ ap (λ (a : Arg). a.global) c.long.ensures ∙ c.new.ensures.optional.1 in
-    IfOk-weaker c.arg.result _ _ (λ r adds. stays-local _ _ _ c.in_ok-port_form.ensures.local local adds) c.arg.ensures
+    IfOk-weaker c.arg.result _ _ (λ r adds. stays-local _ _ _ c.in_ok-form.ensures.local local adds) c.arg.ensures

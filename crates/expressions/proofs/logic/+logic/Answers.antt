@@ -1,10 +1,10 @@
-use Rattle.std.proofs.Common.{◌≡◌, ◌-◌, ◌∷◌, [], ◌++◌, length, Some, codes, sym, ◌∙◌, ap, arith, length-append}
+use Rattle.std.proofs.Common.{◌≡◌, ◌-◌, ◌∷◌, [], ◌++◌, length, Some, sym, ◌∙◌, ap, arith, length-append}
 use Rattle.std.proofs.lemmas.Result.{err_from_is_err_and}
 use Rattle.std.specs.Option.{option_copied}
 use Rattle.mapdefs.specs.declared.expr.Expr.TheVariants.{Not}
 use Rattle.expressions.specs.declared.logic.Joint.TheVariants.{Or}
-use Rattle.expressions.specs.Reading.{part_of, joined_at, part_at, after_spaced}
-use Rattle.expressions.proofs.Parts.{goes_on, joined_by-none, joined_by-alone, joined_by-more, goes_on-none, goes_on-ends, goes_on-more, stop-by, part_at-not, part_at-deep-not, part_at-open, part_at-deep-open, part_at-compare, closed-none, closed-some}
+use Rattle.expressions.specs.Reading.{part_of, joined_at, part_at}
+use Rattle.expressions.proofs.Parts.{goes_on, joined_by-none, joined_by-alone, joined_by-more, goes_on-none, goes_on-ends, goes_on-more, stop-by, part_at-not, part_at-deep-not, part_at-open, part_at-deep-open, part_at-compare}
 use Rattle.expressions.proofs.logic.+logic.Goals as goal
 
 pub joined_at-returns-in_err-first-clause-value : goal.joined_at-returns-in_err-first-clause-value
@@ -96,18 +96,10 @@ part_at-returns-in_err-expr-clause-value t c =
     (λ none. part_at-open c.args.room c.args.text.now c.in-Some-after_spaced.rest.now (omega arith) (sym c.after_either.ensures.value ∙ ap option_copied c.in_default.is) (sym c.in-Some-after_spaced.ensures.value) ∙ rw none)
     c.in_err-expr.ensures.value)
 
-pub part_at-returns-in_err-after_bracket-clause-value : goal.part_at-returns-in_err-after_bracket-clause-value
-part_at-returns-in_err-after_bracket-clause-value t c =
-    let p = err_from_is_err_and c.from_residual-in_err-after_bracket.result c.from_residual-in_err-after_bracket.ensures.1 in
-    rw (p.1, p.2) (stop-by (after_spaced (codes ")") c.in_ok-expr.rest.now) (part_at c.args.room c.args.text.now) _
-    (λ none. part_at-open c.args.room c.args.text.now c.in-Some-after_spaced.rest.now (omega arith) (sym c.after_either.ensures.value ∙ ap option_copied c.in_default.is) (sym c.in-Some-after_spaced.ensures.value)
-    ∙ rw c.in_ok-expr.ensures.value (closed-none c.in_ok-expr.expr c.in_ok-expr.rest.now none))
-    c.in_err-after_bracket.ensures.value)
-
 pub part_at-returns-in-Some-after_spaced-clause-value : goal.part_at-returns-in-Some-after_spaced-clause-value
 part_at-returns-in-Some-after_spaced-clause-value t c =
-    part_at-open c.args.room c.args.text.now c.in-Some-after_spaced.rest.now (omega arith) (sym c.after_either.ensures.value ∙ ap option_copied c.in_default.is) (sym c.in-Some-after_spaced.ensures.value)
-    ∙ rw c.in_ok-expr.ensures.value (closed-some c.in_ok-expr.expr c.in_ok-expr.rest.now c.in_ok-after_bracket.field-0.now c.in_ok-after_bracket.ensures.value)
+    let opened = part_at-open c.args.room c.args.text.now c.in-Some-after_spaced.rest.now (omega arith) (sym c.after_either.ensures.value ∙ ap option_copied c.in_default.is) (sym c.in-Some-after_spaced.ensures.value) in
+    rw (opened, c.in_ok-expr.ensures.value) c.closed.ensures.value
 
 pub part_at-returns-clause-value : goal.part_at-returns-clause-value
 part_at-returns-clause-value t c =
