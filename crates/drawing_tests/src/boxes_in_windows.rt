@@ -232,7 +232,9 @@ fn tell_twice(
 
 // What is told of boxes that a sequence from that number on makes.
 fn of_sequence(alloc: Global, number: &str) -> Result<String, AllocError> {
-    let mut state = number.parse::<u64>().unwrap_or(0);
+    let Ok(mut state) = number.parse::<u64>() else {
+        return String::from_str(alloc, "malformed");
+    };
     let mut list = some_boxes(alloc, &mut state, 5_000)?;
     let mut grid = Grid::build(alloc, Vec::from_slice(alloc, &list)?)?;
     let mut text = String::new(alloc);

@@ -217,7 +217,10 @@ fn longest_line(alloc: Global, width: i64) -> Result<Line, AllocError> {
 
 // The last row of the widest picture, of that line.
 fn last_row(alloc: Global, width: &str) -> Result<String, AllocError> {
-    let line = longest_line(alloc, width.parse::<i64>().unwrap_or(7))?;
+    let Ok(width) = width.parse::<i64>() else {
+        return String::from_str(alloc, "malformed");
+    };
+    let line = longest_line(alloc, width)?;
     let mut spans = Spans::new(alloc);
     line.row(2_047, side(2_048), &mut spans)?;
     let mut text = String::new(alloc);
