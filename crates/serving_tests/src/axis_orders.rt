@@ -1,7 +1,7 @@
-use crate::rows::assert_row;
-use crsaxes::{AxisFault, Crs, bbox};
+use crsaxes::bbox;
 use std::alloc::{AllocError, Global};
 use std::test::Fail;
+use test_tables::assert_rows;
 
 // The west, south, east and north side in millionths of a degree, or the fault, `=`, a system, `=` and a
 // text. A line that begins with `# ` is a heading.
@@ -39,43 +39,14 @@ fn told(alloc: Global, crs: &str, text: &str) -> Result<String, AllocError> {
     }
 }
 
-#[test]
-fn boxes_are_read_in_the_axis_order(rt: HostRuntime) -> Result<(), Fail> {
-    let mut asserted = 0_usize;
-    for row in BOXES.lines() {
-        if !row.starts_with("# ") {
-            let (expected, row) = row.split_once('=').ok_or("a row without a system")?;
-            let (crs, text) = row.split_once('=').ok_or("a row without a text")?;
-            let told = told(rt.alloc(), crs, text)?;
-            assert_row(&rt, told.as_str(), expected, row);
-            asserted = asserted.saturating_add(1);
-        }
-    }
-    assert_eq!(rt; asserted, 20);
-    Ok(())
+fn rows_of_boxes(alloc: Global, row: &str) -> Result<String, AllocError> {
+    let Some((crs, text)) = row.split_once('=') else {
+        return String::from_str(alloc, "malformed");
+    };
+    told(alloc, crs, text)
 }
 
 #[test]
-fn faults_are_told_in_words(rt: HostRuntime) -> Result<(), Fail> {
-    let messages = [
-        (
-            AxisFault::UnknownCrs,
-            "not a known coordinate reference system",
-        ),
-        (AxisFault::NotFour, "not four numbers between commas"),
-        (
-            AxisFault::NotANumber,
-            "a number that can't be read, or beyond 1,000 degrees",
-        ),
-        (AxisFault::Empty, "a box without an area"),
-    ];
-    for (i, (fault, message)) in messages.iter().enumerate() {
-        let text = format!(in rt.alloc(); "{fault}")?;
-        assert_row(&rt, text.as_str(), message, message);
-        for (j, (other, _)) in messages.iter().enumerate() {
-            assert_eq!(rt; fault == other, i == j);
-        }
-    }
-    assert_ne!(rt; Crs::Crs84, Crs::Epsg4326);
-    Ok(())
+fn boxes_are_read_in_the_axis_order(rt: HostRuntime) -> Result<(), Fail> {
+    assert_rows(rt.alloc(), BOXES, '=', 20, rows_of_boxes)
 }

@@ -1,57 +1,11 @@
+use crate::narrow::holding_nothing;
 use geom::{Micro, WorldBox};
 use httpedge::{Asks, Busy, Conn, EdgeFault, Outcome, Refusal, exchange, respond};
 use mapdefs::{Items, Map, MapFields, Text};
 use mapmachine::{Answer, Flagged, Machine, Mime};
 use std::alloc::{AllocError, Global};
-use std::io::{self, Read, Write};
 use std::test::Fail;
-
-// A reader in memory: it gives so many bytes at once, and the call of a number fails, counted from 1.
-#[derive(Drop)]
-struct Reader<'a> {
-    left: &'a [u8],
-    at_once: usize,
-    calls: usize,
-    failing: usize,
-}
-
-impl Read for Reader<'_> {
-    fn read(&mut self, room: &mut [u8]) -> io::Result<usize> {
-        self.calls = self.calls.saturating_add(1);
-        if self.calls == self.failing {
-            return Err(io::Error::from(io::ErrorKind::Other));
-        }
-        let count = self.at_once.min(room.len()).min(self.left.len());
-        let (given, left) = self.left.split_at(count);
-        room[..count].copy_from_slice(given);
-        self.left = left;
-        Ok(count)
-    }
-}
-
-// A writer in memory: it takes so many bytes at once, and fails after so many.
-#[derive(Drop)]
-struct Writer {
-    held: Vec<u8>,
-    at_once: usize,
-    most: usize,
-}
-
-impl Write for Writer {
-    fn write(&mut self, bytes: &[u8]) -> io::Result<usize> {
-        let room = self.most.saturating_sub(self.held.len());
-        if room == 0 {
-            return Err(io::Error::from(io::ErrorKind::Other));
-        }
-        let count = self.at_once.min(room).min(bytes.len());
-        self.held.extend_from_slice(&bytes[..count])?;
-        Ok(count)
-    }
-
-    fn flush(&mut self) -> io::Result<()> {
-        Ok(())
-    }
-}
+use test_tables::assert_rows;
 
 // The machine of a map without layers.
 fn machine(alloc: Global) -> Machine {
@@ -120,17 +74,14 @@ fn exchanged<A: Asks>(
     asks: &mut A,
 ) -> Result<Done, AllocError> {
     let mut conn = Conn::new(alloc)?;
-    let mut reader = Flagged::new(Reader {
-        left: stream,
-        at_once: way.reads,
-        calls: 0,
-        failing: way.failing_read,
-    });
-    let mut writer = Flagged::new(Writer {
-        held: Vec::new(alloc),
-        at_once: way.writes,
-        most: way.written,
-    });
+    // no call has the number 0, so that none fails then
+    let calls = way.failing_read.wrapping_sub(1);
+    let mut inner = holding_nothing(alloc, stream, way.reads, calls);
+    inner.calls_after = usize::MAX;
+    let mut reader = Flagged::new(inner);
+    let mut inner = holding_nothing(alloc, b"", way.writes, usize::MAX);
+    inner.room = way.written;
+    let mut writer = Flagged::new(inner);
     let result = exchange(&mut conn, &mut reader, &mut writer, asks);
     Ok(Done {
         result,
@@ -170,9 +121,9 @@ fn is_cut(done: &Done, fault: EdgeFault, held: &[u8]) -> bool {
         && done.held.as_slice() == held
 }
 
-#[test]
-fn streams_are_answered_however_they_are_cut(rt: HostRuntime) -> Result<(), Fail> {
-    let mut machine = machine(rt.alloc());
+// How many exchanges answer a stream whole that comes and goes in pieces of many lengths.
+fn whole_exchanges(alloc: Global, machine: &mut Machine) -> Result<usize, AllocError> {
+    let mut count = 0_usize;
     for reads in 1..=31 {
         for writes in [1, 82, 83, 300] {
             let way = Way {
@@ -180,150 +131,155 @@ fn streams_are_answered_however_they_are_cut(rt: HostRuntime) -> Result<(), Fail
                 writes,
                 ..WHOLE
             };
-            let done = exchanged(rt.alloc(), HEAD, way, &mut machine)?;
-            assert!(rt; is_whole(&done, RESPONSE), "{reads} {writes}");
+            let done = exchanged(alloc, HEAD, way, machine)?;
+            count = count.saturating_add(usize::from(is_whole(&done, RESPONSE)));
         }
     }
-    assert_eq!(rt; (HEAD.len(), RESPONSE.len()), (30, 298));
-    Ok(())
+    Ok(count)
 }
 
-// Streams without an answer, and their responses.
-const REFUSALS: [(&[u8], &[u8]); 5] = [
-    (b"", b""),
-    (
-        b"GET /wms HTTP/1.1\r\nHost: x\r\n\r",
-        b"HTTP/1.1 400 Bad Request\r\nContent-Length: 0\r\nConnection: close\r\n\r\n",
-    ),
-    (
-        b"POST /wms HTTP/1.1\r\n\r\n",
-        b"HTTP/1.1 405 Method Not Allowed\r\nAllow: GET\r\nContent-Length: 0\r\nConnection: close\r\n\r\n",
-    ),
-    (
-        b"POST /x HTTP/1.1\r\n\r\n",
-        b"HTTP/1.1 405 Method Not Allowed\r\nAllow: GET\r\nContent-Length: 0\r\nConnection: close\r\n\r\n",
-    ),
-    (
-        b"GET /x HTTP/1.1\r\n\r\n",
-        b"HTTP/1.1 404 Not Found\r\nContent-Length: 0\r\nConnection: close\r\n\r\n",
-    ),
-];
-
-#[test]
-fn streams_are_refused_without_asking(rt: HostRuntime) -> Result<(), Fail> {
-    let alloc = rt.alloc();
-    let mut closed = Closed { asked: 0 };
-    for (stream, response) in REFUSALS {
-        let done = exchanged(alloc, stream, WHOLE, &mut closed)?;
-        assert!(rt; is_whole(&done, response));
-    }
-    assert_eq!(rt; closed.asked, 0);
-    Ok(())
-}
-
-#[test]
-fn busy_is_told(rt: HostRuntime) -> Result<(), Fail> {
-    let alloc = rt.alloc();
-    let mut closed = Closed { asked: 0 };
-    let done = exchanged(alloc, HEAD, WHOLE, &mut closed)?;
-    let response =
-        b"HTTP/1.1 503 Service Unavailable\r\nContent-Length: 0\r\nConnection: close\r\n\r\n";
-    assert_eq!(rt;
-        (is_whole(&done, response.as_slice()), closed.asked),
-        (true, 1)
-    );
-    Ok(())
-}
-
-#[test]
-fn failed_reads_leave_nothing_written(rt: HostRuntime) -> Result<(), Fail> {
-    let alloc = rt.alloc();
-    let mut machine = machine(alloc);
-    for failing_read in 1..=31 {
+// The first read that may fail without a trace, and whether the exchange is whole then.
+fn first_read_too_late(alloc: Global, machine: &mut Machine) -> Result<(usize, bool), AllocError> {
+    for failing_read in 1..=100 {
         let way = Way {
             reads: 1,
             failing_read,
             ..WHOLE
         };
-        let done = exchanged(alloc, HEAD, way, &mut machine)?;
-        // the head is whole after 30 reads
-        let is_right = if failing_read == 31 {
-            is_whole(&done, RESPONSE)
-        } else {
-            is_cut(&done, EdgeFault::Read, &[])
-        };
-        assert!(rt; is_right, "{failing_read}");
+        let done = exchanged(alloc, HEAD, way, machine)?;
+        if !is_cut(&done, EdgeFault::Read, &[]) {
+            return Ok((failing_read, is_whole(&done, RESPONSE)));
+        }
     }
-    Ok(())
+    Ok((0, false))
+}
+
+// How many bytes must go out for an exchange not to be cut there, and whether it is whole then.
+fn first_room_enough(alloc: Global, machine: &mut Machine) -> Result<(usize, bool), AllocError> {
+    for written in 0..=RESPONSE.len() {
+        let way = Way { written, ..WHOLE };
+        let done = exchanged(alloc, HEAD, way, machine)?;
+        let fault = EdgeFault::Write {
+            written: written as u128,
+        };
+        if !is_cut(&done, fault, &RESPONSE[..written]) {
+            return Ok((written, is_whole(&done, RESPONSE)));
+        }
+    }
+    Ok((0, false))
+}
+
+// What is told of the exchanges of a name.
+fn told_of_cuts(alloc: Global, machine: &mut Machine, name: &str) -> Result<String, AllocError> {
+    match name {
+        "pieces" => {
+            let count = whole_exchanges(alloc, machine)?;
+            format!(in alloc; "{} {} {count}", HEAD.len(), RESPONSE.len())
+        }
+        "failed reads" => format!(in alloc; "{:?}", first_read_too_late(alloc, machine)?),
+        "failed writes" => format!(in alloc; "{:?}", first_room_enough(alloc, machine)?),
+        _ => String::from_str(alloc, "malformed"),
+    }
+}
+
+fn rows_of_cuts(alloc: Global, row: &str) -> Result<String, AllocError> {
+    told_of_cuts(alloc, &mut machine(alloc), row)
+}
+
+// What is told, `|` and of which exchanges.
+const CUTS: &str = "\
+# the bytes of the head and of the response, and how many of 31 by 4 exchanges are whole
+30 298 124|pieces
+# reads before this one leave nothing written; the head is whole after 30
+(31, true)|failed reads
+# with fewer bytes it is told how many went out
+(298, true)|failed writes";
+
+#[test]
+fn streams_are_answered_or_cut_where_they_fail(rt: HostRuntime) -> Result<(), Fail> {
+    assert_rows(rt.alloc(), CUTS, '|', 3, rows_of_cuts)
+}
+
+// How often it was asked, the result, whether reading and writing failed, and the response, `|` and a stream. CR
+// is written `^` and LF `~`.
+const REFUSALS: &str = "\
+0 Ok(()) false false |
+0 Ok(()) false false HTTP/1.1 400 Bad Request^~Content-Length: 0^~Connection: close^~^~|GET /wms HTTP/1.1^~Host: x^~^
+0 Ok(()) false false HTTP/1.1 405 Method Not Allowed^~Allow: GET^~Content-Length: 0^~Connection: close^~^~|POST /wms HTTP/1.1^~^~
+0 Ok(()) false false HTTP/1.1 405 Method Not Allowed^~Allow: GET^~Content-Length: 0^~Connection: close^~^~|POST /x HTTP/1.1^~^~
+0 Ok(()) false false HTTP/1.1 404 Not Found^~Content-Length: 0^~Connection: close^~^~|GET /x HTTP/1.1^~^~
+# a busy server
+1 Ok(()) false false HTTP/1.1 503 Service Unavailable^~Content-Length: 0^~Connection: close^~^~|GET /wms HTTP/1.1^~Host: x^~^~";
+
+// A text as rows write it.
+fn written(alloc: Global, bytes: &[u8]) -> Result<String, AllocError> {
+    let text = str::from_utf8(bytes).unwrap_or("bytes that are no text");
+    let text = text.replace(alloc, '\r', "^")?;
+    text.replace(alloc, '\n', "~")
+}
+
+fn rows_of_refusals(alloc: Global, row: &str) -> Result<String, AllocError> {
+    let stream = row.replace(alloc, '^', "\r")?;
+    let stream = stream.replace(alloc, '~', "\n")?;
+    let mut closed = Closed { asked: 0 };
+    let done = exchanged(alloc, stream.as_str().as_bytes(), WHOLE, &mut closed)?;
+    let (asked, result) = (closed.asked, done.result);
+    let held = written(alloc, &done.held)?;
+    format!(in alloc;
+        "{asked} {result:?} {} {} {held}",
+        done.take_failed, done.put_failed
+    )
 }
 
 #[test]
-fn failed_writes_say_how_much_went_out(rt: HostRuntime) -> Result<(), Fail> {
-    let alloc = rt.alloc();
-    let mut machine = machine(alloc);
-    for count in 0..=298 {
-        let way = Way {
-            written: count,
-            ..WHOLE
-        };
-        let done = exchanged(alloc, HEAD, way, &mut machine)?;
-        let written = count as u128;
-        let is_right = if count == 298 {
-            is_whole(&done, RESPONSE)
-        } else {
-            is_cut(&done, EdgeFault::Write { written }, &RESPONSE[..count])
-        };
-        assert!(rt; is_right, "{count}");
-    }
-    Ok(())
+fn streams_are_refused_without_asking_and_busy_is_told(rt: HostRuntime) -> Result<(), Fail> {
+    assert_rows(rt.alloc(), REFUSALS, '|', 6, rows_of_refusals)
 }
 
 // What an outcome is written as.
-fn response(alloc: Global, outcome: &Outcome) -> Result<Vec<u8>, Fail> {
+fn response(alloc: Global, outcome: &Outcome) -> Result<String, AllocError> {
     let mut writer = Flagged::new(Vec::new(alloc));
-    respond(outcome, &mut writer)?;
-    Ok(writer.into_inner())
+    match respond(outcome, &mut writer) {
+        Ok(()) => written(alloc, &writer.into_inner()),
+        Err(fault) => format!(in alloc; "{fault}"),
+    }
 }
 
-#[test]
-fn pictures_are_written_as_they_are(rt: HostRuntime) -> Result<(), Fail> {
-    let alloc = rt.alloc();
+// What a picture of one pixel is written as.
+fn picture(alloc: Global) -> Result<String, AllocError> {
     let mut body = Vec::new(alloc);
     body.extend_from_slice(b"P6\n1 1\n255\n\x0a\x14\x1e")?;
     let outcome = Outcome::Answered(Answer {
         mime: Mime::Pixmap,
         body: Items::of(body),
     });
-    assert_eq!(rt;
-        response(alloc, &outcome)?.as_slice(),
-        b"HTTP/1.1 200 OK\r\nContent-Type: image/x-portable-pixmap\r\nContent-Length: 14\r\nConnection: close\r\n\r\nP6\n1 1\n255\n\x0a\x14\x1e".as_slice()
-    );
-    Ok(())
+    response(alloc, &outcome)
 }
 
-#[test]
-fn refusals_have_their_status(rt: HostRuntime) -> Result<(), Fail> {
-    let alloc = rt.alloc();
-    for refusal in [
-        Refusal::BadRequest,
-        Refusal::NotFound,
-        Refusal::MethodNotAllowed,
-    ] {
-        let line = format!(in alloc; "HTTP/1.1 {}\r\n", refusal.status())?;
-        let text = response(alloc, &Outcome::Refused(refusal))?;
-        assert!(rt; text.starts_with(line.as_str().as_bytes()));
+// The status of a refusal, and what it is written as.
+fn refused(alloc: Global, refusal: Refusal) -> Result<String, AllocError> {
+    let response = response(alloc, &Outcome::Refused(refusal))?;
+    format!(in alloc; "{}: {response}", refusal.status())
+}
+
+// Responses, behind their status where it is a refusal, `|` and the outcomes.
+const RESPONSES: &str = "\
+HTTP/1.1 200 OK^~Content-Type: image/x-portable-pixmap^~Content-Length: 14^~Connection: close^~^~P6~1 1~255~~\x14\x1e|picture
+400 Bad Request: HTTP/1.1 400 Bad Request^~Content-Length: 0^~Connection: close^~^~|BadRequest
+404 Not Found: HTTP/1.1 404 Not Found^~Content-Length: 0^~Connection: close^~^~|NotFound
+405 Method Not Allowed: HTTP/1.1 405 Method Not Allowed^~Allow: GET^~Content-Length: 0^~Connection: close^~^~|MethodNotAllowed";
+
+fn rows_of_responses(alloc: Global, row: &str) -> Result<String, AllocError> {
+    match row {
+        "picture" => picture(alloc),
+        "BadRequest" => refused(alloc, Refusal::BadRequest),
+        "NotFound" => refused(alloc, Refusal::NotFound),
+        "MethodNotAllowed" => refused(alloc, Refusal::MethodNotAllowed),
+        _ => String::from_str(alloc, "malformed"),
     }
-    Ok(())
 }
 
 #[test]
-fn messages_are_whole(rt: HostRuntime) -> Result<(), Fail> {
-    let fault = EdgeFault::Write { written: 98 };
-    let told = format!(in rt.alloc(); "{}, {}, {}", Busy, EdgeFault::Read, fault)?;
-    assert_eq!(rt;
-        told.as_str(),
-        "the server is busy, the reader failed, the writer failed after 98 bytes"
-    );
-    assert_ne!(rt; fault, EdgeFault::Write { written: 97 });
-    Ok(())
+fn pictures_and_refusals_are_written_with_their_status(rt: HostRuntime) -> Result<(), Fail> {
+    assert_rows(rt.alloc(), RESPONSES, '|', 4, rows_of_responses)
 }

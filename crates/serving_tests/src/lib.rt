@@ -9,11 +9,13 @@ mod exchanges;
 #[cfg(test)]
 mod map_replies;
 #[cfg(test)]
+mod messages;
+#[cfg(test)]
+mod narrow;
+#[cfg(test)]
 mod queries;
 #[cfg(test)]
 mod request_heads;
-#[cfg(test)]
-mod rows;
 #[cfg(test)]
 mod service_exceptions;
 #[cfg(test)]

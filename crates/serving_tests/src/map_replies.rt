@@ -9,8 +9,8 @@ use mapdefs::{
 };
 use mapmachine::Machine;
 use std::alloc::{AllocError, Global};
-use std::process::Abort;
 use std::test::Fail;
+use test_tables::assert_rows;
 
 // A class that paints in the colour 10 20 30, whatever the scale.
 fn class(alloc: Global) -> Result<Class, AllocError>
@@ -111,23 +111,30 @@ fn machine(alloc: Global, min: Option<Micro>, max: Option<Micro>) -> Result<Mach
 }
 
 // A bound, `-` for none.
-fn bound(text: &str) -> Result<Option<Micro>, Fail> {
+fn bound(text: &str) -> Option<Option<Micro>> {
     match text {
-        "-" => Ok(None),
-        number => Ok(Some(Micro::read(number.as_bytes(), NUMBER_LIMIT)?)),
+        "-" => Some(None),
+        number => Some(Some(Micro::read(number.as_bytes(), NUMBER_LIMIT).ok()?)),
     }
 }
 
+// The parts of a row: the first bound, the second, and how the query goes on.
+fn parts(row: &str) -> Option<(Option<Micro>, Option<Micro>, &str)> {
+    let (min, rest) = row.split_once(' ')?;
+    let (max, query) = rest.split_once(' ')?;
+    Some((bound(min)?, bound(max)?, query))
+}
+
 // A picture of 0.28 degrees in one pixel is at the scale denominator 111,319,491, and so is one of half
-// as many in half as many, whatever its height. The first bound, the second, the rest of the query, and
-// the colour of the first pixel's red, which is that of the layer, 10, or of the background.
+// as many in half as many, whatever its height. The colour of the first pixel's red, which is that of the
+// layer, 10, or of the background, then the first bound, the second, and the rest of the query.
 const PICTURES: &str = "\
-111319491 - BBOX=0,0,0.28,0.28&WIDTH=1&HEIGHT=1 10
-- 111319491 BBOX=0,0,0.28,0.28&WIDTH=1&HEIGHT=1 255
-111319491.000001 - BBOX=0,0,0.28,0.28&WIDTH=1&HEIGHT=1 255
-- 111319491.000001 BBOX=0,0,0.28,0.28&WIDTH=1&HEIGHT=1 10
-111319491 111319491.000001 BBOX=0.1,0.2,0.66,0.3&WIDTH=2&HEIGHT=3 10
-222638982 222638982.000001 BBOX=0.1,0.2,0.66,0.3&WIDTH=1&HEIGHT=2 10";
+10 111319491 - BBOX=0,0,0.28,0.28&WIDTH=1&HEIGHT=1
+255 - 111319491 BBOX=0,0,0.28,0.28&WIDTH=1&HEIGHT=1
+255 111319491.000001 - BBOX=0,0,0.28,0.28&WIDTH=1&HEIGHT=1
+10 - 111319491.000001 BBOX=0,0,0.28,0.28&WIDTH=1&HEIGHT=1
+10 111319491 111319491.000001 BBOX=0.1,0.2,0.66,0.3&WIDTH=2&HEIGHT=3
+10 222638982 222638982.000001 BBOX=0.1,0.2,0.66,0.3&WIDTH=1&HEIGHT=2";
 
 // The first pixel's red in the picture that answers a query.
 fn red_of(machine: &Machine, query: &[u8]) -> Result<Option<u8>, AllocError> {
@@ -150,14 +157,18 @@ fn red_at(
     red_of(&machine, query.as_str().as_bytes())
 }
 
+// What is told of a row: the first pixel's red.
+fn told(alloc: Global, row: &str) -> Result<String, AllocError> {
+    let Some((min, max, query)) = parts(row) else {
+        return String::from_str(alloc, "malformed");
+    };
+    match red_at(alloc, min, max, query)? {
+        Some(red) => format!(in alloc; "{red}"),
+        None => String::from_str(alloc, "no pixel"),
+    }
+}
+
 #[test]
 fn layers_are_seen_at_worked_scales(rt: HostRuntime) -> Result<(), Fail> {
-    for row in PICTURES.lines() {
-        let (min, rest) = row.split_once(' ').ok_or("no second bound")?;
-        let (max, rest) = rest.split_once(' ').ok_or("no query")?;
-        let (query, red) = rest.split_once(' ').ok_or("no colour")?;
-        let told = red_at(rt.alloc(), bound(min)?, bound(max)?, query)?;
-        assert_eq!(rt; told, Some(red.parse::<u8>()?), "{row}");
-    }
-    Ok(())
+    assert_rows(rt.alloc(), PICTURES, ' ', 6, told)
 }

@@ -1,58 +1,8 @@
-use mapmachine::{Flagged, PutFailed, Sink, Source, TakeFailed, WriteFault, put_all, put_pieces};
+use crate::narrow::{Narrow, holding_nothing};
+use mapmachine::{Flagged, Sink, Source, WriteFault, put_all, put_pieces};
 use std::alloc::{AllocError, Global};
-use std::io::{self, Read, Write};
-use std::process::Abort;
 use std::test::Fail;
-
-// A reader and a writer that gives and takes so many bytes at once, for so many calls, and then
-// fails. A write may take none instead. After a failure it goes on for so many calls.
-#[derive(Drop)]
-struct Narrow<'a> {
-    left: &'a [u8],
-    held: Vec<u8>,
-    at_once: usize,
-    calls: usize,
-    fails: bool,
-    calls_after: usize,
-}
-
-impl Narrow<'_> {
-    // How many bytes the next call moves at most.
-    fn most(&mut self) -> io::Result<usize> {
-        if self.calls > 0 {
-            self.calls -= 1;
-            return Ok(self.at_once);
-        }
-        if self.fails {
-            self.calls = self.calls_after;
-            return Err(io::Error::from(io::ErrorKind::Other));
-        }
-        Ok(0)
-    }
-}
-
-impl Read for Narrow<'_> {
-    fn read(&mut self, room: &mut [u8]) -> io::Result<usize> {
-        let count = self.most()?.min(room.len()).min(self.left.len());
-        let (given, left) = self.left.split_at(count);
-        room[..count].copy_from_slice(given);
-        self.left = left;
-        Ok(count)
-    }
-}
-
-impl Write for Narrow<'_> {
-    fn write(&mut self, bytes: &[u8]) -> io::Result<usize> {
-        let count = self.most()?.min(bytes.len());
-        self.held.extend_from_slice(&bytes[..count])?;
-        Ok(count)
-    }
-
-    fn flush(&mut self) -> io::Result<()> {
-        self.most()?;
-        Ok(())
-    }
-}
+use test_tables::assert_rows;
 
 // So many bytes, each another one than that before it.
 fn pattern(alloc: Global, len: usize) -> Result<Vec<u8>, AllocError> {
@@ -63,118 +13,9 @@ fn pattern(alloc: Global, len: usize) -> Result<Vec<u8>, AllocError> {
     Ok(bytes)
 }
 
-// A reader and a writer that holds nothing.
-fn holding_nothing(alloc: Global, left: &[u8], at_once: usize, calls: usize) -> Narrow<'_> {
-    Narrow {
-        left,
-        held: Vec::new(alloc),
-        at_once,
-        calls,
-        fails: true,
-        calls_after: 0,
-    }
-}
-
-// How many bytes are put, how many are taken at once in how many calls, and the outcome.
-const PUTS: [(usize, usize, usize, Result<(), WriteFault>); 8] = [
-    (100_000, 200_000, 1, Ok(())),
-    (100_000, 70_000, 2, Ok(())),
-    (100_000, 70_000, 1, Err(WriteFault { written: 70_000 })),
-    (100_000, 70_000, 0, Err(WriteFault { written: 0 })),
-    (101, 7, 15, Ok(())),
-    (101, 7, 14, Err(WriteFault { written: 98 })),
-    (3, 1, 2, Err(WriteFault { written: 2 })),
-    // nothing is asked for no bytes
-    (0, 5, 0, Ok(())),
-];
-
-// Whether bytes that are put into a writer have this outcome, and the writer holds those that went out.
-fn are_put(bytes: &[u8], writer: Narrow<'_>, outcome: Result<(), WriteFault>) -> bool {
-    let count = match outcome {
-        Ok(()) => bytes.len(),
-        Err(fault) => usize::try_from(fault.written).unwrap_or(usize::MAX),
-    };
-    let mut sink = Flagged::new(writer);
-    put_all(&mut sink, bytes) == outcome
-        && flags(&sink) == (outcome.is_err(), false)
-        && sink.taken() == count as u128
-        && bytes.get(..count) == Some(sink.inner().held.as_slice())
-}
-
-#[test]
-fn sinks_take_all_or_say_where_they_failed(rt: HostRuntime) -> Result<(), Fail> {
-    let alloc = rt.alloc();
-    for fails in [true, false] {
-        for (len, at_once, calls, outcome) in PUTS {
-            let bytes = pattern(alloc, len)?;
-            let mut writer = holding_nothing(alloc, &[], at_once, calls);
-            writer.fails = fails;
-            let is_right = are_put(&bytes, writer, outcome);
-            assert!(rt;
-                is_right,
-                "{len} bytes, {at_once} at once, {calls} calls, {fails}"
-            );
-        }
-    }
-    Ok(())
-}
-
-// The bytes of three pieces that went out with the first so many calls of a writer that takes 3 at once.
-const FRONTS: [usize; 5] = [0, 2, 5, 7, 8];
-
-// Whether so many bytes of the pieces go out by a writer of so many calls.
-fn are_pieces_put(writer: Narrow<'_>, calls: usize, count: usize) -> bool {
-    let written = count as u128;
-    let outcome = if calls == 4 {
-        Ok(())
-    } else {
-        Err(WriteFault { written })
-    };
-    let mut sink = Flagged::new(writer);
-    put_pieces(&mut sink, &[b"ab", b"", b"cdefg", b"h"]) == outcome
-        && (sink.put_failed(), sink.taken()) == (calls < 4, written)
-        && Some(sink.inner().held.as_slice()) == b"abcdefgh".get(..count)
-}
-
-#[test]
-fn pieces_go_out_up_to_a_failure(rt: HostRuntime) {
-    for fails in [true, false] {
-        for (calls, count) in FRONTS.into_iter().enumerate() {
-            let mut writer = holding_nothing(rt.alloc(), &[], 3, calls);
-            writer.fails = fails;
-            let is_right = are_pieces_put(writer, calls, count);
-            assert!(rt; is_right, "{calls} calls, {fails}");
-        }
-    }
-}
-
-// What the calls of a source of 100,000 bytes give, from where, and whether its flag is set then.
-const TAKES: [(usize, Result<usize, TakeFailed>, bool); 4] = [
-    (0, Ok(70_000), false),
-    (70_000, Ok(30_000), false),
-    (100_000, Ok(0), false),
-    (100_000, Err(TakeFailed), true),
-];
-
-#[test]
-fn sources_give_bytes_up_to_their_end(rt: HostRuntime) -> Result<(), Fail> {
-    let bytes = pattern(rt.alloc(), 100_000)?;
-    let mut room = pattern(rt.alloc(), 90_000)?;
-    let mut source = Flagged::new(holding_nothing(rt.alloc(), &bytes, 70_000, 4));
-    let nothing = source.take(&mut []);
-    for (from, outcome, has_failed) in TAKES {
-        let found = source.take(&mut room);
-        let count = outcome.unwrap_or(0);
-        let given = bytes.get(from..).and_then(|rest| rest.get(..count));
-        let is_right = found == outcome && room.get(..count) == given;
-        assert_eq!(rt;
-            (is_right, source.take_failed()),
-            (true, has_failed),
-            "{from}"
-        );
-    }
-    assert_eq!(rt; (nothing, source.inner().held.len()), (Ok(0), 0));
-    Ok(())
+// A number of a row, or none that a row expects.
+fn number(word: &str) -> usize {
+    word.parse::<usize>().unwrap_or(usize::MAX)
 }
 
 // Both flags: that of writing, then that of reading.
@@ -182,63 +23,217 @@ fn flags(stream: &Flagged<Narrow<'_>>) -> (bool, bool) {
     (stream.put_failed(), stream.take_failed())
 }
 
-fn assert_writing_stays_failed(rt: &impl Abort, alloc: Global) {
-    let mut inner = holding_nothing(alloc, b"nine left", 2, 0);
-    inner.calls_after = 4;
-    let mut stream = Flagged::new(inner);
-    let first = (stream.put(b"square"), flags(&stream));
-    let taken = stream.take(&mut [0; 4]);
-    let put = [stream.put(b"square"), stream.put(b"")];
-    let flushed = stream.flush();
-    assert_eq!(rt; first, (Err(PutFailed), (true, false)));
-    let then = (taken, put, flushed, flags(&stream));
-    assert_eq!(rt; then, (Ok(2), [Ok(2), Ok(0)], Ok(()), (true, false)));
+// The outcome, both flags, how many bytes went out, how many the writer holds and whether they are the
+// first, `|`, then how many bytes are put, how many are taken at once in how many calls, and whether the
+// writer fails then or takes no bytes.
+const PUTS: &str = "\
+Ok(()) (false, false) 100000 100000 true|100000 200000 1 fails
+Ok(()) (false, false) 100000 100000 true|100000 70000 2 fails
+Err(WriteFault { written: 70000 }) (true, false) 70000 70000 true|100000 70000 1 fails
+Err(WriteFault { written: 0 }) (true, false) 0 0 true|100000 70000 0 fails
+Ok(()) (false, false) 101 101 true|101 7 15 fails
+Err(WriteFault { written: 98 }) (true, false) 98 98 true|101 7 14 fails
+Err(WriteFault { written: 2 }) (true, false) 2 2 true|3 1 2 fails
+Ok(()) (false, false) 100000 100000 true|100000 200000 1 stalls
+Ok(()) (false, false) 100000 100000 true|100000 70000 2 stalls
+Err(WriteFault { written: 70000 }) (true, false) 70000 70000 true|100000 70000 1 stalls
+Err(WriteFault { written: 0 }) (true, false) 0 0 true|100000 70000 0 stalls
+Ok(()) (false, false) 101 101 true|101 7 15 stalls
+Err(WriteFault { written: 98 }) (true, false) 98 98 true|101 7 14 stalls
+Err(WriteFault { written: 2 }) (true, false) 2 2 true|3 1 2 stalls
+# nothing is asked for no bytes
+Ok(()) (false, false) 0 0 true|0 5 0 fails
+Ok(()) (false, false) 0 0 true|0 5 0 stalls";
+
+// How many bytes are put, how many are taken at once in how many calls, and whether the writer then fails.
+fn put_of(row: &str) -> Option<(usize, usize, usize, bool)> {
+    let (len, rest) = row.split_once(' ')?;
+    let (at_once, rest) = rest.split_once(' ')?;
+    let (calls, then) = rest.split_once(' ')?;
+    Some((number(len), number(at_once), number(calls), then == "fails"))
 }
 
-fn assert_reading_stays_failed(rt: &impl Abort, alloc: Global) {
-    let mut inner = holding_nothing(alloc, b"nine left", 2, 0);
-    inner.calls_after = 3;
-    let mut stream = Flagged::new(inner);
+// What is told when the bytes are put into a writer.
+fn told_of_put(alloc: Global, bytes: &[u8], writer: Narrow<'_>) -> Result<String, AllocError> {
+    let mut sink = Flagged::new(writer);
+    let outcome = put_all(&mut sink, bytes);
+    let held = sink.inner().held.as_slice();
+    let (count, is_front) = (held.len(), bytes.starts_with(held));
+    format!(in alloc;
+        "{outcome:?} {:?} {} {count} {is_front}",
+        flags(&sink),
+        sink.taken()
+    )
+}
+
+fn rows_of_puts(alloc: Global, row: &str) -> Result<String, AllocError> {
+    let Some((len, at_once, calls, fails)) = put_of(row) else {
+        return String::from_str(alloc, "malformed");
+    };
+    let bytes = pattern(alloc, len.min(200_000))?;
+    let mut writer = holding_nothing(alloc, &[], at_once, calls);
+    writer.fails = fails;
+    told_of_put(alloc, &bytes, writer)
+}
+
+#[test]
+fn sinks_take_all_or_say_where_they_failed(rt: HostRuntime) -> Result<(), Fail> {
+    assert_rows(rt.alloc(), PUTS, '|', 16, rows_of_puts)
+}
+
+// The outcome, the flag of writing, how many bytes of three pieces went out, and those that the writer holds,
+// `|`, then how many calls of 3 bytes at once it takes, and whether it fails then or takes no bytes.
+const PIECES: &str = "\
+Err(WriteFault { written: 0 }) true 0 |0 fails
+Err(WriteFault { written: 2 }) true 2 ab|1 fails
+Err(WriteFault { written: 5 }) true 5 abcde|2 fails
+Err(WriteFault { written: 7 }) true 7 abcdefg|3 fails
+Ok(()) false 8 abcdefgh|4 fails
+Err(WriteFault { written: 0 }) true 0 |0 stalls
+Err(WriteFault { written: 2 }) true 2 ab|1 stalls
+Err(WriteFault { written: 5 }) true 5 abcde|2 stalls
+Err(WriteFault { written: 7 }) true 7 abcdefg|3 stalls
+Ok(()) false 8 abcdefgh|4 stalls";
+
+const THREE_PIECES: [&[u8]; 4] = [b"ab", b"", b"cdefg", b"h"];
+
+fn rows_of_pieces(alloc: Global, row: &str) -> Result<String, AllocError> {
+    let Some((calls, then)) = row.split_once(' ') else {
+        return String::from_str(alloc, "malformed");
+    };
+    let mut writer = holding_nothing(alloc, &[], 3, number(calls));
+    writer.fails = then == "fails";
+    let mut sink = Flagged::new(writer);
+    let outcome = put_pieces(&mut sink, &THREE_PIECES);
+    let held = str::from_utf8(&sink.inner().held).unwrap_or("no text");
+    format!(in alloc; "{outcome:?} {} {} {held}", sink.put_failed(), sink.taken())
+}
+
+#[test]
+fn pieces_go_out_up_to_a_failure(rt: HostRuntime) -> Result<(), Fail> {
+    assert_rows(rt.alloc(), PIECES, '|', 10, rows_of_pieces)
+}
+
+// What no room is given, then of each of four calls the place in the bytes, what it gives, whether those
+// bytes come next, and the flag of reading, and how many bytes are held at the end, `|`, then how many
+// bytes there are, and how many are given at once in how many calls.
+const TAKES: &str = "\
+Ok(0); 0 Ok(70000) true false; 70000 Ok(30000) true false; 100000 Ok(0) true false; 100000 Err(TakeFailed) true true; 0|100000 70000 4 fails";
+
+fn told_of_takes(
+    alloc: Global,
+    source: &mut Flagged<Narrow<'_>>,
+    bytes: &[u8],
+) -> Result<String, AllocError> {
+    let mut room = vec![in alloc; 255_u8; 90_000]?;
+    let mut text = format!(in alloc; "{:?}", source.take(&mut []))?;
+    let mut from = 0_usize;
+    for _ in 0..4 {
+        let found = source.take(&mut room);
+        let count = found.unwrap_or(0);
+        let rest = bytes.get(from..).unwrap_or(&[]);
+        let is_next = room.get(..count) == rest.get(..count);
+        text = format!(in alloc;
+            "{text}; {from} {found:?} {is_next} {}",
+            source.take_failed()
+        )?;
+        from = from.saturating_add(count);
+    }
+    format!(in alloc; "{text}; {}", source.inner().held.len())
+}
+
+fn rows_of_takes(alloc: Global, row: &str) -> Result<String, AllocError> {
+    let Some((len, at_once, calls, true)) = put_of(row) else {
+        return String::from_str(alloc, "malformed");
+    };
+    let bytes = pattern(alloc, len.min(200_000))?;
+    let mut source = Flagged::new(holding_nothing(alloc, &bytes, at_once, calls));
+    told_of_takes(alloc, &mut source, &bytes)
+}
+
+#[test]
+fn sources_give_bytes_up_to_their_end(rt: HostRuntime) -> Result<(), Fail> {
+    assert_rows(rt.alloc(), TAKES, '|', 1, rows_of_takes)
+}
+
+fn told_of_writing(alloc: Global, stream: &mut Flagged<Narrow<'_>>) -> Result<String, AllocError> {
+    let first = stream.put(b"square");
+    let set = flags(stream);
+    let taken = stream.take(&mut [0; 4]);
+    let put = stream.put(b"square");
+    let nothing = stream.put(b"");
+    let flushed = stream.flush();
+    let left = flags(stream);
+    format!(in alloc; "{first:?} {set:?}, {taken:?} {put:?} {nothing:?} {flushed:?} {left:?}")
+}
+
+fn told_of_reading(alloc: Global, stream: &mut Flagged<Narrow<'_>>) -> Result<String, AllocError> {
     let first = stream.take(&mut [0; 4]);
     let put = stream.put(b"square");
-    let taken = [first, stream.take(&mut [0; 4])];
+    let second = stream.take(&mut [0; 4]);
     let flushed = stream.flush();
-    let told = (taken, put, flushed, flags(&stream));
-    assert_eq!(rt;
-        told,
-        ([Err(TakeFailed), Ok(2)], Ok(2), Ok(()), (false, true))
-    );
+    let left = flags(stream);
+    format!(in alloc; "{first:?} {put:?} {second:?} {flushed:?} {left:?}")
+}
+
+// What is told of the calls of a name.
+fn told_of_calls(
+    alloc: Global,
+    stream: &mut Flagged<Narrow<'_>>,
+    name: &str,
+) -> Result<String, AllocError> {
+    match name {
+        "writing" => told_of_writing(alloc, stream),
+        "reading" => told_of_reading(alloc, stream),
+        "no bytes" => {
+            let put = stream.put(b"");
+            format!(in alloc; "{put:?} {:?}", flags(stream))
+        }
+        "flush" => {
+            let flushed = stream.flush();
+            format!(in alloc; "{flushed:?} {:?} {}", flags(stream), stream.taken())
+        }
+        _ => String::from_str(alloc, "malformed"),
+    }
+}
+
+// After how many calls a stream fails, for how many it goes on then, and what is called.
+fn calls_of(row: &str) -> Option<(usize, usize, &str)> {
+    let (calls, rest) = row.split_once(' ')?;
+    let (calls_after, name) = rest.split_once(' ')?;
+    Some((number(calls), number(calls_after), name))
+}
+
+fn rows_of_flags(alloc: Global, row: &str) -> Result<String, AllocError> {
+    let Some((calls, calls_after, name)) = calls_of(row) else {
+        return String::from_str(alloc, "malformed");
+    };
+    let mut inner = holding_nothing(alloc, b"nine left", 2, calls);
+    inner.calls_after = calls_after;
+    told_of_calls(alloc, &mut Flagged::new(inner), name)
+}
+
+// What calls give, with both flags, `|`, then after how many calls the stream fails, for how many it goes on
+// then, and what is called.
+const STAYING: &str = "\
+# a put, the flags then, a take, a put, a put of no bytes, a flush and the flags
+Err(PutFailed) (true, false), Ok(2) Ok(2) Ok(0) Ok(()) (true, false)|0 4 writing
+# a take, a put, a take, a flush and the flags
+Err(TakeFailed) Ok(2) Ok(2) Ok(()) (false, true)|0 3 reading";
+
+#[test]
+fn each_flag_stays_as_it_was_set(rt: HostRuntime) -> Result<(), Fail> {
+    assert_rows(rt.alloc(), STAYING, '|', 2, rows_of_flags)
 }
 
 #[test]
-fn each_flag_stays_as_it_was_set(rt: HostRuntime) {
-    let alloc = rt.alloc();
-    assert_writing_stays_failed(&rt, alloc);
-    assert_reading_stays_failed(&rt, alloc);
+fn no_bytes_set_no_flag(rt: HostRuntime) -> Result<(), Fail> {
+    let row = "Ok(0) (false, false)|1 0 no bytes";
+    assert_rows(rt.alloc(), row, '|', 1, rows_of_flags)
 }
 
 #[test]
-fn no_bytes_set_no_flag(rt: HostRuntime) {
-    let mut stream = Flagged::new(holding_nothing(rt.alloc(), b"nine left", 2, 1));
-    let put = stream.put(b"");
-    assert_eq!(rt; (put, flags(&stream)), (Ok(0), (false, false)));
-}
-
-#[test]
-fn failed_flushes_set_the_flag_of_writing(rt: HostRuntime) {
-    let mut stream = Flagged::new(holding_nothing(rt.alloc(), b"nine left", 2, 0));
-    let flushed = stream.flush();
-    let told = (flushed, flags(&stream), stream.taken());
-    assert_eq!(rt; told, (Err(PutFailed), (true, false), 0));
-}
-
-#[test]
-fn messages_are_whole(rt: HostRuntime) -> Result<(), Fail> {
-    let fault = WriteFault { written: 98 };
-    let told = format!(in rt.alloc(); "{}, {}, {}", TakeFailed, PutFailed, fault)?;
-    assert_eq!(rt;
-        told.as_str(),
-        "the reader failed, the writer failed, the writer failed after 98 bytes"
-    );
-    Ok(())
+fn failed_flushes_set_the_flag_of_writing(rt: HostRuntime) -> Result<(), Fail> {
+    let row = "Err(PutFailed) (true, false) 0|0 0 flush";
+    assert_rows(rt.alloc(), row, '|', 1, rows_of_flags)
 }
