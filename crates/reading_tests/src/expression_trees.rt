@@ -1,9 +1,8 @@
-use crate::rows::assert_row;
 use expressions::{ExprError, ExprFault, read};
 use mapdefs::{Comparison, Expr, Operand};
 use std::alloc::{AllocError, Global};
-use std::process::Abort;
 use std::test::Fail;
+use test_tables::assert_rows;
 
 // How a comparison is written in the rows.
 fn sign(comparison: Comparison) -> &'static str {
@@ -77,38 +76,23 @@ fn told(alloc: Global, text: &[u8]) -> Result<String, AllocError> {
     }
 }
 
-// The bytes of letters, each the byte of its number, and `%` a line feed.
-fn bytes_of(alloc: Global, letters: &str) -> Result<Vec<u8>, Fail> {
+// The bytes of letters, each the byte of its number, or of `?` where there is none, and `%` a line feed.
+fn bytes_of(alloc: Global, letters: &str) -> Result<Vec<u8>, AllocError> {
     let mut text = Vec::new(alloc);
     for letter in letters.chars() {
         let letter = if letter == '%' { '\n' } else { letter };
-        text.push(u8::try_from(u32::from(letter))?)?;
+        text.push(u8::try_from(u32::from(letter)).unwrap_or(b'?'))?;
     }
     Ok(text)
 }
 
 // What is told of letters.
-fn told_letters(alloc: Global, letters: &str) -> Result<String, Fail> {
+fn told_letters(alloc: Global, letters: &str) -> Result<String, AllocError> {
     let text = bytes_of(alloc, letters)?;
-    Ok(told(alloc, &text)?)
+    told(alloc, &text)
 }
 
-// Asserts of that many rows what is told of their texts. A row is what is told, `~` and the letters of the
-// text. A line that begins with `# ` is a heading.
-fn assert_told(rt: &impl Abort, alloc: Global, rows: &str, count: usize) -> Result<(), Fail> {
-    let mut asserted = 0_usize;
-    for row in rows.lines() {
-        if !row.starts_with("# ") {
-            let (expected, letters) = row.split_once('~').ok_or("a row without a text")?;
-            let told = told_letters(alloc, letters)?;
-            assert_row(rt, told.as_str(), expected, row);
-            asserted = asserted.saturating_add(1);
-        }
-    }
-    assert_eq!(rt; asserted, count);
-    Ok(())
-}
-
+// What is told, `~` and the letters of the text.
 const TREES: &str = "\
 # each comparison, with and without spaces and in both cases
 [a]=1:1000000~([a]=1)
@@ -167,7 +151,7 @@ const TREES: &str = "\
 
 #[test]
 fn texts_have_worked_trees(rt: HostRuntime) -> Result<(), Fail> {
-    assert_told(&rt, rt.alloc(), TREES, 48)
+    assert_rows(rt.alloc(), TREES, '~', 48, told_letters)
 }
 
 const FAULTS: &str = "\
@@ -213,90 +197,71 @@ fault 5~(NOT )";
 
 #[test]
 fn faults_stand_at_worked_bytes(rt: HostRuntime) -> Result<(), Fail> {
-    assert_told(&rt, rt.alloc(), FAULTS, 35)
+    assert_rows(rt.alloc(), FAULTS, '~', 35, told_letters)
 }
 
-// A comparison between so many opening and closing signs.
-fn nested(alloc: Global, opens: &str, count: usize, closing: usize) -> Result<String, AllocError> {
-    let opens = opens.repeat(alloc, count)?;
+// What is told of a text, and its parts: how often a sign stands after the opening bracket, the sign, what
+// comes then, and how many brackets close it.
+const NESTED: &str = "\
+[a]=1:1000000~63*(*[a]=1*64
+fault 64~64*(*[a]=1*65
+fault 64~64*!*[a]=1*1
+(not (not (not (not (not (not (not (not (not (not (not (not (not (not (not (not (not (not (not (not (not (not (not (not (not (not (not (not (not (not (not (not (not (not (not (not (not (not (not (not (not (not (not (not (not (not (not (not (not (not (not (not (not (not (not (not (not (not (not (not (not (not (not [a]=1:1000000)))))))))))))))))))))))))))))))))))))))))))))))))))))))))))))))~63*!*[a]=1*1";
+
+// Likewise, of texts of 65,536 bytes: more than so many signs are cut.
+const LONG: &str = "\
+fault 64~65536*(**0
+fault 64~65536*!**0
+fault 1~65536*=**0
+fault 3~65536*'**0
+fault 65536~65536*[**0
+fault 65536~65536*[a]=1 OR **0";
+
+fn parts(row: &str) -> Option<(usize, &str, &str, usize)> {
+    let (count, row) = row.split_once('*')?;
+    let (sign, row) = row.split_once('*')?;
+    let (middle, closing) = row.split_once('*')?;
+    Some((
+        count.parse::<usize>().ok()?,
+        sign,
+        middle,
+        closing.parse::<usize>().ok()?,
+    ))
+}
+
+// What is told of the text of some parts, cut after 65,536 bytes.
+fn told_parts(alloc: Global, row: &str) -> Result<String, AllocError> {
+    let Some((count, sign, middle, closing)) = parts(row) else {
+        return String::from_str(alloc, "malformed");
+    };
+    let signs = sign.repeat(alloc, count)?;
     let closing = ")".repeat(alloc, closing)?;
-    format!(in alloc; "({opens}[a]=1{closing}")
+    let text = format!(in alloc; "({signs}{middle}{closing}")?;
+    let bytes = text.as_str().as_bytes();
+    told(alloc, bytes.get(..65_536).unwrap_or(bytes))
 }
-
-// What is told of it.
-fn told_nested(
-    alloc: Global,
-    opens: &str,
-    count: usize,
-    closing: usize,
-) -> Result<String, AllocError> {
-    let text = nested(alloc, opens, count, closing)?;
-    told(alloc, text.as_str().as_bytes())
-}
-
-// An opening sign, how often it stands, how many brackets close, and what is told.
-const NESTED: [(&str, usize, usize, &str); 3] = [
-    ("(", 63, 64, "[a]=1:1000000"),
-    ("(", 64, 65, "fault 64"),
-    ("!", 64, 1, "fault 64"),
-];
 
 #[test]
 fn sixty_four_brackets_may_stand_within_one_another(rt: HostRuntime) -> Result<(), Fail> {
-    for (opens, count, closing, expected) in NESTED {
-        let told = told_nested(rt.alloc(), opens, count, closing)?;
-        assert_row(&rt, told.as_str(), expected, expected);
-    }
-    let nots = nested(rt.alloc(), "!", 63, 1)?;
-    assert!(rt; read(rt.alloc(), nots.as_str().as_bytes()).is_ok());
-    Ok(())
-}
-
-// Faults of texts of 65,536 bytes: a bracket, and what is repeated after it.
-const LONG: &str = "\
-fault 64~(
-fault 64~!
-fault 1~=
-fault 3~'
-fault 65536~[
-fault 65536~[a]=1 OR\x20";
-
-// What is told of such a text.
-fn told_long(alloc: Global, repeated: &str) -> Result<String, Fail> {
-    let text = format!(in alloc; "({}", repeated.repeat(alloc, 65_536)?)?;
-    match text.as_str().as_bytes().get(..65_536) {
-        Some(text) => Ok(told(alloc, text)?),
-        None => Err("a short text".into()),
-    }
+    assert_rows(rt.alloc(), NESTED, '~', 4, told_parts)
 }
 
 #[test]
 fn long_texts_are_read_to_their_fault(rt: HostRuntime) -> Result<(), Fail> {
-    for row in LONG.lines() {
-        let (expected, repeated) = row.split_once('~').ok_or("a row without a text")?;
-        let told = told_long(rt.alloc(), repeated)?;
-        assert_row(&rt, told.as_str(), expected, row);
-    }
-    Ok(())
+    assert_rows(rt.alloc(), LONG, '~', 6, told_parts)
+}
+
+// The words of a fault and of no memory, and whether a fault equals one at another byte, and no memory.
+const ERRORS: &str = "no expression from byte 7 on; out of memory; [false, false]~";
+
+fn errors(alloc: Global, _row: &str) -> Result<String, AllocError> {
+    let at_7 = ExprFault { at: 7 };
+    let (fault, memory) = (ExprError::Fault(at_7), ExprError::NoMemory);
+    let are_equal = [at_7 == ExprFault { at: 8 }, fault == memory];
+    format!(in alloc; "{fault}; {memory}; {are_equal:?}")
 }
 
 #[test]
-fn errors_are_told_in_words(rt: HostRuntime) -> Result<(), Fail> {
-    let (fault, memory) = (ExprError::Fault(ExprFault { at: 7 }), ExprError::NoMemory);
-    let told = format!(in rt.alloc(); "{fault}; {memory}")?;
-    assert_eq!(rt;
-        told.as_str(),
-        "no expression from byte 7 on; out of memory"
-    );
-    Ok(())
-}
-
-#[test]
-fn errors_differ_where_one_field_does(rt: HostRuntime) {
-    let fault = ExprFault { at: 7 };
-    let are_equal = [
-        fault == ExprFault { at: 8 },
-        ExprError::Fault(fault) == ExprError::NoMemory,
-    ];
-    assert_eq!(rt; are_equal, [false, false]);
+fn errors_are_told_in_words_and_differ(rt: HostRuntime) -> Result<(), Fail> {
+    assert_rows(rt.alloc(), ERRORS, '~', 1, errors)
 }

@@ -1,43 +1,44 @@
 use expressions::{holds, item_value, read};
-use mapdefs::{Items, Rule, Text};
+use mapdefs::{Expr, Items, Rule, Text};
 use std::alloc::{AllocError, Global};
-use std::process::Abort;
 use std::test::Fail;
+use test_tables::assert_rows;
 
 // The names and the values of the items. Two names are equal but for their case.
 const ITEMS: &str = "a:10;t:y;e:;n:1e3;s:abc;z:-5;A:7;q:x,,y;w: 10;big:1e13";
 
 // Names and values of the items.
-fn items(alloc: Global) -> Result<(Items<Text>, Items<Text>), Fail> {
+fn items(alloc: Global) -> Result<(Items<Text>, Items<Text>), AllocError> {
     let mut names = Items::new(alloc);
     let mut values = Items::new(alloc);
     for item in ITEMS.split(';') {
-        let (name, value) = item.split_once(':').ok_or("an item without a value")?;
-        names.push(Text::from_str(alloc, name)?)?;
-        values.push(Text::from_str(alloc, value)?)?;
+        let (name, value) = item.split_once(':').unwrap_or((item, ""));
+        let (name, value) = (Text::from_str(alloc, name)?, Text::from_str(alloc, value)?);
+        names.push(name)?;
+        values.push(value)?;
     }
     Ok((names, values))
 }
 
 // Whether an expression is true of the items.
-fn truth(alloc: Global, text: &str) -> Result<bool, Fail> {
+fn is_true(alloc: Global, expr: Expr) -> Result<bool, AllocError> {
     let (names, values) = items(alloc)?;
-    let rule = Rule::Logic(read(alloc, text.as_bytes())?);
+    let rule = Rule::Logic(expr);
     Ok(holds(&rule, names.as_slice(), values.as_slice(), ""))
 }
 
-// Asserts of that many rows that their expressions are true or false of the items.
-fn assert_truths(rt: &impl Abort, alloc: Global, rows: &str, count: usize) -> Result<(), Fail> {
-    let mut asserted = 0_usize;
-    for row in rows.lines() {
-        if !row.starts_with("# ") {
-            let (expected, text) = row.split_once(' ').ok_or("a row without a text")?;
-            assert_eq!(rt; truth(alloc, text)?, expected == "yes", "{row}");
-            asserted = asserted.saturating_add(1);
+// Whether a text is an expression that is true of the items.
+fn truth(alloc: Global, text: &str) -> Result<String, AllocError> {
+    match read(alloc, text.as_bytes()) {
+        Ok(expr) => {
+            if is_true(alloc, expr)? {
+                String::from_str(alloc, "yes")
+            } else {
+                String::from_str(alloc, "no")
+            }
         }
+        Err(_) => String::from_str(alloc, "fault"),
     }
-    assert_eq!(rt; asserted, count);
-    Ok(())
 }
 
 const TRUTHS: &str = "\
@@ -125,7 +126,7 @@ yes ([none]=1 OR [a]=10)";
 
 #[test]
 fn expressions_are_true_of_worked_items(rt: HostRuntime) -> Result<(), Fail> {
-    assert_truths(&rt, rt.alloc(), TRUTHS, 75)
+    assert_rows(rt.alloc(), TRUTHS, ' ', 75, truth)
 }
 
 // Whether one of `a` and `b` holds of a value.
@@ -143,14 +144,16 @@ fn equals(alloc: Global, value: &str) -> Result<bool, AllocError> {
 }
 
 // Whether an item has that value.
-fn has_value(alloc: Global, name: &str, value: &str) -> Result<bool, Fail> {
+fn has_value(alloc: Global, name: &str, value: &str) -> Result<bool, AllocError> {
     let (names, values) = items(alloc)?;
     Ok(item_value(names.as_slice(), values.as_slice(), name) == value)
 }
 
-#[test]
-fn rules_look_at_the_class_item(rt: HostRuntime) -> Result<(), Fail> {
-    let alloc = rt.alloc();
+// Whether rules hold: all of `c`, one of two of `b` and of `c`, one of `b` and of `B`; and whether `S` is
+// `abc` and an item without a name here is empty.
+const RULES: &str = "[true, true, false, true, false, true, true]|";
+
+fn rules(alloc: Global, _row: &str) -> Result<String, AllocError> {
     let told = [
         holds(&Rule::Always, &[], &[], "c"),
         one_of_two(alloc, "b")?,
@@ -160,6 +163,10 @@ fn rules_look_at_the_class_item(rt: HostRuntime) -> Result<(), Fail> {
         has_value(alloc, "S", "abc")?,
         has_value(alloc, "x", "")?,
     ];
-    assert_eq!(rt; told, [true, true, false, true, false, true, true]);
-    Ok(())
+    format!(in alloc; "{told:?}")
+}
+
+#[test]
+fn rules_look_at_the_class_item(rt: HostRuntime) -> Result<(), Fail> {
+    assert_rows(rt.alloc(), RULES, '|', 1, rules)
 }

@@ -1,7 +1,7 @@
 mod faults;
 mod texts;
 
-use bdffont::{FontError, read};
+use bdffont::FontError;
 use std::alloc::{AllocError, Global};
 
 // A font of one glyph, whose rows are `##` and `#.`.
@@ -50,11 +50,10 @@ fn edited(alloc: Global, number: &str, text: &str) -> Result<Vec<u8>, AllocError
     Ok(source)
 }
 
-// The kind's number and the line of the fault of a file, or zeros.
-fn told(alloc: Global, source: &[u8]) -> (u8, u64) {
-    match read(alloc, source) {
-        Ok(_) => (0, 0),
-        Err(FontError::Fault(fault)) => (fault.kind.number(), fault.line),
-        Err(FontError::NoMemory) => (99, 99),
+// The kind's number and the line of a fault.
+fn told_fault(alloc: Global, error: FontError) -> Result<String, AllocError> {
+    match error {
+        FontError::Fault(fault) => format!(in alloc; "{} {}", fault.kind.number(), fault.line),
+        FontError::NoMemory => Err(AllocError),
     }
 }

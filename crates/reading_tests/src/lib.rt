@@ -3,6 +3,8 @@
 #![tactic(auto)]
 
 #[cfg(test)]
+mod apart;
+#[cfg(test)]
 mod expression_trees;
 #[cfg(test)]
 mod expression_truths;
@@ -15,6 +17,6 @@ mod mapfiles;
 #[cfg(test)]
 mod point_tables;
 #[cfg(test)]
-mod rows;
+mod tables;
 #[cfg(test)]
 mod tokens;

@@ -1,8 +1,8 @@
-ghost use Rattle.std.specs.Prelude.{◌≡◌, ◌≤◌, [], length, All, IfOk};
+ghost use Rattle.std.specs.Prelude.{◌≡◌, ◌≤◌, [], length, All};
 ghost use Rattle.mapdefs.specs.MapLimits.{LayerNamesSymbolsOf};
 ghost use Rattle.mapdefs.specs.declared.limits.TheConstants.{MAX_LAYERS};
 
-use crate::rows::assert_row;
+use crate::apart::apart;
 use geom::{Micro, PictureSide, WorldBox};
 use mapdefs::{
     BitmapBox, Items, Kind, Layer, LayerFields, MAX_BUFFER, MAX_CLASSES, MAX_DISTANCE,
@@ -12,12 +12,13 @@ use mapdefs::{
 };
 use std::alloc::{AllocError, Global};
 use std::test::Fail;
+use test_tables::assert_rows;
 
-fn layer(alloc: Global, name: &str) -> Result<Layer, AllocError>
-    ensures { IfOk result (λ l. l.classes ≡ []) }
+fn layer(alloc: Global, name: Text) -> Layer
+    ensures { result.classes ≡ [] }
 {
-    Ok(Layer::new(LayerFields {
-        name: Text::from_str(alloc, name)?,
+    Layer::new(LayerFields {
+        name,
         title: Text::of(String::new(alloc)),
         kind: Kind::Polygon,
         on: true,
@@ -32,7 +33,7 @@ fn layer(alloc: Global, name: &str) -> Result<Layer, AllocError>
         max: None,
         classes: Items::new(alloc),
         features: Items::new(alloc),
-    }))
+    })
 }
 
 fn map_of(alloc: Global, layers: Vec<Layer>) -> Map
@@ -51,133 +52,173 @@ fn map_of(alloc: Global, layers: Vec<Layer>) -> Map
 
 // A map of the layers `rivers`, `roads`, `rivers` again, and one without a name.
 fn test_map(alloc: Global) -> Result<Map, AllocError> {
-    let mut layers = Vec::new(alloc);
-    layers.push(layer(alloc, "rivers")?)?;
-    layers.push(layer(alloc, "roads")?)?;
-    layers.push(layer(alloc, "rivers")?)?;
-    layers.push(layer(alloc, "")?)?;
+    let rivers = Text::from_str(alloc, "rivers")?;
+    let roads = Text::from_str(alloc, "roads")?;
+    let others = Text::from_str(alloc, "rivers")?;
+    let unnamed = Text::of(String::new(alloc));
+    let layers = vec![in alloc;
+        layer(alloc, rivers),
+        layer(alloc, roads),
+        layer(alloc, others),
+        layer(alloc, unnamed),
+    ]?;
     Ok(map_of(alloc, layers))
 }
 
-// Names, and the indices at which they are found.
+// The index of a layer in that map.
+fn found(alloc: Global, name: &str) -> Result<String, AllocError> {
+    let map = test_map(alloc)?;
+    let index = map.find(name);
+    drop(map);
+    format!(in alloc; "{index:?}")
+}
+
+// The indices at which names are found.
 const NAMES: &str = "\
-rivers=Some(0)
-roads=Some(1)
-=Some(3)
-Rivers=None
-rivers =None
-river=None";
+Some(0)=rivers
+Some(1)=roads
+Some(3)=
+None=Rivers
+None=rivers\x20
+None=river";
 
 #[test]
 fn layers_are_found_by_the_first_of_their_names(rt: HostRuntime) -> Result<(), Fail> {
-    let map = test_map(rt.alloc())?;
-    for row in NAMES.lines() {
-        let (name, index) = row.split_once('=').ok_or("a row without an index")?;
-        let told = format!(in rt.alloc(); "{:?}", map.find(name))?;
-        assert_row(&rt, told.as_str(), index, name);
-    }
-    Ok(())
+    assert_rows(rt.alloc(), NAMES, '=', 6, found)
 }
 
-// The colour of the pixel in a column and a row of the tests' picture.
-fn colour_of(column: u8, row: u8) -> Rgb {
+// A colour with this much red and green.
+fn colour(red: u8, green: u8) -> Rgb {
     Rgb {
-        red: 10 + (column & 3),
-        green: 20 + (row & 1),
+        red,
+        green,
         blue: 30,
     }
+}
+
+// The colours of the pixels of a picture of three columns and two rows, column by column.
+fn columns(alloc: Global) -> Result<[Rgb; 6], AllocError> {
+    let pixels = Vec::from_array(
+        alloc,
+        [
+            colour(10, 20),
+            colour(11, 20),
+            colour(12, 20),
+            colour(10, 21),
+            colour(11, 21),
+            colour(12, 21),
+        ],
+    )?;
+    let picture = Picture::new(PictureFields {
+        width: PictureSide::new(3).unwrap(),
+        height: PictureSide::new(2).unwrap(),
+        pixels: Items::of(pixels),
+    });
+    Ok([
+        picture.at(0, 0),
+        picture.at(0, 1),
+        picture.at(1, 0),
+        picture.at(1, 1),
+        picture.at(2, 0),
+        picture.at(2, 1),
+    ])
+}
+
+// The colours of the columns, each with its two rows.
+const PIXELS: &str = "10 20 30, 10 21 30, 11 20 30, 11 21 30, 12 20 30, 12 21 30, =";
+
+fn told_columns(alloc: Global, _row: &str) -> Result<String, AllocError> {
+    let mut told = String::new(alloc);
+    for Rgb { red, green, blue } in columns(alloc)? {
+        write!(told, "{red} {green} {blue}, ")?;
+    }
+    Ok(told)
 }
 
 #[test]
 fn pictures_are_read_by_column_and_row(rt: HostRuntime) -> Result<(), Fail> {
-    let mut pixels = Items::new(rt.alloc());
-    for row in 0..2 {
-        for column in 0..3 {
-            pixels.push(colour_of(column, row))?;
-        }
-    }
-    assert_eq!(rt; pixels.len(), 6);
-    let picture = Picture::new(PictureFields {
-        width: PictureSide::new(3).unwrap(),
-        height: PictureSide::new(2).unwrap(),
-        pixels,
-    });
-    for row in 0..2_u8 {
-        for column in 0..3_u8 {
-            let colour = picture.at(u16::from(column), u16::from(row));
-            assert_eq!(rt; colour, colour_of(column, row), "{column} {row}");
-        }
-    }
-    Ok(())
+    assert_rows(rt.alloc(), PIXELS, '=', 1, told_columns)
 }
 
-// A definition cites the same constant as the code, so only a test can tell a wrong limit.
-#[test]
-fn limits_have_their_numbers(rt: HostRuntime) {
-    let counts = [
-        (MAX_LAYERS, 128),
-        (MAX_SYMBOLS, 64),
-        (MAX_CLASSES, 64),
-        (MAX_ITEMS, 64),
-        (MAX_FEATURES, 200_000),
-        (MAX_STYLES, 16),
-        (MAX_NESTING, 64),
-        (MAX_VERTICES, 65_536),
-        (MAX_GLYPHS, 65_536),
-    ];
-    for (limit, number) in counts {
-        assert_eq!(rt; limit, number);
+// A definition cites the same constant as the code, so only a test can tell a wrong limit. Counts, and
+// lengths in pixels with the priority.
+const LIMITS: &str = "\
+[128, 64, 64, 64, 200000, 16, 64, 65536, 65536]=counts
+[64, 32, 256, 256, 10, 64, 4096, 64]=pixels";
+
+fn limits(alloc: Global, name: &str) -> Result<String, AllocError> {
+    if name == "counts" {
+        let counts = [
+            MAX_LAYERS,
+            MAX_SYMBOLS,
+            MAX_CLASSES,
+            MAX_ITEMS,
+            MAX_FEATURES,
+            MAX_STYLES,
+            MAX_NESTING,
+            MAX_VERTICES,
+            MAX_GLYPHS,
+        ];
+        format!(in alloc; "{counts:?}")
+    } else {
+        let pixels = [
+            u16::from(MAX_TOLERANCE),
+            u16::from(MAX_LINE_WIDTH),
+            MAX_SQUARE,
+            MAX_SYMBOL_SIDE,
+            u16::from(MAX_PRIORITY),
+            u16::from(MAX_BUFFER),
+            MAX_DISTANCE,
+            u16::from(MAX_GLYPH_SIDE),
+        ];
+        format!(in alloc; "{pixels:?}")
     }
-    let pixels = [
-        (u16::from(MAX_TOLERANCE), 64),
-        (u16::from(MAX_LINE_WIDTH), 32),
-        (MAX_SQUARE, 256),
-        (MAX_SYMBOL_SIDE, 256),
-        (u16::from(MAX_PRIORITY), 10),
-        (u16::from(MAX_BUFFER), 64),
-        (MAX_DISTANCE, 4_096),
-        (u16::from(MAX_GLYPH_SIDE), 64),
-    ];
-    for (limit, number) in pixels {
-        assert_eq!(rt; limit, number);
+}
+
+#[test]
+fn limits_have_their_numbers(rt: HostRuntime) -> Result<(), Fail> {
+    assert_rows(rt.alloc(), LIMITS, '=', 2, limits)
+}
+
+fn bounds(width: u8, height: u8, xoff: i8, yoff: i8) -> BitmapBox {
+    BitmapBox {
+        width,
+        height,
+        xoff,
+        yoff,
     }
 }
 
 // Colours that differ in one component are two, as are boxes of bitmaps that differ in one number.
+const DIFFERENCES: &str = "\
+4 apart=colours
+5 apart=boxes";
+
+fn differences(alloc: Global, name: &str) -> Result<String, AllocError> {
+    if name == "colours" {
+        let bluer = Rgb {
+            blue: 31,
+            ..colour(10, 20)
+        };
+        apart(
+            alloc,
+            &[colour(10, 20), colour(11, 20), colour(10, 21), bluer],
+        )
+    } else {
+        apart(
+            alloc,
+            &[
+                bounds(6, 13, 1, -2),
+                bounds(7, 13, 1, -2),
+                bounds(6, 14, 1, -2),
+                bounds(6, 13, 2, -2),
+                bounds(6, 13, 1, -3),
+            ],
+        )
+    }
+}
+
 #[test]
-fn values_differ_where_one_field_does(rt: HostRuntime) {
-    let colour = Rgb {
-        red: 10,
-        green: 20,
-        blue: 30,
-    };
-    let others = [
-        Rgb { red: 11, ..colour },
-        Rgb {
-            green: 21,
-            ..colour
-        },
-        Rgb { blue: 31, ..colour },
-    ];
-    for other in others {
-        assert_ne!(rt; other, colour);
-    }
-    let bounds = BitmapBox {
-        width: 6,
-        height: 13,
-        xoff: 1,
-        yoff: -2,
-    };
-    let others = [
-        BitmapBox { width: 7, ..bounds },
-        BitmapBox {
-            height: 14,
-            ..bounds
-        },
-        BitmapBox { xoff: 2, ..bounds },
-        BitmapBox { yoff: -3, ..bounds },
-    ];
-    for other in others {
-        assert_ne!(rt; other, bounds);
-    }
+fn values_differ_where_one_field_does(rt: HostRuntime) -> Result<(), Fail> {
+    assert_rows(rt.alloc(), DIFFERENCES, '=', 2, differences)
 }

@@ -1,10 +1,9 @@
-use crate::rows::assert_row;
+use crate::apart::apart;
 use maplex::Shape::{List, Logic, Text, Word};
 use maplex::{LexFault, LexKind, TOKEN_LIMIT, Tail, Tokens};
 use std::alloc::{AllocError, Global};
-use std::fmt::Debug;
-use std::process::Abort;
 use std::test::Fail;
+use test_tables::assert_rows;
 
 // The first eight tokens of a source, each with its line and its shape, and its tail: `ends` and the last
 // line, or the line that is reached before the fault, the fault's kind and its line.
@@ -43,26 +42,23 @@ fn told(alloc: Global, source: &[u8]) -> Result<String, AllocError> {
     Ok(text)
 }
 
-// Asserts of that many rows what is told of their sources. A row is what is told, `~` and the source, each
-// of whose letters is the byte of its number. `|` stands for a line feed. A line that begins with `# ` is a
-// heading.
-fn assert_told(rt: &impl Abort, alloc: Global, rows: &str, count: usize) -> Result<(), Fail> {
-    let mut asserted = 0_usize;
-    for row in rows.lines() {
-        if !row.starts_with("# ") {
-            let row = row.replace(alloc, '|', "\n")?;
-            let (expected, letters) = row.split_once('~').ok_or("a row without a source")?;
-            let mut source = Vec::new(alloc);
-            for letter in letters.chars() {
-                source.push(u8::try_from(u32::from(letter))?)?;
-            }
-            let told = told(alloc, &source)?;
-            assert_row(rt, told.as_str(), expected, expected);
-            asserted = asserted.saturating_add(1);
-        }
+// The source of letters, each the byte of its number, or of `?` where there is none. `|` stands for a line
+// feed.
+fn source_of(alloc: Global, letters: &str) -> Result<Vec<u8>, AllocError> {
+    let mut source = Vec::new(alloc);
+    for letter in letters.chars() {
+        let letter = if letter == '|' { '\n' } else { letter };
+        source.push(u8::try_from(u32::from(letter)).unwrap_or(b'?'))?;
     }
-    assert_eq!(rt; asserted, count);
-    Ok(())
+    Ok(source)
+}
+
+// What is told of the source of letters, with `|` for a line feed. The rows below are this, `~` and the
+// letters.
+fn told_letters(alloc: Global, letters: &str) -> Result<String, AllocError> {
+    let source = source_of(alloc, letters)?;
+    let told = told(alloc, &source)?;
+    told.replace(alloc, '\n', "|")
 }
 
 // Sources of one line.
@@ -85,7 +81,7 @@ ends 1~#";
 
 #[test]
 fn words_and_texts_are_cut(rt: HostRuntime) -> Result<(), Fail> {
-    assert_told(&rt, rt.alloc(), ON_ONE_LINE, 12)
+    assert_rows(rt.alloc(), ON_ONE_LINE, '~', 12, told_letters)
 }
 
 const ON_LINES: &str = "\
@@ -105,7 +101,7 @@ ends 2~|
 
 #[test]
 fn lines_are_counted_by_line_feeds(rt: HostRuntime) -> Result<(), Fail> {
-    assert_told(&rt, rt.alloc(), ON_LINES, 9)
+    assert_rows(rt.alloc(), ON_LINES, '~', 9, told_letters)
 }
 
 const FAULTS: &str = "\
@@ -141,7 +137,7 @@ const FAULTS: &str = "\
 
 #[test]
 fn faults_have_worked_lines(rt: HostRuntime) -> Result<(), Fail> {
-    assert_told(&rt, rt.alloc(), FAULTS, 22)
+    assert_rows(rt.alloc(), FAULTS, '~', 22, told_letters)
 }
 
 // Logical expressions and lists. A letter before or after a bracket is a bare word.
@@ -173,7 +169,7 @@ const BRACKETS: &str = "\
 
 #[test]
 fn expressions_and_lists_are_cut(rt: HostRuntime) -> Result<(), Fail> {
-    assert_told(&rt, rt.alloc(), BRACKETS, 18)
+    assert_rows(rt.alloc(), BRACKETS, '~', 18, told_letters)
 }
 
 const BRACKET_FAULTS: &str = "\
@@ -201,7 +197,7 @@ const BRACKET_FAULTS: &str = "\
 
 #[test]
 fn expressions_and_lists_have_faults(rt: HostRuntime) -> Result<(), Fail> {
-    assert_told(&rt, rt.alloc(), BRACKET_FAULTS, 17)
+    assert_rows(rt.alloc(), BRACKET_FAULTS, '~', 17, told_letters)
 }
 
 // Bad bytes further down than their token begins, and others.
@@ -215,11 +211,12 @@ const REACHED: &str = "\
 
 #[test]
 fn a_fault_is_reached_where_its_token_begins(rt: HostRuntime) -> Result<(), Fail> {
-    assert_told(&rt, rt.alloc(), REACHED, 6)
+    assert_rows(rt.alloc(), REACHED, '~', 6, told_letters)
 }
 
-// `*` stands for 65,534 letters.
+// `*` stands for 65,534 letters. The first row has the limit itself.
 const LONG_TOKENS: &str = "\
+65536~TOKEN_LIMIT
 2 Text *aa, 2 Word b, ends 2~|'*aa' b
 2 TooLong 2~|'*aaa' b
 2 Text *aa, 2 Word b, ends 2~|\"*aa\"b
@@ -239,12 +236,25 @@ const LONG_TOKENS: &str = "\
 2 OpenString 2~|(*aaa|\x00
 2 OpenString 2~|{*aaa|\x00";
 
+// What is told of the source of letters with `*`.
+fn told_long(alloc: Global, letters: &str) -> Result<String, AllocError> {
+    let many = "a".repeat(alloc, 65_534)?;
+    let letters = letters.replace(alloc, '*', many.as_str())?;
+    let told = told_letters(alloc, letters.as_str())?;
+    told.replace(alloc, many.as_str(), "*")
+}
+
+fn told_limit(alloc: Global, letters: &str) -> Result<String, AllocError> {
+    if letters == "TOKEN_LIMIT" {
+        format!(in alloc; "{TOKEN_LIMIT}")
+    } else {
+        told_long(alloc, letters)
+    }
+}
+
 #[test]
 fn texts_have_at_most_65536_bytes(rt: HostRuntime) -> Result<(), Fail> {
-    assert_eq!(rt; TOKEN_LIMIT, 65_536);
-    let letters = "a".repeat(rt.alloc(), 65_534)?;
-    let rows = LONG_TOKENS.replace(rt.alloc(), '*', letters.as_str())?;
-    assert_told(&rt, rt.alloc(), rows.as_str(), 16)
+    assert_rows(rt.alloc(), LONG_TOKENS, '~', 17, told_limit)
 }
 
 // `<` stands for 500,000 opening brackets, `>` for as many that close.
@@ -253,77 +263,69 @@ const DEEP: &str = "\
 1 OpenString 1~(<>
 1 TooLong 1~<>";
 
+// What is told of the source of letters with `<` and `>`.
+fn told_deep(alloc: Global, letters: &str) -> Result<String, AllocError> {
+    let opening = "(".repeat(alloc, 500_000)?;
+    let closing = ")".repeat(alloc, 500_000)?;
+    let letters = letters.replace(alloc, '<', opening.as_str())?;
+    let letters = letters.replace(alloc, '>', closing.as_str())?;
+    told_letters(alloc, letters.as_str())
+}
+
 #[test]
 fn brackets_may_be_deep(rt: HostRuntime) -> Result<(), Fail> {
-    let opening = "(".repeat(rt.alloc(), 500_000)?;
-    let closing = ")".repeat(rt.alloc(), 500_000)?;
-    let rows = DEEP.replace(rt.alloc(), '<', opening.as_str())?;
-    let rows = rows.replace(rt.alloc(), '>', closing.as_str())?;
-    assert_told(&rt, rt.alloc(), rows.as_str(), 3)
+    assert_rows(rt.alloc(), DEEP, '~', 3, told_deep)
+}
+
+fn on(line: u64, kind: LexKind) -> LexFault {
+    LexFault { line, kind }
+}
+
+// The words of each kind, and of a fault. Then how many values of each type differ from all others.
+const VALUES: &str = "\
+the quoted text, expression or list that begins here is not closed~OpenString
+a bracket that closes nothing, a control character, or a byte that is not UTF-8~BadByte
+the token that begins here is longer than 65,536 bytes~TooLong
+line 7: the quoted text, expression or list that begins here is not closed~line 7
+4 apart~shapes
+3 apart~kinds
+4 apart~faults
+5 apart~tails";
+
+fn told_value(alloc: Global, name: &str) -> Result<String, AllocError> {
+    match name {
+        "OpenString" => format!(in alloc; "{}", LexKind::OpenString),
+        "BadByte" => format!(in alloc; "{}", LexKind::BadByte),
+        "TooLong" => format!(in alloc; "{}", LexKind::TooLong),
+        "line 7" => format!(in alloc; "{}", on(7, LexKind::OpenString)),
+        "shapes" => apart(alloc, &[Word, Text, Logic, List]),
+        "kinds" => apart(
+            alloc,
+            &[LexKind::OpenString, LexKind::BadByte, LexKind::TooLong],
+        ),
+        "faults" => apart(
+            alloc,
+            &[
+                on(3, LexKind::OpenString),
+                on(3, LexKind::BadByte),
+                on(3, LexKind::TooLong),
+                on(4, LexKind::OpenString),
+            ],
+        ),
+        _ => apart(
+            alloc,
+            &[
+                Tail::Ends(3),
+                Tail::Ends(4),
+                Tail::Breaks(on(3, LexKind::BadByte)),
+                Tail::Breaks(on(3, LexKind::TooLong)),
+                Tail::Breaks(on(4, LexKind::BadByte)),
+            ],
+        ),
+    }
 }
 
 #[test]
-fn faults_are_printed(rt: HostRuntime) -> Result<(), Fail> {
-    let rows = [
-        (
-            LexKind::OpenString,
-            "the quoted text, expression or list that begins here is not closed",
-        ),
-        (
-            LexKind::BadByte,
-            "a bracket that closes nothing, a control character, or a byte that is not UTF-8",
-        ),
-        (
-            LexKind::TooLong,
-            "the token that begins here is longer than 65,536 bytes",
-        ),
-    ];
-    for (kind, message) in rows {
-        let printed = format!(in rt.alloc(); "{kind}")?;
-        assert_row(&rt, printed.as_str(), message, message);
-    }
-    let fault = LexFault {
-        line: 7,
-        kind: LexKind::OpenString,
-    };
-    let printed = format!(in rt.alloc(); "{fault}")?;
-    let message = "line 7: the quoted text, expression or list that begins here is not closed";
-    assert_row(&rt, printed.as_str(), message, message);
-    Ok(())
-}
-
-// Each of the values equals itself and no other.
-fn assert_apart<T: PartialEq + Debug>(rt: &impl Abort, values: &[T]) {
-    for (i, one) in values.iter().enumerate() {
-        for (j, other) in values.iter().enumerate() {
-            assert_eq!(rt; one == other, i == j, "{one:?} and {other:?}");
-        }
-    }
-}
-
-#[test]
-fn values_that_differ_in_one_field_are_unequal(rt: HostRuntime) {
-    let on = |line, kind| LexFault { line, kind };
-    assert_apart(&rt, &[Word, Text, Logic, List]);
-    assert_apart(
-        &rt,
-        &[LexKind::OpenString, LexKind::BadByte, LexKind::TooLong],
-    );
-    let faults = [
-        on(3, LexKind::OpenString),
-        on(3, LexKind::BadByte),
-        on(3, LexKind::TooLong),
-        on(4, LexKind::OpenString),
-    ];
-    assert_apart(&rt, &faults);
-    assert_apart(
-        &rt,
-        &[
-            Tail::Ends(3),
-            Tail::Ends(4),
-            Tail::Breaks(on(3, LexKind::BadByte)),
-            Tail::Breaks(on(3, LexKind::TooLong)),
-            Tail::Breaks(on(4, LexKind::BadByte)),
-        ],
-    );
+fn faults_are_printed_and_values_differ_where_one_field_does(rt: HostRuntime) -> Result<(), Fail> {
+    assert_rows(rt.alloc(), VALUES, '~', 8, told_value)
 }

@@ -1,10 +1,10 @@
-use super::{TINY, edited, told};
-use crate::rows::assert_row;
+use super::{TINY, edited, told_fault};
 use bdffont::{MAX_CHARACTERS, extent, ink, is_short, read};
 use geom::Pixel;
-use mapdefs::{BitmapBox, Font, Glyph};
+use mapdefs::{Font, Glyph};
 use std::alloc::{AllocError, Global};
 use std::test::Fail;
+use test_tables::assert_rows;
 
 // The extent of a short text.
 fn extent_of(font: &Font, text: &str) -> (u32, u32) {
@@ -35,31 +35,31 @@ fn drawn(alloc: Global, font: &Font, text: &str, at: Pixel) -> Result<String, Al
     Ok(picture)
 }
 
-// The number of a line and what stands there, a text, the column and the row of its upper left pixel,
-// and columns -1 to 5 of rows -1 to 2.
+// Columns -1 to 5 of rows -1 to 2, the number of a line and what stands there, a text, and the column and the
+// row of its upper left pixel.
 const PICTURES: &str = "\
-1|STARTFONT|A|0 0|......./.##..../.#...../.......\n\
-1|STARTFONT|AA|0 0|......./.##.##./.#..#../.......\n\
-1|STARTFONT|B|0 0|......./......./......./.......\n\
-1|STARTFONT|BA|0 0|......./.##..../.#...../.......\n\
-1|STARTFONT|A|-1 -1|##...../#....../......./.......\n\
-1|STARTFONT|A|2 1|......./......./...##../...#...\n\
-1|STARTFONT|A|-3 0|......./......./......./.......\n\
-9|DWIDTH 1 0|AA|0 0|......./.###.../.##..../.......\n\
-9|DWIDTH 0 0|AA|1 0|......./..##.../..#..../.......\n\
-10|BBX 2 2 1 0|A|0 0|......./..##.../..#..../.......\n\
-10|BBX 2 2 -1 0|A|0 0|......./##...../#....../.......\n\
-10|BBX 2 2 0 1|A|0 0|.##..../.#...../......./.......\n\
-10|BBX 2 2 0 -1|A|0 0|......./......./.##..../.#.....\n\
-4|FONTBOUNDINGBOX 2 2 9 1|A|0 0|......./......./.##..../.#.....\n\
-4|FONTBOUNDINGBOX 2 2 9 -1|A|0 0|.##..../.#...../......./.......\n\
-4|FONTBOUNDINGBOX 2 3 0 0|A|0 0|......./......./.##..../.#.....\n\
-12|40|A|0 0|......./..#..../.#...../.......\n\
-12|3F|A|0 0|......./......./.#...../.......\n\
-7|ENCODING 63|AB|0 0|......./.##.##./.#..#../.......\n\
-7|ENCODING -1 65|A|0 0|......./......./......./.......\n\
-7|ENCODING 233|é|0 0|......./.##..../.#...../.......\n\
-7|ENCODING 65;ENCODING 66|A|0 0|......./......./......./.......";
+......./.##..../.#...../.......|1|STARTFONT|A|0 0
+......./.##.##./.#..#../.......|1|STARTFONT|AA|0 0
+......./......./......./.......|1|STARTFONT|B|0 0
+......./.##..../.#...../.......|1|STARTFONT|BA|0 0
+##...../#....../......./.......|1|STARTFONT|A|-1 -1
+......./......./...##../...#...|1|STARTFONT|A|2 1
+......./......./......./.......|1|STARTFONT|A|-3 0
+......./.###.../.##..../.......|9|DWIDTH 1 0|AA|0 0
+......./..##.../..#..../.......|9|DWIDTH 0 0|AA|1 0
+......./..##.../..#..../.......|10|BBX 2 2 1 0|A|0 0
+......./##...../#....../.......|10|BBX 2 2 -1 0|A|0 0
+.##..../.#...../......./.......|10|BBX 2 2 0 1|A|0 0
+......./......./.##..../.#.....|10|BBX 2 2 0 -1|A|0 0
+......./......./.##..../.#.....|4|FONTBOUNDINGBOX 2 2 9 1|A|0 0
+.##..../.#...../......./.......|4|FONTBOUNDINGBOX 2 2 9 -1|A|0 0
+......./......./.##..../.#.....|4|FONTBOUNDINGBOX 2 3 0 0|A|0 0
+......./..#..../.#...../.......|12|40|A|0 0
+......./......./.#...../.......|12|3F|A|0 0
+......./.##.##./.#..#../.......|7|ENCODING 63|AB|0 0
+......./......./......./.......|7|ENCODING -1 65|A|0 0
+......./.##..../.#...../.......|7|ENCODING 233|é|0 0
+......./......./......./.......|7|ENCODING 65;ENCODING 66|A|0 0";
 
 // The pixel of two numbers, the column and the row.
 fn pixel(numbers: &str) -> Pixel {
@@ -69,27 +69,28 @@ fn pixel(numbers: &str) -> Pixel {
     Pixel::new(i64::from(i), i64::from(j))
 }
 
+fn parts(row: &str) -> Option<(&str, &str, &str, &str)> {
+    let (number, row) = row.split_once('|')?;
+    let (line, row) = row.split_once('|')?;
+    let (text, at) = row.split_once('|')?;
+    Some((number, line, text, at))
+}
+
 // What a font with such a line draws.
-fn drawn_in(alloc: Global, source: &[u8], text: &str, at: Pixel) -> Result<String, AllocError> {
-    match read(alloc, source) {
-        Ok(font) => drawn(alloc, &font, text, at),
+fn drawn_row(alloc: Global, row: &str) -> Result<String, AllocError> {
+    let Some((number, line, text, at)) = parts(row) else {
+        return String::from_str(alloc, "malformed");
+    };
+    let source = edited(alloc, number, line)?;
+    match read(alloc, &source) {
+        Ok(font) => drawn(alloc, &font, text, pixel(at)),
         Err(_) => String::from_str(alloc, "refused"),
     }
 }
 
 #[test]
 fn texts_are_drawn_as_worked(rt: HostRuntime) -> Result<(), Fail> {
-    let alloc = rt.alloc();
-    for row in PICTURES.lines() {
-        let (number, rest) = row.split_once('|').unwrap_or((row, ""));
-        let (line, rest) = rest.split_once('|').unwrap_or((rest, ""));
-        let (text, rest) = rest.split_once('|').unwrap_or((rest, ""));
-        let (at, expected) = rest.split_once('|').unwrap_or((rest, ""));
-        let source = edited(alloc, number, line)?;
-        let picture = drawn_in(alloc, &source, text, pixel(at))?;
-        assert_row(&rt, picture.as_str(), expected, row);
-    }
-    Ok(())
+    assert_rows(rt.alloc(), PICTURES, '|', 22, drawn_row)
 }
 
 // Seven glyphs, not by their encodings, two of them with the encoding 97 and one with a negative one.
@@ -107,6 +108,20 @@ STARTCHAR wide\nENCODING 128512\nDWIDTH 17 0\nBBX 16 1 0 0\nBITMAP\n8001\nENDCHA
 STARTCHAR space\nENCODING 32\nDWIDTH 7 0\nBBX 0 2 0 0\nBITMAP\n\n\nENDCHAR\n\
 ENDFONT\n";
 
+// Three letters of the font 6x13 of X.Org's misc-fixed, which is in the public domain.
+const LETTERS: &str = "\
+STARTFONT 2.1\n\
+FONTBOUNDINGBOX 6 13 0 -2\n\
+STARTPROPERTIES 1\nFONT_DESCENT 2\nENDPROPERTIES\n\
+CHARS 3\n\
+STARTCHAR A\nENCODING 65\nSWIDTH 480 0\nDWIDTH 6 0\nBBX 6 13 0 -2\nBITMAP\n\
+00\n00\n20\n50\n88\n88\n88\nF8\n88\n88\n88\n00\n00\nENDCHAR\n\n\
+STARTCHAR g\nENCODING 103\nSWIDTH 480 0\nDWIDTH 6 0\nBBX 6 13 0 -2\nBITMAP\n\
+00\n00\n00\n00\n00\n70\n88\n88\n88\n78\n08\n88\n70\nENDCHAR\n\n\
+STARTCHAR j\nENCODING 106\nSWIDTH 480 0\nDWIDTH 6 0\nBBX 6 13 0 -2\nBITMAP\n\
+00\n00\n00\n10\n00\n30\n10\n10\n10\n10\n90\n90\n60\nENDCHAR\n\n\
+ENDFONT\n";
+
 // Adds the ink of a glyph, its rows parted by `/`.
 fn draw_glyph(out: &mut String, glyph: &Glyph) -> Result<(), AllocError> {
     let width = usize::from(glyph.bounds.width);
@@ -119,105 +134,136 @@ fn draw_glyph(out: &mut String, glyph: &Glyph) -> Result<(), AllocError> {
     Ok(())
 }
 
-// Adds the encoding, the advance and the rows of each glyph, a line each.
-fn draw_glyphs(out: &mut String, font: &Font) -> Result<(), AllocError> {
+// The encoding, the advance and the rows of each glyph, each glyph ended by `;`, and the box.
+fn drawn_glyphs(alloc: Global, font: &Font) -> Result<String, AllocError> {
+    let mut out = String::new(alloc);
     for glyph in font.get().glyphs.as_slice() {
         write!(out, "{} {} ", glyph.encoding, glyph.advance)?;
-        draw_glyph(out, glyph)?;
-        out.push('\n')?;
+        draw_glyph(&mut out, glyph)?;
+        out.push(';')?;
     }
-    Ok(())
+    let bounds = &font.get().bounds;
+    write!(out, "{bounds:?}")?;
+    Ok(out)
 }
 
-// The glyphs of a font's file.
-fn drawn_glyphs(alloc: Global, source: &[u8]) -> Result<String, AllocError> {
+// 18 columns of 13 rows of the letters `Agj` at the pixel (0, 0), each row ended by `;`.
+fn drawn_letters(alloc: Global, font: &Font) -> Result<String, AllocError> {
     let mut out = String::new(alloc);
-    if let Ok(font) = read(alloc, source) {
-        draw_glyphs(&mut out, &font)?;
+    for j in 0..13 {
+        for i in 0..18 {
+            let is_inked = has_ink(font, "Agj", Pixel::new(0, 0), i, j);
+            out.push(if is_inked { '#' } else { '.' })?;
+        }
+        out.push(';')?;
     }
     Ok(out)
 }
 
-// The box of a font's file.
-fn bounds_of(alloc: Global, source: &[u8]) -> Option<BitmapBox> {
-    match read(alloc, source) {
-        Ok(font) => Some(font.get().bounds),
-        Err(_) => None,
+fn told_of(alloc: Global, font: &Font, row: &str) -> Result<String, AllocError> {
+    match row {
+        "all glyphs" => drawn_glyphs(alloc, font),
+        "drawn letters" => drawn_letters(alloc, font),
+        text => {
+            let (width, height) = extent_of(font, text);
+            format!(in alloc; "{width} {height}")
+        }
     }
 }
 
-// The encoding, the advance and the rows of each glyph of that font.
-const MIXED_GLYPHS: &str = "\
-32 7 \n\
-63 5 #.#\n\
-97 2 #\n\
-98 10 #.#.#.#.#/.#.#.#.#.\n\
-128512 17 #..............#\n";
+// What is told of a font: its glyphs, its letters, or the extent of a text.
+fn told_font(alloc: Global, row: &str) -> Result<String, AllocError> {
+    let (name, rest) = row.split_once('|').unwrap_or((row, ""));
+    let source = match name {
+        "MIXED" => MIXED,
+        "LETTERS" => LETTERS,
+        _ => TINY,
+    };
+    match read(alloc, source.as_bytes()) {
+        Ok(font) => told_of(alloc, &font, rest),
+        Err(_) => String::from_str(alloc, "refused"),
+    }
+}
+
+// The glyphs of the font, and its box.
+const GLYPHS: &str = "\
+32 7 ;\
+63 5 #.#;\
+97 2 #;\
+98 10 #.#.#.#.#/.#.#.#.#.;\
+128512 17 #..............#;\
+BitmapBox { width: 16, height: 3, xoff: 1, yoff: -1 }|MIXED|all glyphs";
 
 #[test]
 fn glyphs_stand_by_their_encodings(rt: HostRuntime) -> Result<(), Fail> {
-    let glyphs = drawn_glyphs(rt.alloc(), MIXED.as_bytes())?;
-    assert_eq!(rt; glyphs.as_str(), MIXED_GLYPHS);
-    let bounds = BitmapBox {
-        width: 16,
-        height: 3,
-        xoff: 1,
-        yoff: -1,
-    };
-    assert_eq!(rt; bounds_of(rt.alloc(), MIXED.as_bytes()), Some(bounds));
-    Ok(())
+    assert_rows(rt.alloc(), GLYPHS, '|', 1, told_font)
 }
 
-// Texts in that font, with their widths.
+// Extents of texts.
 const WIDTHS: &str = "\
-|0\n\
-a|2\n\
-ab|12\n\
-b a|19\n\
-c|5\n\
-\u{1F600}?|22\n\
-\u{e9}|5";
-
-// The extent of a text in the font of a file.
-fn extent_in(alloc: Global, source: &str, text: &str) -> Option<(u32, u32)> {
-    match read(alloc, source.as_bytes()) {
-        Ok(font) => Some(extent_of(&font, text)),
-        Err(_) => None,
-    }
-}
+0 3|MIXED|
+2 3|MIXED|a
+12 3|MIXED|ab
+19 3|MIXED|b a
+5 3|MIXED|c
+22 3|MIXED|\u{1F600}?
+5 3|MIXED|\u{e9}
+6 2|TINY|AA
+0 2|TINY|B";
 
 #[test]
 fn extents_are_summed_advances(rt: HostRuntime) -> Result<(), Fail> {
-    let alloc = rt.alloc();
-    for row in WIDTHS.lines() {
-        let (text, width) = row.split_once('|').unwrap_or((row, ""));
-        let width = width.parse::<u32>()?;
-        assert_eq!(rt; extent_in(alloc, MIXED, text), Some((width, 3)), "{row}");
-    }
-    assert_eq!(rt; extent_in(alloc, TINY, "AA"), Some((6, 2)));
-    assert_eq!(rt; extent_in(alloc, TINY, "B"), Some((0, 2)));
-    Ok(())
+    assert_rows(rt.alloc(), WIDTHS, '|', 9, told_font)
 }
 
-// Whether a text has ink in a column of row 1 of the font of a file.
-fn has_ink_in(alloc: Global, source: &str, text: &str, i: i64) -> Option<bool> {
-    match read(alloc, source.as_bytes()) {
-        Ok(font) => Some(has_ink(&font, text, Pixel::new(0, 0), i, 1)),
-        Err(_) => None,
+const DRAWN_LETTERS: &str = "\
+..................;\
+..................;\
+..#...............;\
+.#.#...........#..;\
+#...#.............;\
+#...#..###....##..;\
+#...#.#...#....#..;\
+#####.#...#....#..;\
+#...#.#...#....#..;\
+#...#..####....#..;\
+#...#.....#.#..#..;\
+......#...#.#..#..;\
+.......###...##...;\
+|LETTERS|drawn letters";
+
+#[test]
+fn letters_are_drawn_as_their_rows(rt: HostRuntime) -> Result<(), Fail> {
+    assert_rows(rt.alloc(), DRAWN_LETTERS, '|', 1, told_font)
+}
+
+// Of 256 characters of 17 columns: the extent, and whether there is ink in row 1 of the columns 4350 and
+// 4351. Then how many characters a text may have, and whether this one and one with a letter more are
+// short.
+const MANY: &str = "(4352, 3) [true, false]; 256 [true, false]|";
+
+fn told_text(alloc: Global, font: &Font, text: &str) -> Result<String, AllocError> {
+    let further = format!(in alloc; "{text}a")?;
+    let are_short = [is_short(text), is_short(further.as_str())];
+    let extent = extent_of(font, text);
+    let inked = [
+        has_ink(font, text, Pixel::new(0, 0), 4350, 1),
+        has_ink(font, text, Pixel::new(0, 0), 4351, 1),
+    ];
+    format!(in alloc; "{extent:?} {inked:?}; {MAX_CHARACTERS} {are_short:?}")
+}
+
+fn told_many(alloc: Global, _row: &str) -> Result<String, AllocError> {
+    let text = "\u{1F600}".repeat(alloc, 256)?;
+    match read(alloc, MIXED.as_bytes()) {
+        Ok(font) => told_text(alloc, &font, text.as_str()),
+        Err(_) => String::from_str(alloc, "refused"),
     }
 }
 
 #[test]
 fn texts_have_at_most_256_characters(rt: HostRuntime) -> Result<(), Fail> {
-    let alloc = rt.alloc();
-    let text = "\u{1F600}".repeat(alloc, 256)?;
-    let inked = [4350, 4351].map(|column| has_ink_in(alloc, MIXED, text.as_str(), column));
-    let told = (extent_in(alloc, MIXED, text.as_str()), inked);
-    assert_eq!(rt; told, (Some((4352, 3)), [Some(true), Some(false)]));
-    let further = format!(in alloc; "{text}a")?;
-    let are_short = (is_short(text.as_str()), is_short(further.as_str()));
-    assert_eq!(rt; (MAX_CHARACTERS, are_short), (256, (true, false)));
-    Ok(())
+    assert_rows(rt.alloc(), MANY, '|', 1, told_many)
 }
 
 // A font that has to have 65,536 glyphs, and so many of them by falling encodings, the last of which
@@ -236,95 +282,33 @@ fn falling(alloc: Global, count: u32) -> Result<Vec<u8>, AllocError> {
     Ok(source)
 }
 
-// How many glyphs such a font has, and the encodings of the first and the last of them.
-fn ends_of_falling(alloc: Global, count: u32) -> Result<(usize, Option<u32>, Option<u32>), Fail> {
-    let source = falling(alloc, count)?;
-    match read(alloc, &source) {
-        Ok(font) => {
-            let glyphs = font.get().glyphs.as_slice();
-            let first = glyphs.first().map(|glyph| glyph.encoding);
-            Ok((
-                glyphs.len(),
-                first,
-                glyphs.last().map(|glyph| glyph.encoding),
-            ))
+// How many glyphs a font has, and the encodings of the first and the last of them.
+fn told_ends(alloc: Global, font: &Font) -> Result<String, AllocError> {
+    let glyphs = font.get().glyphs.as_slice();
+    match (glyphs.first(), glyphs.last()) {
+        (Some(first), Some(last)) => {
+            format!(in alloc; "{} {} {}", glyphs.len(), first.encoding, last.encoding)
         }
-        Err(_) => Err("the font is refused".into()),
+        _ => String::from_str(alloc, "no glyphs"),
     }
 }
 
-// The fault of such a font.
-fn told_falling(alloc: Global, count: u32) -> Result<(u8, u64), AllocError> {
-    let source = falling(alloc, count)?;
-    Ok(told(alloc, &source))
+// The ends of fonts of so many glyphs, or their fault. There are three lines of the header, and six of each
+// glyph.
+const FALLING: &str = "\
+65536 1 65536|65536
+5 393220|65537
+4 393214|65535";
+
+fn told_falling(alloc: Global, count: &str) -> Result<String, AllocError> {
+    let source = falling(alloc, count.parse::<u32>().unwrap_or(0))?;
+    match read(alloc, &source) {
+        Ok(font) => told_ends(alloc, &font),
+        Err(error) => told_fault(alloc, error),
+    }
 }
 
 #[test]
 fn fonts_have_at_most_65536_glyphs(rt: HostRuntime) -> Result<(), Fail> {
-    let alloc = rt.alloc();
-    let ends = ends_of_falling(alloc, 65_536)?;
-    assert_eq!(rt; ends, (65_536, Some(1), Some(65_536)));
-    // three lines of the header, and six of each glyph
-    for (count, fault) in [(65_537, (5, 393_220)), (65_535, (4, 393_214))] {
-        assert_eq!(rt; told_falling(alloc, count)?, fault);
-    }
-    Ok(())
-}
-
-// Three letters of the font 6x13 of X.Org's misc-fixed, which is in the public domain.
-const LETTERS: &str = "\
-STARTFONT 2.1\n\
-FONTBOUNDINGBOX 6 13 0 -2\n\
-STARTPROPERTIES 1\nFONT_DESCENT 2\nENDPROPERTIES\n\
-CHARS 3\n\
-STARTCHAR A\nENCODING 65\nSWIDTH 480 0\nDWIDTH 6 0\nBBX 6 13 0 -2\nBITMAP\n\
-00\n00\n20\n50\n88\n88\n88\nF8\n88\n88\n88\n00\n00\nENDCHAR\n\n\
-STARTCHAR g\nENCODING 103\nSWIDTH 480 0\nDWIDTH 6 0\nBBX 6 13 0 -2\nBITMAP\n\
-00\n00\n00\n00\n00\n70\n88\n88\n88\n78\n08\n88\n70\nENDCHAR\n\n\
-STARTCHAR j\nENCODING 106\nSWIDTH 480 0\nDWIDTH 6 0\nBBX 6 13 0 -2\nBITMAP\n\
-00\n00\n00\n10\n00\n30\n10\n10\n10\n10\n90\n90\n60\nENDCHAR\n\n\
-ENDFONT\n";
-
-// The letters `Agj` at the pixel (0, 0).
-const DRAWN_LETTERS: &str = "\
-..................\n\
-..................\n\
-..#...............\n\
-.#.#...........#..\n\
-#...#.............\n\
-#...#..###....##..\n\
-#...#.#...#....#..\n\
-#####.#...#....#..\n\
-#...#.#...#....#..\n\
-#...#..####....#..\n\
-#...#.....#.#..#..\n\
-......#...#.#..#..\n\
-.......###...##...\n";
-
-// Adds 18 columns of 13 rows of them.
-fn draw_letters(out: &mut String, font: &Font) -> Result<(), AllocError> {
-    for j in 0..13 {
-        for i in 0..18 {
-            let is_inked = has_ink(font, "Agj", Pixel::new(0, 0), i, j);
-            out.push(if is_inked { '#' } else { '.' })?;
-        }
-        out.push('\n')?;
-    }
-    Ok(())
-}
-
-// The letters in the font of a file.
-fn drawn_letters(alloc: Global, source: &[u8]) -> Result<String, AllocError> {
-    let mut out = String::new(alloc);
-    if let Ok(font) = read(alloc, source) {
-        draw_letters(&mut out, &font)?;
-    }
-    Ok(out)
-}
-
-#[test]
-fn letters_are_drawn_as_their_rows(rt: HostRuntime) -> Result<(), Fail> {
-    let picture = drawn_letters(rt.alloc(), LETTERS.as_bytes())?;
-    assert_eq!(rt; picture.as_str(), DRAWN_LETTERS);
-    Ok(())
+    assert_rows(rt.alloc(), FALLING, '|', 3, told_falling)
 }

@@ -1,7 +1,8 @@
-use crate::mapfiles::told::{assert_rows, assert_told};
+use crate::mapfiles::told::told_row;
 use std::test::Fail;
+use test_tables::assert_rows;
 
-// Sources with a fault, in the form of `assert_rows`.
+// Sources with a fault, in the form of `told_row`.
 const FAULTS: &str = "\
 # No token, and a first token other than the bare word MAP.
 1 MissingEnd:
@@ -91,10 +92,10 @@ const FAULTS: &str = "\
 
 #[test]
 fn faults_have_their_lines_and_kinds(rt: HostRuntime) -> Result<(), Fail> {
-    assert_rows(&rt, rt.alloc(), FAULTS, 75)
+    assert_rows(rt.alloc(), FAULTS, ':', 75, told_row)
 }
 
-// Sources with a list, which is no keyword and no value. `|` stands for the end of a line.
+// Sources with a list, which is no keyword and no value.
 const LISTS: &str = "\
 2 UnknownWord:MAP|{LAYER} END
 2 WrongValue:MAP LAYER TYPE|{POLYGON} END END
@@ -109,14 +110,7 @@ const LISTS: &str = "\
 
 #[test]
 fn lists_are_no_words_and_no_values(rt: HostRuntime) -> Result<(), Fail> {
-    let alloc = rt.alloc();
-    assert_eq!(rt; LISTS.lines().count(), 10);
-    for row in LISTS.lines() {
-        let (expected, source) = row.split_once(':').ok_or("a row without a colon")?;
-        let source = source.replace(alloc, '|', "\n")?;
-        assert_told(&rt, alloc, source.as_str(), expected)?;
-    }
-    Ok(())
+    assert_rows(rt.alloc(), LISTS, ':', 10, told_row)
 }
 
 // Blocks and values that may stand in a layer, likewise.
@@ -137,5 +131,5 @@ const READ: &str = "\
 
 #[test]
 fn keywords_and_values_are_read(rt: HostRuntime) -> Result<(), Fail> {
-    assert_rows(&rt, rt.alloc(), READ, 13)
+    assert_rows(rt.alloc(), READ, ':', 13, told_row)
 }

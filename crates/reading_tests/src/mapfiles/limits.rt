@@ -1,7 +1,9 @@
-use crate::mapfiles::told::{assert_rows, assert_told};
+use crate::mapfiles::told::{told, told_row};
+use std::alloc::{AllocError, Global};
 use std::test::Fail;
+use test_tables::assert_rows;
 
-// Sources up to a limit, each with one that goes further, in the form of `assert_rows`.
+// Sources up to a limit, each with one that goes further, in the form of `told_row`.
 const LIMITS: &str = "\
 1 0 0 0 0:MAP|LAYER|TYPE POLYGON NAME|{65536*a} END END
 4 Lex(TooLong):MAP|LAYER|TYPE POLYGON NAME|{65536*a}a
@@ -30,12 +32,17 @@ const LIMITS: &str = "\
 
 #[test]
 fn limits_may_be_reached_and_not_passed(rt: HostRuntime) -> Result<(), Fail> {
-    assert_rows(&rt, rt.alloc(), LIMITS, 18)
+    assert_rows(rt.alloc(), LIMITS, ':', 18, told_row)
 }
 
-#[test]
-fn a_map_has_at_most_128_layers(rt: HostRuntime) -> Result<(), Fail> {
-    let alloc = rt.alloc();
+// What comes after 128 layers.
+const AFTER_LAYERS: &str = "\
+128 128 128 128 128:END
+259 Limit:# one more|LAYER";
+
+// What is told of 128 layers and what comes after them.
+fn told_after_layers(alloc: Global, end: &str) -> Result<String, AllocError> {
+    let end = end.replace(alloc, '|', "\n")?;
     let mut source = String::from_str(alloc, "MAP\n")?;
     for i in 1..=128 {
         write!(
@@ -43,8 +50,11 @@ fn a_map_has_at_most_128_layers(rt: HostRuntime) -> Result<(), Fail> {
             "LAYER NAME {i} TYPE POLYGON\nCLASS STYLE END END FEATURE POINTS 1 2 END END END\n"
         )?;
     }
-    let whole = format!(in alloc; "{source}END")?;
-    assert_told(&rt, alloc, whole.as_str(), "128 128 128 128 128")?;
-    let further = format!(in alloc; "{source}# one more\nLAYER")?;
-    assert_told(&rt, alloc, further.as_str(), "259 Limit")
+    source.push_str(end.as_str())?;
+    told(alloc, source.as_str())
+}
+
+#[test]
+fn a_map_has_at_most_128_layers(rt: HostRuntime) -> Result<(), Fail> {
+    assert_rows(rt.alloc(), AFTER_LAYERS, ':', 2, told_after_layers)
 }

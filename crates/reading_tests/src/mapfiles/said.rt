@@ -1,8 +1,8 @@
+use crate::mapfiles::told::told_fault;
 use geom::Micro;
 use mapdefs::{Class, Feature, Label, Layer, Map, Rgb, Rule, Style, Text};
 use mapparse::{Files, parse};
 use std::alloc::{AllocError, Global};
-use std::test::Fail;
 
 fn write_colour(text: &mut String, colour: Option<Rgb>) -> Result<(), AllocError> {
     match colour {
@@ -130,8 +130,8 @@ fn write_layer(text: &mut String, layer: &Layer) -> Result<(), AllocError> {
     Ok(())
 }
 
-// Writes all that a map says, a line for the map and for each layer, class, style, feature and part.
-fn write_map(text: &mut String, map: &Map) -> Result<(), AllocError> {
+// All that a map says, a line for the map and for each layer, class, style, feature and part.
+fn said_of(alloc: Global, map: &Map) -> Result<String, AllocError> {
     let map = map.get();
     let sides = [
         map.extent.minx(),
@@ -139,21 +139,21 @@ fn write_map(text: &mut String, map: &Map) -> Result<(), AllocError> {
         map.extent.maxx(),
         map.extent.maxy(),
     ];
-    write!(text, "map {} {}", map.title.as_str(), map.url.as_str())?;
+    let mut text = format!(in alloc; "map {} {}", map.title.as_str(), map.url.as_str())?;
     for side in sides {
         write!(text, " {}", side.millionths())?;
     }
     write!(text, " {:?} {}\n", map.font, map.symbols.len())?;
     for layer in map.layers.as_slice() {
-        write_layer(text, layer)?;
+        write_layer(&mut text, layer)?;
     }
-    Ok(())
+    Ok(text)
 }
 
-/// What the map of a source says, in the form of `write_map`.
-pub fn said(alloc: Global, source: &str) -> Result<String, Fail> {
-    let map = parse(alloc, source.as_bytes(), &Files::new(alloc))?;
-    let mut text = String::new(alloc);
-    write_map(&mut text, &map)?;
-    Ok(text)
+/// What the map of a source says, in the form of `said_of`, or the line and the kind of its fault.
+pub fn said(alloc: Global, source: &str) -> Result<String, AllocError> {
+    match parse(alloc, source.as_bytes(), &Files::new(alloc)) {
+        Ok(map) => said_of(alloc, &map),
+        Err(fault) => told_fault(alloc, fault),
+    }
 }

@@ -1,27 +1,42 @@
 use crate::mapfiles::said::said;
-use std::alloc::Global;
-use std::process::Abort;
+use std::alloc::{AllocError, Global};
 use std::test::Fail;
+use test_tables::assert_rows;
+
+// What a map with one layer says before its kind.
+const FRONT: &str = "\
+map WMS http://localhost/wms? -180000000 -90000000 180000000 90000000 None 0
+layer a a ";
+
+// What it says between the kind and the colours of the first style.
+const BEFORE_COLOURS: &str = "Polygon true - - x y false 0 - -
+class all - -
+style ";
+
+// What it says after them.
+const AFTER_COLOURS: &str = ", 1 1 None
+style none, none, 1 1 None
+";
+
+fn cut_colours(said: &str) -> Option<&str> {
+    let colours = said.strip_prefix(FRONT)?.strip_prefix(BEFORE_COLOURS)?;
+    colours.strip_suffix(AFTER_COLOURS)
+}
 
 // The map of a class with this STYLE and an empty one has these colours for the first: its colour and that
-// of its outline.
-fn assert_style(rt: &impl Abort, alloc: Global, style: &str, colours: &str) -> Result<(), Fail> {
+// of its outline. All else that it says is told where it is another.
+fn told_colours(alloc: Global, style: &str) -> Result<String, AllocError> {
     let source = format!(in alloc;
         "MAP LAYER NAME a TYPE POLYGON CLASS STYLE {style} END STYLE END END END END"
     )?;
-    let expected = format!(in alloc;
-        "map WMS http://localhost/wms? -180000000 -90000000 180000000 90000000 None 0\n\
-         layer a a Polygon true - - x y false 0 - -\n\
-         class all - -\n\
-         style {colours}, 1 1 None\n\
-         style none, none, 1 1 None\n"
-    )?;
     let text = said(alloc, source.as_str())?;
-    assert_eq!(rt; text.as_str(), expected.as_str(), "{style}");
-    Ok(())
+    match cut_colours(text.as_str()) {
+        Some(colours) => String::from_str(alloc, colours),
+        None => Ok(text),
+    }
 }
 
-// The colours of a style, a colon and what stands in the STYLE. A line that begins with `# ` is a heading.
+// The colours of a style, a colon and what stands in the STYLE.
 const COLOURS: &str = "\
 none, none:
 10 20 30, none:COLOR 10 20 30
@@ -53,17 +68,23 @@ none, 1 2 3:COLOR 4 5 -1 OUTLINECOLOR 7 8 -1 OUTLINECOLOR '#010203'";
 
 #[test]
 fn styles_have_their_colours(rt: HostRuntime) -> Result<(), Fail> {
-    let alloc = rt.alloc();
-    let mut asserted = 0_usize;
-    for row in COLOURS.lines() {
-        if !row.starts_with("# ") {
-            let (colours, style) = row.split_once(':').ok_or("a row without a colon")?;
-            assert_style(&rt, alloc, style, colours)?;
-            asserted = asserted.saturating_add(1);
-        }
+    assert_rows(rt.alloc(), COLOURS, ':', 25, told_colours)
+}
+
+fn cut_kind(said: &str) -> Option<(&str, &str)> {
+    let layer = said.strip_prefix(FRONT)?.strip_suffix(" - -\n")?;
+    layer.split_once(" true - - x y false ")
+}
+
+// The kind and the tolerance of the layer with these words. All else that its map says is told where it is
+// another.
+fn told_kind(alloc: Global, words: &str) -> Result<String, AllocError> {
+    let source = format!(in alloc; "MAP LAYER NAME a {words} END END")?;
+    let text = said(alloc, source.as_str())?;
+    match cut_kind(text.as_str()) {
+        Some((kind, tolerance)) => format!(in alloc; "{kind} {tolerance}"),
+        None => Ok(text),
     }
-    assert_eq!(rt; asserted, 25);
-    Ok(())
 }
 
 // The kind of a layer and its tolerance, a colon and what stands in the LAYER.
@@ -79,18 +100,5 @@ Polygon 8:TYPE POINT TOLERANCE 8 TYPE POLYGON";
 
 #[test]
 fn layers_have_their_kinds_and_tolerances(rt: HostRuntime) -> Result<(), Fail> {
-    let alloc = rt.alloc();
-    assert_eq!(rt; KINDS.lines().count(), 8);
-    for row in KINDS.lines() {
-        let (layer, words) = row.split_once(':').ok_or("a row without a colon")?;
-        let (kind, tolerance) = layer.split_once(' ').ok_or("a row without a tolerance")?;
-        let source = format!(in alloc; "MAP LAYER NAME a {words} END END")?;
-        let expected = format!(in alloc;
-            "map WMS http://localhost/wms? -180000000 -90000000 180000000 90000000 None 0\n\
-             layer a a {kind} true - - x y false {tolerance} - -\n"
-        )?;
-        let text = said(alloc, source.as_str())?;
-        assert_eq!(rt; text.as_str(), expected.as_str(), "{row}");
-    }
-    Ok(())
+    assert_rows(rt.alloc(), KINDS, ':', 8, told_kind)
 }

@@ -1,9 +1,6 @@
-use crate::rows::assert_row;
 use mapdefs::{Layer, Map};
 use mapparse::{Files, ParseFault, parse};
 use std::alloc::{AllocError, Global};
-use std::process::Abort;
-use std::test::Fail;
 
 // How many of each a map has in all.
 #[derive(Drop)]
@@ -50,52 +47,49 @@ fn totals_of(alloc: Global, map: &Map) -> Result<String, AllocError> {
     )
 }
 
-// The line and the kind of a source's fault, or how many of each its map has.
-fn told(alloc: Global, source: &str) -> Result<String, AllocError> {
+/// The line and the kind of a fault.
+pub fn told_fault(alloc: Global, fault: ParseFault) -> Result<String, AllocError> {
+    match fault {
+        ParseFault::At { line, kind } => format!(in alloc; "{line} {kind:?}"),
+        ParseFault::NoMemory => Err(AllocError),
+    }
+}
+
+/// The line and the kind of a source's fault, or how many of each its map has.
+pub fn told(alloc: Global, source: &str) -> Result<String, AllocError> {
     match parse(alloc, source.as_bytes(), &Files::new(alloc)) {
         Ok(map) => totals_of(alloc, &map),
-        Err(ParseFault::At { line, kind }) => format!(in alloc; "{line} {kind:?}"),
-        Err(ParseFault::NoMemory) => Err(AllocError),
+        Err(fault) => told_fault(alloc, fault),
     }
 }
 
-/// Asserts that a source has this fault, or a map with these totals.
-pub fn assert_told(
-    rt: &impl Abort,
-    alloc: Global,
-    source: &str,
-    expected: &str,
-) -> Result<(), Fail> {
-    let told = told(alloc, source)?;
-    assert_row(rt, told.as_str(), expected, source);
-    Ok(())
+// What stands before the first `{`, the count and the text of a repetition, and what stands after it.
+fn repetition(text: &str) -> Option<(&str, usize, &str, &str)> {
+    let (head, rest) = text.split_once('{')?;
+    let (count, rest) = rest.split_once('*')?;
+    let (part, tail) = rest.split_once('}')?;
+    Some((head, count.parse::<usize>().ok()?, part, tail))
 }
 
-// The text, in which `{3*ab}` stands for `ababab`, once at most.
-fn repeated(alloc: Global, text: &str) -> Result<String, Fail> {
-    let Some((head, text)) = text.split_once('{') else {
-        return Ok(String::from_str(alloc, text)?);
-    };
-    let (count, text) = text.split_once('*').ok_or("a count without a text")?;
-    let (part, tail) = text.split_once('}').ok_or("a text without its end")?;
-    let parts = part.repeat(alloc, count.parse()?)?;
-    Ok(format!(in alloc; "{head}{parts}{tail}")?)
-}
-
-/// Asserts of that many rows what is told of their sources. A row is what is told, a colon and the source,
-/// in which `|` stands for the end of a line and `{3*ab}` for `ababab`. A line that begins with `# ` is a
-/// heading.
-pub fn assert_rows(rt: &impl Abort, alloc: Global, rows: &str, count: usize) -> Result<(), Fail> {
-    let mut asserted = 0_usize;
-    for row in rows.lines() {
-        if !row.starts_with("# ") {
-            let (expected, source) = row.split_once(':').ok_or("a row without a colon")?;
-            let lines = source.replace(alloc, '|', "\n")?;
-            let source = repeated(alloc, lines.as_str())?;
-            assert_told(rt, alloc, source.as_str(), expected)?;
-            asserted = asserted.saturating_add(1);
+/// The text, in which `{3*ab}` stands for `ababab`, once at most.
+pub fn repeated(alloc: Global, text: &str) -> Result<String, AllocError> {
+    match repetition(text) {
+        Some((head, count, part, tail)) => {
+            let parts = part.repeat(alloc, count)?;
+            format!(in alloc; "{head}{parts}{tail}")
         }
+        None => String::from_str(alloc, text),
     }
-    assert_eq!(rt; asserted, count);
-    Ok(())
+}
+
+/// The source of a row, in which `|` stands for the end of a line and `{3*ab}` for `ababab`.
+pub fn written(alloc: Global, row: &str) -> Result<String, AllocError> {
+    let lines = row.replace(alloc, '|', "\n")?;
+    repeated(alloc, lines.as_str())
+}
+
+/// What is told of the source of a row.
+pub fn told_row(alloc: Global, row: &str) -> Result<String, AllocError> {
+    let source = written(alloc, row)?;
+    told(alloc, source.as_str())
 }

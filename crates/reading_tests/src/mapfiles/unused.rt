@@ -1,7 +1,8 @@
-use crate::mapfiles::told::{assert_rows, assert_told};
+use crate::mapfiles::told::told_row;
 use std::test::Fail;
+use test_tables::assert_rows;
 
-// What is read without effect, in the form of `assert_rows`.
+// What is read without effect, in the form of `told_row`.
 const READ: &str = "\
 # Each keyword once in each of its blocks.
 0 0 0 0 0:MAP ANGLE 30 DEBUG on FONTSET 'fonts.txt' IMAGETYPE png MAXSIZE 4096 RESOLUTION 96 SHAPEPATH data STATUS ON UNITS dd END
@@ -47,32 +48,94 @@ const READ: &str = "\
 
 #[test]
 fn unused_words_are_read_without_effect(rt: HostRuntime) -> Result<(), Fail> {
-    assert_rows(&rt, rt.alloc(), READ, 37)
+    assert_rows(rt.alloc(), READ, ':', 37, told_row)
 }
 
-// Each of these keywords in a block that doesn't know it: the block, and the keywords.
+// Keywords in blocks that don't know them, in the form of `told_row`.
 const UNKNOWN: &str = "\
-MAP:BUFFER DATA EXPRESSION ITEMS MINSCALEDENOM PROCESSING IMAGE ANTIALIAS CLASSITEM DUMP FOOTER GROUP HEADER LABEL LABELCACHE LABELITEM LABELMAXSCALEDENOM MAXWIDTH METADATA TEMPLATE TOLERANCE TOLERANCEUNITS VALIDATION
-MAP SYMBOL:COLOR SIZE SYMBOL
-MAP WEB:EXTENT NAME STATUS WEB
-MAP LAYER:CONFIG DATA EMPTY LOG SYMBOL WEB ANGLE FONTSET IMAGECOLOR IMAGETYPE LEGEND MAXSIZE MINSIZE OUTPUTFORMAT QUERYMAP RESOLUTION SCALEBAR SHAPEPATH SIZE TITLE
-MAP LAYER CLASS:OUTLINECOLOR POSITION PROCESSING DEBUG EXTENT LABELMINSCALEDENOM MINWIDTH PROJECTION REFERENCE TEXT UNITS WIDTH
-MAP LAYER CLASS LABEL:ERROR EXPRESSION IMAGEPATH LABEL NAME WIDTH
-MAP LAYER CLASS STYLE:EXPRESSION FORCE PRIORITY ANCHORPOINT STATUS NAME TYPE LAYER
-MAP LAYER FEATURE:FONT OFFSET STATUS STYLE COLOR";
+2 UnknownWord:MAP|BUFFER 1
+2 UnknownWord:MAP|DATA 1
+2 UnknownWord:MAP|EXPRESSION 1
+2 UnknownWord:MAP|ITEMS 1
+2 UnknownWord:MAP|MINSCALEDENOM 1
+2 UnknownWord:MAP|PROCESSING 1
+2 UnknownWord:MAP|IMAGE 1
+2 UnknownWord:MAP|ANTIALIAS 1
+2 UnknownWord:MAP|CLASSITEM 1
+2 UnknownWord:MAP|DUMP 1
+2 UnknownWord:MAP|FOOTER 1
+2 UnknownWord:MAP|GROUP 1
+2 UnknownWord:MAP|HEADER 1
+2 UnknownWord:MAP|LABEL 1
+2 UnknownWord:MAP|LABELCACHE 1
+2 UnknownWord:MAP|LABELITEM 1
+2 UnknownWord:MAP|LABELMAXSCALEDENOM 1
+2 UnknownWord:MAP|MAXWIDTH 1
+2 UnknownWord:MAP|METADATA 1
+2 UnknownWord:MAP|TEMPLATE 1
+2 UnknownWord:MAP|TOLERANCE 1
+2 UnknownWord:MAP|TOLERANCEUNITS 1
+2 UnknownWord:MAP|VALIDATION 1
+2 UnknownWord:MAP SYMBOL|COLOR 1
+2 UnknownWord:MAP SYMBOL|SIZE 1
+2 UnknownWord:MAP SYMBOL|SYMBOL 1
+2 UnknownWord:MAP WEB|EXTENT 1
+2 UnknownWord:MAP WEB|NAME 1
+2 UnknownWord:MAP WEB|STATUS 1
+2 UnknownWord:MAP WEB|WEB 1
+2 UnknownWord:MAP LAYER|CONFIG 1
+2 UnknownWord:MAP LAYER|DATA 1
+2 UnknownWord:MAP LAYER|EMPTY 1
+2 UnknownWord:MAP LAYER|LOG 1
+2 UnknownWord:MAP LAYER|SYMBOL 1
+2 UnknownWord:MAP LAYER|WEB 1
+2 UnknownWord:MAP LAYER|ANGLE 1
+2 UnknownWord:MAP LAYER|FONTSET 1
+2 UnknownWord:MAP LAYER|IMAGECOLOR 1
+2 UnknownWord:MAP LAYER|IMAGETYPE 1
+2 UnknownWord:MAP LAYER|LEGEND 1
+2 UnknownWord:MAP LAYER|MAXSIZE 1
+2 UnknownWord:MAP LAYER|MINSIZE 1
+2 UnknownWord:MAP LAYER|OUTPUTFORMAT 1
+2 UnknownWord:MAP LAYER|QUERYMAP 1
+2 UnknownWord:MAP LAYER|RESOLUTION 1
+2 UnknownWord:MAP LAYER|SCALEBAR 1
+2 UnknownWord:MAP LAYER|SHAPEPATH 1
+2 UnknownWord:MAP LAYER|SIZE 1
+2 UnknownWord:MAP LAYER|TITLE 1
+2 UnknownWord:MAP LAYER CLASS|OUTLINECOLOR 1
+2 UnknownWord:MAP LAYER CLASS|POSITION 1
+2 UnknownWord:MAP LAYER CLASS|PROCESSING 1
+2 UnknownWord:MAP LAYER CLASS|DEBUG 1
+2 UnknownWord:MAP LAYER CLASS|EXTENT 1
+2 UnknownWord:MAP LAYER CLASS|LABELMINSCALEDENOM 1
+2 UnknownWord:MAP LAYER CLASS|MINWIDTH 1
+2 UnknownWord:MAP LAYER CLASS|PROJECTION 1
+2 UnknownWord:MAP LAYER CLASS|REFERENCE 1
+2 UnknownWord:MAP LAYER CLASS|TEXT 1
+2 UnknownWord:MAP LAYER CLASS|UNITS 1
+2 UnknownWord:MAP LAYER CLASS|WIDTH 1
+2 UnknownWord:MAP LAYER CLASS LABEL|ERROR 1
+2 UnknownWord:MAP LAYER CLASS LABEL|EXPRESSION 1
+2 UnknownWord:MAP LAYER CLASS LABEL|IMAGEPATH 1
+2 UnknownWord:MAP LAYER CLASS LABEL|LABEL 1
+2 UnknownWord:MAP LAYER CLASS LABEL|NAME 1
+2 UnknownWord:MAP LAYER CLASS LABEL|WIDTH 1
+2 UnknownWord:MAP LAYER CLASS STYLE|EXPRESSION 1
+2 UnknownWord:MAP LAYER CLASS STYLE|FORCE 1
+2 UnknownWord:MAP LAYER CLASS STYLE|PRIORITY 1
+2 UnknownWord:MAP LAYER CLASS STYLE|ANCHORPOINT 1
+2 UnknownWord:MAP LAYER CLASS STYLE|STATUS 1
+2 UnknownWord:MAP LAYER CLASS STYLE|NAME 1
+2 UnknownWord:MAP LAYER CLASS STYLE|TYPE 1
+2 UnknownWord:MAP LAYER CLASS STYLE|LAYER 1
+2 UnknownWord:MAP LAYER FEATURE|FONT 1
+2 UnknownWord:MAP LAYER FEATURE|OFFSET 1
+2 UnknownWord:MAP LAYER FEATURE|STATUS 1
+2 UnknownWord:MAP LAYER FEATURE|STYLE 1
+2 UnknownWord:MAP LAYER FEATURE|COLOR 1";
 
 #[test]
 fn keywords_are_unknown_in_other_blocks(rt: HostRuntime) -> Result<(), Fail> {
-    let alloc = rt.alloc();
-    let mut asserted = 0_usize;
-    for row in UNKNOWN.lines() {
-        let (block, keywords) = row.split_once(':').ok_or("a row without a colon")?;
-        for keyword in keywords.split(' ') {
-            let source = format!(in alloc; "{block}\n{keyword} 1")?;
-            assert_told(&rt, alloc, source.as_str(), "2 UnknownWord")?;
-            asserted = asserted.saturating_add(1);
-        }
-    }
-    assert_eq!(rt; asserted, 81);
-    Ok(())
+    assert_rows(rt.alloc(), UNKNOWN, ':', 81, told_row)
 }

@@ -1,7 +1,8 @@
-use crate::mapfiles::told::assert_rows;
+use crate::mapfiles::told::told_row;
 use std::test::Fail;
+use test_tables::assert_rows;
 
-// Words of WEB, LABEL, CLASS and FEATURE, in the form of `assert_rows`.
+// Words of WEB, LABEL, CLASS and FEATURE, in the form of `told_row`.
 const READ: &str = "\
 0 0 0 0 0:MAP EXTENT 1 2 3 4 EXTENT -1000 -1000 1000 1000 CONFIG a b CONFIG 'labelfont' c CONFIG END2 'END' END
 0 0 0 0 0:MAP WEB EMPTY e ERROR f FOOTER g HEADER h IMAGEPATH i IMAGEURL j LOG k END END
@@ -59,5 +60,5 @@ const READ: &str = "\
 
 #[test]
 fn words_of_webs_and_labels_are_read(rt: HostRuntime) -> Result<(), Fail> {
-    assert_rows(&rt, rt.alloc(), READ, 50)
+    assert_rows(rt.alloc(), READ, ':', 50, told_row)
 }
