@@ -1,9 +1,12 @@
 //! Tables of tests: a table is one text, a row a line, and a function of the test tells what stands for
 //! the left side of a row.
 //!
-//! Nothing is proved here but that each call is safe and ends. What a call answers is tested in
-//! `reading_tests`, with tables that differ in each way.
+//! Nothing is proved here but that each call is safe and ends. What a call answers is tested here without
+//! tables, and once more in `reading_tests` with tables that differ in each way.
 #![tactic(auto)]
+
+#[cfg(test)]
+mod tests;
 
 use std::alloc::{AllocError, Global};
 use std::test::Fail;
