@@ -5,7 +5,7 @@ use std::alloc::AllocError;
 use thiserror::Error;
 
 /// What is wrong with a BDF file.
-#[derive(Clone, Copy, Debug, PartialEq, Eq, Error)]
+#[derive(Clone, Copy, Debug, Error)]
 pub enum FontKind {
     /// The first line does not begin with STARTFONT. The line is 1, also where the file is empty.
     #[error("the first line does not begin with STARTFONT")]
@@ -44,7 +44,7 @@ impl FontKind {
 }
 
 /// The first fault of a BDF file.
-#[derive(Clone, Copy, Debug, PartialEq, Eq, Error)]
+#[derive(Clone, Copy, Debug, Error)]
 #[error("line {line}: {kind}")]
 pub struct FontFault {
     /// Its line, counted from 1.
@@ -54,7 +54,7 @@ pub struct FontFault {
 }
 
 /// Why a file gives no font.
-#[derive(Clone, Copy, Debug, PartialEq, Eq, Error)]
+#[derive(Clone, Copy, Debug, Error)]
 pub enum FontError {
     /// The first fault in the order of lines.
     #[error("{0}")]

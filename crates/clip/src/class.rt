@@ -7,7 +7,7 @@ use crate::rows::{Rows, rows_of};
 use geom::{Edge, PictureSide};
 
 /// What an edge does to the pixels of a picture.
-#[derive(Clone, Copy, Debug, PartialEq, Eq)]
+#[derive(Clone, Copy)]
 pub enum Class {
     /// It counts for no pixel: it crosses no row, or lies right of the view.
     Drop,

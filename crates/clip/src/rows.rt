@@ -5,7 +5,7 @@ ghost use Rattle.geom.specs.Range.{IsBelow};
 use geom::{Edge, PictureSide};
 
 /// Some rows of a picture, counted from the top: those from one row to before another.
-#[derive(Clone, Copy, Debug, PartialEq, Eq)]
+#[derive(Clone, Copy)]
 pub struct Rows {
     /// The first row.
     pub from: u16,

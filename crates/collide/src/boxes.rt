@@ -8,7 +8,7 @@ use std::alloc::{AllocError, Global};
 use std::marker::Model;
 
 /// Boxes in the order in which they were added. They may lie off the picture.
-#[derive(Debug, Drop)]
+#[derive(Drop)]
 pub struct Boxes {
     boxes: Vec<PxBox>,
     grid: Grid,

@@ -8,7 +8,7 @@ use std::alloc::{AllocError, Global};
 use std::marker::Model;
 
 /// The indices of the boxes that have pixels in a cell.
-#[derive(Debug, Drop)]
+#[derive(Drop)]
 pub struct Cell {
     indices: Vec<usize>,
 }

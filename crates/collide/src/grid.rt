@@ -11,7 +11,7 @@ const CELL_SIDE: usize = 64;
 
 /// Square cells over the picture, row by row, with one more row and column on each side for what
 /// lies off the picture.
-#[derive(Debug, Drop)]
+#[derive(Drop)]
 pub struct Grid {
     cells: Vec<Cell>,
     columns: usize,

@@ -1,5 +1,5 @@
 /// What the words of a command line ask for.
-#[derive(Clone, Copy, Debug, PartialEq, Eq)]
+#[derive(Clone, Copy)]
 pub enum Command<'a> {
     /// To play a session from standard input. There are no words.
     Session,

@@ -2,7 +2,7 @@ ghost use Rattle.std.specs.Prelude.{◌≡◌};
 ghost use Rattle.crsaxes.specs.Axes.{crs_of};
 
 /// A coordinate reference system.
-#[derive(Clone, Copy, Debug, PartialEq, Eq)]
+#[derive(Clone, Copy)]
 pub enum Crs {
     /// `CRS:84`: the longitude first.
     Crs84,

@@ -1,7 +1,7 @@
 use thiserror::Error;
 
 /// Why a text is no box in a coordinate reference system.
-#[derive(Clone, Copy, Debug, PartialEq, Eq, Error)]
+#[derive(Clone, Copy, Debug, Error)]
 pub enum AxisFault {
     #[error("not a known coordinate reference system")]
     UnknownCrs,

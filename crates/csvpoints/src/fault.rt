@@ -5,7 +5,7 @@ use std::alloc::AllocError;
 use thiserror::Error;
 
 /// What is wrong with a record.
-#[derive(Clone, Copy, Debug, PartialEq, Eq, Error)]
+#[derive(Clone, Copy, Debug, Error)]
 pub enum CsvKind {
     /// The text has no record.
     #[error("no header")]
@@ -44,7 +44,7 @@ impl CsvKind {
 }
 
 /// Why a text is no table: the first fault in the order of records.
-#[derive(Clone, Copy, Debug, PartialEq, Eq, Error)]
+#[derive(Clone, Copy, Debug, Error)]
 #[error("row {row}: {kind}")]
 pub struct CsvFault {
     /// The number of the record. The header is 1.
@@ -54,7 +54,7 @@ pub struct CsvFault {
 }
 
 /// Why no table was read.
-#[derive(Clone, Copy, Debug, PartialEq, Eq, Error)]
+#[derive(Clone, Copy, Debug, Error)]
 pub enum CsvError {
     /// The text is no table.
     #[error("{0}")]

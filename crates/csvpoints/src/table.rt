@@ -14,7 +14,7 @@ use mapdefs::{Feature, Items, Limited, Limits, Text};
 use std::alloc::Global;
 
 /// What a table says.
-#[derive(Debug, Drop)]
+#[derive(Drop)]
 pub struct TableFields {
     /// The names of the columns, in order.
     pub columns: Items<Text>,

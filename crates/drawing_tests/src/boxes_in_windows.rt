@@ -100,23 +100,23 @@ fn next_box(state: &mut u64) -> WorldBox {
     let [west, south, east, north] = [x, y, x.wrapping_add(width), y.wrapping_add(height)].map(
         |side| side.wrapping_sub(30).wrapping_mul(1_000_000),
     );
-    match next(state, 20) {
-        0 => area([
+    area(match next(state, 20) {
+        0 => [
             west.wrapping_mul(9),
             south,
             east.wrapping_add(FAR >> 8),
             north.wrapping_add(32_000_000),
-        ]),
-        1 => area([east.wrapping_add(1), south, west, north]),
-        2 => area([-FAR, -FAR, west, FAR]),
-        3 => area([FAR, FAR, FAR, FAR]),
-        4 => area([LEAST, north, LEAST, FAR]),
-        5 => area([west, -FAR, west, -FAR]),
-        6 => area([NEARLY, south, FAR, south]),
-        7 => area([LEAST, LEAST, LEAST, -FAR]),
-        8 => area([west, NEARLY, east, FAR]),
-        _ => area([west, south, east, north]),
-    }
+        ],
+        1 => [east.wrapping_add(1), south, west, north],
+        2 => [-FAR, -FAR, west, FAR],
+        3 => [FAR, FAR, FAR, FAR],
+        4 => [LEAST, north, LEAST, FAR],
+        5 => [west, -FAR, west, -FAR],
+        6 => [NEARLY, south, FAR, south],
+        7 => [LEAST, LEAST, LEAST, -FAR],
+        8 => [west, NEARLY, east, FAR],
+        _ => [west, south, east, north],
+    })
 }
 
 // The indices of the boxes of a list that meet the window, asked one by one.

@@ -266,21 +266,38 @@ fn first_row(
     Ok((work.divisions, first))
 }
 
-// What is told of the bars.
-fn told_bars(alloc: Global, divisions: u64) -> Result<(u64, (usize, Option<Span>)), AllocError> {
+// What is told of the bars where so many divisions stood before: how many stand then, how many spans the
+// first row has, and the last of them.
+fn told_bars(alloc: Global, before: &str) -> Result<String, AllocError> {
+    let Ok(before) = before.parse::<u64>() else {
+        return String::from_str(alloc, "malformed");
+    };
     let polygon = bars(alloc)?;
-    first_row(alloc, &polygon, divisions)
+    match first_row(alloc, &polygon, before)? {
+        (divisions, (count, Some(last))) => {
+            format!(in alloc; "{divisions} {count} {}-{}", last.from, last.to)
+        }
+        _ => String::from_str(alloc, "no spans"),
+    }
 }
 
 #[test]
 fn widest_rows_have_many_spans(rt: HostRuntime) -> Result<(), Fail> {
-    let told = told_bars(rt.alloc(), u64::MAX - 4_093)?;
-    let last = Span {
-        from: 2_046,
-        to: 2_047,
-    };
-    assert_eq!(rt; told, (u64::MAX, (1_024, Some(last))));
-    Ok(())
+    let row = "18446744073709551615 1024 2046-2047=18446744073709547522";
+    assert_rows(rt.alloc(), row, '=', 1, told_bars)
+}
+
+// Whether spans are equal that have equal ends, and no others.
+fn spans_have_two_ends() -> bool {
+    let span = Span { from: 3, to: 5 };
+    span == Span { from: 3, to: 5 }
+        && span != Span { from: 2, to: 5 }
+        && span != Span { from: 3, to: 6 }
+}
+
+#[test]
+fn spans_differ_where_one_end_does(rt: HostRuntime) {
+    assert!(rt; spans_have_two_ends());
 }
 
 // Adds the rows to which a sweep skips, one after another, and `!` where none is left.

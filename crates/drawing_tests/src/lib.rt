@@ -7,8 +7,6 @@ mod boxes_in_windows;
 #[cfg(test)]
 mod clipped_edges;
 #[cfg(test)]
-mod differences;
-#[cfg(test)]
 mod edges;
 #[cfg(test)]
 mod filled_rows;

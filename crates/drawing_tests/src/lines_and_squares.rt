@@ -267,33 +267,39 @@ fn rows_forget_the_row_before(rt: HostRuntime) -> Result<(), Fail> {
     )
 }
 
-// Whether an open line is made of these, in the order of its vertices.
-fn is_open_made(line: &Line) -> bool {
-    let squares = [square([0, 1, 3]), square([2, 3, 3]), square([4, 5, 3])];
-    line.segments() == [segment([8, 24, 40, 56], 3)].as_slice()
-        && line.squares() == squares.as_slice()
+// The pixels of each segment of a line and then of each square round a vertex, in their order, with the form
+// of the line and the sides of a picture.
+const MADE: &str = "\
+0-5 #..... ##.... ###... .##... ..#... ...... ......;0-3 ##.... ##.... ##.... ...... ...... ...... ......;2-5 ...... ...... .###.. .###.. .###.. ...... ......;4-7 ...... ...... ...... ...... ...### ...### ...###;=8,24 40,56/72,88|open 3|6 7
+1-4 .... #... .#.. ..#. ....;1-4 .... ..#. ..#. ..#. ....;1-2 .... ###. .... .... ....;1-2 .... #... .... .... ....;3-4 .... .... .... ..#. ....;1-2 .... ..#. .... .... ....;=8,24 40,56 40,24|closed 1|4 5";
+
+// Adds the pixels of each cover.
+fn draw_each<C: Cover>(
+    out: &mut String,
+    covers: &[C],
+    width: PictureSide,
+    height: PictureSide,
+) -> Result<(), AllocError> {
+    for cover in covers {
+        let pixels = drawn(*out.allocator(), cover, width, height)?;
+        out.push_str(pixels.as_str())?;
+        out.push(';')?;
+    }
+    Ok(())
 }
 
-// Whether a closed line is made of these, in the order of its vertices.
-fn is_closed_made(line: &Line) -> bool {
-    let there = segment([8, 24, 40, 56], 2);
-    let back = segment([40, 56, 8, 24], 2);
-    line.segments() == [there, back].as_slice()
-}
-
-fn open_made(alloc: Global) -> Result<bool, AllocError> {
-    let line = line(alloc, "8,24 40,56/72,88", false, 3)?;
-    Ok(is_open_made(&line))
-}
-
-fn closed_made(alloc: Global) -> Result<bool, AllocError> {
-    let line = line(alloc, "8,24 40,56", true, 2)?;
-    Ok(is_closed_made(&line))
+fn made_of(alloc: Global, row: &str) -> Result<String, AllocError> {
+    let Some((parts, (is_closed, line_width, width, height))) = drawing(row) else {
+        return format!(in alloc; "malformed");
+    };
+    let line = line(alloc, parts, is_closed, line_width)?;
+    let mut text = String::new(alloc);
+    draw_each(&mut text, line.segments(), width, height)?;
+    draw_each(&mut text, line.squares(), width, height)?;
+    Ok(text)
 }
 
 #[test]
 fn lines_are_made_of_segments_and_squares(rt: HostRuntime) -> Result<(), Fail> {
-    let are_made = [open_made(rt.alloc())?, closed_made(rt.alloc())?];
-    assert_eq!(rt; are_made, [true, true]);
-    Ok(())
+    assert_rows(rt.alloc(), MADE, '=', 2, made_of)
 }

@@ -307,10 +307,10 @@ fn layer_of_rings(alloc: Global, words: &str, rings: &str) -> Result<Layer, Allo
 fn map_of_two(alloc: Global, words: &str, rings: &str) -> Result<Map, AllocError>
     ensures { IfOk result (λ map. length map.layers ≡ 2) }
 {
-    let first = layer_of_rings(alloc, words, rings)?;
-    let second = layer_of_rings(alloc, "polygon o/- none", "10,10 30,10 30,30 10,30")?;
-    let layers = Items::of(vec![in alloc; first, second]?);
-    map_of(alloc, layers)
+    let mut layers = Vec::new(alloc);
+    layers.push(layer_of_rings(alloc, words, rings)?)?;
+    layers.push(layer_of_rings(alloc, "polygon o/- none", "10,10 30,10 30,30 10,30")?)?;
+    map_of(alloc, Items::of(layers))
 }
 
 // The indices of the layers that are chosen.

@@ -186,30 +186,36 @@ fn stamps_have_worked_pixels(rt: HostRuntime) -> Result<(), Fail> {
     assert_rows(rt.alloc(), STAMPS, '=', 20, stamped)
 }
 
-// The colour of a stamp at a pixel, if it covers it.
-fn colour(stamp: &Stamp<'_>, i: u16) -> Option<Rgb> {
-    if stamp.covers(i.min(9), 2) {
-        return Some(stamp.colour(i.min(9), 2));
+// Adds the colour of a stamp at a column of the third row, if it covers it.
+fn add_colour(text: &mut String, stamp: &Stamp<'_>, column: u16) -> Result<(), AllocError> {
+    let column = column.min(9);
+    if !stamp.covers(column, 2) {
+        return text.push_str("none ");
     }
-    None
+    let Rgb { red, green, blue } = stamp.colour(column, 2);
+    write!(text, "{red}.{green}.{blue} ")
 }
 
-// The colours of two pixels of a pixmap's stamp, the first one transparent.
-fn colours(alloc: Global) -> Result<[Option<Rgb>; 2], PixFault> {
-    let pixmap = read(alloc, b"P6 2 1 255\n\xff\x00\xff\x00\xff\x00".as_slice())?;
+// The colours of the two pixels of a pixmap's stamp.
+fn colours(alloc: Global, bytes: &str) -> Result<String, AllocError> {
+    let Ok(pixmap) = read(alloc, bytes.as_bytes()) else {
+        return String::from_str(alloc, "no pixmap");
+    };
     let stamp = Stamp::new(&pixmap, pixel([2, 2]));
-    Ok([colour(&stamp, 1), colour(&stamp, 2)])
+    let mut text = String::new(alloc);
+    add_colour(&mut text, &stamp, 1)?;
+    add_colour(&mut text, &stamp, 2)?;
+    Ok(text)
 }
+
+// The colours of a stamp, and the file of its pixmap of two pixels.
+const COLOURS: &str = "\
+65.66.67 97.98.99 =P6 2 1 255 ABCabc
+65.66.67 65.67.66 =P6 2 1 255 ABCACB";
 
 #[test]
 fn stamps_have_the_colours_of_their_pixmap(rt: HostRuntime) -> Result<(), Fail> {
-    let green = Rgb {
-        red: 0,
-        green: 255,
-        blue: 0,
-    };
-    assert_eq!(rt; colours(rt.alloc())?, [None, Some(green)]);
-    Ok(())
+    assert_rows(rt.alloc(), COLOURS, '=', 2, colours)
 }
 
 // Adds the pixels of a picture of that many pixels on each side, all of different colours as far as there are

@@ -4,7 +4,7 @@ use std::alloc::AllocError;
 use thiserror::Error;
 
 /// Why a text is no expression.
-#[derive(Clone, Copy, Debug, PartialEq, Eq, Error)]
+#[derive(Clone, Copy, Debug, Error)]
 #[error("no expression from byte {at} on")]
 pub struct ExprFault {
     /// The index of the byte at which no reading can go on, from 0. It is the text's length where the
@@ -13,7 +13,7 @@ pub struct ExprFault {
 }
 
 /// Why no expression was read.
-#[derive(Clone, Copy, Debug, PartialEq, Eq, Error)]
+#[derive(Clone, Copy, Debug, Error)]
 pub enum ExprError {
     /// The text is no expression.
     #[error("{0}")]
@@ -24,7 +24,7 @@ pub enum ExprError {
 }
 
 /// What stops reading within a text.
-#[derive(Clone, Copy, Debug)]
+#[derive(Clone, Copy)]
 pub enum Stop {
     /// No reading goes on where so many bytes are left.
     Fault { left: usize },

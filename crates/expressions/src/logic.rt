@@ -12,7 +12,7 @@ use mapdefs::{Boxed, Expr, Items, MAX_NESTING};
 use std::alloc::Global;
 
 /// By what parts are joined.
-#[derive(Clone, Copy, Debug, PartialEq, Eq)]
+#[derive(Clone, Copy)]
 pub enum Joint {
     Or,
     And,

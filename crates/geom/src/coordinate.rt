@@ -4,7 +4,7 @@ use crate::{COORDINATE_LIMIT, Micro};
 use std::marker::Model;
 
 /// A coordinate: a longitude or a latitude of at most 1,000 degrees in size.
-#[derive(Clone, Copy, Debug, PartialEq, Eq, PartialOrd, Ord)]
+#[derive(Clone, Copy, PartialEq, Eq, PartialOrd, Ord)]
 pub struct Coordinate {
     number: Micro,
 }

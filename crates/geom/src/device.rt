@@ -5,7 +5,7 @@ use std::marker::Model;
 
 /// A device point: a point of the picture, in sixteenths of a pixel from the upper left corner, to
 /// the right and down. Both coordinates have sizes below 2^47.
-#[derive(Clone, Copy, Debug, PartialEq, Eq)]
+#[derive(Clone, Copy)]
 pub struct Device {
     x: i64,
     y: i64,
@@ -74,7 +74,7 @@ impl Device {
 
 /// A pixel: its column `i` and its row `j`, from the upper left corner. Both have sizes below 2^44,
 /// and are below 0 left of the picture or above it.
-#[derive(Clone, Copy, Debug, PartialEq, Eq)]
+#[derive(Clone, Copy)]
 pub struct Pixel {
     i: i64,
     j: i64,

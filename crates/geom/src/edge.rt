@@ -5,7 +5,7 @@ use crate::Device;
 use std::marker::Model;
 
 /// An edge of a ring: the straight line from one device point to another.
-#[derive(Clone, Copy, Debug, PartialEq, Eq)]
+#[derive(Clone, Copy)]
 pub struct Edge {
     from: Device,
     to: Device,

@@ -13,7 +13,7 @@ pub const COORDINATE_LIMIT: u64 = 1_000_000_000;
 pub const NUMBER_LIMIT: u64 = 1_000_000_000_000_000_000;
 
 /// Why a text is no number of millionths.
-#[derive(Clone, Copy, Debug, PartialEq, Eq, Error)]
+#[derive(Clone, Copy, Debug, Error)]
 pub enum NumberFault {
     #[error("not a decimal number")]
     NotANumber,

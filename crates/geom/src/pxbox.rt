@@ -7,7 +7,7 @@ use std::marker::Model;
 /// A box of pixels: the columns from `left` to before `right`, the rows from `top` to before
 /// `bottom`. It may lie off the picture, and has no pixel where `right` is not above `left` or
 /// `bottom` not above `top`.
-#[derive(Clone, Copy, Debug, PartialEq, Eq)]
+#[derive(Clone, Copy, Debug)]
 pub struct PxBox {
     left: i64,
     top: i64,

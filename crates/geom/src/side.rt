@@ -8,7 +8,7 @@ use std::marker::Model;
 pub const MAX_PICTURE_SIDE: u16 = 2_048;
 
 /// The side of a picture: 1 to `MAX_PICTURE_SIDE` pixels.
-#[derive(Clone, Copy, Debug, PartialEq, Eq, PartialOrd, Ord)]
+#[derive(Clone, Copy)]
 pub struct PictureSide {
     pixels: u16,
 }

@@ -5,7 +5,7 @@ use crate::{Coordinate, Micro};
 use std::marker::Model;
 
 /// A place: a point of the world, longitude `x` and latitude `y`.
-#[derive(Clone, Copy, Debug, PartialEq, Eq)]
+#[derive(Clone, Copy)]
 pub struct World {
     x: Coordinate,
     y: Coordinate,
@@ -45,7 +45,7 @@ impl World {
 }
 
 /// A part of the world between two longitudes and two latitudes, its ends included.
-#[derive(Clone, Copy, Debug, PartialEq, Eq)]
+#[derive(Clone, Copy, Debug)]
 pub struct WorldBox {
     minx: Micro,
     miny: Micro,

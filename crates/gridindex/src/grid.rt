@@ -8,7 +8,7 @@ use std::marker::Model;
 
 /// Boxes of the world, at most 2^32 of them, in a list that is quickly asked for those that meet a
 /// window. It takes memory in proportion to their number, whatever their sizes.
-#[derive(Debug, Drop)]
+#[derive(Drop)]
 pub struct Grid {
     alloc: Global,
     boxes: Vec<WorldBox>,

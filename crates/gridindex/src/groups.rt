@@ -11,7 +11,7 @@ use std::alloc::{AllocError, Global};
 
 /// The order of some boxes. The first `grouped` indices of it are in the groups of the levels, those
 /// of boxes that were added later follow.
-#[derive(Debug, Drop)]
+#[derive(Drop)]
 pub struct Groups {
     order: Vec<u32>,
     levels: Vec<Level>,

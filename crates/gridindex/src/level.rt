@@ -14,7 +14,7 @@ const LARGEST: usize = 268_435_456;
 pub const SMALLEST: usize = 16;
 
 /// The order in groups of one size, the last perhaps smaller, and the cover of each.
-#[derive(Debug, Drop)]
+#[derive(Drop)]
 pub struct Level {
     size: usize,
     covers: Vec<WorldBox>,

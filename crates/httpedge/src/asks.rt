@@ -6,7 +6,7 @@ use mapmachine::{Answer, Machine};
 use thiserror::Error;
 
 /// A query can't be answered now.
-#[derive(Clone, Copy, Debug, PartialEq, Eq, Error)]
+#[derive(Clone, Copy, Debug, Error)]
 #[error("the server is busy")]
 pub struct Busy;
 

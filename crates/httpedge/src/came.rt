@@ -11,7 +11,7 @@ use crate::{End, Refusal, Step};
 use std::alloc::{AllocError, Global};
 
 /// The bytes that came, up to the limit of a head, and what they decide.
-#[derive(Debug, Drop)]
+#[derive(Drop)]
 pub struct Came {
     pub bytes: Vec<u8>,
     pub verdict: Verdict,

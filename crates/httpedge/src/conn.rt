@@ -9,7 +9,7 @@ use std::alloc::{AllocError, Global};
 use std::marker::Model;
 
 /// A connection: the bytes of its stream that came, and what they decide.
-#[derive(Debug, Drop)]
+#[derive(Drop)]
 pub struct Conn {
     came: Came,
 }

@@ -2,7 +2,7 @@ use crate::Refusal;
 use mapmachine::Answer;
 
 /// What is written to a client.
-#[derive(Debug, Drop)]
+#[derive(Drop)]
 pub enum Outcome {
     /// The answer to its query.
     Answered(Answer),

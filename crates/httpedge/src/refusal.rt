@@ -4,7 +4,7 @@ ghost use Rattle.httpedge.specs.Response.{status_of};
 use http::StatusCode;
 
 /// Why a stream asks no query.
-#[derive(Clone, Copy, Debug, PartialEq, Eq)]
+#[derive(Clone, Copy, Debug)]
 pub enum Refusal {
     /// It has no head.
     BadRequest,

@@ -1,7 +1,7 @@
 use crate::Refusal;
 
 /// What a piece leads to.
-#[derive(Clone, Copy, Debug, PartialEq, Eq)]
+#[derive(Clone, Copy, Debug)]
 pub enum Step {
     /// Nothing is decided: further bytes are to be read.
     More,
@@ -12,7 +12,7 @@ pub enum Step {
 }
 
 /// What the end of a stream leads to.
-#[derive(Clone, Copy, Debug, PartialEq, Eq)]
+#[derive(Clone, Copy, Debug)]
 pub enum End {
     /// Nothing came, and nothing is answered.
     Nothing,

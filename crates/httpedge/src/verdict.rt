@@ -17,7 +17,7 @@ pub const HEAD_BYTES: usize = 16_384;
 const HEAD_FIELDS: usize = 64;
 
 /// What the bytes that came decide.
-#[derive(Clone, Copy, Debug, PartialEq, Eq)]
+#[derive(Clone, Copy)]
 pub enum Verdict {
     /// Nothing.
     Open,

@@ -2,7 +2,7 @@ use crate::{Expr, Items, Label, Limited, Limits, Style, Text};
 use geom::Micro;
 
 /// Which features belong to a class.
-#[derive(Debug, Drop)]
+#[derive(Drop)]
 pub enum Rule {
     /// All.
     Always,
@@ -15,7 +15,7 @@ pub enum Rule {
 }
 
 /// What a class says. `min` and `max` bound the scale denominator at which it is visible.
-#[derive(Debug, Drop)]
+#[derive(Drop)]
 pub struct ClassFields {
     pub rule: Rule,
     pub min: Option<Micro>,

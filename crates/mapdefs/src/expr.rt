@@ -2,7 +2,7 @@ use crate::{Boxed, Items, Text};
 use geom::Micro;
 
 /// How two operands of an expression are compared.
-#[derive(Clone, Copy, Debug, PartialEq, Eq)]
+#[derive(Clone, Copy, Debug)]
 pub enum Comparison {
     Equal,
     NotEqual,

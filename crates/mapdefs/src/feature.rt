@@ -2,7 +2,7 @@ use crate::{Items, Limited, Limits, Text};
 use geom::World;
 
 /// What a feature says.
-#[derive(Debug, Drop)]
+#[derive(Drop)]
 pub struct FeatureFields {
     /// Its parts: rings of a polygon, lines, or points.
     pub parts: Items<Items<World>>,

@@ -2,7 +2,7 @@ use crate::{Items, Limited, Limits};
 
 /// The box of a bitmap: its sides in pixels, and how far its lower left corner lies right of the pen
 /// and above the base line.
-#[derive(Clone, Copy, Debug, PartialEq, Eq)]
+#[derive(Clone, Copy, Debug)]
 pub struct BitmapBox {
     pub width: u8,
     pub height: u8,

@@ -2,7 +2,7 @@ use crate::{Limited, Limits, Rgb};
 
 /// Where a label's text stands, seen from its anchor: above, centred or below, and left, centred or
 /// right. `Automatic` leaves the choice to the placement.
-#[derive(Clone, Copy, Debug, PartialEq, Eq)]
+#[derive(Clone, Copy, Debug)]
 pub enum Position {
     UpperLeft,
     UpperCentre,
@@ -17,7 +17,7 @@ pub enum Position {
 }
 
 /// What a label says.
-#[derive(Debug, Drop, PartialEq, Eq)]
+#[derive(Drop)]
 pub struct LabelFields {
     /// The colour of the glyphs; without one they leave no ink.
     pub colour: Option<Rgb>,

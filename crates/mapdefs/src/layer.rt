@@ -2,7 +2,7 @@ use crate::{Class, Feature, Items, Limited, Limits, Text};
 use geom::Micro;
 
 /// What the features of a layer are.
-#[derive(Clone, Copy, Debug, PartialEq, Eq)]
+#[derive(Clone, Copy, Debug)]
 pub enum Kind {
     Point,
     Line,
@@ -10,7 +10,7 @@ pub enum Kind {
 }
 
 /// What a layer says. `min` and `max` bound the scale denominator at which it is visible.
-#[derive(Debug, Drop)]
+#[derive(Drop)]
 pub struct LayerFields {
     pub name: Text,
     pub title: Text,

@@ -4,7 +4,7 @@ use crate::{Font, Items, Layer, Limited, Limits, Symbol, Text};
 use geom::WorldBox;
 
 /// What a map says.
-#[derive(Debug, Drop)]
+#[derive(Drop)]
 pub struct MapFields {
     /// The title of the service.
     pub title: Text,

@@ -5,7 +5,7 @@ use geom::PictureSide;
 
 /// What a picture is made of: its sides in pixels, and its pixels row by row from the top, each row
 /// from the left.
-#[derive(Debug, Drop)]
+#[derive(Drop)]
 pub struct PictureFields {
     pub width: PictureSide,
     pub height: PictureSide,

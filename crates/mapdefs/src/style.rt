@@ -1,7 +1,7 @@
 use crate::{Limited, Limits, Rgb};
 
 /// What a style says. `symbol` is an index into the map's symbols.
-#[derive(Debug, Drop, PartialEq, Eq)]
+#[derive(Drop)]
 pub struct StyleFields {
     pub colour: Option<Rgb>,
     pub outline: Option<Rgb>,

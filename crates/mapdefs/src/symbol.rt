@@ -1,7 +1,7 @@
 use crate::{Items, Limited, Limits, Rgb, Text};
 
 /// What a pixmap is made of: its sides in pixels, and its pixels row by row from the top.
-#[derive(Debug, Drop)]
+#[derive(Drop)]
 pub struct PixmapFields {
     pub width: u16,
     pub height: u16,
@@ -18,7 +18,7 @@ impl Limits for PixmapFields {
 pub type Pixmap = Limited<PixmapFields>;
 
 /// A symbol that points are drawn with.
-#[derive(Debug, Drop)]
+#[derive(Drop)]
 pub struct Symbol {
     pub name: Text,
     pub pixmap: Pixmap,

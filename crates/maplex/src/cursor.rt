@@ -5,7 +5,7 @@ use crate::byte::is_separator;
 use std::marker::Model;
 
 /// A position in a source: the bytes that are left, and the line on which they begin.
-#[derive(Debug, Drop)]
+#[derive(Drop)]
 pub struct Cursor<'a> {
     rest: &'a [u8],
     line: u64,

@@ -1,7 +1,7 @@
 use thiserror::Error;
 
 /// Why a source has no further token.
-#[derive(Clone, Copy, Debug, PartialEq, Eq, Error)]
+#[derive(Clone, Copy, Debug, Error)]
 pub enum LexKind {
     /// The source ends inside a quoted text, a logical expression or a list. The line is that on which
     /// it begins.
@@ -17,7 +17,7 @@ pub enum LexKind {
 }
 
 /// The first fault of a source.
-#[derive(Clone, Copy, Debug, PartialEq, Eq, Error)]
+#[derive(Clone, Copy, Debug, Error)]
 #[error("line {line}: {kind}")]
 pub struct LexFault {
     /// Its line, counted from 1.
@@ -27,7 +27,7 @@ pub struct LexFault {
 }
 
 /// What comes after the last token of a source.
-#[derive(Clone, Copy, Debug, PartialEq, Eq)]
+#[derive(Clone, Copy)]
 pub enum Tail {
     /// The end of the source, with its line: 1 more than the LF bytes of the source.
     Ends(u64),

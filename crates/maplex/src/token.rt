@@ -4,7 +4,7 @@ use std::marker::Model;
 pub const TOKEN_LIMIT: usize = 65_536;
 
 /// The shape of a token.
-#[derive(Clone, Copy, Debug, PartialEq, Eq)]
+#[derive(Clone, Copy, Debug)]
 pub enum Shape {
     /// A bare word: bytes up to a separator, a quote, `#` or a bracket.
     Word,
@@ -18,7 +18,7 @@ pub enum Shape {
 }
 
 /// A token. Contracts see the bytes of its text.
-#[derive(Debug, Drop)]
+#[derive(Drop)]
 pub struct Token<'a> {
     /// How it is written.
     pub shape: Shape,

@@ -45,7 +45,7 @@ fn step<'a>(at: &Cursor<'a>) -> Option<Result<(Token<'a>, usize), LexFault>>
 /// The tokens of a source, one after another. Contracts see what is left: the tokens and their tail.
 ///
 /// Reading takes no memory, and looks at each byte a few times at most.
-#[derive(Debug, Drop)]
+#[derive(Drop)]
 pub struct Tokens<'a> {
     at: Cursor<'a>,
 }

@@ -13,7 +13,7 @@ use viewport::View;
 use wmsquery::{MapRequest, QueryError, WmsFault, read as read_query, report};
 
 /// The map machine: it holds a map, and answers queries about it.
-#[derive(Debug, Drop)]
+#[derive(Drop)]
 pub struct Machine {
     alloc: Global,
     map: Map,

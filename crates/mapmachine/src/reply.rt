@@ -2,14 +2,14 @@ use crate::Bytes;
 use mapdefs::Items;
 
 /// What is asked of the machine.
-#[derive(Debug, Drop)]
+#[derive(Drop)]
 pub enum Event<'a> {
     /// The query part of a request, as its bytes came.
     Query(Bytes<'a>),
 }
 
 /// What the body of an answer is.
-#[derive(Clone, Copy, Debug, PartialEq, Eq)]
+#[derive(Clone, Copy)]
 pub enum Mime {
     /// A picture as Netpbm's portable pixmap.
     Pixmap,
@@ -18,14 +18,14 @@ pub enum Mime {
 }
 
 /// The answer to a query.
-#[derive(Debug, Drop)]
+#[derive(Drop)]
 pub struct Answer {
     pub mime: Mime,
     pub body: Items<u8>,
 }
 
 /// What the machine says to an event.
-#[derive(Debug, Drop)]
+#[derive(Drop)]
 pub enum Reply {
     /// The query was answered.
     Answered(Answer),

@@ -6,12 +6,12 @@ use std::io::{Read, Write};
 use thiserror::Error;
 
 /// A source gave no bytes, for another reason than its end.
-#[derive(Clone, Copy, Debug, PartialEq, Eq, Error)]
+#[derive(Clone, Copy, Debug, Error)]
 #[error("the reader failed")]
 pub struct TakeFailed;
 
 /// A sink took no bytes, or kept some back.
-#[derive(Clone, Copy, Debug, PartialEq, Eq, Error)]
+#[derive(Clone, Copy, Debug, Error)]
 #[error("the writer failed")]
 pub struct PutFailed;
 
@@ -125,7 +125,7 @@ pub fn put_pieces<S: Sink>(sink: &mut S, pieces: &[&[u8]]) -> Result<(), WriteFa
 /// A reader or a writer of std, or both. It remembers whether it has failed, with one flag for
 /// reading and one for writing, how many bytes it has taken, and whether it was flushed since. A
 /// write that takes none of some bytes counts as failed.
-#[derive(Debug, Drop)]
+#[derive(Drop)]
 pub struct Flagged<T> {
     inner: T,
     take_failed: bool,

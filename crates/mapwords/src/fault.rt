@@ -6,7 +6,7 @@ use std::alloc::AllocError;
 use thiserror::Error;
 
 /// What is wrong with a mapfile.
-#[derive(Clone, Copy, Debug, PartialEq, Eq, Error)]
+#[derive(Clone, Copy, Debug, Error)]
 pub enum ParseKind {
     /// The source has no further token here.
     #[error("{0}")]
@@ -61,7 +61,7 @@ impl ParseKind {
 }
 
 /// Why a source gives no map.
-#[derive(Clone, Copy, Debug, PartialEq, Eq, Error)]
+#[derive(Clone, Copy, Debug, Error)]
 pub enum ParseFault {
     /// The first fault in the order of tokens.
     #[error("line {line}: {kind}")]

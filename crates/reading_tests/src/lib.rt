@@ -3,8 +3,6 @@
 #![tactic(auto)]
 
 #[cfg(test)]
-mod apart;
-#[cfg(test)]
 mod expression_trees;
 #[cfg(test)]
 mod expression_truths;

@@ -2,13 +2,12 @@ ghost use Rattle.std.specs.Prelude.{◌≡◌, ◌≤◌, [], length, All};
 ghost use Rattle.mapdefs.specs.MapLimits.{LayerNamesSymbolsOf};
 ghost use Rattle.mapdefs.specs.declared.limits.TheConstants.{MAX_LAYERS};
 
-use crate::apart::apart;
 use geom::{Micro, PictureSide, WorldBox};
 use mapdefs::{
-    BitmapBox, Items, Kind, Layer, LayerFields, MAX_BUFFER, MAX_CLASSES, MAX_DISTANCE,
-    MAX_FEATURES, MAX_GLYPH_SIDE, MAX_GLYPHS, MAX_ITEMS, MAX_LAYERS, MAX_LINE_WIDTH, MAX_NESTING,
-    MAX_PRIORITY, MAX_SQUARE, MAX_STYLES, MAX_SYMBOL_SIDE, MAX_SYMBOLS, MAX_TOLERANCE,
-    MAX_VERTICES, Map, MapFields, Picture, PictureFields, Rgb, Text,
+    Items, Kind, Layer, LayerFields, MAX_BUFFER, MAX_CLASSES, MAX_DISTANCE, MAX_FEATURES,
+    MAX_GLYPH_SIDE, MAX_GLYPHS, MAX_ITEMS, MAX_LAYERS, MAX_LINE_WIDTH, MAX_NESTING, MAX_PRIORITY,
+    MAX_SQUARE, MAX_STYLES, MAX_SYMBOL_SIDE, MAX_SYMBOLS, MAX_TOLERANCE, MAX_VERTICES, Map,
+    MapFields, Picture, PictureFields, Rgb, Text,
 };
 use std::alloc::{AllocError, Global};
 use std::test::Fail;
@@ -178,47 +177,4 @@ fn limits(alloc: Global, name: &str) -> Result<String, AllocError> {
 #[test]
 fn limits_have_their_numbers(rt: HostRuntime) -> Result<(), Fail> {
     assert_rows(rt.alloc(), LIMITS, '=', 2, limits)
-}
-
-fn bounds(width: u8, height: u8, xoff: i8, yoff: i8) -> BitmapBox {
-    BitmapBox {
-        width,
-        height,
-        xoff,
-        yoff,
-    }
-}
-
-// Colours that differ in one component are two, as are boxes of bitmaps that differ in one number.
-const DIFFERENCES: &str = "\
-4 apart=colours
-5 apart=boxes";
-
-fn differences(alloc: Global, name: &str) -> Result<String, AllocError> {
-    if name == "colours" {
-        let bluer = Rgb {
-            blue: 31,
-            ..colour(10, 20)
-        };
-        apart(
-            alloc,
-            &[colour(10, 20), colour(11, 20), colour(10, 21), bluer],
-        )
-    } else {
-        apart(
-            alloc,
-            &[
-                bounds(6, 13, 1, -2),
-                bounds(7, 13, 1, -2),
-                bounds(6, 14, 1, -2),
-                bounds(6, 13, 2, -2),
-                bounds(6, 13, 1, -3),
-            ],
-        )
-    }
-}
-
-#[test]
-fn values_differ_where_one_field_does(rt: HostRuntime) -> Result<(), Fail> {
-    assert_rows(rt.alloc(), DIFFERENCES, '=', 2, differences)
 }

@@ -11,7 +11,7 @@ const GROUND_UNIT: u64 = 111_319_491;
 const PIXEL_UNIT: u64 = 280_000;
 
 /// The scale of a picture: how many millionths of a degree its pixels show, from left to right.
-#[derive(Clone, Copy, Debug, PartialEq, Eq)]
+#[derive(Clone, Copy)]
 pub struct Scale {
     span: u32,
     width: PictureSide,

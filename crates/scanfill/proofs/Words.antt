@@ -16,6 +16,13 @@ word limit z most h = omega (arith, ints)
 pub wide : (limit : ℕ) (z : ℤ) → limit ≤ 2 ^ 127 → IsBelow limit z → to_z w128 (of_z w128 z) ≡ z
 wide limit z most h = omega (arith, ints)
 
+-- what they hold of such a number is below the limit, too
+pub word-held : (limit : ℕ) (z : ℤ) → limit ≤ 2 ^ 63 → IsBelow limit z → IsBelow limit (to_z w64 (of_z w64 z))
+word-held limit z most h = rw (word limit z most h) h
+
+pub wide-held : (limit : ℕ) (z : ℤ) → limit ≤ 2 ^ 127 → IsBelow limit z → IsBelow limit (to_z w128 (of_z w128 z))
+wide-held limit z most h = rw (wide limit z most h) h
+
 pub fits-word : (limit : ℕ) (z : ℤ) → limit ≤ 2 ^ 63 → IsBelow limit z → SFits w64 z
 fits-word limit z most h = omega (arith, ints)
 
@@ -43,6 +50,11 @@ product-below m n a b p q =
 pub product-is : (m n : ℕ) (a b : ℤ) → m ≤ 2 ^ 127 → n ≤ 2 ^ 127 → m * n ≤ 2 ^ 127 → IsBelow m a → IsBelow n b →
     to_z w128 (of_z w128 (to_z w128 (of_z w128 a) *ℤ to_z w128 (of_z w128 b))) ≡ a *ℤ b
 product-is m n a b least most all p q = rw (wide m a least p, wide n b most q) (wide (m * n) (a *ℤ b) all (product-below m n a b p q))
+
+-- and holds it
+pub product-fits : (m n : ℕ) (a b : ℤ) → m ≤ 2 ^ 127 → n ≤ 2 ^ 127 → m * n ≤ 2 ^ 127 → IsBelow m a → IsBelow n b →
+    SFits w128 (to_z w128 (of_z w128 a) *ℤ to_z w128 (of_z w128 b))
+product-fits m n a b least most all p q = rw (wide m a least p, wide n b most q) (fits-wide (m * n) (a *ℤ b) all (product-below m n a b p q))
 
 -- what is left of a number by a quotient
 pub left-is : (m q k : ℤ) → IsBelow (2 ^ 97) m → IsBelow (2 ^ 44) q → IsBelow (2 ^ 52) k → IsBelow (2 ^ 52) (m -ℤ q *ℤ k) →

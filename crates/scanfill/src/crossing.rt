@@ -6,7 +6,7 @@ use crate::walk::EdgeWalk;
 use clip::Rows;
 
 /// An edge as a sweep knows it, in the row that it has come to.
-#[derive(Debug, Drop)]
+#[derive(Drop)]
 pub enum Crossing {
     /// It lies left of the view, in the rows that are left.
     Left {

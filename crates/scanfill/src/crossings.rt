@@ -10,7 +10,7 @@ use crate::flips::Flips;
 
 /// The crossings of a sweep, and the row that it has come to. In their list those that have ended stand
 /// first, then those that cross the row, then those that wait, in the order of their first rows.
-#[derive(Debug, Drop)]
+#[derive(Drop)]
 pub struct Crossings {
     list: Vec<Crossing>,
     row: u16,

@@ -10,7 +10,7 @@ use std::alloc::{AllocError, Global};
 use std::marker::Model;
 
 /// The columns of a row at which its pixels go in or out: for each column whether they do there.
-#[derive(Debug, Drop)]
+#[derive(Drop)]
 pub struct Flips {
     flips: Vec<bool>,
     first: u16,

@@ -8,7 +8,7 @@ ghost use Rattle.scanfill.specs.Column.{reach};
 use geom::Edge;
 
 /// Where an edge crosses a row.
-#[derive(Clone, Copy, Debug, PartialEq, Eq)]
+#[derive(Clone, Copy)]
 pub struct Place {
     /// The first column whose pixel centre lies at the crossing or right of it.
     pub column: i64,
@@ -17,7 +17,7 @@ pub struct Place {
 }
 
 /// How far an edge goes from row to row.
-#[derive(Clone, Copy, Debug, PartialEq, Eq)]
+#[derive(Clone, Copy)]
 pub struct Slope {
     /// The columns, rounded down.
     pub step: i64,

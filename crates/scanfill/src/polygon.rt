@@ -21,7 +21,7 @@ use std::marker::Model;
 
 /// A polygon on the picture: the edges of all its rings. It covers the pixels whose centres lie inside of
 /// the rings by the even-odd rule.
-#[derive(Debug, Drop)]
+#[derive(Drop)]
 pub struct Polygon {
     edges: Vec<Edge>,
 }

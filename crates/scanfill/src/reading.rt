@@ -6,7 +6,7 @@ use crate::span::{Span, Spans};
 use std::alloc::AllocError;
 
 /// Reads a row from left to right into its spans. Every cover's row is read by it.
-#[derive(Clone, Copy, Debug, PartialEq, Eq)]
+#[derive(Clone, Copy)]
 pub enum Reading {
     /// The last pixel isn't covered, or there is none yet.
     Outside,

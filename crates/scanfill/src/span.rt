@@ -5,7 +5,7 @@ use std::alloc::{AllocError, Global};
 use std::marker::Model;
 
 /// A run of pixels in a row.
-#[derive(Clone, Copy, Debug, Default, PartialEq, Eq)]
+#[derive(Clone, Copy, Default, PartialEq, Eq)]
 pub struct Span {
     /// The first column.
     pub from: u16,
@@ -14,7 +14,7 @@ pub struct Span {
 }
 
 /// The spans of a row. Up to eight of them take no memory.
-#[derive(Debug, Drop)]
+#[derive(Drop)]
 pub struct Spans {
     spans: SmallVec<Span, 8>,
 }

@@ -19,7 +19,7 @@ use std::alloc::AllocError;
 use std::marker::Model;
 
 /// A sweep over the rows of a polygon, from the top of a picture.
-#[derive(Debug, Drop)]
+#[derive(Drop)]
 pub struct Sweep<'a> {
     edges: &'a [Edge],
     width: PictureSide,

@@ -10,7 +10,7 @@ use geom::Edge;
 use std::marker::Model;
 
 /// A walk down an edge, over rows that it crosses.
-#[derive(Debug, Drop)]
+#[derive(Drop)]
 pub struct EdgeWalk {
     edge: Edge,
     row: u16,

@@ -10,7 +10,7 @@ use thiserror::Error;
 const CHUNK: usize = 65_536;
 
 /// Why an input was not read to its end.
-#[derive(Clone, Copy, Debug, PartialEq, Eq, Error)]
+#[derive(Clone, Copy, Debug, Error)]
 pub enum ReadFault {
     /// The reader failed.
     #[error("the reader failed")]

@@ -18,7 +18,7 @@ use std::alloc::{AllocError, Global};
 use std::marker::Model;
 
 /// A line of a width: its segments, and the squares round the vertices that they join.
-#[derive(Debug, Drop)]
+#[derive(Drop)]
 pub struct Line {
     segments: Vec<Segment>,
     squares: Vec<Square>,

@@ -9,7 +9,7 @@ use std::alloc::{AllocError, Global};
 use std::marker::Model;
 
 /// The columns of a row that are covered: for each column whether it is.
-#[derive(Debug, Drop)]
+#[derive(Drop)]
 pub struct Marks {
     marks: Vec<bool>,
     first: u16,

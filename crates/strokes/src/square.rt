@@ -13,7 +13,7 @@ use std::alloc::AllocError;
 use std::marker::Model;
 
 /// A square round a pixel. Of an even size it has one more column on the right and one more row below.
-#[derive(Clone, Copy, Debug, PartialEq, Eq)]
+#[derive(Clone, Copy)]
 pub struct Square {
     pixel: Pixel,
     size: u16,

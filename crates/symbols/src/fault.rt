@@ -5,7 +5,7 @@ use thiserror::Error;
 
 /// Why bytes give no pixmap. Of several faults the first of these is told: `Magic`, `Header`, `Limit`,
 /// `Short`.
-#[derive(Clone, Copy, Debug, PartialEq, Eq, Error)]
+#[derive(Clone, Copy, Debug, Error)]
 pub enum PixFault {
     /// The bytes don't begin with P6.
     #[error("the bytes don't begin with P6")]

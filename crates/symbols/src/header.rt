@@ -5,7 +5,7 @@ ghost use Rattle.geom.specs.Decimal.{number_of, with_digit};
 ghost use Rattle.symbols.specs.Format.{capped, gap_len, has_space_at, header_of, is_space, number_at};
 
 /// A number of a header.
-#[derive(Clone, Copy, Debug)]
+#[derive(Clone, Copy)]
 pub struct Number {
     /// The number, or 1,000 where it is greater.
     pub value: u16,
@@ -14,7 +14,7 @@ pub struct Number {
 }
 
 /// What a header says.
-#[derive(Clone, Copy, Debug)]
+#[derive(Clone, Copy)]
 pub struct HeaderFields {
     /// The width in pixels.
     pub width: u16,

@@ -13,7 +13,7 @@ use std::alloc::AllocError;
 use std::marker::Model;
 
 /// A pixmap that is stamped round a pixel. It covers the pixels where it has another colour than 255 0 255.
-#[derive(Debug, Drop)]
+#[derive(Drop)]
 pub struct Stamp<'a> {
     pixmap: &'a Pixmap,
     pixel: Pixel,

@@ -6,7 +6,7 @@ use Rattle.std.specs.Int.{int_div_euclid}
 use lib.IntN.{ℤ, pos, negsuc, ◌+ℤ◌, ◌*ℤ◌}
 use lib.Signed.{◌<ℤ◌, ◌≤ℤ◌}
 use mir.Syntax.{w64}
-use mir.Val.{to_z, of_z}
+use mir.Val.{SFits, to_z, of_z}
 use Rattle.geom.specs.Range.{IsBelow}
 use Rattle.geom.proofs.Quotients.{quotient_parts, at_most-by_product}
 use Rattle.viewport.specs.View.{sixteenths, SixteenthsAreRoundedDown}
@@ -14,6 +14,9 @@ use Rattle.viewport.specs.View.{sixteenths, SixteenthsAreRoundedDown}
 -- what i64 holds of a number below 2 ^ 47
 pub word-below : (z : ℤ) → IsBelow (2 ^ 47) z → to_z w64 (of_z w64 z) ≡ z
 word-below z h = omega (arith, ints)
+
+pub fits-below : (z : ℤ) → IsBelow (2 ^ 47) z → SFits w64 z
+fits-below z h = omega (arith, ints)
 
 -- sixteen times a number of pixels times a part is below 2 ^ 47
 pub share-below : (pixels : ℕ) (part : ℤ) → pixels ≤ 2048 → IsBelow (2 ^ 31) part → IsBelow (2 ^ 47) (pos (16 * pixels) *ℤ part)
@@ -29,6 +32,16 @@ share-is pixels part p h =
     let size : IsBelow (2 ^ 47) part = record { above = omega (arith, ints); below = omega (arith, ints) } in
     rw (word-below (pos pixels) count, word-below (pos (16 * pixels)) sum, word-below part size)
     (word-below (pos (16 * pixels) *ℤ part) (share-below pixels part p h))
+
+-- and holds
+pub share-fits : (pixels : ℕ) (part : ℤ) → pixels ≤ 2048 → IsBelow (2 ^ 31) part →
+    SFits w64 (to_z w64 (of_z w64 (pos 16 *ℤ to_z w64 (of_z w64 (pos pixels)))) *ℤ to_z w64 (of_z w64 part))
+share-fits pixels part p h =
+    let count : IsBelow (2 ^ 47) (pos pixels) = record { above = omega (arith, ints); below = omega (arith, ints) } in
+    let sum : IsBelow (2 ^ 47) (pos (16 * pixels)) = record { above = omega (arith, ints); below = omega (arith, ints) } in
+    let size : IsBelow (2 ^ 47) part = record { above = omega (arith, ints); below = omega (arith, ints) } in
+    rw (word-below (pos pixels) count, word-below (pos (16 * pixels)) sum, word-below part size)
+    (fits-below (pos (16 * pixels) *ℤ part) (share-below pixels part p h))
 
 -- the law
 pub sixteenths-law : SixteenthsAreRoundedDown

@@ -13,7 +13,7 @@ pub const MAX_MARGIN: u16 = 4_096;
 
 /// A view: the part of the world that is shown, and the sides of the picture that shows it. The area
 /// is an extent of the world.
-#[derive(Clone, Copy, Debug, PartialEq, Eq)]
+#[derive(Clone, Copy)]
 pub struct View {
     area: WorldBox,
     width: PictureSide,

@@ -13,14 +13,14 @@ use mapdefs::{Items, Map, Rgb};
 use std::alloc::{AllocError, Global};
 
 /// A check of a parameter: the code that refuses its value, if there is one.
-#[derive(Clone, Copy, Debug, PartialEq, Eq)]
+#[derive(Clone, Copy)]
 pub struct Check {
     pub parameter: Parameter,
     pub refusal: Option<Code>,
 }
 
 /// What the parameters of a request mean, and the refusal of the styles.
-#[derive(Debug, Drop)]
+#[derive(Drop)]
 pub struct Values {
     pub layers: Result<Items<usize>, Code>,
     pub styles: Option<Code>,

@@ -1,7 +1,7 @@
 use thiserror::Error;
 
 /// The parameters of a query that are looked at, in the order in which their faults are told.
-#[derive(Clone, Copy, Debug, PartialEq, Eq)]
+#[derive(Clone, Copy, Debug)]
 pub enum Parameter {
     Service,
     Request,
@@ -18,7 +18,7 @@ pub enum Parameter {
 }
 
 /// The codes of service exceptions.
-#[derive(Clone, Copy, Debug, PartialEq, Eq)]
+#[derive(Clone, Copy, Debug)]
 pub enum Code {
     MissingParameterValue,
     InvalidParameterValue,
@@ -30,7 +30,7 @@ pub enum Code {
 }
 
 /// Why a query is refused: the code of the service exception, and the parameter at fault.
-#[derive(Clone, Copy, Debug, PartialEq, Eq, Error)]
+#[derive(Clone, Copy, Debug, Error)]
 #[error("{}: {}", .code.text(), .parameter.text())]
 pub struct WmsFault {
     pub code: Code,

@@ -9,7 +9,7 @@ use mapdefs::Text;
 use std::alloc::{AllocError, Global};
 
 /// A name of a query and its value, as texts.
-#[derive(Debug, Drop)]
+#[derive(Drop)]
 pub struct Pair {
     pub name: Text,
     pub value: Text,

@@ -2,7 +2,7 @@ use geom::{PictureSide, WorldBox};
 use mapdefs::{Items, Rgb};
 
 /// A request for a picture.
-#[derive(Debug, Drop)]
+#[derive(Drop)]
 pub struct MapRequest {
     /// The indices of the layers in the map, in the order in which they are painted.
     pub chosen: Items<usize>,

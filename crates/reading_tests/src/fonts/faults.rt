@@ -1,5 +1,4 @@
 use super::{TINY, edited, told_fault};
-use crate::apart::apart;
 use bdffont::{FontError, FontFault, FontKind, read};
 use std::alloc::{AllocError, Global};
 use std::test::Fail;
@@ -175,7 +174,7 @@ fn kind_in_words(alloc: Global, kind: FontKind) -> Result<String, AllocError> {
 }
 
 // Each kind by its place in the list: its number and its words. Then the words of a fault, of an error and
-// of no memory, and how many values of each type differ from all others.
+// of no memory.
 const VALUES: &str = "\
 1 the first line does not begin with STARTFONT|0
 2 a field that is missing, out of place or can't be read|1
@@ -184,10 +183,7 @@ const VALUES: &str = "\
 5 a box beyond 64 pixels, or more than 65,536 glyphs|4
 6 the file ends before ENDFONT|5
 line 7: another number of glyphs than CHARS says|fault
-line 7: another number of glyphs than CHARS says; out of memory|errors
-6 apart|kinds
-3 apart|faults
-2 apart|both errors";
+line 7: another number of glyphs than CHARS says; out of memory|errors";
 
 fn told_value(alloc: Global, name: &str) -> Result<String, AllocError> {
     let fault = fault_on(7, FontKind::Count);
@@ -195,16 +191,6 @@ fn told_value(alloc: Global, name: &str) -> Result<String, AllocError> {
     match name {
         "fault" => format!(in alloc; "{fault}"),
         "errors" => format!(in alloc; "{error}; {memory}"),
-        "kinds" => apart(alloc, &KINDS),
-        "faults" => apart(
-            alloc,
-            &[
-                fault,
-                fault_on(8, FontKind::Count),
-                fault_on(7, FontKind::Limit),
-            ],
-        ),
-        "both errors" => apart(alloc, &[error, memory]),
         place => match KINDS.get(place.parse::<usize>().unwrap_or(9)) {
             Some(kind) => kind_in_words(alloc, *kind),
             None => String::from_str(alloc, "malformed"),
@@ -213,6 +199,6 @@ fn told_value(alloc: Global, name: &str) -> Result<String, AllocError> {
 }
 
 #[test]
-fn faults_are_told_in_words_and_differ_where_one_field_does(rt: HostRuntime) -> Result<(), Fail> {
-    assert_rows(rt.alloc(), VALUES, '|', 11, told_value)
+fn faults_are_told_in_words(rt: HostRuntime) -> Result<(), Fail> {
+    assert_rows(rt.alloc(), VALUES, '|', 8, told_value)
 }

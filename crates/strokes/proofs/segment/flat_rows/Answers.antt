@@ -1,17 +1,65 @@
 use Rattle.std.proofs.Common.{◌≡◌, ◌∙◌, ◌*◌, ◌^◌, sym, ap, arith}
 use Rattle.std.proofs.lemmas.Int.{ints}
 use Rattle.std.specs.Int.{int_max, int_min}
-use lib.IntN.{pos, ◌*ℤ◌}
+use lib.IntN.{ℤ, pos, ◌*ℤ◌}
 use Rattle.geom.specs.Device.{DevicePoint, centre}
 use Rattle.geom.specs.Edge.{high_end, low_end, rise}
 use Rattle.geom.specs.Range.{IsBelow}
-use Rattle.scanfill.proofs.Words.{wide, word}
+use mir.Syntax.{w64, w128}
+use mir.Val.{to_z, of_z}
+use Rattle.scanfill.proofs.Words.{wide, wide-held, word, word-held}
 use Rattle.strokes.specs.Segment.{right_of}
 use Rattle.strokes.proofs.Reaching.{flat-beside, flat-none, from-both, greater-below, less-below, past-both, to-both}
 use Rattle.strokes.proofs.segment.flat_rows.Goals as goal
 
 eight : IsBelow (2 ^ 47) (pos 8)
 eight = record { above = omega (arith, ints); below = omega (arith, ints) }
+
+-- what i64 and i128 hold of the greater and the lesser of two numbers
+top-below : (from y : ℤ) → from ≡ int_max (to_z w64 (of_z w64 y)) (pos 8) → IsBelow (2 ^ 47) y → IsBelow (2 ^ 47) (to_z w64 (of_z w64 from))
+top-below from y e h = word-held (2 ^ 47) from (omega arith) (rw (e, word (2 ^ 47) y (omega arith) h) (greater-below (2 ^ 47) y (pos 8) h eight))
+
+bottom-below : (to y last : ℤ) → to ≡ int_min (to_z w64 (of_z w64 y)) (to_z w64 (of_z w64 last)) →
+    IsBelow (2 ^ 47) y → IsBelow (2 ^ 47) last → IsBelow (2 ^ 47) (to_z w64 (of_z w64 to))
+bottom-below to y last e h k =
+    word-held (2 ^ 47) to (omega arith) (rw (e, word (2 ^ 47) y (omega arith) h, word (2 ^ 47) last (omega arith) k) (less-below (2 ^ 47) y last h k))
+
+lesser-below : (r a b : ℤ) → r ≡ int_min (to_z w128 (of_z w128 a)) (to_z w128 (of_z w128 b)) →
+    IsBelow (2 ^ 97) a → IsBelow (2 ^ 97) b → IsBelow (2 ^ 97) (to_z w128 (of_z w128 r))
+lesser-below r a b e h k =
+    wide-held (2 ^ 97) r (omega arith) (rw (e, wide (2 ^ 97) a (omega arith) h, wide (2 ^ 97) b (omega arith) k) (less-below (2 ^ 97) a b h k))
+
+greatest-below : (r a b : ℤ) → r ≡ int_max (to_z w128 (of_z w128 a)) (to_z w128 (of_z w128 b)) →
+    IsBelow (2 ^ 97) a → IsBelow (2 ^ 97) b → IsBelow (2 ^ 97) (to_z w128 (of_z w128 r))
+greatest-below r a b e h k =
+    wide-held (2 ^ 97) r (omega arith) (rw (e, wide (2 ^ 97) a (omega arith) h, wide (2 ^ 97) b (omega arith) k) (greater-below (2 ^ 97) a b h k))
+
+pub new-requires-clause-down : goal.new-requires-clause-down
+new-requires-clause-down c = top-below c.max-from.result c.y.result c.max-from.ensures.value (rw c.y.ensures.value c.y.ensures.limits.down)
+
+pub new-requires-2-clause-down : goal.new-requires-2-clause-down
+new-requires-2-clause-down c =
+    bottom-below c.min-to.result c.y-2.result c.centre.result c.min-to.ensures.value (rw c.y-2.ensures.value c.y-2.ensures.limits.down) c.centre.ensures.range
+
+pub step-requires : goal.step-requires
+step-requires c = word-held (2 ^ 48) c.rise.result (omega arith) c.rise.ensures.range
+
+pub reach-requires-clause-rise : goal.reach-requires-clause-rise
+reach-requires-clause-rise c = word-held (2 ^ 48) c.rise-2.result (omega arith) c.rise-2.ensures.range
+
+pub near_columns-requires-clause-least : goal.near_columns-requires-clause-least
+near_columns-requires-clause-least c =
+    lesser-below c.min.result c.right_of-one.result c.right_of-other.result c.min.ensures.value c.right_of-one.ensures.range c.right_of-other.ensures.range
+
+pub near_columns-requires-clause-most : goal.near_columns-requires-clause-most
+near_columns-requires-clause-most c =
+    greatest-below c.max.result c.right_of-one.result c.right_of-other.result c.max.ensures.value c.right_of-one.ensures.range c.right_of-other.ensures.range
+
+pub near_columns-requires-clause-step : goal.near_columns-requires-clause-step
+near_columns-requires-clause-step c = word-held (2 ^ 52) c.step.result (omega arith) c.step.ensures.range
+
+pub near_columns-requires-clause-reach : goal.near_columns-requires-clause-reach
+near_columns-requires-clause-reach c = word-held (2 ^ 57) c.reach.result (omega arith) c.reach.ensures.range
 
 pub returns-then-from-to-clause-none : goal.returns-then-from-to-clause-none
 returns-then-from-to-clause-none c = λ i j column row out.

@@ -2,7 +2,7 @@ use Rattle.std.proofs.Common.{◌≡◌, ◌*◌, ◌^◌, true, sym, arith}
 use lib.IntN.{pos, ◌*ℤ◌}
 use Rattle.geom.specs.Device.{centre, pixel_centre}
 use Rattle.geom.specs.Edge.{rise}
-use Rattle.scanfill.proofs.Words.{wide, word}
+use Rattle.scanfill.proofs.Words.{wide, wide-held, word, word-held}
 use Rattle.strokes.specs.Segment.{is_between, right_of}
 use Rattle.strokes.proofs.Nearness.{right-steep}
 use Rattle.strokes.proofs.segment.steep_columns.Goals as goal
@@ -28,3 +28,21 @@ returns-clause-all c = λ i.
       right-steep e (pos i) (pos j),
     ) at (c.near_columns.ensures.all i) in
     rw between all
+
+pub step-requires : goal.step-requires
+step-requires c = word-held (2 ^ 48) c.rise.result (omega arith) c.rise.ensures.range
+
+pub reach-requires-clause-rise : goal.reach-requires-clause-rise
+reach-requires-clause-rise c = word-held (2 ^ 48) c.rise-2.result (omega arith) c.rise-2.ensures.range
+
+pub near_columns-requires-clause-least : goal.near_columns-requires-clause-least
+near_columns-requires-clause-least c = wide-held (2 ^ 97) c.right_of-right.result (omega arith) c.right_of-right.ensures.range
+
+pub near_columns-requires-clause-most : goal.near_columns-requires-clause-most
+near_columns-requires-clause-most c = wide-held (2 ^ 97) c.right_of-right.result (omega arith) c.right_of-right.ensures.range
+
+pub near_columns-requires-clause-step : goal.near_columns-requires-clause-step
+near_columns-requires-clause-step c = word-held (2 ^ 52) c.step.result (omega arith) c.step.ensures.range
+
+pub near_columns-requires-clause-reach : goal.near_columns-requires-clause-reach
+near_columns-requires-clause-reach c = word-held (2 ^ 57) c.reach.result (omega arith) c.reach.ensures.range

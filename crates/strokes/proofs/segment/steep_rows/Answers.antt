@@ -2,7 +2,7 @@ use Rattle.std.proofs.Common.{◌≡◌, ◌∙◌, ◌*◌, ◌^◌, sym, arith
 use lib.IntN.{pos, neg_ℤ, ◌+ℤ◌, ◌*ℤ◌}
 use Rattle.geom.specs.Device.{pixel_centre}
 use Rattle.geom.specs.Edge.{rise, run}
-use Rattle.scanfill.proofs.Words.{wide, word}
+use Rattle.scanfill.proofs.Words.{wide, wide-held, word, word-held}
 use Rattle.strokes.specs.Segment.{right_of}
 use Rattle.strokes.proofs.Nearness.{right-flat}
 use Rattle.strokes.proofs.Reaching.{steep-none}
@@ -35,3 +35,24 @@ returns-clause-none c = λ i j column row out.
       row,
     ) at (c.near_columns.ensures.all j) in
     steep-none c.args.width e i j last column (sym all ∙ out)
+
+pub step-requires : goal.step-requires
+step-requires c = word-held (2 ^ 48) c.run.result (omega arith) c.run.ensures.range
+
+pub opposite-requires : goal.opposite-requires
+opposite-requires c = word-held (2 ^ 52) c.step.result (omega arith) c.step.ensures.range
+
+pub reach-requires-clause-rise : goal.reach-requires-clause-rise
+reach-requires-clause-rise c = word-held (2 ^ 48) c.rise.result (omega arith) c.rise.ensures.range
+
+pub near_columns-requires-clause-least : goal.near_columns-requires-clause-least
+near_columns-requires-clause-least c = wide-held (2 ^ 97) c.right_of-least.result (omega arith) c.right_of-least.ensures.range
+
+pub near_columns-requires-clause-most : goal.near_columns-requires-clause-most
+near_columns-requires-clause-most c = wide-held (2 ^ 97) c.right_of-most.result (omega arith) c.right_of-most.ensures.range
+
+pub near_columns-requires-clause-step : goal.near_columns-requires-clause-step
+near_columns-requires-clause-step c = word-held (2 ^ 52) c.opposite.result (omega arith) c.opposite.ensures.range
+
+pub near_columns-requires-clause-reach : goal.near_columns-requires-clause-reach
+near_columns-requires-clause-reach c = word-held (2 ^ 57) c.reach.result (omega arith) c.reach.ensures.range

@@ -15,3 +15,9 @@ pub returns-clause-after : goal.returns-clause-after
 returns-clause-after c = λ i h past.
     let last : to_z w128 (of_z w128 c.from-4.result) ≡ c.args.at -ℤ pos (c.args.side / 2) +ℤ pos c.args.side = omega (arith, ints, c.from-4.ensures, c.from-3.ensures, c.from.ensures, c.requires) in
     after-side c.args.side c.args.at c.args.end i past (rw (c.clamped-2.ensures, last) at h)
+
+pub overflow_sub-first : goal.overflow_sub-first
+overflow_sub-first c = omega (arith, ints, c.from.ensures, c.requires)
+
+pub overflow_add-first : goal.overflow_add-first
+overflow_add-first c = omega (arith, ints, c.from-3.ensures, c.from.ensures, c.requires)

@@ -17,3 +17,21 @@ returns c =
     let r = c.requires in
     rw (step-is c.args.self.column c.args.slope.step r.column r.step, over-is c.args.self.over c.args.slope.rest r.over r.rest)
     (sym (next-same c.args.self c.args.slope (omega (arith, ints, c.if-self-slope.false))))
+
+pub overflow_add-result : goal.overflow_add-result
+overflow_add-result c = omega (arith, ints, c.requires.column, c.requires.step, c.requires.over, c.requires.rest, c.requires.whole)
+
+pub overflow_sub-result : goal.overflow_sub-result
+overflow_sub-result c = omega (arith, ints, c.requires.column, c.requires.step, c.requires.over, c.requires.rest, c.requires.whole)
+
+pub overflow_add-result-2 : goal.overflow_add-result-2
+overflow_add-result-2 c = omega (arith, ints, c.requires.column, c.requires.step, c.requires.over, c.requires.rest, c.requires.whole)
+
+pub overflow_sub-result-2 : goal.overflow_sub-result-2
+overflow_sub-result-2 c = omega (arith, ints, c.requires.column, c.requires.step, c.requires.over, c.requires.rest, c.requires.whole)
+
+pub overflow_add-result-then-self-slope : goal.overflow_add-result-then-self-slope
+overflow_add-result-then-self-slope c = omega (arith, ints, c.requires.column, c.requires.step, c.requires.over, c.requires.rest, c.requires.whole)
+
+pub overflow_add-result-then-self-slope-2 : goal.overflow_add-result-then-self-slope-2
+overflow_add-result-then-self-slope-2 c = omega (arith, ints, c.requires.column, c.requires.step, c.requires.over, c.requires.rest, c.requires.whole)

@@ -7,7 +7,7 @@ use Rattle.clip.proofs.Sides.{crosses-rise}
 use Rattle.scanfill.specs.Column.{column_of}
 use Rattle.scanfill.specs.Walk.{over_of}
 use Rattle.scanfill.proofs.Sizes.{quotient_of-below}
-use Rattle.scanfill.proofs.Words.{wide, word}
+use Rattle.scanfill.proofs.Words.{wide, wide-held, word, word-held}
 use Rattle.scanfill.proofs.place.Place.of.Goals as goal
 
 pub divide-requires-clause-some : goal.divide-requires-clause-some
@@ -36,3 +36,12 @@ returns c =
       word (2 ^ 52) c.sixteen_times.result (omega arith) c.sixteen_times.ensures.range,
       whole,
     )
+
+pub sixteen_times-requires : goal.sixteen_times-requires
+sixteen_times-requires c = word-held (2 ^ 48) c.rise.result (omega arith) c.rise.ensures.range
+
+pub divide-requires-clause-reach : goal.divide-requires-clause-reach
+divide-requires-clause-reach c = wide-held (2 ^ 97) c.reach.result (omega arith) c.reach.ensures.range
+
+pub divide-requires-clause-whole : goal.divide-requires-clause-whole
+divide-requires-clause-whole c = word-held (2 ^ 52) c.sixteen_times.result (omega arith) c.sixteen_times.ensures.range
