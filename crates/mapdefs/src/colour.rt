@@ -1,5 +1,5 @@
 /// A colour.
-#[derive(Clone, Copy, Debug, PartialEq, Eq)]
+#[derive(Clone, Copy, Debug)]
 pub struct Rgb {
     pub red: u8,
     pub green: u8,
