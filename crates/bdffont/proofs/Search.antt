@@ -32,11 +32,11 @@ pub find-none : (glyphs : List Glyph) (e : ℕ) → ((k : ℕ) (d : Glyph) → k
 find-none [] e other = refl
 find-none (x ∷ xs) e other = none-cons e x xs (other 0 x (omega arith)) (find-none xs e (λ k d within. other (suc k) d (omega arith)))
 
--- a search that ends at a gap
-pub no-glyph : (glyphs : List Glyph) (e gap : ℕ) → IsRising glyphs → IsBinarySearchResult (λ (glyph : Glyph). nat_cmp glyph.encoding e) glyphs (Err gap) → find (has_encoding e) glyphs ≡ None
-no-glyph glyphs e gap rising parted =
+-- a search that ends between two glyphs
+pub no-glyph : (glyphs : List Glyph) (e index : ℕ) → IsRising glyphs → IsBinarySearchResult (λ (glyph : Glyph). nat_cmp glyph.encoding e) glyphs (Err index) → find (has_encoding e) glyphs ≡ None
+no-glyph glyphs e index rising parted =
     let point = parted (comparisons-rise glyphs e rising) in
-    find-none glyphs e (λ k d within same. elim (cases_lt k gap) [
+    find-none glyphs e (λ k d within same. elim (cases_lt k index) [
       | inl before ↦ (let less : (get_or glyphs k d).encoding < e = ranked _ e _ (sym (point.0 k d (omega arith) before)) in omega arith)
       | inr after ↦ (let more : e < (get_or glyphs k d).encoding = ranked _ e _ (sym (point.1 k d after within)) in omega arith)
     ])

@@ -4,8 +4,7 @@ use crate::shapes::area;
 use geom::WorldBox;
 use gridindex::Grid;
 use std::alloc::{AllocError, Global};
-use std::test::Fail;
-use test_tables::assert_rows;
+use test_tables::{TableFault, check_rows};
 
 // The greatest number of millionths, the one before it, and the least.
 const FAR: i64 = i64::MAX;
@@ -61,8 +60,8 @@ fn of_three(alloc: Global, _of: &str) -> Result<String, AllocError> {
 }
 
 #[test]
-fn windows_find_worked_boxes(rt: HostRuntime) -> Result<(), Fail> {
-    assert_rows(
+fn windows_find_worked_boxes(rt: HostRuntime) -> Result<(), TableFault> {
+    check_rows(
         rt.alloc(),
         "[0, 2][0, 2, 3][1, 2][][0]=three",
         '=',
@@ -80,8 +79,8 @@ fn of_none(alloc: Global, _of: &str) -> Result<String, AllocError> {
 }
 
 #[test]
-fn no_boxes_and_one_are_asked(rt: HostRuntime) -> Result<(), Fail> {
-    assert_rows(rt.alloc(), "[][0][]=none", '=', 1, of_none)
+fn no_boxes_and_one_are_asked(rt: HostRuntime) -> Result<(), TableFault> {
+    check_rows(rt.alloc(), "[][0][]=none", '=', 1, of_none)
 }
 
 // The next number of a sequence, from 0 to before the limit.
@@ -244,6 +243,6 @@ fn of_sequence(alloc: Global, number: &str) -> Result<String, AllocError> {
 
 // Many windows find some, and none finds most.
 #[test]
-fn answers_are_those_of_a_plain_list(rt: HostRuntime) -> Result<(), Fail> {
-    assert_rows(rt.alloc(), "many many =20261", '=', 1, of_sequence)
+fn answers_are_those_of_a_plain_list(rt: HostRuntime) -> Result<(), TableFault> {
+    check_rows(rt.alloc(), "many many =20261", '=', 1, of_sequence)
 }

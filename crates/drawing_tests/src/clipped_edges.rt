@@ -1,8 +1,7 @@
 use crate::shapes::{edge, numbers, sides};
 use clip::{Class, Rows, clamped, classify};
 use std::alloc::{AllocError, Global};
-use std::test::Fail;
-use test_tables::assert_rows;
+use test_tables::{TableFault, check_rows};
 
 // What an edge is on a picture and in which rows, worked by hand, the ends of the edge, and width and height
 // of the picture. Rows without pixels of it are given as 0 0.
@@ -50,8 +49,8 @@ fn class(alloc: Global, row: &str) -> Result<String, AllocError> {
 }
 
 #[test]
-fn edges_have_worked_classes(rt: HostRuntime) -> Result<(), Fail> {
-    assert_rows(rt.alloc(), CLASSES, '=', 25, class)
+fn edges_have_worked_classes(rt: HostRuntime) -> Result<(), TableFault> {
+    check_rows(rt.alloc(), CLASSES, '=', 25, class)
 }
 
 // The rows from the first one to the last one of both, and two lots of rows.
@@ -84,8 +83,8 @@ fn joined(alloc: Global, row: &str) -> Result<String, AllocError> {
 }
 
 #[test]
-fn joined_rows_go_from_the_first_to_the_last(rt: HostRuntime) -> Result<(), Fail> {
-    assert_rows(rt.alloc(), ROWS, '=', 5, joined)
+fn joined_rows_go_from_the_first_to_the_last(rt: HostRuntime) -> Result<(), TableFault> {
+    check_rows(rt.alloc(), ROWS, '=', 5, joined)
 }
 
 // The end of some rows isn't one of them.
@@ -121,6 +120,6 @@ fn index(alloc: Global, row: &str) -> Result<String, AllocError> {
 }
 
 #[test]
-fn indices_are_cut_at_both_ends(rt: HostRuntime) -> Result<(), Fail> {
-    assert_rows(rt.alloc(), INDICES, '=', 8, index)
+fn indices_are_cut_at_both_ends(rt: HostRuntime) -> Result<(), TableFault> {
+    check_rows(rt.alloc(), INDICES, '=', 8, index)
 }

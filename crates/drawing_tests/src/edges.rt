@@ -1,7 +1,6 @@
 use crate::shapes::{edge, numbers, point};
 use std::alloc::{AllocError, Global};
-use std::test::Fail;
-use test_tables::assert_rows;
+use test_tables::{TableFault, check_rows};
 
 // Whether an edge crosses the height of a point at it or left of it, the ends of the edge, and the point.
 const CROSSINGS: &str = "\
@@ -36,8 +35,8 @@ fn crosses(alloc: Global, row: &str) -> Result<String, AllocError> {
 }
 
 #[test]
-fn edges_cross_at_or_left_of_points(rt: HostRuntime) -> Result<(), Fail> {
-    assert_rows(rt.alloc(), CROSSINGS, '=', 10, crosses)
+fn edges_cross_at_or_left_of_points(rt: HostRuntime) -> Result<(), TableFault> {
+    check_rows(rt.alloc(), CROSSINGS, '=', 10, crosses)
 }
 
 // How far an edge goes down and to the right, its upper end and its lower end, and its ends.
@@ -59,6 +58,6 @@ fn rise(alloc: Global, row: &str) -> Result<String, AllocError> {
 }
 
 #[test]
-fn edges_rise_downwards(rt: HostRuntime) -> Result<(), Fail> {
-    assert_rows(rt.alloc(), RISES, '=', 1, rise)
+fn edges_rise_downwards(rt: HostRuntime) -> Result<(), TableFault> {
+    check_rows(rt.alloc(), RISES, '=', 1, rise)
 }

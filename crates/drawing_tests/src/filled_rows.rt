@@ -3,7 +3,7 @@ use geom::{Device, Edge, PictureSide};
 use scanfill::{Cover, Polygon, Span, Spans, Sweep, Work};
 use std::alloc::{AllocError, Global};
 use std::test::Fail;
-use test_tables::assert_rows;
+use test_tables::{TableFault, check_rows};
 
 // Adds the rows of a sweep with a blank before each, and `!` where it doesn't end after so many, or leaves
 // spans at its end.
@@ -78,8 +78,8 @@ fn swept_rings(alloc: Global, row: &str) -> Result<String, AllocError> {
 }
 
 #[test]
-fn sweeps_have_worked_rows(rt: HostRuntime) -> Result<(), Fail> {
-    assert_rows(rt.alloc(), SWEEPS, '=', 11, swept_rings)
+fn sweeps_have_worked_rows(rt: HostRuntime) -> Result<(), TableFault> {
+    check_rows(rt.alloc(), SWEEPS, '=', 11, swept_rings)
 }
 
 // The rows outside of which no pixel is covered, `-` for none, worked by hand, rings, and the sides of a
@@ -108,8 +108,8 @@ fn rows_of_rings(alloc: Global, row: &str) -> Result<String, AllocError> {
 }
 
 #[test]
-fn polygons_have_worked_rows(rt: HostRuntime) -> Result<(), Fail> {
-    assert_rows(rt.alloc(), ROWS, '=', 12, rows_of_rings)
+fn polygons_have_worked_rows(rt: HostRuntime) -> Result<(), TableFault> {
+    check_rows(rt.alloc(), ROWS, '=', 12, rows_of_rings)
 }
 
 // The next number of a sequence, below 1,000.
@@ -282,9 +282,9 @@ fn told_bars(alloc: Global, before: &str) -> Result<String, AllocError> {
 }
 
 #[test]
-fn widest_rows_have_many_spans(rt: HostRuntime) -> Result<(), Fail> {
+fn widest_rows_have_many_spans(rt: HostRuntime) -> Result<(), TableFault> {
     let row = "18446744073709551615 1024 2046-2047=18446744073709547522";
-    assert_rows(rt.alloc(), row, '=', 1, told_bars)
+    check_rows(rt.alloc(), row, '=', 1, told_bars)
 }
 
 // Whether spans are equal that have equal ends, and no others.
@@ -330,8 +330,8 @@ fn skipped(alloc: Global, rings: &str) -> Result<String, AllocError> {
 const SKIPS: &str = " 5 6 10 11 14!=16,88 48,88 48,120/16,168 48,168 48,200";
 
 #[test]
-fn sweeps_skip_rows_without_edges(rt: HostRuntime) -> Result<(), Fail> {
-    assert_rows(rt.alloc(), SKIPS, '=', 1, skipped)
+fn sweeps_skip_rows_without_edges(rt: HostRuntime) -> Result<(), TableFault> {
+    check_rows(rt.alloc(), SKIPS, '=', 1, skipped)
 }
 
 // The polygon of one edge.
@@ -348,6 +348,6 @@ fn swept_edge(alloc: Global, _of: &str) -> Result<String, AllocError> {
 
 // One edge by itself: the pixels from its column on lie inside.
 #[test]
-fn walks_have_worked_columns(rt: HostRuntime) -> Result<(), Fail> {
-    assert_rows(rt.alloc(), "2: - 1-4 2-4 -=one edge", '=', 1, swept_edge)
+fn walks_have_worked_columns(rt: HostRuntime) -> Result<(), TableFault> {
+    check_rows(rt.alloc(), "2: - 1-4 2-4 -=one edge", '=', 1, swept_edge)
 }

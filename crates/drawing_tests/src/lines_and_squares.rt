@@ -4,9 +4,8 @@ use crate::shapes::{
 use geom::{Device, PictureSide};
 use scanfill::{Cover, Spans};
 use std::alloc::{AllocError, Global};
-use std::test::Fail;
 use strokes::{Line, Segment, Square};
-use test_tables::assert_rows;
+use test_tables::{TableFault, check_rows};
 
 // A line along parts, of a width.
 fn line(alloc: Global, parts: &str, is_closed: bool, width: i64) -> Result<Line, AllocError> {
@@ -91,8 +90,8 @@ fn drawn_line(alloc: Global, row: &str) -> Result<String, AllocError> {
 }
 
 #[test]
-fn lines_have_worked_pixels(rt: HostRuntime) -> Result<(), Fail> {
-    assert_rows(rt.alloc(), LINES, '=', 40, drawn_line)
+fn lines_have_worked_pixels(rt: HostRuntime) -> Result<(), TableFault> {
+    check_rows(rt.alloc(), LINES, '=', 40, drawn_line)
 }
 
 // The rows of a segment, worked by hand, its ends, its width, and the sides of a picture: upright ones on the
@@ -145,8 +144,8 @@ fn rows_of_segment(alloc: Global, row: &str) -> Result<String, AllocError> {
 }
 
 #[test]
-fn segments_have_worked_rows(rt: HostRuntime) -> Result<(), Fail> {
-    assert_rows(rt.alloc(), SEGMENTS, '=', 24, rows_of_segment)
+fn segments_have_worked_rows(rt: HostRuntime) -> Result<(), TableFault> {
+    check_rows(rt.alloc(), SEGMENTS, '=', 24, rows_of_segment)
 }
 
 // The rows of a square and its pixels, its pixel and its size, and the sides of a picture.
@@ -192,8 +191,8 @@ fn drawn_square(alloc: Global, row: &str) -> Result<String, AllocError> {
 }
 
 #[test]
-fn squares_have_worked_pixels(rt: HostRuntime) -> Result<(), Fail> {
-    assert_rows(rt.alloc(), SQUARES, '=', 20, drawn_square)
+fn squares_have_worked_pixels(rt: HostRuntime) -> Result<(), TableFault> {
+    check_rows(rt.alloc(), SQUARES, '=', 20, drawn_square)
 }
 
 // The parts of a line that goes up and down over the height of the widest picture as often as a feature may
@@ -234,8 +233,8 @@ const LONGEST: &str = "\
 0-2048=32";
 
 #[test]
-fn longest_lines_are_drawn(rt: HostRuntime) -> Result<(), Fail> {
-    assert_rows(rt.alloc(), LONGEST, '=', 2, last_row)
+fn longest_lines_are_drawn(rt: HostRuntime) -> Result<(), TableFault> {
+    check_rows(rt.alloc(), LONGEST, '=', 2, last_row)
 }
 
 // Draws the rows 4, 3 and 5 of a square, one after another.
@@ -257,8 +256,8 @@ fn three_rows(alloc: Global, _of: &str) -> Result<String, AllocError> {
 
 // What a row had before is gone, also where nothing is covered.
 #[test]
-fn rows_forget_the_row_before(rt: HostRuntime) -> Result<(), Fail> {
-    assert_rows(
+fn rows_forget_the_row_before(rt: HostRuntime) -> Result<(), TableFault> {
+    check_rows(
         rt.alloc(),
         "5-7 5-7 - =a square of two rows",
         '=',
@@ -300,6 +299,6 @@ fn made_of(alloc: Global, row: &str) -> Result<String, AllocError> {
 }
 
 #[test]
-fn lines_are_made_of_segments_and_squares(rt: HostRuntime) -> Result<(), Fail> {
-    assert_rows(rt.alloc(), MADE, '=', 2, made_of)
+fn lines_are_made_of_segments_and_squares(rt: HostRuntime) -> Result<(), TableFault> {
+    check_rows(rt.alloc(), MADE, '=', 2, made_of)
 }

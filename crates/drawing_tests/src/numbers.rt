@@ -1,7 +1,6 @@
 use geom::{COORDINATE_LIMIT, Micro, NUMBER_LIMIT, NumberFault};
 use std::alloc::{AllocError, Global};
-use std::test::Fail;
-use test_tables::assert_rows;
+use test_tables::{TableFault, check_rows};
 
 // The number that a text means in millionths, or its fault.
 fn told(alloc: Global, read: Result<Micro, NumberFault>) -> Result<String, AllocError> {
@@ -75,8 +74,8 @@ NotANumber=1e5.0
 NotANumber=1e5E5";
 
 #[test]
-fn texts_mean_their_numbers(rt: HostRuntime) -> Result<(), Fail> {
-    assert_rows(rt.alloc(), NUMBERS, '=', 46, coordinate)
+fn texts_mean_their_numbers(rt: HostRuntime) -> Result<(), TableFault> {
+    check_rows(rt.alloc(), NUMBERS, '=', 46, coordinate)
 }
 
 // Numbers among many zeros: `*` stands for a million of them.
@@ -89,11 +88,11 @@ const LONG: &str = "\
 TooLarge=1*.";
 
 #[test]
-fn long_texts_mean_their_numbers(rt: HostRuntime) -> Result<(), Fail> {
+fn long_texts_mean_their_numbers(rt: HostRuntime) -> Result<(), TableFault> {
     let alloc = rt.alloc();
     let zeros = "0".repeat(alloc, 1_000_000)?;
     let rows = LONG.replace(alloc, '*', zeros.as_str())?;
-    assert_rows(alloc, rows.as_str(), '=', 6, coordinate)
+    check_rows(alloc, rows.as_str(), '=', 6, coordinate)
 }
 
 // At the limit of other numbers, and one millionth above it.
@@ -103,8 +102,8 @@ TooLarge=1000000000000.000001
 999999999999999999=999999999999.9999994";
 
 #[test]
-fn numbers_are_read_up_to_their_limit(rt: HostRuntime) -> Result<(), Fail> {
-    assert_rows(rt.alloc(), LARGE, '=', 3, other_number)
+fn numbers_are_read_up_to_their_limit(rt: HostRuntime) -> Result<(), TableFault> {
+    check_rows(rt.alloc(), LARGE, '=', 3, other_number)
 }
 
 // The nearest whole number, and millionths.
@@ -128,8 +127,8 @@ fn whole(alloc: Global, row: &str) -> Result<String, AllocError> {
 }
 
 #[test]
-fn halves_are_rounded_away_from_zero(rt: HostRuntime) -> Result<(), Fail> {
-    assert_rows(rt.alloc(), WHOLES, '=', 9, whole)
+fn halves_are_rounded_away_from_zero(rt: HostRuntime) -> Result<(), TableFault> {
+    check_rows(rt.alloc(), WHOLES, '=', 9, whole)
 }
 
 // A definition cites the same constant as the code, so only a test can tell a wrong limit.
@@ -169,8 +168,8 @@ fn orders(alloc: Global, row: &str) -> Result<String, AllocError> {
 }
 
 #[test]
-fn numbers_are_ordered_by_their_size(rt: HostRuntime) -> Result<(), Fail> {
-    assert_rows(rt.alloc(), ORDERED, '|', 6, orders)
+fn numbers_are_ordered_by_their_size(rt: HostRuntime) -> Result<(), TableFault> {
+    check_rows(rt.alloc(), ORDERED, '|', 6, orders)
 }
 
 // The words on a fault, and its name.
@@ -188,6 +187,6 @@ fn words(alloc: Global, name: &str) -> Result<String, AllocError> {
 }
 
 #[test]
-fn faults_are_told_in_words(rt: HostRuntime) -> Result<(), Fail> {
-    assert_rows(rt.alloc(), FAULTS, '=', 2, words)
+fn faults_are_told_in_words(rt: HostRuntime) -> Result<(), TableFault> {
+    check_rows(rt.alloc(), FAULTS, '=', 2, words)
 }

@@ -1,6 +1,5 @@
 use crate::painted_maps::drawn_row;
-use std::test::Fail;
-use test_tables::assert_rows;
+use test_tables::{TableFault, check_rows};
 
 // Polygons, and the pixels that they cover, in the form of `drawn_row`.
 const POLYGONS: &str = "\
@@ -33,8 +32,8 @@ const POLYGONS: &str = "\
 .... .... .... ....;.;0;polygon #/- none;-";
 
 #[test]
-fn polygons_cover_worked_pixels(rt: HostRuntime) -> Result<(), Fail> {
-    assert_rows(rt.alloc(), POLYGONS, ';', 15, drawn_row)
+fn polygons_cover_worked_pixels(rt: HostRuntime) -> Result<(), TableFault> {
+    check_rows(rt.alloc(), POLYGONS, ';', 15, drawn_row)
 }
 
 // All of the picture, and the square within it.
@@ -44,8 +43,8 @@ const LAYERS: &str = "\
 #### #oo# #oo# ####;.;1 0 1;polygon #/- none;0,0 40,0 40,40 0,40";
 
 #[test]
-fn later_layers_lie_over_earlier_ones(rt: HostRuntime) -> Result<(), Fail> {
-    assert_rows(rt.alloc(), LAYERS, ';', 3, drawn_row)
+fn later_layers_lie_over_earlier_ones(rt: HostRuntime) -> Result<(), TableFault> {
+    check_rows(rt.alloc(), LAYERS, ';', 3, drawn_row)
 }
 
 const BACKGROUNDS: &str = "\
@@ -53,8 +52,8 @@ const BACKGROUNDS: &str = "\
 #### #oo# #oo# ####;#;1;polygon #/- none;-";
 
 #[test]
-fn background_is_seen_where_nothing_is_painted(rt: HostRuntime) -> Result<(), Fail> {
-    assert_rows(rt.alloc(), BACKGROUNDS, ';', 2, drawn_row)
+fn background_is_seen_where_nothing_is_painted(rt: HostRuntime) -> Result<(), TableFault> {
+    check_rows(rt.alloc(), BACKGROUNDS, ';', 2, drawn_row)
 }
 
 // The inner square in some styles.
@@ -74,8 +73,8 @@ const STYLES: &str = "\
 .... .##. .##. ....;.;0;polygon #-140/- none;10,10 30,10 30,30 10,30";
 
 #[test]
-fn styles_paint_in_order(rt: HostRuntime) -> Result<(), Fail> {
-    assert_rows(rt.alloc(), STYLES, ';', 9, drawn_row)
+fn styles_paint_in_order(rt: HostRuntime) -> Result<(), TableFault> {
+    check_rows(rt.alloc(), STYLES, ';', 9, drawn_row)
 }
 
 // Lines along the parts, which stay open.
@@ -94,8 +93,8 @@ o#o# #### .... ....;.;0;line #-3/o none;5,35/25,35
 ##.. .... .... ##..;.;0;line #/- none;5,35 15,35/5,5 15,5";
 
 #[test]
-fn lines_cover_worked_pixels(rt: HostRuntime) -> Result<(), Fail> {
-    assert_rows(rt.alloc(), LINES, ';', 7, drawn_row)
+fn lines_cover_worked_pixels(rt: HostRuntime) -> Result<(), TableFault> {
+    check_rows(rt.alloc(), LINES, ';', 7, drawn_row)
 }
 
 // Points: squares of a size, and pixmaps.
@@ -117,8 +116,8 @@ const POINTS: &str = "\
 #o.. .#.. .#.. ....;.;0;point ----0/----1 none;15,25";
 
 #[test]
-fn points_cover_worked_pixels(rt: HostRuntime) -> Result<(), Fail> {
-    assert_rows(rt.alloc(), POINTS, ';', 10, drawn_row)
+fn points_cover_worked_pixels(rt: HostRuntime) -> Result<(), TableFault> {
+    check_rows(rt.alloc(), POINTS, ';', 10, drawn_row)
 }
 
 // Bounds on the scale denominator, which is 111,319,491, of the class and of the layer.
@@ -143,6 +142,6 @@ const SCALES: &str = "\
 .... .... .... ....;.;0;polygon #/- -..-,-..0.000001;10,10 30,10 30,30 10,30";
 
 #[test]
-fn things_are_visible_between_their_bounds(rt: HostRuntime) -> Result<(), Fail> {
-    assert_rows(rt.alloc(), SCALES, ';', 14, drawn_row)
+fn things_are_visible_between_their_bounds(rt: HostRuntime) -> Result<(), TableFault> {
+    check_rows(rt.alloc(), SCALES, ';', 14, drawn_row)
 }

@@ -4,8 +4,7 @@ ghost use Rattle.geom.specs.Range.{IsBelow};
 use crate::shapes::{numbers, pixels, side};
 use geom::{Device, PictureSide, PxBox};
 use std::alloc::{AllocError, Global};
-use std::test::Fail;
-use test_tables::assert_rows;
+use test_tables::{TableFault, check_rows};
 
 // The column and the row of the pixel that a point 40 sixteenths down lies in, and its x in sixteenths.
 const COLUMNS: &str = "\
@@ -28,8 +27,8 @@ fn pixel(alloc: Global, row: &str) -> Result<String, AllocError> {
 }
 
 #[test]
-fn points_lie_in_the_pixels_below_them(rt: HostRuntime) -> Result<(), Fail> {
-    assert_rows(rt.alloc(), COLUMNS, '=', 8, pixel)
+fn points_lie_in_the_pixels_below_them(rt: HostRuntime) -> Result<(), TableFault> {
+    check_rows(rt.alloc(), COLUMNS, '=', 8, pixel)
 }
 
 #[test]
@@ -92,8 +91,8 @@ fn meet(alloc: Global, row: &str) -> Result<String, AllocError> {
 }
 
 #[test]
-fn boxes_meet_where_they_share_a_pixel(rt: HostRuntime) -> Result<(), Fail> {
-    assert_rows(rt.alloc(), MEETINGS, '=', 11, meet)
+fn boxes_meet_where_they_share_a_pixel(rt: HostRuntime) -> Result<(), TableFault> {
+    check_rows(rt.alloc(), MEETINGS, '=', 11, meet)
 }
 
 // The sides of a box that has grown, its sides before, and by how many pixels it grew.
@@ -132,8 +131,8 @@ fn grown(alloc: Global, row: &str) -> Result<String, AllocError> {
 }
 
 #[test]
-fn boxes_grow_on_each_side(rt: HostRuntime) -> Result<(), Fail> {
-    assert_rows(rt.alloc(), GROWN, '=', 3, grown)
+fn boxes_grow_on_each_side(rt: HostRuntime) -> Result<(), TableFault> {
+    check_rows(rt.alloc(), GROWN, '=', 3, grown)
 }
 
 // Whether a picture of 8 by 5 pixels has a box inside, and the sides of the box.
@@ -159,6 +158,6 @@ fn inside(alloc: Global, row: &str) -> Result<String, AllocError> {
 }
 
 #[test]
-fn sides_lie_within_the_picture(rt: HostRuntime) -> Result<(), Fail> {
-    assert_rows(rt.alloc(), INSIDES, '=', 11, inside)
+fn sides_lie_within_the_picture(rt: HostRuntime) -> Result<(), TableFault> {
+    check_rows(rt.alloc(), INSIDES, '=', 11, inside)
 }

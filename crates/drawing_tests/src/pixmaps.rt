@@ -5,7 +5,7 @@ use scanfill::Cover;
 use std::alloc::{AllocError, Global};
 use std::test::Fail;
 use symbols::{PixFault, Stamp, read, write_ppm};
-use test_tables::assert_rows;
+use test_tables::{TableFault, check_rows};
 
 // A pixmap as its sides and its last colour.
 fn summed_up(alloc: Global, pixmap: &Pixmap) -> Result<String, AllocError> {
@@ -82,8 +82,8 @@ fn read_bytes(alloc: Global, row: &str) -> Result<String, AllocError> {
 }
 
 #[test]
-fn files_are_read_or_have_their_faults(rt: HostRuntime) -> Result<(), Fail> {
-    assert_rows(rt.alloc(), FILES, '=', 38, read_bytes)
+fn files_are_read_or_have_their_faults(rt: HostRuntime) -> Result<(), TableFault> {
+    check_rows(rt.alloc(), FILES, '=', 38, read_bytes)
 }
 
 // The words on a fault, and its name.
@@ -114,8 +114,8 @@ fn words(alloc: Global, name: &str) -> Result<String, AllocError> {
 }
 
 #[test]
-fn faults_have_their_messages(rt: HostRuntime) -> Result<(), Fail> {
-    assert_rows(rt.alloc(), FAULTS, '=', 5, words)
+fn faults_have_their_messages(rt: HostRuntime) -> Result<(), TableFault> {
+    check_rows(rt.alloc(), FAULTS, '=', 5, words)
 }
 
 // Adds the pixels of rows that `/` parts, transparent where they have a `.`.
@@ -182,8 +182,8 @@ fn stamped(alloc: Global, row: &str) -> Result<String, AllocError> {
 }
 
 #[test]
-fn stamps_have_worked_pixels(rt: HostRuntime) -> Result<(), Fail> {
-    assert_rows(rt.alloc(), STAMPS, '=', 20, stamped)
+fn stamps_have_worked_pixels(rt: HostRuntime) -> Result<(), TableFault> {
+    check_rows(rt.alloc(), STAMPS, '=', 20, stamped)
 }
 
 // Adds the colour of a stamp at a column of the third row, if it covers it.
@@ -214,8 +214,8 @@ const COLOURS: &str = "\
 65.66.67 65.67.66 =P6 2 1 255 ABCACB";
 
 #[test]
-fn stamps_have_the_colours_of_their_pixmap(rt: HostRuntime) -> Result<(), Fail> {
-    assert_rows(rt.alloc(), COLOURS, '=', 2, colours)
+fn stamps_have_the_colours_of_their_pixmap(rt: HostRuntime) -> Result<(), TableFault> {
+    check_rows(rt.alloc(), COLOURS, '=', 2, colours)
 }
 
 // Adds the pixels of a picture of that many pixels on each side, all of different colours as far as there are
@@ -267,8 +267,8 @@ fn told_again(alloc: Global, row: &str) -> Result<String, AllocError> {
 }
 
 #[test]
-fn written_pictures_are_read(rt: HostRuntime) -> Result<(), Fail> {
-    assert_rows(rt.alloc(), WRITTEN, '=', 3, told_again)
+fn written_pictures_are_read(rt: HostRuntime) -> Result<(), TableFault> {
+    check_rows(rt.alloc(), WRITTEN, '=', 3, told_again)
 }
 
 // A picture of two pixels, written.

@@ -3,7 +3,7 @@ use collide::Boxes;
 use geom::PxBox;
 use std::alloc::{AllocError, Global};
 use std::test::Fail;
-use test_tables::assert_rows;
+use test_tables::{TableFault, check_rows};
 
 // What is told of steps, the side of the picture in pixels, and the steps, which begin with no boxes. `ask`
 // tells whether a box is hit, `#` or `-`, `add` adds one, and `note` tells whether it is hit before, adds it,
@@ -87,8 +87,8 @@ fn steps(alloc: Global, row: &str) -> Result<String, AllocError> {
 }
 
 #[test]
-fn boxes_hit_what_they_share_a_pixel_with(rt: HostRuntime) -> Result<(), Fail> {
-    assert_rows(rt.alloc(), STEPS, '=', 3, steps)
+fn boxes_hit_what_they_share_a_pixel_with(rt: HostRuntime) -> Result<(), TableFault> {
+    check_rows(rt.alloc(), STEPS, '=', 3, steps)
 }
 
 // The next number of a sequence.

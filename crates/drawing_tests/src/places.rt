@@ -1,7 +1,6 @@
 use crate::shapes::{area, numbers, place};
 use std::alloc::{AllocError, Global};
-use std::test::Fail;
-use test_tables::assert_rows;
+use test_tables::{TableFault, check_rows};
 
 // Whether two boxes share a place, asked of each, and their sides, west, south, east and north.
 const MEETINGS: &str = "\
@@ -39,8 +38,8 @@ fn meet(alloc: Global, row: &str) -> Result<String, AllocError> {
 }
 
 #[test]
-fn boxes_meet_where_they_share_a_place(rt: HostRuntime) -> Result<(), Fail> {
-    assert_rows(rt.alloc(), MEETINGS, '=', 18, meet)
+fn boxes_meet_where_they_share_a_place(rt: HostRuntime) -> Result<(), TableFault> {
+    check_rows(rt.alloc(), MEETINGS, '=', 18, meet)
 }
 
 // The coordinates of a place are those that it is made of.

@@ -1,8 +1,7 @@
 use crate::shapes::{numbers, place, side};
 use geom::{Micro, World, WorldBox};
 use std::alloc::{AllocError, Global};
-use std::test::Fail;
-use test_tables::assert_rows;
+use test_tables::{TableFault, check_rows};
 use viewport::{MAX_MARGIN, View};
 
 // Four degrees by four degrees in four pixels by four pixels.
@@ -85,8 +84,8 @@ fn point(alloc: Global, row: &str) -> Result<String, AllocError> {
 }
 
 #[test]
-fn places_lie_at_worked_points(rt: HostRuntime) -> Result<(), Fail> {
-    assert_rows(rt.alloc(), PLACES, '=', 13, point)
+fn places_lie_at_worked_points(rt: HostRuntime) -> Result<(), TableFault> {
+    check_rows(rt.alloc(), PLACES, '=', 13, point)
 }
 
 // The west, south, east and north side of a window, worked by hand, its view and its margin. A pixel of the
@@ -122,8 +121,8 @@ fn window(alloc: Global, row: &str) -> Result<String, AllocError> {
 }
 
 #[test]
-fn windows_have_worked_sides(rt: HostRuntime) -> Result<(), Fail> {
-    assert_rows(rt.alloc(), WINDOWS, '=', 12, window)
+fn windows_have_worked_sides(rt: HostRuntime) -> Result<(), TableFault> {
+    check_rows(rt.alloc(), WINDOWS, '=', 12, window)
 }
 
 #[test]

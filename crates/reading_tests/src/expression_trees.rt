@@ -1,8 +1,7 @@
 use expressions::{ExprError, ExprFault, read};
 use mapdefs::{Comparison, Expr, Operand};
 use std::alloc::{AllocError, Global};
-use std::test::Fail;
-use test_tables::assert_rows;
+use test_tables::{TableFault, check_rows};
 
 // How a comparison is written in the rows.
 fn sign(comparison: Comparison) -> &'static str {
@@ -150,8 +149,8 @@ const TREES: &str = "\
 (and [pop]>=10:10000000 (not \"[t]\"='x'))~([pop] >= 10 AND NOT \"[t]\" = \"x\")";
 
 #[test]
-fn texts_have_worked_trees(rt: HostRuntime) -> Result<(), Fail> {
-    assert_rows(rt.alloc(), TREES, '~', 48, told_letters)
+fn texts_have_worked_trees(rt: HostRuntime) -> Result<(), TableFault> {
+    check_rows(rt.alloc(), TREES, '~', 48, told_letters)
 }
 
 const FAULTS: &str = "\
@@ -196,8 +195,8 @@ fault 3~(NO [a]=1)
 fault 5~(NOT )";
 
 #[test]
-fn faults_stand_at_worked_bytes(rt: HostRuntime) -> Result<(), Fail> {
-    assert_rows(rt.alloc(), FAULTS, '~', 35, told_letters)
+fn faults_stand_at_worked_bytes(rt: HostRuntime) -> Result<(), TableFault> {
+    check_rows(rt.alloc(), FAULTS, '~', 35, told_letters)
 }
 
 // What is told of a text, and its parts: how often a sign stands after the opening bracket, the sign, what
@@ -242,13 +241,13 @@ fn told_parts(alloc: Global, row: &str) -> Result<String, AllocError> {
 }
 
 #[test]
-fn sixty_four_brackets_may_stand_within_one_another(rt: HostRuntime) -> Result<(), Fail> {
-    assert_rows(rt.alloc(), NESTED, '~', 4, told_parts)
+fn sixty_four_brackets_may_stand_within_one_another(rt: HostRuntime) -> Result<(), TableFault> {
+    check_rows(rt.alloc(), NESTED, '~', 4, told_parts)
 }
 
 #[test]
-fn long_texts_are_read_to_their_fault(rt: HostRuntime) -> Result<(), Fail> {
-    assert_rows(rt.alloc(), LONG, '~', 6, told_parts)
+fn long_texts_are_read_to_their_fault(rt: HostRuntime) -> Result<(), TableFault> {
+    check_rows(rt.alloc(), LONG, '~', 6, told_parts)
 }
 
 // The words of a fault and of no memory.
@@ -260,6 +259,6 @@ fn errors(alloc: Global, _row: &str) -> Result<String, AllocError> {
 }
 
 #[test]
-fn errors_are_told_in_words(rt: HostRuntime) -> Result<(), Fail> {
-    assert_rows(rt.alloc(), ERRORS, '~', 1, errors)
+fn errors_are_told_in_words(rt: HostRuntime) -> Result<(), TableFault> {
+    check_rows(rt.alloc(), ERRORS, '~', 1, errors)
 }

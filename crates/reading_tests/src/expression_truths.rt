@@ -1,8 +1,7 @@
 use expressions::{holds, item_value, read};
 use mapdefs::{Expr, Items, Rule, Text};
 use std::alloc::{AllocError, Global};
-use std::test::Fail;
-use test_tables::assert_rows;
+use test_tables::{TableFault, check_rows};
 
 // The names and the values of the items. Two names are equal but for their case.
 const ITEMS: &str = "a:10;t:y;e:;n:1e3;s:abc;z:-5;A:7;q:x,,y;w: 10;big:1e13";
@@ -125,8 +124,8 @@ no (NOT [a]=10)
 yes ([none]=1 OR [a]=10)";
 
 #[test]
-fn expressions_are_true_of_worked_items(rt: HostRuntime) -> Result<(), Fail> {
-    assert_rows(rt.alloc(), TRUTHS, ' ', 75, truth)
+fn expressions_are_true_of_worked_items(rt: HostRuntime) -> Result<(), TableFault> {
+    check_rows(rt.alloc(), TRUTHS, ' ', 75, truth)
 }
 
 // Whether one of `a` and `b` holds of a value.
@@ -167,6 +166,6 @@ fn rules(alloc: Global, _row: &str) -> Result<String, AllocError> {
 }
 
 #[test]
-fn rules_look_at_the_class_item(rt: HostRuntime) -> Result<(), Fail> {
-    assert_rows(rt.alloc(), RULES, '|', 1, rules)
+fn rules_look_at_the_class_item(rt: HostRuntime) -> Result<(), TableFault> {
+    check_rows(rt.alloc(), RULES, '|', 1, rules)
 }

@@ -10,8 +10,7 @@ use mapdefs::{
     MapFields, Picture, PictureFields, Rgb, Text,
 };
 use std::alloc::{AllocError, Global};
-use std::test::Fail;
-use test_tables::assert_rows;
+use test_tables::{TableFault, check_rows};
 
 fn layer(alloc: Global, name: Text) -> Layer
     ensures { result.classes ≡ [] }
@@ -82,8 +81,8 @@ None=rivers\x20
 None=river";
 
 #[test]
-fn layers_are_found_by_the_first_of_their_names(rt: HostRuntime) -> Result<(), Fail> {
-    assert_rows(rt.alloc(), NAMES, '=', 6, found)
+fn layers_are_found_by_the_first_of_their_names(rt: HostRuntime) -> Result<(), TableFault> {
+    check_rows(rt.alloc(), NAMES, '=', 6, found)
 }
 
 // A colour with this much red and green.
@@ -135,8 +134,8 @@ fn told_columns(alloc: Global, _row: &str) -> Result<String, AllocError> {
 }
 
 #[test]
-fn pictures_are_read_by_column_and_row(rt: HostRuntime) -> Result<(), Fail> {
-    assert_rows(rt.alloc(), PIXELS, '=', 1, told_columns)
+fn pictures_are_read_by_column_and_row(rt: HostRuntime) -> Result<(), TableFault> {
+    check_rows(rt.alloc(), PIXELS, '=', 1, told_columns)
 }
 
 // A definition cites the same constant as the code, so only a test can tell a wrong limit. Counts, and
@@ -175,6 +174,6 @@ fn limits(alloc: Global, name: &str) -> Result<String, AllocError> {
 }
 
 #[test]
-fn limits_have_their_numbers(rt: HostRuntime) -> Result<(), Fail> {
-    assert_rows(rt.alloc(), LIMITS, '=', 2, limits)
+fn limits_have_their_numbers(rt: HostRuntime) -> Result<(), TableFault> {
+    check_rows(rt.alloc(), LIMITS, '=', 2, limits)
 }

@@ -1,8 +1,7 @@
 use csvpoints::{CsvError, CsvKind, Table, read};
 use mapdefs::Text;
 use std::alloc::{AllocError, Global};
-use std::test::Fail;
-use test_tables::assert_rows;
+use test_tables::{TableFault, check_rows};
 
 // What is told of texts of tables, and after `|` the texts. What is told is the table as `told` writes it,
 // or the fault. In both `/` is a line feed and `^` a carriage return, and in texts also `@` is a tab, `~` the
@@ -118,13 +117,13 @@ fn told_text(alloc: Global, text: &str) -> Result<String, AllocError> {
 }
 
 #[test]
-fn texts_are_read_as_tables(rt: HostRuntime) -> Result<(), Fail> {
-    assert_rows(rt.alloc(), TABLES, '|', 14, told_text)
+fn texts_are_read_as_tables(rt: HostRuntime) -> Result<(), TableFault> {
+    check_rows(rt.alloc(), TABLES, '|', 14, told_text)
 }
 
 #[test]
-fn the_first_fault_is_told(rt: HostRuntime) -> Result<(), Fail> {
-    assert_rows(rt.alloc(), FAULTS, '|', 25, told_text)
+fn the_first_fault_is_told(rt: HostRuntime) -> Result<(), TableFault> {
+    check_rows(rt.alloc(), FAULTS, '|', 25, told_text)
 }
 
 // What is told, and after `|` the columns and the limit that are asked for, and the text.
@@ -150,8 +149,8 @@ fn told_asked(alloc: Global, row: &str) -> Result<String, AllocError> {
 }
 
 #[test]
-fn columns_and_limits_are_those_asked_for(rt: HostRuntime) -> Result<(), Fail> {
-    assert_rows(rt.alloc(), ASKED, '|', 5, told_asked)
+fn columns_and_limits_are_those_asked_for(rt: HostRuntime) -> Result<(), TableFault> {
+    check_rows(rt.alloc(), ASKED, '|', 5, told_asked)
 }
 
 // Likewise, of 64 and of 65 columns: two or three, and 62 more.
@@ -160,8 +159,8 @@ x+y+n+n+n+n+n+n+n+n+n+n+n+n+n+n+n+n+n+n+n+n+n+n+n+n+n+n+n+n+n+n+n+n+n+n+n+n+n+n+
 row 1: more columns or rows than a table may have|x;y;1;n,n,n,n,n,n,n,n,n,n,n,n,n,n,n,n,n,n,n,n,n,n,n,n,n,n,n,n,n,n,n,n,n,n,n,n,n,n,n,n,n,n,n,n,n,n,n,n,n,n,n,n,n,n,n,n,n,n,n,n,n,n,n,n,n/1";
 
 #[test]
-fn a_table_has_sixty_four_columns_at_most(rt: HostRuntime) -> Result<(), Fail> {
-    assert_rows(rt.alloc(), COLUMNS, '|', 2, told_asked)
+fn a_table_has_sixty_four_columns_at_most(rt: HostRuntime) -> Result<(), TableFault> {
+    check_rows(rt.alloc(), COLUMNS, '|', 2, told_asked)
 }
 
 // How many features a table of 200,000 rows has with a limit, or its fault.
@@ -180,8 +179,8 @@ fn told_many(alloc: Global, limit: &str) -> Result<String, AllocError> {
 }
 
 #[test]
-fn a_table_may_have_many_rows(rt: HostRuntime) -> Result<(), Fail> {
-    assert_rows(rt.alloc(), MANY, '|', 2, told_many)
+fn a_table_may_have_many_rows(rt: HostRuntime) -> Result<(), TableFault> {
+    check_rows(rt.alloc(), MANY, '|', 2, told_many)
 }
 
 const KINDS: [CsvKind; 6] = [
@@ -206,6 +205,6 @@ fn told_value(alloc: Global, name: &str) -> Result<String, AllocError> {
 }
 
 #[test]
-fn kinds_have_their_numbers(rt: HostRuntime) -> Result<(), Fail> {
-    assert_rows(rt.alloc(), VALUES, '|', 2, told_value)
+fn kinds_have_their_numbers(rt: HostRuntime) -> Result<(), TableFault> {
+    check_rows(rt.alloc(), VALUES, '|', 2, told_value)
 }

@@ -1,6 +1,5 @@
 use std::alloc::{AllocError, Global};
-use std::test::Fail;
-use test_tables::{TableFault, assert_rows, check_all, check_rows};
+use test_tables::{TableFault, check_all, check_rows};
 
 // What is told of a table that was checked.
 fn told(alloc: Global, found: Result<(), TableFault>) -> Result<String, AllocError> {
@@ -58,11 +57,11 @@ Count(1)|a
 Count(3)|a/b/c";
 
 #[test]
-fn tables_hold_or_have_their_first_fault(rt: HostRuntime) -> Result<(), Fail> {
-    assert_rows(rt.alloc(), ROWS, '|', 14, told_of_rows)
+fn tables_hold_or_have_their_first_fault(rt: HostRuntime) -> Result<(), TableFault> {
+    check_rows(rt.alloc(), ROWS, '|', 14, told_of_rows)
 }
 
 #[test]
-fn tables_hold_where_all_rows_do(rt: HostRuntime) -> Result<(), Fail> {
-    assert_rows(rt.alloc(), ALL, '|', 6, told_of_all)
+fn tables_hold_where_all_rows_do(rt: HostRuntime) -> Result<(), TableFault> {
+    check_rows(rt.alloc(), ALL, '|', 6, told_of_all)
 }

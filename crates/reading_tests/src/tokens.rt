@@ -1,8 +1,7 @@
 use maplex::Shape::{List, Logic, Text, Word};
 use maplex::{LexFault, LexKind, TOKEN_LIMIT, Tokens};
 use std::alloc::{AllocError, Global};
-use std::test::Fail;
-use test_tables::assert_rows;
+use test_tables::{TableFault, check_rows};
 
 // The first eight tokens of a source, each with its line and its shape, and its tail: `ends` and the last
 // line, or the line that is reached before the fault, the fault's kind and its line.
@@ -79,8 +78,8 @@ ends 1~ \t\r\x0c
 ends 1~#";
 
 #[test]
-fn words_and_texts_are_cut(rt: HostRuntime) -> Result<(), Fail> {
-    assert_rows(rt.alloc(), ON_ONE_LINE, '~', 12, told_letters)
+fn words_and_texts_are_cut(rt: HostRuntime) -> Result<(), TableFault> {
+    check_rows(rt.alloc(), ON_ONE_LINE, '~', 12, told_letters)
 }
 
 const ON_LINES: &str = "\
@@ -99,8 +98,8 @@ ends 2~|
 1 Text #, 3 Text x, ends 3~'#'|#'|'x'";
 
 #[test]
-fn lines_are_counted_by_line_feeds(rt: HostRuntime) -> Result<(), Fail> {
-    assert_rows(rt.alloc(), ON_LINES, '~', 9, told_letters)
+fn lines_are_counted_by_line_feeds(rt: HostRuntime) -> Result<(), TableFault> {
+    check_rows(rt.alloc(), ON_LINES, '~', 9, told_letters)
 }
 
 const FAULTS: &str = "\
@@ -135,8 +134,8 @@ const FAULTS: &str = "\
 1 BadByte 1~a\x00b 'c";
 
 #[test]
-fn faults_have_worked_lines(rt: HostRuntime) -> Result<(), Fail> {
-    assert_rows(rt.alloc(), FAULTS, '~', 22, told_letters)
+fn faults_have_worked_lines(rt: HostRuntime) -> Result<(), TableFault> {
+    check_rows(rt.alloc(), FAULTS, '~', 22, told_letters)
 }
 
 // Logical expressions and lists. A letter before or after a bracket is a bare word.
@@ -167,8 +166,8 @@ const BRACKETS: &str = "\
 1 Logic ('|'), 2 List |, 3 Text x, ends 3~('|') {|} 'x'";
 
 #[test]
-fn expressions_and_lists_are_cut(rt: HostRuntime) -> Result<(), Fail> {
-    assert_rows(rt.alloc(), BRACKETS, '~', 18, told_letters)
+fn expressions_and_lists_are_cut(rt: HostRuntime) -> Result<(), TableFault> {
+    check_rows(rt.alloc(), BRACKETS, '~', 18, told_letters)
 }
 
 const BRACKET_FAULTS: &str = "\
@@ -195,8 +194,8 @@ const BRACKET_FAULTS: &str = "\
 2 OpenString 2~|{a|\u{ff}";
 
 #[test]
-fn expressions_and_lists_have_faults(rt: HostRuntime) -> Result<(), Fail> {
-    assert_rows(rt.alloc(), BRACKET_FAULTS, '~', 17, told_letters)
+fn expressions_and_lists_have_faults(rt: HostRuntime) -> Result<(), TableFault> {
+    check_rows(rt.alloc(), BRACKET_FAULTS, '~', 17, told_letters)
 }
 
 // Bad bytes further down than their token begins, and others.
@@ -209,8 +208,8 @@ const REACHED: &str = "\
 5 BadByte 7~||||'a||\x1f' |";
 
 #[test]
-fn a_fault_is_reached_where_its_token_begins(rt: HostRuntime) -> Result<(), Fail> {
-    assert_rows(rt.alloc(), REACHED, '~', 6, told_letters)
+fn a_fault_is_reached_where_its_token_begins(rt: HostRuntime) -> Result<(), TableFault> {
+    check_rows(rt.alloc(), REACHED, '~', 6, told_letters)
 }
 
 // `*` stands for 65,534 letters. The first row has the limit itself.
@@ -252,8 +251,8 @@ fn told_limit(alloc: Global, letters: &str) -> Result<String, AllocError> {
 }
 
 #[test]
-fn texts_have_at_most_65536_bytes(rt: HostRuntime) -> Result<(), Fail> {
-    assert_rows(rt.alloc(), LONG_TOKENS, '~', 17, told_limit)
+fn texts_have_at_most_65536_bytes(rt: HostRuntime) -> Result<(), TableFault> {
+    check_rows(rt.alloc(), LONG_TOKENS, '~', 17, told_limit)
 }
 
 // `<` stands for 500,000 opening brackets, `>` for as many that close.
@@ -272,8 +271,8 @@ fn told_deep(alloc: Global, letters: &str) -> Result<String, AllocError> {
 }
 
 #[test]
-fn brackets_may_be_deep(rt: HostRuntime) -> Result<(), Fail> {
-    assert_rows(rt.alloc(), DEEP, '~', 3, told_deep)
+fn brackets_may_be_deep(rt: HostRuntime) -> Result<(), TableFault> {
+    check_rows(rt.alloc(), DEEP, '~', 3, told_deep)
 }
 
 fn on(line: u64, kind: LexKind) -> LexFault {
@@ -298,6 +297,6 @@ fn told_value(alloc: Global, name: &str) -> Result<String, AllocError> {
 }
 
 #[test]
-fn faults_are_printed(rt: HostRuntime) -> Result<(), Fail> {
-    assert_rows(rt.alloc(), VALUES, '~', 4, told_value)
+fn faults_are_printed(rt: HostRuntime) -> Result<(), TableFault> {
+    check_rows(rt.alloc(), VALUES, '~', 4, told_value)
 }

@@ -1,7 +1,6 @@
 use crsaxes::bbox;
 use std::alloc::{AllocError, Global};
-use std::test::Fail;
-use test_tables::assert_rows;
+use test_tables::{TableFault, check_rows};
 
 // The west, south, east and north side in millionths of a degree, or the fault, `=`, a system, `=` and a
 // text. A line that begins with `# ` is a heading.
@@ -47,6 +46,6 @@ fn rows_of_boxes(alloc: Global, row: &str) -> Result<String, AllocError> {
 }
 
 #[test]
-fn boxes_are_read_in_the_axis_order(rt: HostRuntime) -> Result<(), Fail> {
-    assert_rows(rt.alloc(), BOXES, '=', 20, rows_of_boxes)
+fn boxes_are_read_in_the_axis_order(rt: HostRuntime) -> Result<(), TableFault> {
+    check_rows(rt.alloc(), BOXES, '=', 20, rows_of_boxes)
 }

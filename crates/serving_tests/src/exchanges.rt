@@ -4,8 +4,7 @@ use httpedge::{Asks, Busy, Conn, EdgeFault, Outcome, Refusal, exchange, respond}
 use mapdefs::{Items, Map, MapFields, Text};
 use mapmachine::{Answer, Flagged, Machine, Mime};
 use std::alloc::{AllocError, Global};
-use std::test::Fail;
-use test_tables::assert_rows;
+use test_tables::{TableFault, check_rows};
 
 // The machine of a map without layers.
 fn machine(alloc: Global) -> Machine {
@@ -196,8 +195,8 @@ const CUTS: &str = "\
 (298, true)|failed writes";
 
 #[test]
-fn streams_are_answered_or_cut_where_they_fail(rt: HostRuntime) -> Result<(), Fail> {
-    assert_rows(rt.alloc(), CUTS, '|', 3, rows_of_cuts)
+fn streams_are_answered_or_cut_where_they_fail(rt: HostRuntime) -> Result<(), TableFault> {
+    check_rows(rt.alloc(), CUTS, '|', 3, rows_of_cuts)
 }
 
 // How often it was asked, the result, whether reading and writing failed, and the response, `|` and a stream. CR
@@ -232,8 +231,8 @@ fn rows_of_refusals(alloc: Global, row: &str) -> Result<String, AllocError> {
 }
 
 #[test]
-fn streams_are_refused_without_asking_and_busy_is_told(rt: HostRuntime) -> Result<(), Fail> {
-    assert_rows(rt.alloc(), REFUSALS, '|', 6, rows_of_refusals)
+fn streams_are_refused_without_asking_and_busy_is_told(rt: HostRuntime) -> Result<(), TableFault> {
+    check_rows(rt.alloc(), REFUSALS, '|', 6, rows_of_refusals)
 }
 
 // What an outcome is written as.
@@ -280,6 +279,6 @@ fn rows_of_responses(alloc: Global, row: &str) -> Result<String, AllocError> {
 }
 
 #[test]
-fn pictures_and_refusals_are_written_with_their_status(rt: HostRuntime) -> Result<(), Fail> {
-    assert_rows(rt.alloc(), RESPONSES, '|', 4, rows_of_responses)
+fn pictures_and_refusals_are_written_with_their_status(rt: HostRuntime) -> Result<(), TableFault> {
+    check_rows(rt.alloc(), RESPONSES, '|', 4, rows_of_responses)
 }

@@ -9,8 +9,7 @@ use mapdefs::{
 };
 use mapmachine::Machine;
 use std::alloc::{AllocError, Global};
-use std::test::Fail;
-use test_tables::assert_rows;
+use test_tables::{TableFault, check_rows};
 
 // A class that paints in the colour 10 20 30, whatever the scale.
 fn class(alloc: Global) -> Result<Class, AllocError>
@@ -169,6 +168,6 @@ fn told(alloc: Global, row: &str) -> Result<String, AllocError> {
 }
 
 #[test]
-fn layers_are_seen_at_worked_scales(rt: HostRuntime) -> Result<(), Fail> {
-    assert_rows(rt.alloc(), PICTURES, ' ', 6, told)
+fn layers_are_seen_at_worked_scales(rt: HostRuntime) -> Result<(), TableFault> {
+    check_rows(rt.alloc(), PICTURES, ' ', 6, told)
 }

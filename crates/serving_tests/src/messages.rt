@@ -2,8 +2,7 @@ use crsaxes::AxisFault;
 use httpedge::{Busy, EdgeFault};
 use mapmachine::{PutFailed, TakeFailed, WriteFault};
 use std::alloc::{AllocError, Global};
-use std::test::Fail;
-use test_tables::assert_rows;
+use test_tables::{TableFault, check_rows};
 use wmsquery::QueryError;
 
 const AXIS_FAULTS: [AxisFault; 4] = [
@@ -42,6 +41,6 @@ fn rows_of_messages(alloc: Global, row: &str) -> Result<String, AllocError> {
 }
 
 #[test]
-fn faults_are_told_in_words(rt: HostRuntime) -> Result<(), Fail> {
-    assert_rows(rt.alloc(), MESSAGES, '|', 5, rows_of_messages)
+fn faults_are_told_in_words(rt: HostRuntime) -> Result<(), TableFault> {
+    check_rows(rt.alloc(), MESSAGES, '|', 5, rows_of_messages)
 }

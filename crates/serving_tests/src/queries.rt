@@ -5,8 +5,7 @@ ghost use Rattle.mapdefs.specs.declared.limits.TheConstants.{MAX_LAYERS};
 use geom::{Micro, WorldBox};
 use mapdefs::{Items, Kind, Layer, LayerFields, MAX_LAYERS, Map, MapFields, Text};
 use std::alloc::{AllocError, Global};
-use std::test::Fail;
-use test_tables::assert_rows;
+use test_tables::{TableFault, check_rows};
 use wmsquery::{MapRequest, read};
 
 // A query without a fault. The first pair of a name counts, so that the rows put others before it.
@@ -176,6 +175,6 @@ fn rows_of_queries(alloc: Global, row: &str) -> Result<String, AllocError> {
 }
 
 #[test]
-fn queries_are_told_as_worked(rt: HostRuntime) -> Result<(), Fail> {
-    assert_rows(rt.alloc(), QUERIES, '|', 64, rows_of_queries)
+fn queries_are_told_as_worked(rt: HostRuntime) -> Result<(), TableFault> {
+    check_rows(rt.alloc(), QUERIES, '|', 64, rows_of_queries)
 }

@@ -2,8 +2,7 @@ ghost use Rattle.std.specs.Prelude.{◌≤◌, length};
 
 use httpedge::{Conn, End, Refusal, Step};
 use std::alloc::{AllocError, Global};
-use std::test::Fail;
-use test_tables::assert_rows;
+use test_tables::{TableFault, check_rows};
 
 // A status and a query as a row tells them: an empty query is `-`.
 fn asked(alloc: Global, query: &[u8]) -> Result<String, AllocError> {
@@ -134,8 +133,8 @@ fn rows_of_streams(alloc: Global, row: &str) -> Result<String, AllocError> {
 }
 
 #[test]
-fn streams_mean_what_their_heads_say(rt: HostRuntime) -> Result<(), Fail> {
-    assert_rows(rt.alloc(), STREAMS, '>', 47, rows_of_streams)
+fn streams_mean_what_their_heads_say(rt: HostRuntime) -> Result<(), TableFault> {
+    check_rows(rt.alloc(), STREAMS, '>', 47, rows_of_streams)
 }
 
 // How many bytes, the beginning of what they mean in two pieces and a byte at a time, `>`, then what is sent
@@ -183,8 +182,8 @@ fn rows_of_lengths(alloc: Global, row: &str) -> Result<String, AllocError> {
 }
 
 #[test]
-fn at_most_16384_bytes_are_a_head(rt: HostRuntime) -> Result<(), Fail> {
-    assert_rows(rt.alloc(), LENGTHS, '>', 3, rows_of_lengths)
+fn at_most_16384_bytes_are_a_head(rt: HostRuntime) -> Result<(), TableFault> {
+    check_rows(rt.alloc(), LENGTHS, '>', 3, rows_of_lengths)
 }
 
 // What a piece leads to, a head after it, the end and a head after that, `>` and the piece.
@@ -209,8 +208,8 @@ fn rows_of_decisions(alloc: Global, row: &str) -> Result<String, AllocError> {
 }
 
 #[test]
-fn decisions_stay(rt: HostRuntime) -> Result<(), Fail> {
-    assert_rows(rt.alloc(), DECISIONS, '>', 5, rows_of_decisions)
+fn decisions_stay(rt: HostRuntime) -> Result<(), TableFault> {
+    check_rows(rt.alloc(), DECISIONS, '>', 5, rows_of_decisions)
 }
 
 // What the end after a piece leads to, what a head after it, `>` and the piece.
@@ -227,6 +226,6 @@ fn rows_of_ends(alloc: Global, row: &str) -> Result<String, AllocError> {
 }
 
 #[test]
-fn ends_refuse_what_came(rt: HostRuntime) -> Result<(), Fail> {
-    assert_rows(rt.alloc(), ENDS, '>', 2, rows_of_ends)
+fn ends_refuse_what_came(rt: HostRuntime) -> Result<(), TableFault> {
+    check_rows(rt.alloc(), ENDS, '>', 2, rows_of_ends)
 }

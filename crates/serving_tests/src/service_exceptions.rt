@@ -1,7 +1,6 @@
 use std::alloc::{AllocError, Global};
 use std::str;
-use std::test::Fail;
-use test_tables::assert_rows;
+use test_tables::{TableFault, check_rows};
 use wmsquery::{Code, Parameter, WmsFault, report};
 
 // The length of a document, and the document with `~` for a line feed, and the name of the parameter that
@@ -25,6 +24,6 @@ fn told(alloc: Global, name: &str) -> Result<String, AllocError> {
 }
 
 #[test]
-fn faults_are_reported_as_documents(rt: HostRuntime) -> Result<(), Fail> {
-    assert_rows(rt.alloc(), DOCUMENTS, '|', 1, told)
+fn faults_are_reported_as_documents(rt: HostRuntime) -> Result<(), TableFault> {
+    check_rows(rt.alloc(), DOCUMENTS, '|', 1, told)
 }

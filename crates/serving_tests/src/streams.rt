@@ -1,8 +1,7 @@
 use crate::narrow::{Narrow, holding_nothing};
 use mapmachine::{Flagged, Sink, Source, WriteFault, put_all, put_pieces};
 use std::alloc::{AllocError, Global};
-use std::test::Fail;
-use test_tables::assert_rows;
+use test_tables::{TableFault, check_rows};
 
 // So many bytes, each another one than that before it.
 fn pattern(alloc: Global, len: usize) -> Result<Vec<u8>, AllocError> {
@@ -77,8 +76,8 @@ fn rows_of_puts(alloc: Global, row: &str) -> Result<String, AllocError> {
 }
 
 #[test]
-fn sinks_take_all_or_say_where_they_failed(rt: HostRuntime) -> Result<(), Fail> {
-    assert_rows(rt.alloc(), PUTS, '|', 16, rows_of_puts)
+fn sinks_take_all_or_say_where_they_failed(rt: HostRuntime) -> Result<(), TableFault> {
+    check_rows(rt.alloc(), PUTS, '|', 16, rows_of_puts)
 }
 
 // The outcome, the flag of writing, how many bytes of three pieces went out, and those that the writer holds,
@@ -110,8 +109,8 @@ fn rows_of_pieces(alloc: Global, row: &str) -> Result<String, AllocError> {
 }
 
 #[test]
-fn pieces_go_out_up_to_a_failure(rt: HostRuntime) -> Result<(), Fail> {
-    assert_rows(rt.alloc(), PIECES, '|', 10, rows_of_pieces)
+fn pieces_go_out_up_to_a_failure(rt: HostRuntime) -> Result<(), TableFault> {
+    check_rows(rt.alloc(), PIECES, '|', 10, rows_of_pieces)
 }
 
 // What no room is given, then of each of four calls the place in the bytes, what it gives, whether those
@@ -152,8 +151,8 @@ fn rows_of_takes(alloc: Global, row: &str) -> Result<String, AllocError> {
 }
 
 #[test]
-fn sources_give_bytes_up_to_their_end(rt: HostRuntime) -> Result<(), Fail> {
-    assert_rows(rt.alloc(), TAKES, '|', 1, rows_of_takes)
+fn sources_give_bytes_up_to_their_end(rt: HostRuntime) -> Result<(), TableFault> {
+    check_rows(rt.alloc(), TAKES, '|', 1, rows_of_takes)
 }
 
 fn told_of_writing(alloc: Global, stream: &mut Flagged<Narrow<'_>>) -> Result<String, AllocError> {
@@ -222,18 +221,18 @@ Err(PutFailed) (true, false), Ok(2) Ok(2) Ok(0) Ok(()) (true, false)|0 4 writing
 Err(TakeFailed) Ok(2) Ok(2) Ok(()) (false, true)|0 3 reading";
 
 #[test]
-fn each_flag_stays_as_it_was_set(rt: HostRuntime) -> Result<(), Fail> {
-    assert_rows(rt.alloc(), STAYING, '|', 2, rows_of_flags)
+fn each_flag_stays_as_it_was_set(rt: HostRuntime) -> Result<(), TableFault> {
+    check_rows(rt.alloc(), STAYING, '|', 2, rows_of_flags)
 }
 
 #[test]
-fn no_bytes_set_no_flag(rt: HostRuntime) -> Result<(), Fail> {
+fn no_bytes_set_no_flag(rt: HostRuntime) -> Result<(), TableFault> {
     let row = "Ok(0) (false, false)|1 0 no bytes";
-    assert_rows(rt.alloc(), row, '|', 1, rows_of_flags)
+    check_rows(rt.alloc(), row, '|', 1, rows_of_flags)
 }
 
 #[test]
-fn failed_flushes_set_the_flag_of_writing(rt: HostRuntime) -> Result<(), Fail> {
+fn failed_flushes_set_the_flag_of_writing(rt: HostRuntime) -> Result<(), TableFault> {
     let row = "Err(PutFailed) (true, false) 0|0 0 flush";
-    assert_rows(rt.alloc(), row, '|', 1, rows_of_flags)
+    check_rows(rt.alloc(), row, '|', 1, rows_of_flags)
 }

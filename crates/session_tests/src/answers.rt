@@ -1,8 +1,7 @@
 use crate::endings::{ended, is_played};
 use crate::texts::{QUERY, SQUARE, SQUARE_MAP, columns};
 use std::alloc::{AllocError, Global};
-use std::test::Fail;
-use test_tables::{assert_all, assert_rows};
+use test_tables::{TableFault, check_all, check_rows};
 
 // What a session writes of a service exception. The document has 187 bytes beside the code and the
 // name of the parameter.
@@ -86,8 +85,8 @@ pub fn is_answered(alloc: Global, row: &str) -> Result<bool, AllocError> {
 }
 
 #[test]
-fn sessions_answer_their_queries(rt: HostRuntime) -> Result<(), Fail> {
-    assert_all(rt.alloc(), ANSWERS, 22, is_answered)
+fn sessions_answer_their_queries(rt: HostRuntime) -> Result<(), TableFault> {
+    check_all(rt.alloc(), ANSWERS, 22, is_answered)
 }
 
 // Layers up to their feature's points, scripts of one query, and what is written of them, worked by hand: the square by itself; with a
@@ -123,8 +122,8 @@ fn is_written(alloc: Global, row: &str) -> Result<bool, AllocError> {
 }
 
 #[test]
-fn pictures_are_written_as_worked(rt: HostRuntime) -> Result<(), Fail> {
-    assert_all(rt.alloc(), WRITTEN, 14, is_written)
+fn pictures_are_written_as_worked(rt: HostRuntime) -> Result<(), TableFault> {
+    check_all(rt.alloc(), WRITTEN, 14, is_written)
 }
 
 // Columns, rows and components of pixels beside the corners of the square, which are at 512 and 1536,
@@ -180,6 +179,6 @@ fn told_of_picture(alloc: Global, side: &str) -> Result<String, AllocError> {
 }
 
 #[test]
-fn largest_pictures_are_written_whole(rt: HostRuntime) -> Result<(), Fail> {
-    assert_rows(rt.alloc(), LARGEST, '=', 1, told_of_picture)
+fn largest_pictures_are_written_whole(rt: HostRuntime) -> Result<(), TableFault> {
+    check_rows(rt.alloc(), LARGEST, '=', 1, told_of_picture)
 }

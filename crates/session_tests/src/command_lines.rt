@@ -1,8 +1,7 @@
 use crate::texts::columns;
 use commandline::{Command, WordsFault, command};
 use std::alloc::{AllocError, Global};
-use std::test::Fail;
-use test_tables::{assert_all, assert_rows};
+use test_tables::{TableFault, check_all, check_rows};
 
 // What is told of some words: their form, or why they were refused.
 fn told(alloc: Global, words: &[&str]) -> Result<String, AllocError> {
@@ -72,8 +71,8 @@ fn is_form(alloc: Global, row: &str) -> Result<bool, AllocError> {
 }
 
 #[test]
-fn words_have_their_forms(rt: HostRuntime) -> Result<(), Fail> {
-    assert_all(rt.alloc(), WORDS, 27, is_form)
+fn words_have_their_forms(rt: HostRuntime) -> Result<(), TableFault> {
+    check_all(rt.alloc(), WORDS, 27, is_form)
 }
 
 // What is told of words that were refused with this text, and of those for which there was no memory.
@@ -86,7 +85,7 @@ fn refusals(alloc: Global, text: &str) -> Result<String, AllocError> {
 }
 
 #[test]
-fn refusals_print_their_text(rt: HostRuntime) -> Result<(), Fail> {
+fn refusals_print_their_text(rt: HostRuntime) -> Result<(), TableFault> {
     let row = "no such form, out of memory=no such form";
-    assert_rows(rt.alloc(), row, '=', 1, refusals)
+    check_rows(rt.alloc(), row, '=', 1, refusals)
 }

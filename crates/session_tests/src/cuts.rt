@@ -4,8 +4,7 @@ use mapmachine::{Flagged, Machine, WriteFault};
 use mapparse::{Files, parse};
 use sessions::{play_script, summary};
 use std::alloc::{AllocError, Global};
-use std::test::Fail;
-use test_tables::assert_rows;
+use test_tables::{TableFault, check_rows};
 
 /// The machine of a mapfile. Its error is out of memory, or a fault, which the tests don't expect.
 pub fn opened(alloc: Global, map: &str) -> Result<Machine, AllocError> {
@@ -51,8 +50,8 @@ fn told_of_summary(alloc: Global, rooms: &str) -> Result<String, AllocError> {
 }
 
 #[test]
-fn summaries_are_written_up_to_a_failure(rt: HostRuntime) -> Result<(), Fail> {
-    assert_rows(rt.alloc(), "None=30", '=', 1, told_of_summary)
+fn summaries_are_written_up_to_a_failure(rt: HostRuntime) -> Result<(), TableFault> {
+    check_rows(rt.alloc(), "None=30", '=', 1, told_of_summary)
 }
 
 // The first number of bytes after which a failing writer doesn't end a script of the square and of an
@@ -83,6 +82,6 @@ fn first_wrong(
 }
 
 #[test]
-fn writers_that_fail_hold_the_first_bytes(rt: HostRuntime) -> Result<(), Fail> {
-    assert_rows(rt.alloc(), "None=400", '=', 1, told_of_script)
+fn writers_that_fail_hold_the_first_bytes(rt: HostRuntime) -> Result<(), TableFault> {
+    check_rows(rt.alloc(), "None=400", '=', 1, told_of_script)
 }

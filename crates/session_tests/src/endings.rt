@@ -4,8 +4,7 @@ use mapmachine::Flagged;
 use sessions::{Outcome, ReadFault, check_file, run_files, serve_session};
 use std::alloc::{AllocError, Global};
 use std::str;
-use std::test::Fail;
-use test_tables::{assert_all, assert_rows};
+use test_tables::{TableFault, check_all, check_rows};
 
 // Does what a form says, after which the name of the mapfile may stand.
 fn performed(
@@ -143,13 +142,13 @@ fn is_ended(alloc: Global, line: &str) -> Result<bool, AllocError> {
 }
 
 #[test]
-fn forms_end_as_they_should(rt: HostRuntime) -> Result<(), Fail> {
-    assert_all(rt.alloc(), FORMS, 37, is_ended)
+fn forms_end_as_they_should(rt: HostRuntime) -> Result<(), TableFault> {
+    check_all(rt.alloc(), FORMS, 37, is_ended)
 }
 
 #[test]
-fn sessions_end_as_they_should(rt: HostRuntime) -> Result<(), Fail> {
-    assert_all(rt.alloc(), SESSIONS, 6, is_ended)
+fn sessions_end_as_they_should(rt: HostRuntime) -> Result<(), TableFault> {
+    check_all(rt.alloc(), SESSIONS, 6, is_ended)
 }
 
 // The statuses of some outcomes, and the messages of faults.
@@ -195,6 +194,6 @@ fn told(alloc: Global, row: &str) -> Result<String, AllocError> {
 }
 
 #[test]
-fn statuses_are_those_of_the_profile(rt: HostRuntime) -> Result<(), Fail> {
-    assert_rows(rt.alloc(), TOLD, '=', 4, told)
+fn statuses_are_those_of_the_profile(rt: HostRuntime) -> Result<(), TableFault> {
+    check_rows(rt.alloc(), TOLD, '=', 4, told)
 }

@@ -5,8 +5,7 @@ use crate::texts::{QUERY, SQUARE, SQUARE_MAP, SQUARE_TEXT, columns, spelt};
 use mapdefs::Items;
 use mapmachine::{Bytes, Event, Mime, Reply};
 use std::alloc::{AllocError, Global};
-use std::test::Fail;
-use test_tables::{assert_all, assert_rows};
+use test_tables::{TableFault, check_all, check_rows};
 
 // A query of 100,000 bytes, most of them the zeros before a number.
 fn long_query(alloc: Global) -> Result<String, AllocError> {
@@ -32,8 +31,8 @@ fn is_long_told(alloc: Global, row: &str) -> Result<bool, AllocError> {
 }
 
 #[test]
-fn long_scripts_are_played_to_their_end(rt: HostRuntime) -> Result<(), Fail> {
-    assert_all(rt.alloc(), "|\nQUERY b|fault script 302", 2, is_long_told)
+fn long_scripts_are_played_to_their_end(rt: HostRuntime) -> Result<(), TableFault> {
+    check_all(rt.alloc(), "|\nQUERY b|fault script 302", 2, is_long_told)
 }
 
 // How often the square is a ring of one feature, and the picture.
@@ -51,8 +50,8 @@ fn has_rings(alloc: Global, row: &str) -> Result<bool, AllocError> {
 }
 
 #[test]
-fn a_thousand_rings_count_together(rt: HostRuntime) -> Result<(), Fail> {
-    assert_all(rt.alloc(), RINGS, 2, has_rings)
+fn a_thousand_rings_count_together(rt: HostRuntime) -> Result<(), TableFault> {
+    check_all(rt.alloc(), RINGS, 2, has_rings)
 }
 
 // The replies to so many pairs of a query without VERSION and one without a fault, and the sequence of
@@ -94,8 +93,8 @@ fn told_of_replies(alloc: Global, count: &str) -> Result<String, AllocError> {
 }
 
 #[test]
-fn machines_run_over_many_events(rt: HostRuntime) -> Result<(), Fail> {
-    assert_rows(rt.alloc(), "300 300 0=150", '=', 1, told_of_replies)
+fn machines_run_over_many_events(rt: HostRuntime) -> Result<(), TableFault> {
+    check_rows(rt.alloc(), "300 300 0=150", '=', 1, told_of_replies)
 }
 
 // Comments, blank lines and lines that are nearly those of two percent signs: 100 bytes, 5 lines.
@@ -119,6 +118,6 @@ fn is_large(alloc: Global, row: &str) -> Result<bool, AllocError> {
 }
 
 #[test]
-fn large_sessions_are_played(rt: HostRuntime) -> Result<(), Fail> {
-    assert_all(rt.alloc(), RESTS, 2, is_large)
+fn large_sessions_are_played(rt: HostRuntime) -> Result<(), TableFault> {
+    check_all(rt.alloc(), RESTS, 2, is_large)
 }

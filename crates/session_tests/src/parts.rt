@@ -1,8 +1,7 @@
 use crate::texts::columns;
 use sessions::{front_of, split_session};
 use std::alloc::{AllocError, Global};
-use std::test::Fail;
-use test_tables::{assert_all, assert_rows};
+use test_tables::{TableFault, check_all, check_rows};
 
 // Sessions, their mapfiles and their scripts, with `~` for a line feed.
 const SESSIONS: &str = "\
@@ -25,8 +24,8 @@ fn is_parted(alloc: Global, row: &str) -> Result<bool, AllocError> {
 }
 
 #[test]
-fn sessions_part_at_their_first_such_line(rt: HostRuntime) -> Result<(), Fail> {
-    assert_all(rt.alloc(), SESSIONS, 9, is_parted)
+fn sessions_part_at_their_first_such_line(rt: HostRuntime) -> Result<(), TableFault> {
+    check_all(rt.alloc(), SESSIONS, 9, is_parted)
 }
 
 // What stands before the names of files, and their paths.
@@ -42,6 +41,6 @@ fn front(alloc: Global, path: &str) -> Result<String, AllocError> {
 }
 
 #[test]
-fn a_file_is_in_the_folder_before_its_name(rt: HostRuntime) -> Result<(), Fail> {
-    assert_rows(rt.alloc(), FRONTS, '=', 5, front)
+fn a_file_is_in_the_folder_before_its_name(rt: HostRuntime) -> Result<(), TableFault> {
+    check_rows(rt.alloc(), FRONTS, '=', 5, front)
 }

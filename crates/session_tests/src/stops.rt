@@ -1,8 +1,7 @@
 use crate::endings::{SESSIONS, ended};
 use crate::texts::{columns, spelt};
 use std::alloc::{AllocError, Global};
-use std::test::Fail;
-use test_tables::assert_all;
+use test_tables::{TableFault, check_all};
 
 // Forms, the number of their output's call that fails, of those that write 5 bytes at most and of the flush
 // after them, and what becomes of it. The line of `check` has seven such calls, the fault of a script five.
@@ -29,8 +28,8 @@ fn is_failed(alloc: Global, line: &str) -> Result<bool, AllocError> {
 }
 
 #[test]
-fn outputs_that_fail_end_a_form(rt: HostRuntime) -> Result<(), Fail> {
-    assert_all(rt.alloc(), FAILING, 11, is_failed)
+fn outputs_that_fail_end_a_form(rt: HostRuntime) -> Result<(), TableFault> {
+    check_all(rt.alloc(), FAILING, 11, is_failed)
 }
 
 // Whether some text is the front of another, and not all of it before the last call.
@@ -87,6 +86,6 @@ fn is_stopped_anywhere(alloc: Global, line: &str) -> Result<bool, AllocError> {
 }
 
 #[test]
-fn streams_that_fail_end_a_session(rt: HostRuntime) -> Result<(), Fail> {
-    assert_all(rt.alloc(), SESSIONS, 6, is_stopped_anywhere)
+fn streams_that_fail_end_a_session(rt: HostRuntime) -> Result<(), TableFault> {
+    check_all(rt.alloc(), SESSIONS, 6, is_stopped_anywhere)
 }

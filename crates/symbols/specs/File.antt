@@ -5,7 +5,7 @@ use Rattle.std.specs.List.{flat_map, list_all, list_any}
 use Rattle.geom.specs.Decimal.{number_of}
 use Rattle.symbols.specs.Format.{is_line_end, is_space}
 
--- a piece of a gap: a byte of white space, or a comment's text with the byte that ends its line
+-- a piece of blanks: a byte of white space, or a comment's text with the byte that ends its line
 pub data Piece : Type 0 where
   Space : ℕ → Piece
   Comment : List ℕ → ℕ → Piece
@@ -20,11 +20,11 @@ abbrev pub IsPiece : Piece → Type 0
 IsPiece (Space b) = is_space b ≡ true
 IsPiece (Comment text end) = (list_any is_line_end text ≡ false) × (is_line_end end ≡ true)
 
--- the bytes of a gap
-abbrev pub gap_bytes : List Piece → List ℕ
-gap_bytes pieces = flat_map piece_bytes pieces
+-- the bytes of blanks
+abbrev pub blank_bytes : List Piece → List ℕ
+blank_bytes pieces = flat_map piece_bytes pieces
 
--- a file: white space after the magic number, three numbers in digits after gaps, white space, and the pixels' bytes
+-- a file: white space after the magic number, three numbers in digits after blanks, white space, and the pixels' bytes
 pub record File : Type 0 where
   pub start : ℕ
   pub first : List Piece
@@ -39,11 +39,11 @@ pub record File : Type 0 where
 -- the bytes of a file
 abbrev pub file_bytes : File → List ℕ
 file_bytes f =
-    80 ∷ 54 ∷ f.start ∷ (gap_bytes f.first
+    80 ∷ 54 ∷ f.start ∷ (blank_bytes f.first
     ++ (f.width
-    ++ (gap_bytes f.second
+    ++ (blank_bytes f.second
     ++ (f.height
-    ++ (gap_bytes f.third
+    ++ (blank_bytes f.third
     ++ (f.greatest
     ++ f.end ∷ f.pixels))))))
 

@@ -12,7 +12,7 @@ use Rattle.symbols.specs.declared.fault.PixFault.TheVariants.{Magic, Header, Sho
 use Rattle.symbols.specs.declared.header.HeaderFields.{HeaderFields}
 use Rattle.symbols.specs.declared.header.Number.{Number}
 
--- white space: a blank, TAB, LF, VT, FF or CR
+-- white space: a space, TAB, LF, VT, FF or CR
 abbrev pub is_space : ℕ → Bool
 is_space b = b == 32 || (nat_le 9 b && nat_le b 13)
 
@@ -21,10 +21,10 @@ abbrev pub is_line_end : ℕ → Bool
 is_line_end b = b == 10 || b == 13
 
 -- how many bytes of white space and comments stand in front, in a comment or outside of one
-abbrev pub gap_len : Bool → List ℕ → ℕ
-gap_len in_comment [] = 0
-gap_len true (b ∷ bs) = suc (gap_len (not (is_line_end b)) bs)
-gap_len false (b ∷ bs) = if is_space b then suc (gap_len false bs) else (if b == 35 then suc (gap_len true bs) else 0)
+abbrev pub blanks_len : Bool → List ℕ → ℕ
+blanks_len in_comment [] = 0
+blanks_len true (b ∷ bs) = suc (blanks_len (not (is_line_end b)) bs)
+blanks_len false (b ∷ bs) = if is_space b then suc (blanks_len false bs) else (if b == 35 then suc (blanks_len true bs) else 0)
 
 -- white space stands at an index
 abbrev pub has_space_at : List ℕ → ℕ → Bool
@@ -37,7 +37,7 @@ capped n = min n 1000
 -- the number after the white space and comments from an index on, and the index after its digits
 abbrev pub number_at : List ℕ → ℕ → Option Number
 number_at bytes at =
-    let start = at + gap_len false (drop at bytes) in
+    let start = at + blanks_len false (drop at bytes) in
     let digits = prefix_len is_ascii_digit (drop start bytes) in
     if digits == 0 then None else Some (record { value = capped (number_of (take digits (drop start bytes))); end = start + digits })
 

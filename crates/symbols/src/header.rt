@@ -2,7 +2,7 @@ ghost use Rattle.std.specs.Prelude.{◌≡◌, ◌≤◌, false, true, length, I
 ghost use Rattle.std.specs.Char.{is_ascii_digit};
 ghost use Rattle.std.specs.List.{list_all, prefix_len};
 ghost use Rattle.geom.specs.Decimal.{number_of, with_digit};
-ghost use Rattle.symbols.specs.Format.{capped, gap_len, has_space_at, header_of, is_space, number_at};
+ghost use Rattle.symbols.specs.Format.{capped, blanks_len, has_space_at, header_of, is_space, number_at};
 
 /// A number of a header.
 #[derive(Clone, Copy)]
@@ -64,14 +64,14 @@ fn is_space(byte: u8) -> bool
     byte == b' ' || (9..=13).contains(&byte)
 }
 
-// The number after the gap from an index on, if one stands there.
+// The number after the blanks from an index on, if one stands there.
 fn number_at(bytes: &[u8], at: usize) -> Option<Number>
     requires { at ≤ length bytes.now }
     ensures value { result ≡ number_at bytes.now at }
     ensures end { IfSome result (λ number. number.end ≤ length bytes.now) }
 {
     let rest = &bytes[at..];
-    let rest = &rest[gap_len(rest)..];
+    let rest = &rest[blanks_len(rest)..];
     let digits = digits_len(rest);
     if digits == 0 {
         return None;
@@ -83,8 +83,8 @@ fn number_at(bytes: &[u8], at: usize) -> Option<Number>
 }
 
 // How many bytes of white space and comments stand in front.
-fn gap_len(bytes: &[u8]) -> usize
-    ensures value { result ≡ gap_len false bytes.now }
+fn blanks_len(bytes: &[u8]) -> usize
+    ensures value { result ≡ blanks_len false bytes.now }
     ensures bound { result ≤ length bytes.now }
 {
     let mut in_comment = false;

@@ -7,7 +7,7 @@
 //! read as it was written.
 //!
 //! Words: a *pixmap* is the picture of a symbol. To *stamp* it is to lay it on the picture round a pixel. A
-//! *gap* is the white space and the comments between two numbers of a header.
+//! *blanks* are the white space and the comments between two numbers of a header.
 #![tactic(auto)]
 
 mod fault;

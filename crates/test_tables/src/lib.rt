@@ -9,7 +9,6 @@
 mod tests;
 
 use std::alloc::{AllocError, Global};
-use std::test::Fail;
 
 /// Why a table doesn't hold.
 #[derive(Debug, Drop)]
@@ -99,29 +98,4 @@ pub fn check_all<F: Fn(Global, &str) -> Result<bool, AllocError>>(
             Err(TableFault::Fails(line))
         }
     })
-}
-
-/// Ends a test where `check_rows` finds a fault.
-pub fn assert_rows<F: Fn(Global, &str) -> Result<String, AllocError>>(
-    alloc: Global,
-    rows: &str,
-    separator: char,
-    count: usize,
-    tell: F,
-) -> Result<(), Fail>
-    requires { F.IsAlwaysCallable tell }
-{
-    Ok(check_rows(alloc, rows, separator, count, tell)?)
-}
-
-/// Ends a test where `check_all` finds a fault.
-pub fn assert_all<F: Fn(Global, &str) -> Result<bool, AllocError>>(
-    alloc: Global,
-    rows: &str,
-    count: usize,
-    holds: F,
-) -> Result<(), Fail>
-    requires { F.IsAlwaysCallable holds }
-{
-    Ok(check_all(alloc, rows, count, holds)?)
 }

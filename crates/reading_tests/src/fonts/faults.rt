@@ -1,8 +1,7 @@
 use super::{TINY, edited, told_fault};
 use bdffont::{FontError, FontFault, FontKind, read};
 use std::alloc::{AllocError, Global};
-use std::test::Fail;
-use test_tables::assert_rows;
+use test_tables::{TableFault, check_rows};
 
 // The kind and the line of the fault, or zeros, the number of a line of the tiny font and what stands there.
 const FAULTS: &str = "\
@@ -133,8 +132,8 @@ fn told_edited(alloc: Global, row: &str) -> Result<String, AllocError> {
 }
 
 #[test]
-fn fonts_have_their_first_fault(rt: HostRuntime) -> Result<(), Fail> {
-    assert_rows(rt.alloc(), FAULTS, '|', 106, told_edited)
+fn fonts_have_their_first_fault(rt: HostRuntime) -> Result<(), TableFault> {
+    check_rows(rt.alloc(), FAULTS, '|', 106, told_edited)
 }
 
 // The same of a whole file, and of the tiny font.
@@ -152,8 +151,8 @@ fn told_whole(alloc: Global, text: &str) -> Result<String, AllocError> {
 }
 
 #[test]
-fn no_bytes_have_no_first_line(rt: HostRuntime) -> Result<(), Fail> {
-    assert_rows(rt.alloc(), WHOLE, '|', 3, told_whole)
+fn no_bytes_have_no_first_line(rt: HostRuntime) -> Result<(), TableFault> {
+    check_rows(rt.alloc(), WHOLE, '|', 3, told_whole)
 }
 
 const KINDS: [FontKind; 6] = [
@@ -199,6 +198,6 @@ fn told_value(alloc: Global, name: &str) -> Result<String, AllocError> {
 }
 
 #[test]
-fn faults_are_told_in_words(rt: HostRuntime) -> Result<(), Fail> {
-    assert_rows(rt.alloc(), VALUES, '|', 8, told_value)
+fn faults_are_told_in_words(rt: HostRuntime) -> Result<(), TableFault> {
+    check_rows(rt.alloc(), VALUES, '|', 8, told_value)
 }

@@ -3,8 +3,7 @@ use bdffont::{MAX_CHARACTERS, extent, ink, is_short, read};
 use geom::Pixel;
 use mapdefs::{Font, Glyph};
 use std::alloc::{AllocError, Global};
-use std::test::Fail;
-use test_tables::assert_rows;
+use test_tables::{TableFault, check_rows};
 
 // The extent of a short text.
 fn extent_of(font: &Font, text: &str) -> (u32, u32) {
@@ -89,8 +88,8 @@ fn drawn_row(alloc: Global, row: &str) -> Result<String, AllocError> {
 }
 
 #[test]
-fn texts_are_drawn_as_worked(rt: HostRuntime) -> Result<(), Fail> {
-    assert_rows(rt.alloc(), PICTURES, '|', 22, drawn_row)
+fn texts_are_drawn_as_worked(rt: HostRuntime) -> Result<(), TableFault> {
+    check_rows(rt.alloc(), PICTURES, '|', 22, drawn_row)
 }
 
 // Seven glyphs, not by their encodings, two of them with the encoding 97 and one with a negative one.
@@ -195,8 +194,8 @@ const GLYPHS: &str = "\
 BitmapBox { width: 16, height: 3, xoff: 1, yoff: -1 }|MIXED|all glyphs";
 
 #[test]
-fn glyphs_stand_by_their_encodings(rt: HostRuntime) -> Result<(), Fail> {
-    assert_rows(rt.alloc(), GLYPHS, '|', 1, told_font)
+fn glyphs_stand_by_their_encodings(rt: HostRuntime) -> Result<(), TableFault> {
+    check_rows(rt.alloc(), GLYPHS, '|', 1, told_font)
 }
 
 // Extents of texts.
@@ -212,8 +211,8 @@ const WIDTHS: &str = "\
 0 2|TINY|B";
 
 #[test]
-fn extents_are_summed_advances(rt: HostRuntime) -> Result<(), Fail> {
-    assert_rows(rt.alloc(), WIDTHS, '|', 9, told_font)
+fn extents_are_summed_advances(rt: HostRuntime) -> Result<(), TableFault> {
+    check_rows(rt.alloc(), WIDTHS, '|', 9, told_font)
 }
 
 const DRAWN_LETTERS: &str = "\
@@ -233,8 +232,8 @@ const DRAWN_LETTERS: &str = "\
 |LETTERS|drawn letters";
 
 #[test]
-fn letters_are_drawn_as_their_rows(rt: HostRuntime) -> Result<(), Fail> {
-    assert_rows(rt.alloc(), DRAWN_LETTERS, '|', 1, told_font)
+fn letters_are_drawn_as_their_rows(rt: HostRuntime) -> Result<(), TableFault> {
+    check_rows(rt.alloc(), DRAWN_LETTERS, '|', 1, told_font)
 }
 
 // Of 256 characters of 17 columns: the extent, and whether there is ink in row 1 of the columns 4350 and
@@ -262,8 +261,8 @@ fn told_many(alloc: Global, _row: &str) -> Result<String, AllocError> {
 }
 
 #[test]
-fn texts_have_at_most_256_characters(rt: HostRuntime) -> Result<(), Fail> {
-    assert_rows(rt.alloc(), MANY, '|', 1, told_many)
+fn texts_have_at_most_256_characters(rt: HostRuntime) -> Result<(), TableFault> {
+    check_rows(rt.alloc(), MANY, '|', 1, told_many)
 }
 
 // A font that has to have 65,536 glyphs, and so many of them by falling encodings, the last of which
@@ -309,6 +308,6 @@ fn told_falling(alloc: Global, count: &str) -> Result<String, AllocError> {
 }
 
 #[test]
-fn fonts_have_at_most_65536_glyphs(rt: HostRuntime) -> Result<(), Fail> {
-    assert_rows(rt.alloc(), FALLING, '|', 3, told_falling)
+fn fonts_have_at_most_65536_glyphs(rt: HostRuntime) -> Result<(), TableFault> {
+    check_rows(rt.alloc(), FALLING, '|', 3, told_falling)
 }

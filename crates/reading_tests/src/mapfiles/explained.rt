@@ -1,8 +1,7 @@
 use crate::mapfiles::told::repeated;
 use mapfaults::{Finding, explain};
 use std::alloc::{AllocError, Global};
-use std::test::Fail;
-use test_tables::assert_rows;
+use test_tables::{TableFault, check_rows};
 
 // What is told of a source: its line and the words on its fault.
 fn told(alloc: Global, source: &str) -> Result<String, AllocError> {
@@ -75,8 +74,8 @@ sound|MAP END
 1: éééééééééééééééééééééééééééééééééééééééé.. is no keyword of MAP|MAP ééééééééééééééééééééééééééééééééééééééééé";
 
 #[test]
-fn faults_are_told_in_words(rt: HostRuntime) -> Result<(), Fail> {
-    assert_rows(rt.alloc(), ROWS, '|', 48, told_row)
+fn faults_are_told_in_words(rt: HostRuntime) -> Result<(), TableFault> {
+    check_rows(rt.alloc(), ROWS, '|', 48, told_row)
 }
 
 // What is told of sources with a block, a vertex or an item more than a map may have.
@@ -87,6 +86,6 @@ const LIMITS: &str = "\
 2: PROCESSING names more than 64 items|MAP LAYER PROCESSING~ITEMS=a{64*,b}";
 
 #[test]
-fn limits_are_told_in_words(rt: HostRuntime) -> Result<(), Fail> {
-    assert_rows(rt.alloc(), LIMITS, '|', 4, told_row)
+fn limits_are_told_in_words(rt: HostRuntime) -> Result<(), TableFault> {
+    check_rows(rt.alloc(), LIMITS, '|', 4, told_row)
 }

@@ -1,6 +1,5 @@
 use crate::mapfiles::told::told_row;
-use std::test::Fail;
-use test_tables::assert_rows;
+use test_tables::{TableFault, check_rows};
 
 // Sources with a fault, in the form of `told_row`.
 const FAULTS: &str = "\
@@ -91,8 +90,8 @@ const FAULTS: &str = "\
 2 Lex(BadByte):MAP LAYER NAME a TYPE POLYGON END END|}";
 
 #[test]
-fn faults_have_their_lines_and_kinds(rt: HostRuntime) -> Result<(), Fail> {
-    assert_rows(rt.alloc(), FAULTS, ':', 75, told_row)
+fn faults_have_their_lines_and_kinds(rt: HostRuntime) -> Result<(), TableFault> {
+    check_rows(rt.alloc(), FAULTS, ':', 75, told_row)
 }
 
 // Sources with a list, which is no keyword and no value.
@@ -109,8 +108,8 @@ const LISTS: &str = "\
 2 WrongValue:MAP LAYER FEATURE POINTS|{END} END";
 
 #[test]
-fn lists_are_no_words_and_no_values(rt: HostRuntime) -> Result<(), Fail> {
-    assert_rows(rt.alloc(), LISTS, ':', 10, told_row)
+fn lists_are_no_words_and_no_values(rt: HostRuntime) -> Result<(), TableFault> {
+    check_rows(rt.alloc(), LISTS, ':', 10, told_row)
 }
 
 // Blocks and values that may stand in a layer, likewise.
@@ -130,6 +129,6 @@ const READ: &str = "\
 1 0 0 0 0:map layer name x type polygon|NAME ''|end end";
 
 #[test]
-fn keywords_and_values_are_read(rt: HostRuntime) -> Result<(), Fail> {
-    assert_rows(rt.alloc(), READ, ':', 13, told_row)
+fn keywords_and_values_are_read(rt: HostRuntime) -> Result<(), TableFault> {
+    check_rows(rt.alloc(), READ, ':', 13, told_row)
 }

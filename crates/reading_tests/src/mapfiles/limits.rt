@@ -1,7 +1,6 @@
 use crate::mapfiles::told::{told, told_row};
 use std::alloc::{AllocError, Global};
-use std::test::Fail;
-use test_tables::assert_rows;
+use test_tables::{TableFault, check_rows};
 
 // Sources up to a limit, each with one that goes further, in the form of `told_row`.
 const LIMITS: &str = "\
@@ -31,8 +30,8 @@ const LIMITS: &str = "\
 65542 Limit:MAP|LAYER NAME a TYPE POLYGON|FEATURE|POINTS|{65535*1 2|}3|4|5";
 
 #[test]
-fn limits_may_be_reached_and_not_passed(rt: HostRuntime) -> Result<(), Fail> {
-    assert_rows(rt.alloc(), LIMITS, ':', 18, told_row)
+fn limits_may_be_reached_and_not_passed(rt: HostRuntime) -> Result<(), TableFault> {
+    check_rows(rt.alloc(), LIMITS, ':', 18, told_row)
 }
 
 // What comes after 128 layers.
@@ -55,6 +54,6 @@ fn told_after_layers(alloc: Global, end: &str) -> Result<String, AllocError> {
 }
 
 #[test]
-fn a_map_has_at_most_128_layers(rt: HostRuntime) -> Result<(), Fail> {
-    assert_rows(rt.alloc(), AFTER_LAYERS, ':', 2, told_after_layers)
+fn a_map_has_at_most_128_layers(rt: HostRuntime) -> Result<(), TableFault> {
+    check_rows(rt.alloc(), AFTER_LAYERS, ':', 2, told_after_layers)
 }

@@ -1,8 +1,7 @@
 use crate::mapfiles::said::said;
 use crate::mapfiles::told::told;
 use std::alloc::{AllocError, Global};
-use std::test::Fail;
-use test_tables::assert_rows;
+use test_tables::{TableFault, check_rows};
 
 // Two layers, and two of each block in the first, with values that are all different. Keywords and keys
 // that are given twice, and blocks without a value after one that has it.
@@ -137,8 +136,8 @@ fn said_whole(alloc: Global, _name: &str) -> Result<String, AllocError> {
 }
 
 #[test]
-fn a_mapfile_gives_its_map(rt: HostRuntime) -> Result<(), Fail> {
-    assert_rows(rt.alloc(), SAID, '~', 1, said_whole)
+fn a_mapfile_gives_its_map(rt: HostRuntime) -> Result<(), TableFault> {
+    check_rows(rt.alloc(), SAID, '~', 1, said_whole)
 }
 
 // The title and the address of a service, and what stands in its MAP, or in its layer.
@@ -170,8 +169,8 @@ fn told_title(alloc: Global, words: &str) -> Result<String, AllocError> {
 }
 
 #[test]
-fn services_have_their_titles_and_addresses(rt: HostRuntime) -> Result<(), Fail> {
-    assert_rows(rt.alloc(), TITLES, '~', 9, told_title)
+fn services_have_their_titles_and_addresses(rt: HostRuntime) -> Result<(), TableFault> {
+    check_rows(rt.alloc(), TITLES, '~', 9, told_title)
 }
 
 // A mapfile in pieces. A row is what is told where the source ends within a token of the piece, what is told
@@ -251,6 +250,6 @@ fn told_piece(alloc: Global, row: &str) -> Result<String, AllocError> {
 }
 
 #[test]
-fn a_cut_mapfile_has_its_fault_where_it_ends(rt: HostRuntime) -> Result<(), Fail> {
-    assert_rows(rt.alloc(), PIECES, '~', 24, told_piece)
+fn a_cut_mapfile_has_its_fault_where_it_ends(rt: HostRuntime) -> Result<(), TableFault> {
+    check_rows(rt.alloc(), PIECES, '~', 24, told_piece)
 }

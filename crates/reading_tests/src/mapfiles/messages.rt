@@ -1,8 +1,7 @@
 use maplex::LexKind;
 use mapparse::{ParseFault, ParseKind};
 use std::alloc::{AllocError, Global};
-use std::test::Fail;
-use test_tables::assert_rows;
+use test_tables::{TableFault, check_rows};
 
 // Each differs from the one above it in one field.
 const FAULTS: [ParseFault; 12] = [
@@ -83,6 +82,6 @@ fn told(alloc: Global, place: &str) -> Result<String, AllocError> {
 }
 
 #[test]
-fn faults_have_numbers_and_messages(rt: HostRuntime) -> Result<(), Fail> {
-    assert_rows(rt.alloc(), MESSAGES, '=', 12, told)
+fn faults_have_numbers_and_messages(rt: HostRuntime) -> Result<(), TableFault> {
+    check_rows(rt.alloc(), MESSAGES, '=', 12, told)
 }

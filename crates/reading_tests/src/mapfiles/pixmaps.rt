@@ -2,8 +2,7 @@ use crate::mapfiles::told::{told_fault, written};
 use mapdefs::{Items, Layer, Map, Text};
 use mapparse::{Files, parse, wanted};
 use std::alloc::{AllocError, Global};
-use std::test::Fail;
-use test_tables::assert_rows;
+use test_tables::{TableFault, check_rows};
 
 fn add(files: &mut Files, alloc: Global, name: &str, bytes: &[u8]) -> Result<(), AllocError> {
     let mut copy = Vec::new(alloc);
@@ -116,8 +115,8 @@ fn drawn_and_used(alloc: Global, row: &str) -> Result<String, AllocError> {
 }
 
 #[test]
-fn symbols_have_their_pixmaps(rt: HostRuntime) -> Result<(), Fail> {
-    assert_rows(rt.alloc(), ROWS, '~', 26, drawn_and_used)
+fn symbols_have_their_pixmaps(rt: HostRuntime) -> Result<(), TableFault> {
+    check_rows(rt.alloc(), ROWS, '~', 26, drawn_and_used)
 }
 
 // What is used of a source with 64 symbols, in the form of `written`.
@@ -131,8 +130,8 @@ fn used_of_row(alloc: Global, row: &str) -> Result<String, AllocError> {
 }
 
 #[test]
-fn a_map_has_at_most_64_symbols(rt: HostRuntime) -> Result<(), Fail> {
-    assert_rows(rt.alloc(), MANY, '~', 2, used_of_row)
+fn a_map_has_at_most_64_symbols(rt: HostRuntime) -> Result<(), TableFault> {
+    check_rows(rt.alloc(), MANY, '~', 2, used_of_row)
 }
 
 // The files of the names, after two that were added. `|` stands for the end of a line.
@@ -166,6 +165,6 @@ fn file_of(alloc: Global, name: &str) -> Result<String, AllocError> {
 }
 
 #[test]
-fn a_file_takes_the_place_of_one_of_its_name(rt: HostRuntime) -> Result<(), Fail> {
-    assert_rows(rt.alloc(), ADDED, '~', 5, file_of)
+fn a_file_takes_the_place_of_one_of_its_name(rt: HostRuntime) -> Result<(), TableFault> {
+    check_rows(rt.alloc(), ADDED, '~', 5, file_of)
 }

@@ -1,7 +1,6 @@
 use crate::mapfiles::said::said;
 use std::alloc::{AllocError, Global};
-use std::test::Fail;
-use test_tables::assert_rows;
+use test_tables::{TableFault, check_rows};
 
 // What a map with one layer says before its kind.
 const FRONT: &str = "\
@@ -67,8 +66,8 @@ none, none:COLOR '#010203' COLOR 4 5 -1
 none, 1 2 3:COLOR 4 5 -1 OUTLINECOLOR 7 8 -1 OUTLINECOLOR '#010203'";
 
 #[test]
-fn styles_have_their_colours(rt: HostRuntime) -> Result<(), Fail> {
-    assert_rows(rt.alloc(), COLOURS, ':', 25, told_colours)
+fn styles_have_their_colours(rt: HostRuntime) -> Result<(), TableFault> {
+    check_rows(rt.alloc(), COLOURS, ':', 25, told_colours)
 }
 
 fn cut_kind(said: &str) -> Option<(&str, &str)> {
@@ -99,6 +98,6 @@ Line 0:TYPE LINE TOLERANCE 0
 Polygon 8:TYPE POINT TOLERANCE 8 TYPE POLYGON";
 
 #[test]
-fn layers_have_their_kinds_and_tolerances(rt: HostRuntime) -> Result<(), Fail> {
-    assert_rows(rt.alloc(), KINDS, ':', 8, told_kind)
+fn layers_have_their_kinds_and_tolerances(rt: HostRuntime) -> Result<(), TableFault> {
+    check_rows(rt.alloc(), KINDS, ':', 8, told_kind)
 }

@@ -1,6 +1,5 @@
 use crate::mapfiles::told::told_row;
-use std::test::Fail;
-use test_tables::assert_rows;
+use test_tables::{TableFault, check_rows};
 
 // What is read without effect, in the form of `told_row`.
 const READ: &str = "\
@@ -47,8 +46,8 @@ const READ: &str = "\
 3 UnknownWord:MAP LEGEND|END|STYLE END";
 
 #[test]
-fn unused_words_are_read_without_effect(rt: HostRuntime) -> Result<(), Fail> {
-    assert_rows(rt.alloc(), READ, ':', 37, told_row)
+fn unused_words_are_read_without_effect(rt: HostRuntime) -> Result<(), TableFault> {
+    check_rows(rt.alloc(), READ, ':', 37, told_row)
 }
 
 // Keywords in blocks that don't know them, in the form of `told_row`.
@@ -136,6 +135,6 @@ const UNKNOWN: &str = "\
 2 UnknownWord:MAP LAYER FEATURE|COLOR 1";
 
 #[test]
-fn keywords_are_unknown_in_other_blocks(rt: HostRuntime) -> Result<(), Fail> {
-    assert_rows(rt.alloc(), UNKNOWN, ':', 81, told_row)
+fn keywords_are_unknown_in_other_blocks(rt: HostRuntime) -> Result<(), TableFault> {
+    check_rows(rt.alloc(), UNKNOWN, ':', 81, told_row)
 }

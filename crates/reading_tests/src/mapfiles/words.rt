@@ -1,6 +1,5 @@
 use crate::mapfiles::told::told_row;
-use std::test::Fail;
-use test_tables::assert_rows;
+use test_tables::{TableFault, check_rows};
 
 // Words of WEB, LABEL, CLASS and FEATURE, in the form of `told_row`.
 const READ: &str = "\
@@ -59,6 +58,6 @@ const READ: &str = "\
 2 MissingValue:MAP LAYER FEATURE ITEMS|END";
 
 #[test]
-fn words_of_webs_and_labels_are_read(rt: HostRuntime) -> Result<(), Fail> {
-    assert_rows(rt.alloc(), READ, ':', 50, told_row)
+fn words_of_webs_and_labels_are_read(rt: HostRuntime) -> Result<(), TableFault> {
+    check_rows(rt.alloc(), READ, ':', 50, told_row)
 }
