@@ -23,7 +23,7 @@ pub one-read : {E : Type 0} (gives : Text → Result ℕ E → Type 0) (o : Opti
 one-read gives None r n is none some = absurd (let bad : Some n ≡ None = sym is ∙ none refl in cc bad)
 one-read gives (Some t) r n is none some = (t, refl, rw is at some t refl)
 
--- words whose fault isn't want of memory are not taken
+-- words whose fault isn't out of memory are not taken
 so-not : (b : Bool) → ¬ (b ≡ true) → b ≡ false
 so-not true none = absurd (none refl)
 so-not false none = refl

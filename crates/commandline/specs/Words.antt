@@ -1,5 +1,5 @@
 -- The command line (docs/PROFILE.md, "The program").
-use Rattle.std.specs.Prelude.{◌≡◌, ℕ, pos, Ok, List, [], ◌∷◌, Option, Some, None, IsSomeAnd, Bool, true, false, codes}
+use Rattle.std.specs.Prelude.{◌≡◌, ℕ, pos, Ok, List, [], ◌∷◌, Option, Some, None, Bool, true, false, codes}
 use Rattle.std.specs.Str.Parse.{ParsesUnsigned}
 use Rattle.std.specs.declared.num.ParseIntError.{ParseIntError}
 use Rattle.clap.specs.declared.builder.action.ArgAction.TheVariants.{SetTrue}
@@ -83,18 +83,44 @@ abbrev pub is_refusal : WordsFault → Bool
 is_refusal (Refused text) = true
 is_refusal NoMemory = false
 
--- the law on words that are written out: without words no form is named; `check` has its file, and its flag where that is given; `run` has the mapfile before
--- the script; and words that lack a file, or begin with another word, are refused
+-- the command plays a session
+abbrev pub IsSession : Command → Type 0
+IsSession Session = Unit {0}
+IsSession _ = ⊥
+
+-- the command checks the mapfile of a name, and tells a fault in words or doesn't
+abbrev pub Checks : Text → Bool → Command → Type 0
+Checks name in_words (Check file explains) = (file.now ≡ name) × (explains ≡ in_words)
+Checks name in_words _ = ⊥
+
+-- the command plays the script of a name on the mapfile of a name
+abbrev pub Plays : Text → Text → Command → Type 0
+Plays map_name script_name (Run file script) = (file.now ≡ map_name) × (script.now ≡ script_name)
+Plays map_name script_name _ = ⊥
+
+-- the command serves the mapfile of a name on the port of a text, up to the connections of a text
+abbrev pub Serves : Text → Text → Text → Command → Type 0
+Serves name port_text count_text (Serve file port connections) =
+    (file.now ≡ name) × ParsesUnsigned {E = ParseIntError} 16 10 port_text (Ok port) × ParsesUnsigned {E = ParseIntError} 32 10 count_text (Ok connections)
+Serves name port_text count_text _ = ⊥
+
+-- the commands that words may be
+abbrev pub May : List Text → Command → Type 0
+May words command = IsCommand (subcommand_of app words) command
+
+-- the law on words that are written out: no words are a session; `check` has its file, and its flag where that is given; `run` has
+-- the mapfile before the script; `serve` has its file, and numbers that aren't given are 8080 and 0
 pub record FormsAreWritten : Type 0 where
-  pub none : subcommand_of app [] ≡ None
-  pub check : IsSomeAnd (subcommand_of app (codes "check" ∷ codes "a.map" ∷ [])) (λ m. (m.0 ≡ codes "check") × (first_of (codes "FILE") m.1 ≡ Some (codes "a.map")))
-  pub unexplained : IsSomeAnd (subcommand_of app (codes "check" ∷ codes "a.map" ∷ [])) (λ m. one_of (codes "explain") m.1 ≡ Some (codes "false"))
-  pub explained : IsSomeAnd (subcommand_of app (codes "check" ∷ codes "--explain" ∷ codes "a.map" ∷ []))
-      (λ m. (m.0 ≡ codes "check") × (first_of (codes "FILE") m.1 ≡ Some (codes "a.map")) × (one_of (codes "explain") m.1 ≡ Some (codes "true")))
-  pub run : IsSomeAnd (subcommand_of app (codes "run" ∷ codes "a.map" ∷ codes "b.txt" ∷ []))
-      (λ m. (m.0 ≡ codes "run") × (first_of (codes "FILE") m.1 ≡ Some (codes "a.map")) × (first_of (codes "SCRIPT") m.1 ≡ Some (codes "b.txt")))
-  pub serve : IsSomeAnd (subcommand_of app (codes "serve" ∷ codes "a.map" ∷ codes "--connections" ∷ codes "2" ∷ []))
-      (λ m. (m.0 ≡ codes "serve") × (first_of (codes "FILE") m.1 ≡ Some (codes "a.map")) × (one_of (codes "port") m.1 ≡ Some (codes "8080")) × (one_of (codes "connections") m.1 ≡ Some (codes "2")))
+  pub none : (c : Command) → May [] c → IsSession c
+  pub check : (c : Command) → May (codes "check" ∷ codes "a.map" ∷ []) c → Checks (codes "a.map") false c
+  pub explained : (c : Command) → May (codes "check" ∷ codes "--explain" ∷ codes "a.map" ∷ []) c → Checks (codes "a.map") true c
+  pub run : (c : Command) → May (codes "run" ∷ codes "a.map" ∷ codes "b.txt" ∷ []) c → Plays (codes "a.map") (codes "b.txt") c
+  pub serve : (c : Command) → May (codes "serve" ∷ codes "a.map" ∷ codes "--connections" ∷ codes "2" ∷ []) c → Serves (codes "a.map") (codes "8080") (codes "2") c
+  pub served : (c : Command) → May (codes "serve" ∷ codes "--port" ∷ codes "81" ∷ codes "a.map" ∷ []) c → Serves (codes "a.map") (codes "81") (codes "0") c
+
+-- the law on words that are taken or refused: the forms are taken; words that lack a file, begin with another word, or have a port
+-- beyond its range are refused
+pub record FormsAreTaken : Type 0 where
   pub taken : (fault_of app [] ≡ []) × (fault_of app (codes "check" ∷ codes "a.map" ∷ []) ≡ []) × (fault_of app (codes "run" ∷ codes "a.map" ∷ codes "b.txt" ∷ []) ≡ [])
   pub refused : (takes app (codes "check" ∷ []) ≡ false) × (takes app (codes "run" ∷ codes "a.map" ∷ []) ≡ false) × (takes app (codes "draw" ∷ codes "a.map" ∷ []) ≡ false)
       × (takes app (codes "serve" ∷ codes "a.map" ∷ codes "--port" ∷ codes "65536" ∷ []) ≡ false)
