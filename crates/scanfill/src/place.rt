@@ -70,10 +70,11 @@ impl Slope {
     {
         let rise = edge.rise();
         let run = edge.run();
+        let step = run.div_euclid(rise);
         Slope {
-            step: run.div_euclid(rise),
+            step,
             whole: sixteen_times(rise),
-            rest: sixteen_times(rest_of(run, rise)),
+            rest: sixteen_times(rest_of(run, step, rise)),
         }
     }
 }
@@ -157,12 +158,13 @@ fn divide(reach: i128, whole: i64) -> Place
 }
 
 // What is left of the run by its quotient with the rise.
-fn rest_of(run: i64, rise: i64) -> i64
+fn rest_of(run: i64, quotient: i64, rise: i64) -> i64
     requires run { IsBelow (2 ^ 48) run }
     requires rise { IsBelow (2 ^ 48) rise }
     requires some { pos 0 <ℤ rise }
-    ensures value { result ≡ run -ℤ int_div_euclid run rise *ℤ rise }
+    requires quotient { quotient ≡ int_div_euclid run rise }
+    ensures value { result ≡ run -ℤ quotient *ℤ rise }
     ensures range { IsBelow (2 ^ 48) result }
 {
-    run.rem_euclid(rise)
+    run - quotient * rise
 }

@@ -13,7 +13,7 @@ unfolding slope_of
 returns c =
     let e = c.args.edge in
     let below_run : IsBelow (2 ^ 48) (run e) = rw c.run-run.ensures.value at c.run-run.ensures.range in
-    let step : c.div_euclid.result ≡ int_div_euclid (run e) (rise e) = c.div_euclid.ensures ∙ rw (
+    let step : c.div_euclid-step.result ≡ int_div_euclid (run e) (rise e) = c.div_euclid-step.ensures ∙ rw (
       word (2 ^ 48) c.run-run.result (omega arith) c.run-run.ensures.range,
       c.run-run.ensures.value,
       word (2 ^ 48) c.rise-rise.result (omega arith) c.rise-rise.ensures.range,
@@ -24,6 +24,8 @@ returns c =
       c.run-run.ensures.value,
       word (2 ^ 48) c.rise-rise.result (omega arith) c.rise-rise.ensures.range,
       c.rise-rise.ensures.value,
+      step,
+      word (2 ^ 48) (int_div_euclid (run e) (rise e)) (omega arith) (quotient-below (2 ^ 48) (run e) (rise e) c.requires below_run),
     ) in
     rw (
       step,
