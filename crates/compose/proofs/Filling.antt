@@ -104,7 +104,7 @@ spans-fit test spans runs width a k pixels inside is read all = λ j d h.
 -- a pixel that lies in one of the runs passes
 pub spans-inside : (test : ℕ → Bool) (from end i : ℕ) (spans : List Span) → AreRunsFrom test from end spans → is_in_spans spans i ≡ true → test i ≡ true
 spans-inside test from end i [] runs h = absurd (false≢true h)
-spans-inside test from end i (span ∷ spans) runs h = elim (cases_Bool (has_column i span)) [
+spans-inside test from end i (span ∷ spans) runs h = elim (cases_Bool (has_column span i)) [
   | inl here ↦ let both = and_parts (nat_le span.from i) (nat_lt i span.to) here in runs.0.inside i (leb-true span.from i both.0) (ltb-true i span.to both.1)
   | inr later ↦ spans-inside test span.to end i spans runs.1 (rw later at h)
 ]

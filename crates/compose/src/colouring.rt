@@ -19,8 +19,8 @@ pub trait Colouring {
     fn fill(&self, row: &mut [Rgb], j: u16, span: Span)
         requires some { span.from ≤ span.to }
         requires within { span.to ≤ length row.old }
-        requires has { (i : ℕ) → has_column i span ≡ true → has self.now i j ≡ true }
-        ensures { (i : ℕ) → colour_of row.new i ≡ (if has_column i span then colour self.now i j else colour_of row.old i) };
+        requires has { (i : ℕ) → has_column span i ≡ true → has self.now i j ≡ true }
+        ensures { (i : ℕ) → colour_of row.new i ≡ (if has_column span i then colour self.now i j else colour_of row.old i) };
 }
 
 impl Colouring for Rgb {

@@ -8,12 +8,12 @@ use Rattle.scanfill.specs.declared.span.Span.{Span}
 -- no run holds a column before the one from which on they are looked for
 spans-early : (test : ℕ → Bool) (from end i : ℕ) (spans : List Span) → AreRunsFrom test from end spans → i < from → is_in_spans spans i ≡ false
 spans-early test from end i [] runs h = refl
-spans-early test from end i (span ∷ spans) runs h = or_from (has_column i span) (is_in_spans spans i)
+spans-early test from end i (span ∷ spans) runs h = or_from (has_column span i) (is_in_spans spans i)
     (and_left (nat_le span.from i) (nat_lt i span.to) (lt-leb span.from i (omega (arith, runs.0.begins))))
     (spans-early test span.to end i spans runs.1 (omega (arith, runs.0.begins, runs.0.some)))
 
 -- where the first span doesn't hold a column, one of all holds it where one of the others does
-spans-later : (i : ℕ) (span : Span) (spans : List Span) → has_column i span ≡ false → is_in_spans (span ∷ spans) i ≡ is_in_spans spans i
+spans-later : (i : ℕ) (span : Span) (spans : List Span) → has_column span i ≡ false → is_in_spans (span ∷ spans) i ≡ is_in_spans spans i
 spans-later i span spans h = rw h refl
 
 -- a column lies in one of the runs exactly where it passes
@@ -25,7 +25,7 @@ spans-test test from end i (span ∷ spans) runs first last = ⊎_elim
     ∙ (spans-early test span.to end i spans runs.1 (omega (arith, runs.0.some)) ∙ sym (runs.0.before i first before)))
     (λ (begun : span.from ≤ i). ⊎_elim
     (λ (within : i < span.to).
-    or_left (has_column i span) (is_in_spans spans i) (and_from (nat_le span.from i) (nat_lt i span.to) (le-leb span.from i begun) (lt-ltb i span.to within))
+    or_left (has_column span i) (is_in_spans spans i) (and_from (nat_le span.from i) (nat_lt i span.to) (le-leb span.from i begun) (lt-ltb i span.to within))
     ∙ sym (runs.0.inside i begun within))
     (λ (past : span.to ≤ i).
     spans-later i span spans (and_right (nat_le span.from i) (nat_lt i span.to) (le-ltb i span.to past)) ∙ spans-test test span.to end i spans runs.1 past last)

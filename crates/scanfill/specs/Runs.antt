@@ -18,12 +18,12 @@ AreRunsFrom test start end [] = (i : ℕ) → start ≤ i → i < end → test i
 AreRunsFrom test start end (span ∷ spans) = IsRunFrom test start end span × AreRunsFrom test span.to end spans
 
 -- the span holds the column
-abbrev pub has_column : ℕ → Span → Bool
-has_column i span = nat_le span.from i && nat_lt i span.to
+abbrev pub has_column : Span → ℕ → Bool
+has_column span i = nat_le span.from i && nat_lt i span.to
 
 -- one of the spans holds the column
 abbrev pub is_in_spans : List Span → ℕ → Bool
-is_in_spans spans i = list_any (has_column i) spans
+is_in_spans spans i = list_any (λ span. has_column span i) spans
 
 -- the law: a pixel lies in one of the runs exactly where it passes
 abbrev pub AreThosePassing : Type 0

@@ -14,7 +14,8 @@ use Rattle.geom.proofs.Quotients.{at_most-by_product, least_from, quotient_parts
 use Rattle.clip.specs.Class.{at_least_zero}
 use Rattle.clip.proofs.Rowed.{cut-at_most}
 use Rattle.scanfill.specs.declared.span.Span.{Span}
-use Rattle.strokes.specs.Columns.{has_column, is_kept}
+use Rattle.scanfill.specs.Runs.{has_column}
+use Rattle.strokes.specs.Columns.{is_kept}
 
 -- nothing is both
 pub none : (t : Bool) → (t && false) ≡ false

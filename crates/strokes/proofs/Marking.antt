@@ -6,7 +6,8 @@ use Rattle.std.proofs.lemmas.List.Folds.{list_any_more}
 use Rattle.std.specs.List.{list_any}
 use Rattle.std.specs.Prelude.{nat_le}
 use Rattle.scanfill.specs.declared.span.Span.{Span}
-use Rattle.strokes.specs.Columns.{AreMarked, has_column, is_marked}
+use Rattle.scanfill.specs.Runs.{has_column}
+use Rattle.strokes.specs.Columns.{AreMarked, is_marked}
 use Rattle.strokes.proofs.Keeping.{none}
 
 -- a span without columns has none

@@ -1,10 +1,7 @@
--- Columns of a row, one beside another.
-use Rattle.std.specs.Prelude.{◌≡◌, ℕ, ◌<◌, Bool, ◌&&◌, ◌||◌, false, nat_le, nat_lt, ℤ, pos, ◌+ℤ◌, ◌*ℤ◌, int_le, List, length, slice_index_or}
+-- The columns of a row that a line covers (docs/PROFILE.md, "When a pixel belongs to a line").
+use Rattle.std.specs.Prelude.{◌≡◌, ℕ, ◌<◌, Bool, ◌||◌, false, ℤ, pos, ◌+ℤ◌, ◌*ℤ◌, int_le, List, length, slice_index_or}
+use Rattle.scanfill.specs.Runs.{has_column}
 use Rattle.scanfill.specs.declared.span.Span.{Span}
-
--- the column is one of the span's
-abbrev pub has_column : Span → ℕ → Bool
-has_column span i = nat_le span.from i && nat_lt i span.to
 
 -- so many times the column, and an offset, are no less than 0
 abbrev pub is_kept : ℤ → ℤ → ℕ → Bool

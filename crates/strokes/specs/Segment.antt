@@ -53,6 +53,6 @@ are_left_of e x = int_lt (low_end e).x x && int_lt (high_end e).x x
 abbrev pub are_right_of : EdgeEnds → ℤ → Bool
 are_right_of e x = int_lt x (low_end e).x && int_lt x (high_end e).x
 
--- x lies more than 8 w right of both ends, or left of both: no point of it is near
+-- x lies more than 8 w right of both ends, or left of both: no point at that x is near
 abbrev pub is_beyond : ℕ → EdgeEnds → ℤ → Bool
 is_beyond w e x = are_left_of e (x -ℤ pos (8 * w)) || are_right_of e (x +ℤ pos (8 * w))

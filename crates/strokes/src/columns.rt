@@ -1,7 +1,8 @@
 ghost use Rattle.std.specs.Prelude.{◌≡◌, ℕ, ◌<◌, ◌≤◌, ◌^◌, ◌&&◌, pos, ◌+ℤ◌, ◌*ℤ◌, neg_ℤ, int_lt, int_le, ◌<ℤ◌};
 ghost use Rattle.std.specs.Int.{int_div_euclid};
 ghost use Rattle.geom.specs.Range.{IsBelow};
-ghost use Rattle.strokes.specs.Columns.{has_column, is_kept};
+ghost use Rattle.scanfill.specs.Runs.{has_column};
+ghost use Rattle.strokes.specs.Columns.{is_kept};
 
 use clip::clamped;
 use scanfill::Span;

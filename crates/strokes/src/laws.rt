@@ -1,13 +1,15 @@
-//! What follows from the rules of lines.
+//! Laws of the definitions that the contracts cite. A law is a function without arguments whose contract
+//! states it.
+
 ghost use Rattle.strokes.specs.Law.{AreColumnsWide, AreRowsWide, IsNothing, IsSameBack};
 
-/// In each row whose centres lie between its ends, a segment that goes further down than across covers as many pixels as it is wide, side
-/// by side.
+/// In each row whose pixel centres lie between its ends, a segment that goes further down than across covers
+/// as many pixels as it is wide, side by side.
 pub fn steep()
     ensures { AreRowsWide }
 {}
 
-/// In each column whose centres lie between its ends, a flat segment covers as many pixels as it is wide, one
+/// In each column whose pixel centres lie between its ends, a flat segment covers as many pixels as it is wide, one
 /// below another.
 pub fn flat()
     ensures { AreColumnsWide }

@@ -3,7 +3,7 @@ ghost use Rattle.geom.specs.Device.{pixel_centre};
 ghost use Rattle.geom.specs.Range.{IsBelow};
 ghost use Rattle.geom.specs.declared.side.TheConstants.{MAX_PICTURE_SIDE};
 ghost use Rattle.mapdefs.specs.declared.limits.TheConstants.{MAX_LINE_WIDTH};
-ghost use Rattle.strokes.specs.Columns.{has_column};
+ghost use Rattle.scanfill.specs.Runs.{has_column};
 ghost use Rattle.strokes.specs.Segment.{are_left_of, are_right_of, covers_by_rows, covers_segment, is_between, is_beyond, is_near, is_steep, right_of, turned, turned_edge};
 
 use crate::columns::kept;
@@ -180,7 +180,7 @@ fn covered_rows(edge: Edge, width: u8, last: u16, span: Span) -> Span
     }
 }
 
-// Those outside of which a steep segment covers none.
+// The rows of the span outside of which a steep segment covers none.
 fn steep_rows(edge: Edge, width: u8, last: u16, span: Span) -> Span
     requires width { width ≤ MAX_LINE_WIDTH }
     requires last { last < MAX_PICTURE_SIDE }
@@ -199,7 +199,7 @@ fn steep_rows(edge: Edge, width: u8, last: u16, span: Span) -> Span
     )
 }
 
-// Those outside of which a flat segment covers none, which is handed over turned.
+// The rows of the span outside of which a flat segment covers none, which is handed over turned.
 fn flat_rows(edge: Edge, width: u8, last: u16, span: Span) -> Span
     requires width { width ≤ MAX_LINE_WIDTH }
     requires last { last < MAX_PICTURE_SIDE }
@@ -259,7 +259,7 @@ fn turned(point: Device) -> Device
     Device::new(point.y(), point.x())
 }
 
-// A segment so, from its upper end.
+// A segment with across and down exchanged, from its upper end.
 fn turned_edge(edge: Edge) -> Edge
     ensures { result ≡ turned_edge edge }
 {
@@ -281,7 +281,7 @@ fn is_between(edge: Edge, y: i64) -> bool
     edge.low_end().y() <= y && y <= edge.high_end().y()
 }
 
-// Whether an x lies so far right of both ends, or left of both, that no point of it is near.
+// Whether an x lies so far right of both ends, or left of both, that no point at that x is near.
 fn is_beyond(edge: Edge, width: u8, x: i64) -> bool
     requires width { width ≤ MAX_LINE_WIDTH }
     requires x { IsBelow (2 ^ 47) x }
@@ -290,14 +290,14 @@ fn is_beyond(edge: Edge, width: u8, x: i64) -> bool
     are_left_of(edge, less(x, width)) || are_right_of(edge, more(x, width))
 }
 
-// Whether both ends lie left of it.
+// Whether both ends lie left of that x.
 fn are_left_of(edge: Edge, x: i64) -> bool
     ensures { result ≡ are_left_of edge x }
 {
     edge.low_end().x() < x && edge.high_end().x() < x
 }
 
-// Whether both ends lie right of it.
+// Whether both ends lie right of that x.
 fn are_right_of(edge: Edge, x: i64) -> bool
     ensures { result ≡ are_right_of edge x }
 {

@@ -3,7 +3,7 @@ ghost use Rattle.geom.specs.Range.{IsBelow};
 ghost use Rattle.geom.specs.declared.side.TheConstants.{MAX_PICTURE_SIDE};
 ghost use Rattle.mapdefs.specs.declared.limits.TheConstants.{MAX_SQUARE};
 ghost use Rattle.scanfill.specs.Runs.{AreRunsFrom};
-ghost use Rattle.strokes.specs.Columns.{has_column};
+ghost use Rattle.scanfill.specs.Runs.{has_column};
 ghost use Rattle.strokes.specs.Square.{covers_square, is_beside};
 
 use clip::{Rows, clamped};

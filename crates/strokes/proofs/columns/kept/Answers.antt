@@ -6,7 +6,8 @@ use lib.Signed.{◌<ℤ◌}
 use Rattle.clip.specs.Class.{at_least_zero}
 use Rattle.scanfill.proofs.Words.{wide, word}
 use Rattle.strokes.proofs.Keeping.{kept-from, kept-to, next-wide, opposite-wide, opposite-word}
-use Rattle.strokes.specs.Columns.{has_column, is_kept}
+use Rattle.scanfill.specs.Runs.{has_column}
+use Rattle.strokes.specs.Columns.{is_kept}
 use Rattle.strokes.proofs.columns.kept.Goals as goal
 
 pub returns-then-scale-gt0-clause-all : goal.returns-then-scale-gt0-clause-all

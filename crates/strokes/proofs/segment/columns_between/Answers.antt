@@ -3,7 +3,7 @@ use Rattle.std.specs.Prelude.{int_le}
 use lib.IntN.{pos, ◌-ℤ◌}
 use Rattle.geom.specs.Edge.{high_end, low_end}
 use Rattle.scanfill.proofs.Words.{wide, word}
-use Rattle.strokes.specs.Columns.{has_column}
+use Rattle.scanfill.specs.Runs.{has_column}
 use Rattle.strokes.proofs.Keeping.{and-swap}
 use Rattle.strokes.proofs.Nearness.{after-low, before-high}
 use Rattle.strokes.proofs.segment.columns_between.Goals as goal

@@ -3,7 +3,7 @@ use lib.IntN.{pos, neg_ℤ, ◌*ℤ◌}
 use Rattle.geom.specs.Device.{centre, pixel_centre}
 use Rattle.geom.specs.Edge.{rise, run}
 use Rattle.scanfill.proofs.Words.{wide, wide-held, word, word-held}
-use Rattle.strokes.specs.Columns.{has_column}
+use Rattle.scanfill.specs.Runs.{has_column}
 use Rattle.strokes.specs.Segment.{is_between, is_near, right_of, turned}
 use Rattle.strokes.proofs.Beyond.{beyond-covers}
 use Rattle.strokes.proofs.Keeping.{and-swap, none}

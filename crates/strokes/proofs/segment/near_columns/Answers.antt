@@ -4,7 +4,7 @@ use Rattle.std.specs.Prelude.{int_le, int_lt}
 use lib.IntN.{pos, neg_ℤ, ◌+ℤ◌, ◌*ℤ◌}
 use Rattle.geom.specs.Range.{IsBelow}
 use Rattle.scanfill.proofs.Words.{wide}
-use Rattle.strokes.specs.Columns.{has_column}
+use Rattle.scanfill.specs.Runs.{has_column}
 use Rattle.strokes.proofs.Keeping.{and-swap}
 use Rattle.strokes.proofs.Nearness.{fall-is, near-left, near-right, offset_left-is, offset_right-is, scale-is}
 use Rattle.strokes.proofs.segment.near_columns.Goals as goal
