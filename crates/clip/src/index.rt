@@ -1,7 +1,7 @@
 ghost use Rattle.std.specs.Prelude.{◌≡◌, min};
 ghost use Rattle.clip.specs.Class.{at_least_zero};
 
-/// The index, or 0 for one below it and `end` for one past that.
+/// The index, cut to 0 below and to `end` above.
 pub fn clamped(index: i128, end: u16) -> u16
     ensures { result ≡ min (at_least_zero index) end }
 {

@@ -2,6 +2,7 @@ ghost use Rattle.std.specs.Prelude.{◌≡◌, ◌^◌, ◌≤◌, nat_le};
 ghost use Rattle.clip.specs.Class.{first_row, has_row, joined, rows_of};
 ghost use Rattle.geom.specs.Range.{IsBelow};
 
+use crate::index::clamped;
 use geom::{Edge, PictureSide};
 
 /// Some rows of a picture, counted from the top: those from one row to before another.
@@ -37,7 +38,7 @@ impl Rows {
         }
     }
 
-    // Whether there is none.
+    /// Whether there is none.
     pub fn is_empty(self) -> bool
         ensures { result ≡ nat_le self.to self.from }
     {
@@ -61,13 +62,5 @@ fn first_row(y: i64, height: PictureSide) -> u16
     requires { IsBelow (2 ^ 47) y }
     ensures { result ≡ first_row y height }
 {
-    let row = (y + 7).div_euclid(16);
-    let last = i64::from(height.pixels());
-    if row <= 0 {
-        0
-    } else if row < last {
-        row as u16
-    } else {
-        height.pixels()
-    }
+    clamped(i128::from((y + 7).div_euclid(16)), height.pixels())
 }

@@ -1,8 +1,9 @@
 -- The map machine: its state, what it answers to a query, and its runs (docs/PROFILE.md, "The machine").
-use Rattle.std.specs.Prelude.{◌≡◌, ℕ, List, [], ◌∷◌, Result, Ok, Err}
+use Rattle.std.specs.Prelude.{◌≡◌, ℕ, ◌-ℤ◌, unsigned_abs, List, [], ◌∷◌, Result, Ok, Err}
+use Rattle.geom.specs.Scale.{PictureScale}
 use Rattle.mapdefs.specs.declared.map.MapFields.{MapFields}
 use Rattle.mapdefs.specs.declared.picture.PictureFields.{PictureFields}
-use Rattle.viewport.specs.View.{ViewValue, scale_of}
+use Rattle.viewport.specs.View.{ViewValue}
 use Rattle.wmsquery.specs.Meaning.{IsMeaning}
 use Rattle.wmsquery.specs.Report.{report}
 use Rattle.wmsquery.specs.declared.fault.WmsFault.{WmsFault}
@@ -24,6 +25,10 @@ pub record State : Type 0 where
 -- the view of a request: its area, by a picture of its sides
 abbrev pub view_of : MapRequest → ViewValue
 view_of request = record { area = request.area; width = request.width; height = request.height }
+
+-- the scale of a view: how much of the world, from west to east, its columns of pixels show
+abbrev pub scale_of : ViewValue → PictureScale
+scale_of view = record { span = unsigned_abs (view.area.maxx -ℤ view.area.minx); width = view.width }
 
 -- the answer to what a query means: the bytes of the picture of a request, or the document of a fault
 abbrev pub Answers : MapFields → Result MapRequest WmsFault → Answer → Type 0

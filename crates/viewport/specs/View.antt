@@ -2,7 +2,6 @@
 use Rattle.std.specs.Prelude.{ℕ, ◌+◌, ◌*◌, ◌≤◌, ℤ, pos, neg_ℤ, ◌+ℤ◌, ◌-ℤ◌, ◌*ℤ◌, ◌<ℤ◌, ◌≤ℤ◌, unsigned_abs}
 use Rattle.std.specs.Int.{div_ceil, int_div_euclid}
 use Rattle.geom.specs.Device.{DevicePoint, PixelPlace, pixel_of}
-use Rattle.geom.specs.Scale.{PictureScale}
 use Rattle.geom.specs.Side.{IsPictureSide}
 use Rattle.geom.specs.World.{Place, Area, HasPlace, IsExtent}
 
@@ -12,11 +11,11 @@ pub record ViewValue : Type 0 where
   pub width : ℕ
   pub height : ℕ
 
--- how far a part is of the whole, in sixteenths of a pixel, rounded down
+-- the share that a part has of the whole, of a side of so many pixels: in sixteenths of a pixel, rounded down
 unfoldable pub sixteenths : ℕ → ℤ → ℤ → ℤ
 sixteenths pixels part whole = int_div_euclid (pos (16 * pixels) *ℤ part) whole
 
--- so many sixteenths are not more than the part's share, and they are the most that are not
+-- the greatest number of sixteenths that is at most the part's share
 pub record IsRoundedDown (pixels : ℕ) (part whole n : ℤ) : Type 0 where
   pub at_most : (n *ℤ whole) ≤ℤ (pos (16 * pixels) *ℤ part)
   pub greatest : (m : ℤ) → (m *ℤ whole) ≤ℤ (pos (16 * pixels) *ℤ part) → m ≤ℤ n
@@ -31,10 +30,6 @@ device_point view p = record {
   x = sixteenths view.width (p.x -ℤ view.area.minx) (view.area.maxx -ℤ view.area.minx);
   y = sixteenths view.height (view.area.maxy -ℤ p.y) (view.area.maxy -ℤ view.area.miny);
 }
-
--- the scale of the picture, from left to right
-abbrev pub scale_of : ViewValue → PictureScale
-scale_of view = record { span = unsigned_abs (view.area.maxx -ℤ view.area.minx); width = view.width }
 
 -- how many millionths of a degree so many pixels show, where a side of that many shows a span: rounded up
 unfoldable pub shown_by : ℕ → ℕ → ℕ → ℕ

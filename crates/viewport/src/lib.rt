@@ -6,8 +6,7 @@
 //! of the world that the picture and a margin show, and `laws::window` says which places lie in it.
 //!
 //! Words: the *area* of a view is the part of the world that it shows, its *width* and *height* the
-//! sides of the picture in pixels, and its *scale* how many millionths of a degree its pixels show
-//! from left to right.
+//! sides of the picture in pixels.
 #![tactic(auto)]
 
 pub mod laws;

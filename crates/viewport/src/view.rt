@@ -36,7 +36,7 @@ impl Model for View {
 impl View {
     ghost use Rattle.viewport.specs.View.{device_point, window};
 
-    /// The view of an area by a picture of that many columns and rows.
+    /// The view of an area, an extent of the world, by a picture of that many columns and rows.
     pub fn new(area: WorldBox, width: PictureSide, height: PictureSide) -> Self
         requires { IsExtent area }
         ensures { result ≡ record { area = area; width = width; height = height } }
@@ -46,14 +46,6 @@ impl View {
             width,
             height,
         }
-    }
-
-    /// The part of the world that is shown.
-    pub fn area(self) -> WorldBox
-        ensures value { result ≡ self.area }
-        ensures limits { IsExtent result }
-    {
-        self.area
     }
 
     /// How many columns of pixels the picture has.
