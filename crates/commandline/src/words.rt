@@ -161,7 +161,8 @@ fn refusal(alloc: Global, error: &clap::Error) -> WordsFault
     }
 }
 
-/// The command of the words after the program's name.
+/// The command of the words after the program's name. Its errors are that they have none of the forms or ask
+/// for help, with what is said of that, and that memory was refused.
 pub fn command<'a>(alloc: Global, words: &'a [&'a str]) -> Result<Command<'a>, WordsFault>
     ensures command { IfOk result (IsCommand (subcommand_of app (map (λ word. word.now) words.entry.now))) }
     ensures taken { OnOk result (fault_of app (map (λ word. word.now) words.entry.now) ≡ []) }

@@ -2,17 +2,11 @@
 use Rattle.std.specs.Prelude.{ℕ, List, [], ◌++◌, length, codes, Option, None, Some}
 use Rattle.std.specs.Fmt.{decimal}
 use Rattle.mapmachine.specs.declared.reply.Answer.{Answer}
-use Rattle.mapmachine.specs.declared.reply.Mime.{Mime}
-use Rattle.mapmachine.specs.declared.reply.Mime.TheVariants.{Pixmap, Xml}
+use Rattle.mapmachine.specs.Mime.{mime_text}
 use Rattle.httpedge.specs.declared.refusal.Refusal.{Refusal}
 use Rattle.httpedge.specs.declared.refusal.Refusal.TheVariants.{BadRequest, NotFound, MethodNotAllowed}
 use Rattle.httpedge.specs.declared.outcome.Outcome.{Outcome}
 use Rattle.httpedge.specs.declared.outcome.Outcome.TheVariants.{Answered, Refused, Busy}
-
--- the mime type of an answer
-abbrev pub mime_text : Mime → List ℕ
-mime_text Pixmap = codes "image/x-portable-pixmap"
-mime_text Xml = codes "text/xml"
 
 -- a response without a body, by the refusal
 unfoldable pub refusal_text : Refusal → List ℕ

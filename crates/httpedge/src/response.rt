@@ -1,20 +1,10 @@
 ghost use Rattle.std.specs.Prelude.{◌≡◌, ◌<◌, ◌+◌, ◌++◌, length, take, OnOk, IfErr, MatchResult, true, codes};
 ghost use Rattle.std.specs.Io.KnownBytes.{Appends};
-ghost use Rattle.httpedge.specs.Response.{mime_text, refusal_text, busy_text, body_text, answer_text, response};
+ghost use Rattle.httpedge.specs.Response.{refusal_text, busy_text, body_text, answer_text, response};
 
 use crate::{Outcome, Refusal};
 use itoa::Buffer;
-use mapmachine::{Answer, Mime, Sink, WriteFault, put_all, put_pieces};
-
-// The mime type of an answer.
-fn mime_text(mime: Mime) -> &'static [u8]
-    ensures { result.now ≡ mime_text mime }
-{
-    match mime {
-        Mime::Pixmap => b"image/x-portable-pixmap",
-        Mime::Xml => b"text/xml",
-    }
-}
+use mapmachine::{Answer, Sink, WriteFault, put_all, put_pieces};
 
 // The response of a refusal.
 #[tactic(auto, unfolding(crate::specs::Response::refusal_text))]
@@ -77,12 +67,8 @@ fn send_answer<W: Sink>(answer: &Answer, writer: &mut W) -> Result<(), WriteFaul
 {
     let mut digits = Buffer::new();
     let count = digits.format(answer.body.len() as u64).as_bytes();
-    send_body(
-        mime_text(answer.mime),
-        count,
-        answer.body.as_slice(),
-        writer,
-    )
+    let mime = answer.mime.text().as_bytes();
+    send_body(mime, count, answer.body.as_slice(), writer)
 }
 
 /// Writes an outcome. The error is that the writer failed: exactly the first `written` bytes of the

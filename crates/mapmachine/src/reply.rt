@@ -1,3 +1,5 @@
+ghost use Rattle.std.specs.Prelude.{◌≡◌};
+
 use crate::Bytes;
 use mapdefs::Items;
 
@@ -17,10 +19,26 @@ pub enum Mime {
     Xml,
 }
 
+impl Mime {
+    ghost use Rattle.mapmachine.specs.Mime.{mime_text};
+
+    /// The type as it is written.
+    pub fn text(self) -> &'static str
+        ensures { result.now ≡ mime_text self }
+    {
+        match self {
+            Mime::Pixmap => "image/x-portable-pixmap",
+            Mime::Xml => "text/xml",
+        }
+    }
+}
+
 /// The answer to a query.
 #[derive(Drop)]
 pub struct Answer {
+    /// What the body is.
     pub mime: Mime,
+    /// The bytes of the body.
     pub body: Items<u8>,
 }
 

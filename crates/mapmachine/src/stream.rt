@@ -59,7 +59,7 @@ pub trait Sink {
         ensures some { IfOk result (λ n. 1 ≤ length bytes.now → 1 ≤ n) }
         ensures bytes { IfOk result (λ n. Appends (held self.old) (held self.new) (take n bytes.now)) }
         ensures taken { IfOk result (λ n. taken self.new ≡ taken self.old + n) }
-        ensures flushed { IfOk result (λ n. is_flushed self.new ≡ (if nat_eq n 0 then is_flushed self.old else false)) }
+        ensures flushed { MatchResult result (λ n. is_flushed self.new ≡ (if nat_eq n 0 then is_flushed self.old else false)) (λ _. is_flushed self.new ≡ is_flushed self.old) }
         ensures kept { OnErr result (Keeps (held self.old) (held self.new)) }
         ensures none_taken { OnErr result (taken self.new ≡ taken self.old) }
         ensures flag { MatchResult result (λ _. put_failed self.new ≡ put_failed self.old) (λ _. put_failed self.new ≡ true) };
@@ -68,7 +68,7 @@ pub trait Sink {
     fn flush(&mut self) -> Result<(), PutFailed>
         ensures kept { Keeps (held self.old) (held self.new) }
         ensures none_taken { taken self.new ≡ taken self.old }
-        ensures flushed { OnOk result (is_flushed self.new ≡ true) }
+        ensures flushed { MatchResult result (λ _. is_flushed self.new ≡ true) (λ _. is_flushed self.new ≡ is_flushed self.old) }
         ensures flag { MatchResult result (λ _. put_failed self.new ≡ put_failed self.old) (λ _. put_failed self.new ≡ true) };
 
     /// How many bytes it has taken.
@@ -230,7 +230,7 @@ impl<T: Write> Sink for Flagged<T> {
         ensures some { IfOk result (λ n. 1 ≤ length bytes.now → 1 ≤ n) }
         ensures bytes { IfOk result (λ n. Appends (T.contents self.old.inner) (T.contents self.new.inner) (take n bytes.now)) }
         ensures taken { IfOk result (λ n. self.new.taken ≡ self.old.taken + n) }
-        ensures flushed { IfOk result (λ n. self.new.is_flushed ≡ (if nat_eq n 0 then self.old.is_flushed else false)) }
+        ensures flushed { MatchResult result (λ n. self.new.is_flushed ≡ (if nat_eq n 0 then self.old.is_flushed else false)) (λ _. self.new.is_flushed ≡ self.old.is_flushed) }
         ensures kept { OnErr result (Keeps (T.contents self.old.inner) (T.contents self.new.inner)) }
         ensures none_taken { OnErr result (self.new.taken ≡ self.old.taken) }
         ensures flag { MatchResult result (λ _. self.new.put_failed ≡ self.old.put_failed) (λ _. self.new.put_failed ≡ true) }
@@ -252,7 +252,7 @@ impl<T: Write> Sink for Flagged<T> {
     fn flush(&mut self) -> Result<(), PutFailed>
         ensures kept { Keeps (T.contents self.old.inner) (T.contents self.new.inner) }
         ensures none_taken { self.new.taken ≡ self.old.taken }
-        ensures flushed { OnOk result (self.new.is_flushed ≡ true) }
+        ensures flushed { MatchResult result (λ _. self.new.is_flushed ≡ true) (λ _. self.new.is_flushed ≡ self.old.is_flushed) }
         ensures flag { MatchResult result (λ _. self.new.put_failed ≡ self.old.put_failed) (λ _. self.new.put_failed ≡ true) }
         ensures take_flag { self.new.take_failed ≡ self.old.take_failed }
     {

@@ -1,7 +1,7 @@
 use crate::named_file::NamedFile;
 use mapdefs::Items;
 use mapmachine::Flagged;
-use sessions::{Folder, ReadFault, front_of, read_all};
+use sessions::{Folder, ReadFault, front_of, path_of, read_all};
 use std::alloc::{AllocError, Global};
 
 /// A folder of the machine that the program runs on.
@@ -32,12 +32,7 @@ impl Folder for HostFolder<'_> {
     ghost gives = { λ _ _ _. Unit {0} };
 
     fn read(&self, alloc: Global, name: &str) -> Result<Option<Items<u8>>, AllocError> {
-        let front = if name.starts_with('/') {
-            ""
-        } else {
-            self.front
-        };
-        let path = format!(in alloc; "{front}{name}")?;
+        let path = path_of(alloc, self.front, name)?;
         match read_all(
             alloc,
             &mut Flagged::new(NamedFile::new(self.rt, path.as_str())),

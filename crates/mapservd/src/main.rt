@@ -25,6 +25,26 @@ fn read_words(rt: &HostRuntime) -> io::Result<Vec<String>> {
     Ok(env::args(rt)?.skip(1).collect(rt.alloc())?)
 }
 
+// Answers connections about the map of a mapfile.
+fn serve_file<O: Sink, E: Sink>(
+    rt: &HostRuntime,
+    file: &str,
+    port: u16,
+    connections: u32,
+    output: &mut O,
+    errors: &mut E,
+) -> Outcome {
+    let folder = HostFolder::of(rt, file);
+    let mut mapfile = Flagged::new(NamedFile::new(rt, file));
+    match read_map(rt.alloc(), &folder, file, &mut mapfile, errors) {
+        Ok(map) => {
+            let mut machine = Machine::open(rt.alloc(), map);
+            listen(rt, &mut machine, port, connections, output)
+        }
+        Err(outcome) => outcome,
+    }
+}
+
 // Does what a command asks for, with the streams of the runtime.
 fn perform<O: Sink, E: Sink>(
     rt: &HostRuntime,
@@ -63,19 +83,7 @@ fn perform<O: Sink, E: Sink>(
             file,
             port,
             connections,
-        } => match read_map(
-            rt.alloc(),
-            &HostFolder::of(rt, file),
-            file,
-            &mut Flagged::new(NamedFile::new(rt, file)),
-            errors,
-        ) {
-            Ok(map) => {
-                let mut machine = Machine::open(rt.alloc(), map);
-                listen(rt, &mut machine, port, connections, output)
-            }
-            Err(outcome) => outcome,
-        },
+        } => serve_file(rt, file, port, connections, output, errors),
     }
 }
 

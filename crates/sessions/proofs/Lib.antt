@@ -1,4 +1,5 @@
 pub mod Commands
+pub mod Fronts
 pub mod HexLines
 pub mod Lines
 pub mod Outgoing

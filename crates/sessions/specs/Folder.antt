@@ -1,5 +1,5 @@
 -- The files of a mapfile, and the folder that they are in (docs/PROFILE.md, "The program").
-use Rattle.std.specs.Prelude.{◌≡◌, ℕ, List, [], ◌∷◌, ◌++◌, Option, None, Some, Result, Ok, Err}
+use Rattle.std.specs.Prelude.{◌≡◌, ◌≢◌, ◌==◌, ◌⊎◌, if◌then◌else◌, ℕ, List, [], ◌∷◌, ◌++◌, All, Option, None, Some, Result, Ok, Err, codes}
 use Rattle.mapdefs.specs.declared.map.MapFields.{MapFields}
 use Rattle.mapwords.specs.declared.fault.Fault.{Fault}
 use Rattle.mapwords.specs.declared.fault.ParseFault.{ParseFault}
@@ -7,6 +7,22 @@ use Rattle.mapwords.specs.declared.fault.ParseFault.TheVariants.{At, NoMemory}
 use Rattle.mapparse.specs.declared.files.FileBytes.{FileBytes}
 use Rattle.mapparse.specs.Files.{with_file}
 use Rattle.mapparse.specs.Parsed.{wanted, parsed}
+
+-- a path is a front and the name of a file: the name has no slash, and the front is empty or ends in one
+pub record IsFront (path front : List ℕ) : Type 0 where
+  pub name : List ℕ
+  pub parts : path ≡ front ++ name
+  pub plain : All (λ b. b ≢ 47) name
+  pub slash : (front ≡ []) ⊎ ((folder : List ℕ) × (front ≡ folder ++ codes "/"))
+
+-- what stands before a name in its path: the front of the folder's files, but nothing before a name that begins with a slash
+abbrev pub front_before : List ℕ → List ℕ → List ℕ
+front_before front [] = front
+front_before front (b ∷ bs) = if b == 47 then [] else front
+
+-- the path of a name in a folder whose files have that front
+abbrev pub path_of : List ℕ → List ℕ → List ℕ
+path_of front name = front_before front name ++ name
 
 -- what a folder gives under a name: bytes, or none
 abbrev pub Giving : Type 1

@@ -1,4 +1,4 @@
--- Why an input was not read to its end.
+-- Why an input was not read to its end (docs/PROFILE.md, "The program").
 use Rattle.std.specs.Prelude.{Bool, true, false}
 use Rattle.sessions.specs.declared.input.ReadFault.{ReadFault}
 use Rattle.sessions.specs.declared.input.ReadFault.TheVariants.{Input, NoMemory}

@@ -1,4 +1,4 @@
--- What a sink took of a text: the bytes that it holds, where they are known, and the count of those that it has taken.
+-- What a sink took of a text (docs/PROFILE.md, "Sessions"): the bytes that it holds, where they are known, and their count.
 use Rattle.std.specs.Prelude.{◌≡◌, ℕ, ◌+◌, ◌<◌, List, length, take, Option}
 use Rattle.std.specs.Io.KnownBytes.{Appends}
 use Rattle.mapmachine.specs.Machine.{State, Steps}

@@ -3,6 +3,7 @@ use Rattle.std.specs.Prelude.{ℕ, zero, suc, List, [], ◌∷◌, ◌++◌, len
 use Rattle.std.specs.List.{flat_map}
 use Rattle.std.specs.Fmt.{decimal}
 use Rattle.hex.specs.Hex.{encode_lower}
+use Rattle.mapmachine.specs.Mime.{mime_text}
 use Rattle.mapmachine.specs.declared.reply.Answer.{Answer}
 use Rattle.mapmachine.specs.declared.reply.Mime.{Mime}
 use Rattle.mapmachine.specs.declared.reply.Mime.TheVariants.{Pixmap, Xml}
@@ -23,11 +24,6 @@ hex_within (suc n) (b ∷ bs) = hex_line (take 32 (b ∷ bs)) ++ hex_within n (d
 abbrev pub hex_lines : List ℕ → List ℕ
 hex_lines bytes = hex_within (length bytes) bytes
 
--- what stands before the number of bytes of a body: a word, and the mime type
-abbrev pub line_start : Mime → List ℕ
-line_start Pixmap = codes "ANSWER image/x-portable-pixmap "
-line_start Xml = codes "ANSWER text/xml "
-
 -- a body as it is written: pictures in hexadecimal
 abbrev pub body_text : Mime → List ℕ → List ℕ
 body_text Pixmap body = hex_lines body
@@ -35,7 +31,7 @@ body_text Xml body = body
 
 -- the line before a body: its mime type, and how many bytes it has
 abbrev pub answer_line : Answer → List ℕ
-answer_line answer = line_start answer.mime ++ (decimal (length answer.body) ++ codes "\n")
+answer_line answer = codes "ANSWER " ++ (mime_text answer.mime ++ (codes " " ++ (decimal (length answer.body) ++ codes "\n")))
 
 -- a reply as it is written
 abbrev pub reply_text : Reply → List ℕ

@@ -30,7 +30,7 @@ mod summing;
 pub use checking::check_file;
 pub use connection::serve_connection;
 pub use files::{read_map, run_files};
-pub use folder::{Folder, front_of};
+pub use folder::{Folder, front_of, path_of};
 pub use input::{ReadFault, read_all};
 pub use listening::listen;
 pub use outcome::Outcome;

@@ -1,9 +1,18 @@
+ghost use Rattle.std.specs.Prelude.{◌≡◌, ◌==◌, ◌&&◌, not};
+
 use crate::connection::serve_connection;
 use crate::outcome::Outcome;
 use crate::sending::send_pieces;
 use mapmachine::{Flagged, Machine, Sink};
 use std::alloc::Global;
 use std::net::{Ipv4Addr, TcpListener};
+
+// Whether the last of so many connections was answered. Where 0 are asked for there is no last one.
+fn is_last(answered: u32, connections: u32) -> bool
+    ensures { result ≡ (not (connections == 0) && answered == connections) }
+{
+    connections != 0 && answered == connections
+}
 
 // Answers the connections of a listener one after the other: so many, or all that come where that is 0.
 // A fault of a connection ends that one alone.
@@ -25,11 +34,11 @@ fn answer_connections(
             &mut Flagged::new(&stream),
         );
         answered = answered.saturating_add(1);
-        if answered == connections {
+        if is_last(answered, connections) {
             return Outcome::Served;
         }
     }
-    Outcome::Served
+    Outcome::SocketFailed
 }
 
 // Says where a listener listens, so that whoever started the program knows when to connect.
@@ -49,7 +58,12 @@ fn tell_address<O: Sink>(alloc: Global, listener: &TcpListener, output: &mut O) 
     }
 }
 
-/// Listens on a port of this machine, says so, and answers its connections.
+/// Listens on a port of 127.0.0.1, where 0 is one that is free, says on which address, and answers its
+/// connections one after the other: so many, or without an end where that is 0. A fault of a connection ends
+/// that one alone.
+///
+/// Its failures are that the port can't be listened on or gives no further connection, that the output failed,
+/// and that there was no memory for the text of the address.
 pub fn listen<O: Sink>(
     rt: &HostRuntime,
     machine: &mut Machine,

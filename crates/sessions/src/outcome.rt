@@ -21,7 +21,8 @@ pub enum Outcome {
     OutputFailed,
     /// The port could not be listened on, or gave no connection.
     SocketFailed,
-    /// Memory was refused for the words, for bytes that were read or for the map.
+    /// Memory was refused for the words, for bytes that were read, for the map, for the buffer of the output, or
+    /// for the address of a port.
     NoMemory,
 }
 

@@ -2,7 +2,7 @@ ghost use Rattle.std.specs.Prelude.{◌≡◌, ◌+◌, ◌*◌, ◌≤◌, ◌+
 ghost use Rattle.sessions.specs.declared.sending.TheConstants.{LINE};
 ghost use Rattle.std.specs.List.{flat_map};
 ghost use Rattle.sessions.specs.Sent.{IsSent, IsPartlySent};
-ghost use Rattle.sessions.specs.Transcript.{hex_line, hex_lines, line_start, body_text, answer_line, reply_text, script_fault, mapfile_fault};
+ghost use Rattle.sessions.specs.Transcript.{hex_line, hex_lines, body_text, answer_line, reply_text, script_fault};
 
 use itoa::Buffer;
 use mapmachine::{Answer, Mime, PutFailed, Reply, Sink, put_all, put_pieces};
@@ -59,16 +59,6 @@ fn send_hex_line<S: Sink>(sink: &mut S, bytes: &[u8]) -> Result<(), PutFailed>
     send(sink, &line[..count])
 }
 
-// What stands before the number of bytes of a body.
-fn line_start(mime: Mime) -> &'static [u8]
-    ensures { result.now ≡ line_start mime }
-{
-    match mime {
-        Mime::Pixmap => b"ANSWER image/x-portable-pixmap ",
-        Mime::Xml => b"ANSWER text/xml ",
-    }
-}
-
 // Writes the line before the body of an answer.
 fn send_answer_line<S: Sink>(sink: &mut S, answer: &Answer) -> Result<(), PutFailed>
     ensures ok { OnOk result (IsSent (S.held sink.old) (S.held sink.new) (answer_line answer.now) (S.taken sink.old) (S.taken sink.new)) }
@@ -77,7 +67,8 @@ fn send_answer_line<S: Sink>(sink: &mut S, answer: &Answer) -> Result<(), PutFai
 {
     let mut digits = Buffer::new();
     let count = digits.format(answer.body.len() as u64).as_bytes();
-    send_pieces(sink, &[line_start(answer.mime), count, b"\n"])
+    let mime = answer.mime.text().as_bytes();
+    send_pieces(sink, &[b"ANSWER ", mime, b" ", count, b"\n"])
 }
 
 // Writes bytes in hexadecimal, 32 a line.
@@ -138,16 +129,4 @@ pub fn send_script_fault<S: Sink>(sink: &mut S, number: u64) -> Result<(), PutFa
     let mut digits = Buffer::new();
     let number = digits.format(number).as_bytes();
     send_pieces(sink, &[b"fault script ", number, b"\n"])
-}
-
-/// Writes the fault of a mapfile: its line and the number of its kind.
-pub fn send_mapfile_fault<S: Sink>(sink: &mut S, line: u64, kind: u8) -> Result<(), PutFailed>
-    ensures ok { OnOk result (IsSent (S.held sink.old) (S.held sink.new) (mapfile_fault line kind) (S.taken sink.old) (S.taken sink.new)) }
-    ensures part { OnErr result (IsPartlySent (S.held sink.old) (S.held sink.new) (mapfile_fault line kind) (S.taken sink.old) (S.taken sink.new)) }
-    ensures flag { MatchResult result (λ _. S.put_failed sink.new ≡ S.put_failed sink.old) (λ _. S.put_failed sink.new ≡ true) }
-{
-    let (mut line_digits, mut kind_digits) = (Buffer::new(), Buffer::new());
-    let line = line_digits.format(line).as_bytes();
-    let kind = kind_digits.format(kind).as_bytes();
-    send_pieces(sink, &[b"fault line ", line, b" kind ", kind, b"\n"])
 }

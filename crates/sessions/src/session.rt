@@ -10,7 +10,8 @@ use crate::input::{ReadFault, read_all};
 use crate::outcome::Outcome;
 use crate::parts::split_session;
 use crate::play::play_script;
-use crate::sending::{send_mapfile_fault, send_pieces};
+use crate::sending::send_pieces;
+use itoa::Buffer;
 use mapdefs::Map;
 use mapmachine::{Machine, Sink, Source};
 use mapparse::{Mapfile, ParseFault};
@@ -94,18 +95,15 @@ pub fn play_out<O: Sink>(machine: &mut Machine, script: &[u8], output: &mut O) -
     }
 }
 
-/// Tells the fault of a mapfile.
+/// Tells the fault of a mapfile: its line and the number of its kind.
 pub fn tell_mapfile_fault<E: Sink>(errors: &mut E, line: u64, kind: u8)
     ensures told { IsTold (E.held errors.old) (E.held errors.new) (mapfile_fault line kind) (E.put_failed errors.new) }
     ensures flushed { E.put_failed errors.new ≡ false → E.is_flushed errors.new ≡ true }
 {
-    // Where it can't be written, the outcome still tells.
-    match send_mapfile_fault(errors, line, kind) {
-        Ok(()) => {
-            let _ = errors.flush();
-        }
-        Err(_) => {}
-    }
+    let (mut line_digits, mut kind_digits) = (Buffer::new(), Buffer::new());
+    let line = line_digits.format(line).as_bytes();
+    let kind = kind_digits.format(kind).as_bytes();
+    tell(errors, &[b"fault line ", line, b" kind ", kind, b"\n"]);
 }
 
 /// Tells a line, in pieces.

@@ -1,13 +1,11 @@
-ghost use Rattle.std.specs.Prelude.{◌≡◌, ◌≤◌, length, OnOk, OnErr, IfErr, MatchResult, true};
+ghost use Rattle.std.specs.Prelude.{◌≡◌, ◌≤◌, length, OnOk, IfErr, MatchResult, true};
 ghost use Rattle.std.specs.Io.KnownBytes.{Appends};
 ghost use Rattle.mapdefs.specs.declared.limits.TheConstants.{MAX_LAYERS};
-ghost use Rattle.sessions.specs.Sent.{IsSent, IsPartlySent};
 ghost use Rattle.sessions.specs.Summary.{feature_count, summary_line, HasPartlySummed};
 
-use crate::sending::send_pieces;
 use itoa::Buffer;
 use mapdefs::{Layer, Map};
-use mapmachine::{PutFailed, Sink, WriteFault};
+use mapmachine::{Sink, WriteFault, put_pieces};
 
 // How many features the layers have in all.
 fn feature_count(layers: &[Layer]) -> u64
@@ -21,28 +19,6 @@ fn feature_count(layers: &[Layer]) -> u64
     count
 }
 
-// Writes the line of a map.
-fn send_summary<S: Sink>(map: &Map, sink: &mut S) -> Result<(), PutFailed>
-    ensures ok { OnOk result (IsSent (S.held sink.old) (S.held sink.new) (summary_line map.now) (S.taken sink.old) (S.taken sink.new)) }
-    ensures part { OnErr result (IsPartlySent (S.held sink.old) (S.held sink.new) (summary_line map.now) (S.taken sink.old) (S.taken sink.new)) }
-    ensures flag { MatchResult result (λ _. S.put_failed sink.new ≡ S.put_failed sink.old) (λ _. S.put_failed sink.new ≡ true) }
-{
-    let layers = map.get().layers.as_slice();
-    let (mut layer_digits, mut feature_digits) = (Buffer::new(), Buffer::new());
-    let layer_count = layer_digits.format(layers.len() as u64).as_bytes();
-    let feature_count = feature_digits.format(feature_count(layers)).as_bytes();
-    send_pieces(
-        sink,
-        &[
-            b"ok ",
-            layer_count,
-            b" layers ",
-            feature_count,
-            b" features\n",
-        ],
-    )
-}
-
 /// Writes the line that says how many layers a map has, and how many features. The error is that the
 /// writer failed: exactly the first `written` bytes of the line went out, and not all of them.
 ///
@@ -52,11 +28,18 @@ pub fn summary<S: Sink>(map: &Map, sink: &mut S) -> Result<(), WriteFault>
     ensures part { IfErr result (λ e. HasPartlySummed map.now (S.held sink.old) (S.held sink.new) e.written) }
     ensures flag { MatchResult result (λ _. S.put_failed sink.new ≡ S.put_failed sink.old) (λ _. S.put_failed sink.new ≡ true) }
 {
-    let before = sink.taken();
-    match send_summary(map, sink) {
-        Ok(()) => Ok(()),
-        Err(_) => Err(WriteFault {
-            written: sink.taken() - before,
-        }),
-    }
+    let layers = map.get().layers.as_slice();
+    let (mut layer_digits, mut feature_digits) = (Buffer::new(), Buffer::new());
+    let layer_count = layer_digits.format(layers.len() as u64).as_bytes();
+    let feature_count = feature_digits.format(feature_count(layers)).as_bytes();
+    put_pieces(
+        sink,
+        &[
+            b"ok ",
+            layer_count,
+            b" layers ",
+            feature_count,
+            b" features\n",
+        ],
+    )
 }

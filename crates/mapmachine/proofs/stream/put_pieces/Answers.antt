@@ -1,5 +1,4 @@
-use Rattle.std.proofs.Common.{◌≡◌, ◌+◌, ◌-◌, take, length, refl, arith}
-use Rattle.std.specs.List.{flat_map}
+use Rattle.std.proofs.Common.{refl, arith}
 use Rattle.mapmachine.proofs.Pieces.{front-next, front-short}
 use Rattle.mapmachine.proofs.stream.put_pieces.Goals as goal
 
