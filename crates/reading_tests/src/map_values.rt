@@ -2,50 +2,28 @@ ghost use Rattle.std.specs.Prelude.{◌≡◌, ◌≤◌, [], length, All};
 ghost use Rattle.mapdefs.specs.MapLimits.{LayerNamesSymbolsOf};
 ghost use Rattle.mapdefs.specs.declared.limits.TheConstants.{MAX_LAYERS};
 
-use geom::{Micro, PictureSide, WorldBox};
+use geom::PictureSide;
 use mapdefs::{
-    Items, Kind, Layer, LayerFields, MAX_BUFFER, MAX_CLASSES, MAX_DISTANCE, MAX_FEATURES,
-    MAX_GLYPH_SIDE, MAX_GLYPHS, MAX_ITEMS, MAX_LAYERS, MAX_LINE_WIDTH, MAX_NESTING, MAX_PRIORITY,
-    MAX_SQUARE, MAX_STYLES, MAX_SYMBOL_SIDE, MAX_SYMBOLS, MAX_TOLERANCE, MAX_VERTICES, Map,
-    MapFields, Picture, PictureFields, Rgb, Text,
+    Items, Layer, MAX_BUFFER, MAX_CLASSES, MAX_DISTANCE, MAX_FEATURES, MAX_GLYPH_SIDE, MAX_GLYPHS,
+    MAX_ITEMS, MAX_LAYERS, MAX_LINE_WIDTH, MAX_NESTING, MAX_PRIORITY, MAX_SQUARE, MAX_STYLES,
+    MAX_SYMBOL_SIDE, MAX_SYMBOLS, MAX_TOLERANCE, MAX_VERTICES, Map, Picture, PictureFields, Rgb,
+    Text,
 };
 use std::alloc::{AllocError, Global};
+use test_maps::{layer_fields, map_fields};
 use test_tables::{TableFault, check_rows};
 
 fn layer(alloc: Global, name: Text) -> Layer
     ensures { result.classes ≡ [] }
 {
-    Layer::new(LayerFields {
-        name,
-        title: Text::of(String::new(alloc)),
-        kind: Kind::Polygon,
-        on: true,
-        classitem: None,
-        labelitem: None,
-        items: Items::new(alloc),
-        csv_x: Text::of(String::new(alloc)),
-        csv_y: Text::of(String::new(alloc)),
-        queryable: false,
-        tolerance: 0,
-        min: None,
-        max: None,
-        classes: Items::new(alloc),
-        features: Items::new(alloc),
-    })
+    Layer::new(layer_fields(alloc, name))
 }
 
 fn map_of(alloc: Global, layers: Vec<Layer>) -> Map
     requires count { length layers.items ≤ MAX_LAYERS }
     requires symbols { All (LayerNamesSymbolsOf 0) layers.items }
 {
-    Map::new(MapFields {
-        title: Text::of(String::new(alloc)),
-        url: Text::of(String::new(alloc)),
-        extent: WorldBox::new(Micro::new(0), Micro::new(0), Micro::new(1), Micro::new(1)),
-        font: None,
-        symbols: Items::new(alloc),
-        layers: Items::of(layers),
-    })
+    Map::new(map_fields(alloc, Items::of(layers)))
 }
 
 // A map of the layers `rivers`, `roads`, `rivers` again, and one without a name.

@@ -1,24 +1,14 @@
 use crate::narrow::holding_nothing;
-use geom::{Micro, WorldBox};
 use httpedge::{Asks, Busy, Conn, EdgeFault, Outcome, Refusal, exchange, respond};
-use mapdefs::{Items, Map, MapFields, Text};
+use mapdefs::{Items, Map};
 use mapmachine::{Answer, Flagged, Machine, Mime};
 use std::alloc::{AllocError, Global};
+use test_maps::map_fields;
 use test_tables::{TableFault, check_rows};
 
 // The machine of a map without layers.
 fn machine(alloc: Global) -> Machine {
-    let zero = Micro::new(0);
-    let four = Micro::new(4_000_000);
-    let map = Map::new(MapFields {
-        title: Text::of(String::new(alloc)),
-        url: Text::of(String::new(alloc)),
-        extent: WorldBox::new(zero, zero, four, four),
-        font: None,
-        symbols: Items::new(alloc),
-        layers: Items::new(alloc),
-    });
-    Machine::open(alloc, map)
+    Machine::open(alloc, Map::new(map_fields(alloc, Items::new(alloc))))
 }
 
 // Who is asked, and is busy. It counts the queries.

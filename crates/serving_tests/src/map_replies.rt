@@ -1,14 +1,14 @@
-ghost use Rattle.std.specs.Prelude.{◌≡◌, ◌≤◌, [], length, All, IfOk};
+ghost use Rattle.std.specs.Prelude.{◌≡◌, [], IfOk};
 ghost use Rattle.mapdefs.specs.MapLimits.{ClassNamesSymbolsOf, LayerNamesSymbolsOf};
-ghost use Rattle.mapdefs.specs.declared.limits.TheConstants.{MAX_LAYERS};
 
-use geom::{Coordinate, Micro, NUMBER_LIMIT, World, WorldBox};
+use geom::{Coordinate, Micro, NUMBER_LIMIT, World};
 use mapdefs::{
-    Class, ClassFields, Feature, FeatureFields, Items, Kind, Layer, LayerFields, Map, MapFields,
-    Rgb, Rule, Style, StyleFields, Text,
+    Class, ClassFields, Feature, FeatureFields, Items, Layer, Map, Rgb, Rule, Style, StyleFields,
+    Text,
 };
 use mapmachine::Machine;
 use std::alloc::{AllocError, Global};
+use test_maps::{layer_fields, map_fields};
 use test_tables::{TableFault, check_rows};
 
 // A class that paints in the colour 10 20 30, whatever the scale.
@@ -66,47 +66,19 @@ fn layer(alloc: Global, min: Option<Micro>, max: Option<Micro>) -> Result<Layer,
     classes.push(class(alloc)?)?;
     let mut features = Items::new(alloc);
     features.push(square(alloc)?)?;
-    Ok(Layer::new(LayerFields {
-        name,
-        title: Text::of(String::new(alloc)),
-        kind: Kind::Polygon,
-        on: true,
-        classitem: None,
-        labelitem: None,
-        items: Items::new(alloc),
-        csv_x: Text::of(String::new(alloc)),
-        csv_y: Text::of(String::new(alloc)),
-        queryable: false,
-        tolerance: 0,
-        min,
-        max,
-        classes,
-        features,
-    }))
-}
-
-// A map of four degrees by four, with these layers.
-fn map_of(alloc: Global, layers: Items<Layer>) -> Map
-    requires count { length layers ≤ MAX_LAYERS }
-    requires symbols { All (LayerNamesSymbolsOf 0) layers }
-{
-    let zero = Micro::new(0);
-    let four = Micro::new(4_000_000);
-    Map::new(MapFields {
-        title: Text::of(String::new(alloc)),
-        url: Text::of(String::new(alloc)),
-        extent: WorldBox::new(zero, zero, four, four),
-        font: None,
-        symbols: Items::new(alloc),
-        layers,
-    })
+    let mut fields = layer_fields(alloc, name);
+    fields.min = min;
+    fields.max = max;
+    fields.classes = classes;
+    fields.features = features;
+    Ok(Layer::new(fields))
 }
 
 // The machine of a map with that layer alone.
 fn machine(alloc: Global, min: Option<Micro>, max: Option<Micro>) -> Result<Machine, AllocError> {
     let mut layers = Items::new(alloc);
     layers.push(layer(alloc, min, max)?)?;
-    Ok(Machine::open(alloc, map_of(alloc, layers)))
+    Ok(Machine::open(alloc, Map::new(map_fields(alloc, layers))))
 }
 
 // A bound, `-` for none.

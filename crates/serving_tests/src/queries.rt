@@ -2,9 +2,9 @@ ghost use Rattle.std.specs.Prelude.{◌≡◌, ◌≤◌, [], length, All};
 ghost use Rattle.mapdefs.specs.MapLimits.{LayerNamesSymbolsOf};
 ghost use Rattle.mapdefs.specs.declared.limits.TheConstants.{MAX_LAYERS};
 
-use geom::{Micro, WorldBox};
-use mapdefs::{Items, Kind, Layer, LayerFields, MAX_LAYERS, Map, MapFields, Text};
+use mapdefs::{Items, Layer, MAX_LAYERS, Map, Text};
 use std::alloc::{AllocError, Global};
+use test_maps::{layer_fields, map_fields};
 use test_tables::{TableFault, check_rows};
 use wmsquery::{MapRequest, read};
 
@@ -89,37 +89,16 @@ LayerNotDefined: LAYERS|#LAYERS=x&@
 fn layer(alloc: Global, name: Text, on: bool) -> Layer
     ensures { result.classes ≡ [] }
 {
-    Layer::new(LayerFields {
-        name,
-        title: Text::of(String::new(alloc)),
-        kind: Kind::Polygon,
-        on,
-        classitem: None,
-        labelitem: None,
-        items: Items::new(alloc),
-        csv_x: Text::of(String::new(alloc)),
-        csv_y: Text::of(String::new(alloc)),
-        queryable: false,
-        tolerance: 0,
-        min: None,
-        max: None,
-        classes: Items::new(alloc),
-        features: Items::new(alloc),
-    })
+    let mut fields = layer_fields(alloc, name);
+    fields.on = on;
+    Layer::new(fields)
 }
 
 fn map_of(alloc: Global, layers: Vec<Layer>) -> Map
     requires count { length layers.items ≤ MAX_LAYERS }
     requires symbols { All (LayerNamesSymbolsOf 0) layers.items }
 {
-    Map::new(MapFields {
-        title: Text::of(String::new(alloc)),
-        url: Text::of(String::new(alloc)),
-        extent: WorldBox::new(Micro::new(0), Micro::new(0), Micro::new(1), Micro::new(1)),
-        font: None,
-        symbols: Items::new(alloc),
-        layers: Items::of(layers),
-    })
+    Map::new(map_fields(alloc, Items::of(layers)))
 }
 
 // A map of the layers `a` and `c`, and between them `b`, which is switched off.

@@ -92,13 +92,15 @@ fn sessions_answer_their_queries(rt: HostRuntime) -> Result<(), TableFault> {
 // Layers up to their feature's points, scripts of one query, and what is written of them, worked by hand: the square by itself; with a
 // name of a parameter in lower case; with a second pair of a name; a layer with two classes, the second
 // of which would paint it in 40 50 60, in 4 by 2 pixels. The pixel centres of these two rows are at the
-// heights of the square's upper and lower edge: the upper edge covers them, the lower one doesn't. Then
+// heights of the square's upper and lower edge: the upper edge covers them, the lower one doesn't. Before
+// these a picture of 7 by 1 pixels, whose 32 bytes fill one line. Then
 // classes by their rules, of a feature whose items are empty, and of one whose item is `b` or `c`; and by
 // bounds on the scale, which is 397,569,610.7.
 const WRITTEN: &str = "\
 CLASS STYLE COLOR 10 20 30 END END FEATURE|VERSION=1.3.0&REQUEST=GetMap&LAYERS=a&STYLES=&CRS=CRS:84&BBOX=0,0,4,4&WIDTH=4&HEIGHT=4&FORMAT=image/x-portable-pixmap|59 50360a3420340a3235350affffffffffffffffffffffffffffff0a141e0a141e ffffffffffff0a141e0a141effffffffffffffffffffffffffffff\n\
 CLASS STYLE COLOR 10 20 30 END END FEATURE|VERSION=1.3.0&REQUEST=GetMap&layers=a&STYLES=&CRS=CRS:84&BBOX=0,0,4,4&WIDTH=4&HEIGHT=4&FORMAT=image/x-portable-pixmap|59 50360a3420340a3235350affffffffffffffffffffffffffffff0a141e0a141e ffffffffffff0a141e0a141effffffffffffffffffffffffffffff\n\
 CLASS STYLE COLOR 10 20 30 END END FEATURE|VERSION=1.3.0&REQUEST=GetMap&LAYERS=a&STYLES=&CRS=CRS:84&BBOX=0,0,4,4&WIDTH=4&HEIGHT=4&FORMAT=image/x-portable-pixmap&LAYERS=x|59 50360a3420340a3235350affffffffffffffffffffffffffffff0a141e0a141e ffffffffffff0a141e0a141effffffffffffffffffffffffffffff\n\
+CLASS STYLE COLOR 10 20 30 END END FEATURE|VERSION=1.3.0&REQUEST=GetMap&LAYERS=a&STYLES=&CRS=CRS:84&BBOX=0,2,7,3&WIDTH=7&HEIGHT=1&FORMAT=image/x-portable-pixmap|32 50360a3720310a3235350affffff0a141e0a141effffffffffffffffffffffff\n\
 CLASS STYLE COLOR 10 20 30 END END CLASS STYLE COLOR 40 50 60 END END FEATURE|VERSION=1.3.0&REQUEST=GetMap&LAYERS=a&STYLES=&CRS=CRS:84&BBOX=0,0,4,4&WIDTH=4&HEIGHT=2&FORMAT=image/x-portable-pixmap|35 50360a3420320a3235350affffff0a141e0a141effffffffffffffffffffffff ffffff\n\
 CLASSITEM k PROCESSING 'ITEMS=j,k' CLASS EXPRESSION {a,} STYLE COLOR 40 50 60 END END CLASS STYLE COLOR 10 20 30 END END FEATURE|VERSION=1.3.0&REQUEST=GetMap&LAYERS=a&STYLES=&CRS=CRS:84&BBOX=0,0,4,4&WIDTH=4&HEIGHT=4&FORMAT=image/x-portable-pixmap|59 50360a3420340a3235350affffffffffffffffffffffffffffff28323c28323c ffffffffffff28323c28323cffffffffffffffffffffffffffffff\n\
 CLASSITEM k PROCESSING 'ITEMS=j,k' CLASS EXPRESSION {a,b} STYLE COLOR 40 50 60 END END CLASS STYLE COLOR 10 20 30 END END FEATURE|VERSION=1.3.0&REQUEST=GetMap&LAYERS=a&STYLES=&CRS=CRS:84&BBOX=0,0,4,4&WIDTH=4&HEIGHT=4&FORMAT=image/x-portable-pixmap|59 50360a3420340a3235350affffffffffffffffffffffffffffff0a141e0a141e ffffffffffff0a141e0a141effffffffffffffffffffffffffffff\n\
@@ -123,7 +125,7 @@ fn is_written(alloc: Global, row: &str) -> Result<bool, AllocError> {
 
 #[test]
 fn pictures_are_written_as_worked(rt: HostRuntime) -> Result<(), TableFault> {
-    check_all(rt.alloc(), WRITTEN, 14, is_written)
+    check_all(rt.alloc(), WRITTEN, 15, is_written)
 }
 
 // Columns, rows and components of pixels beside the corners of the square, which are at 512 and 1536,

@@ -8,6 +8,8 @@ mod answers;
 #[cfg(test)]
 mod command_lines;
 #[cfg(test)]
+mod connections;
+#[cfg(test)]
 mod cuts;
 #[cfg(test)]
 mod endings;

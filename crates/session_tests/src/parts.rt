@@ -1,5 +1,5 @@
 use crate::texts::columns;
-use sessions::{front_of, split_session};
+use sessions::{front_of, path_of, split_session};
 use std::alloc::{AllocError, Global};
 use test_tables::{TableFault, check_all, check_rows};
 
@@ -43,4 +43,21 @@ fn front(alloc: Global, path: &str) -> Result<String, AllocError> {
 #[test]
 fn a_file_is_in_the_folder_before_its_name(rt: HostRuntime) -> Result<(), TableFault> {
     check_rows(rt.alloc(), FRONTS, '=', 5, front)
+}
+
+// The paths of names, what stands before the names of a folder's files, and the names.
+const PATHS: &str = "\
+maps/a.ppm=maps/|a.ppm
+a.ppm=|a.ppm
+/b/a.ppm=maps/|/b/a.ppm
+/maps/../a.ppm=/maps/|../a.ppm";
+
+fn path(alloc: Global, row: &str) -> Result<String, AllocError> {
+    let (front, name) = row.split_once('|').unwrap_or(("", ""));
+    String::from_str(alloc, path_of(alloc, front, name)?.as_str())
+}
+
+#[test]
+fn names_have_their_paths(rt: HostRuntime) -> Result<(), TableFault> {
+    check_rows(rt.alloc(), PATHS, '=', 4, path)
 }

@@ -1,0 +1,62 @@
+use crate::cuts::opened;
+use crate::memory::stream_of;
+use crate::ports::{HEAD, RESPONSE};
+use mapmachine::Machine;
+use sessions::serve_connection;
+use std::alloc::{AllocError, Global};
+use test_tables::{TableFault, check_rows};
+
+// What becomes of a connection, whether its reader and its writer failed, whether the writer holds the first
+// bytes of the response, and how many. Then the calls of the reader and of the writer that fail, where each
+// moves one byte: the head has 30, the response 298.
+const FAILING: &str = "\
+the reader failed, true false true 0=0 -
+the reader failed, true false true 0=29 -
+served, false false true 298=30 -
+the writer failed after 0 bytes, false true true 0=- 0
+the writer failed after 100 bytes, false true true 100=- 100
+the writer failed after 297 bytes, false true true 297=- 297
+served, false false true 298=- 298";
+
+fn told_of(
+    alloc: Global,
+    machine: &mut Machine,
+    reading: Option<usize>,
+    writing: Option<usize>,
+) -> Result<String, AllocError> {
+    let mut reader = stream_of(alloc, HEAD, 1, reading);
+    let mut writer = stream_of(alloc, "", 1, writing);
+    let served = serve_connection(alloc, machine, &mut reader, &mut writer);
+    let failed = (reader.take_failed(), writer.put_failed());
+    let held = writer.into_inner().held;
+    let is_front = RESPONSE.starts_with(held.as_slice());
+    let end = match served {
+        Ok(()) => format!(in alloc; "served"),
+        Err(fault) => format!(in alloc; "{fault}"),
+    }?;
+    format!(in alloc;
+        "{end}, {} {} {is_front} {}",
+        failed.0,
+        failed.1,
+        held.len()
+    )
+}
+
+// What becomes of a connection whose streams fail at the calls of a row.
+fn told(alloc: Global, calls: &str) -> Result<String, AllocError> {
+    let (reading, writing) = calls.split_once(' ').unwrap_or(("", ""));
+    let mut machine = opened(alloc, "MAP END")?;
+    let told = told_of(
+        alloc,
+        &mut machine,
+        reading.parse().ok(),
+        writing.parse().ok(),
+    );
+    drop(machine);
+    told
+}
+
+#[test]
+fn streams_that_fail_end_a_connection(rt: HostRuntime) -> Result<(), TableFault> {
+    check_rows(rt.alloc(), FAILING, '=', 7, told)
+}
