@@ -17,7 +17,7 @@ use Rattle.wmsquery.specs.Checks.{check, checks}
 use Rattle.wmsquery.specs.Meaning.{Passes, IsFirstFault, IsMeaningOf, IsMeaningErrorOf}
 
 -- the value of each parameter
-abbrev ValuesBy : Type 0
+abbrev pub ValuesBy : Type 0
 ValuesBy = Parameter → Option (List ℕ)
 
 -- where it is not empty
@@ -25,7 +25,7 @@ abbrev given_by : ValuesBy → Parameter → Option (List ℕ)
 given_by v p = option_and_then some_text (v p)
 
 -- the checks of the values of the parameters
-abbrev checks_by : MapFields → ValuesBy → List Check
+abbrev pub checks_by : MapFields → ValuesBy → List Check
 checks_by map v =
     let count = option_map_or (λ text. length (names_of text)) (given_by v parameter.Layers) 0 in
     check parameter.Service (service_of (given_by v parameter.Service))
@@ -43,7 +43,7 @@ checks_by map v =
     ∷ []
 
 -- the values that pairs give
-abbrev values_by : List Pair → ValuesBy
+abbrev pub values_by : List Pair → ValuesBy
 values_by pairs p = value_of (parameter_text p) pairs
 
 -- the same values are one

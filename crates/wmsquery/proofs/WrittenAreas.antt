@@ -1,5 +1,5 @@
 -- Boxes and colours that are written out are read again.
-use Rattle.std.proofs.Common.{◌≡◌, ◌≢◌, ℕ, zero, suc, ℤ, pos, negsuc, ◌/◌, ◌^◌, ◌<◌, ◌≤◌, ◌<ℤ◌, ◌&&◌, true, int_lt, unsigned_abs, List, [], ◌∷◌, All, Some, Ok, ap, refl, ◌∙◌, arith}
+use Rattle.std.proofs.Common.{◌≡◌, ◌≢◌, ℕ, zero, suc, ℤ, pos, negsuc, ◌/◌, ◌^◌, ◌<◌, ◌<ℤ◌, ◌&&◌, true, int_lt, List, [], ◌∷◌, All, Some, Ok, ap, refl, ◌∙◌, arith}
 use Rattle.std.proofs.lemmas.Bool.{and_from, lt-ltb}
 use Rattle.std.proofs.lemmas.List.Elements.{All-nil, All-cons, All-append, All-weaker}
 use Rattle.std.proofs.lemmas.Int.{ints}
@@ -13,7 +13,6 @@ use Rattle.hex.proofs.HexLemmas.{decode_of-encode_lower, decode_sized-twice, len
 use Rattle.geom.specs.Number.{coordinate_of}
 use Rattle.geom.specs.World.{Area, IsCoordinate, IsExtent}
 use Rattle.geom.specs.Written.{written, written_size, six_digits}
-use Rattle.geom.specs.declared.micro.TheConstants.{COORDINATE_LIMIT}
 use Rattle.geom.proofs.Written.{numeral, six-are, coordinate-size, coordinate-written}
 use Rattle.geom.proofs.Digits.{digit-range, digits-cons}
 use Rattle.crsaxes.specs.Axes.{parts, box_of, box_of_parts, box_in, with_area}
