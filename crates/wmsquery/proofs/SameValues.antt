@@ -1,6 +1,7 @@
 -- Pairs that give each parameter the same value mean the same.
 use Rattle.std.proofs.Common.{◌≡◌, ◌∙◌, ℕ, List, ◌∷◌, [], All, Option, Result, Ok, Err, IfOk, IfErr, ap, sym, subst, length}
 use Rattle.std.specs.Option.{option_and_then, option_map_or}
+use Rattle.crsaxes.specs.Axes.{parts}
 use Rattle.mapdefs.specs.declared.map.MapFields.{MapFields}
 use Rattle.wmsquery.specs.declared.checks.Check.{Check}
 use Rattle.wmsquery.specs.declared.error.QueryError.{QueryError}
@@ -12,7 +13,7 @@ use Rattle.wmsquery.specs.declared.pairs.Pair.{Pair}
 use Rattle.wmsquery.specs.declared.request.MapRequest.{MapRequest}
 use Rattle.wmsquery.specs.Pairs.{value_of, some_text, HaveSameValues}
 use Rattle.wmsquery.specs.Report.{parameter_text}
-use Rattle.wmsquery.specs.Values.{service_of, request_of, version_of, names_of, layers_of, styles_of, crs_value, area_of, side_of, format_of, transparent_of, background_of}
+use Rattle.wmsquery.specs.Values.{service_of, request_of, version_of, layers_of, styles_of, crs_value, area_of, side_of, format_of, transparent_of, background_of}
 use Rattle.wmsquery.specs.Checks.{check, checks}
 use Rattle.wmsquery.specs.Meaning.{Passes, IsFirstFault, IsMeaningOf, IsMeaningErrorOf}
 
@@ -27,7 +28,7 @@ given_by v p = option_and_then some_text (v p)
 -- the checks of the values of the parameters
 abbrev pub checks_by : MapFields → ValuesBy → List Check
 checks_by map v =
-    let count = option_map_or (λ text. length (names_of text)) (given_by v parameter.Layers) 0 in
+    let count = option_map_or (λ text. length (parts text)) (given_by v parameter.Layers) 0 in
     check parameter.Service (service_of (given_by v parameter.Service))
     ∷ check parameter.Request (request_of (given_by v parameter.Request))
     ∷ check parameter.Version (version_of (given_by v parameter.Version))

@@ -25,5 +25,6 @@ mod values;
 pub use error::QueryError;
 pub use exception::report;
 pub use fault::{Code, Parameter, WmsFault};
+pub use lists::MAX_NAMES;
 pub use query::read;
 pub use request::MapRequest;
