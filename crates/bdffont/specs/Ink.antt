@@ -1,21 +1,16 @@
 -- Texts in a font: their extent, and the pixels that they ink (docs/FILES.md, "Texts in a font").
 use Rattle.std.specs.Prelude.{◌≡◌, ℕ, ◌+◌, ◌*◌, Bool, false, ◌||◌, ◌&&◌, nat_lt, if◌then◌else◌, List, [], ◌∷◌, ◌++◌, find, Option, None, Some, ℤ, pos, ◌+ℤ◌, ◌-ℤ◌, int_lt, unsigned_abs, IsTrue, ◌↔◌, slice_index_or}
 use Rattle.std.specs.List.{sum_by}
-use Rattle.std.specs.Option.{option_map_or}
+use Rattle.std.specs.Option.{option_map_or, option_or}
 use Rattle.geom.specs.Device.{PixelPlace}
 use Rattle.mapdefs.specs.declared.font.BitmapBox.{BitmapBox}
 use Rattle.mapdefs.specs.declared.font.FontFields.{FontFields}
 use Rattle.mapdefs.specs.declared.font.Glyph.{Glyph}
 use Rattle.bdffont.specs.File.{has_encoding}
 
--- a glyph, or another one where there is none
-abbrev pub or_else : Option Glyph → Option Glyph → Option Glyph
-or_else (Some glyph) other = Some glyph
-or_else None other = other
-
 -- the glyph that a character has: its own, else that of the question mark, which is 63
 abbrev pub glyph_of : List Glyph → ℕ → Option Glyph
-glyph_of glyphs character = or_else (find (has_encoding character) glyphs) (find (has_encoding 63) glyphs)
+glyph_of glyphs character = option_or (find (has_encoding character) glyphs) (find (has_encoding 63) glyphs)
 
 -- how far the pen advances after a character
 abbrev pub advance_of : List Glyph → ℕ → ℕ
@@ -29,10 +24,11 @@ text_width glyphs characters = sum_by (advance_of glyphs) characters
 abbrev pub left_of : ℤ → ℕ → BitmapBox → ℤ
 left_of left pen bounds = left +ℤ pos pen +ℤ bounds.xoff
 
--- the last of so many rows, and the first
+-- the last of so many rows
 abbrev pub last_row : ℤ → ℕ → ℤ
 last_row first height = first +ℤ pos height -ℤ pos 1
 
+-- and the first
 abbrev pub first_row : ℤ → ℕ → ℤ
 first_row last height = last -ℤ (pos height -ℤ pos 1)
 
@@ -49,6 +45,7 @@ abbrev pub inks : Glyph → ℕ → ℕ → Bool
 inks glyph column row =
     (nat_lt column glyph.bounds.width && nat_lt row glyph.bounds.height) && slice_index_or glyph.rows (row * glyph.bounds.width + column) false
 
+-- it has ink there, if column and row are not before its box
 abbrev pub inks_at : Glyph → Option ℕ → Option ℕ → Bool
 inks_at glyph (Some column) (Some row) = inks glyph column row
 inks_at glyph _ _ = false

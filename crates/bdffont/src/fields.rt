@@ -1,5 +1,6 @@
 ghost use Rattle.std.specs.Prelude.{◌≡◌, ◌≤◌};
 ghost use Rattle.geom.specs.Decimal.{signed};
+ghost use Rattle.mapdefs.specs.declared.limits.TheConstants.{MAX_GLYPH_SIDE};
 ghost use Rattle.bdffont.specs.Fields.{is_small, box_of, box_at, encoding_at, advance_at, count_at};
 
 use crate::fault::FontKind;
@@ -24,7 +25,7 @@ fn is_small(number: Number) -> bool
 
 // A number as an offset.
 fn offset_of(number: Number) -> i8
-    requires { number.size ≤ 64 }
+    requires { number.size ≤ MAX_GLYPH_SIDE }
     ensures { result ≡ signed number.is_negative number.size }
 {
     let size = number.size as i8;

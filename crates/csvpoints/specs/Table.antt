@@ -2,6 +2,7 @@
 use Rattle.std.specs.Prelude.{◌≡◌, ℕ, ◌+◌, ◌≤◌, nat_lt, if◌then◌else◌, List, [], ◌∷◌, length, map, Result, Ok, Err, All}
 use Rattle.std.specs.List.{enumerate_from}
 use Rattle.geom.specs.World.{Place}
+use Rattle.mapdefs.specs.LayerLimits.{HasValues}
 use Rattle.mapdefs.specs.declared.feature.FeatureFields.{FeatureFields}
 use Rattle.mapdefs.specs.declared.limits.TheConstants.{MAX_ITEMS}
 use Rattle.csvpoints.specs.declared.fault.CsvFault.{CsvFault}
@@ -36,7 +37,7 @@ table_of x y limit records = and_then (header_of x y records) (λ h.
 
 -- a feature of one point, with so many values
 abbrev pub IsPointWith : ℕ → FeatureFields → Type 0
-IsPointWith count f = ((p : Place) × (f.parts ≡ (p ∷ []) ∷ [])) × (length f.values ≡ count)
+IsPointWith count f = ((p : Place) × (f.parts ≡ (p ∷ []) ∷ [])) × HasValues count f
 
 -- what a table keeps
 pub record IsTable (t : TableFields) : Type 0 where

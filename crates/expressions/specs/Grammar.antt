@@ -27,12 +27,15 @@ pub record IsSpaced (IsPart : List ℕ → Type 0) (written : List ℕ) : Type 0
 abbrev pub IsWord : List ℕ → List ℕ → Type 0
 IsWord spelling written = IsTrue (str_eq_ignore_ascii_case written spelling)
 
+-- the word between the parts of an OR
 abbrev pub IsOrWord : List ℕ → Type 0
 IsOrWord written = IsWord (codes "OR") written ⊎ IsWord (codes "||") written
 
+-- the word between the parts of an AND
 abbrev pub IsAndWord : List ℕ → Type 0
 IsAndWord written = IsWord (codes "AND") written ⊎ IsWord (codes "&&") written
 
+-- the word before a part that isn't to be true
 abbrev pub IsNotWord : List ℕ → Type 0
 IsNotWord written = IsWord (codes "NOT") written ⊎ IsWord (codes "!") written
 
@@ -79,11 +82,12 @@ pub data IsOperand : List ℕ → Operand → Type 0 where
   item_text : (name written : List ℕ) → IsName name → IsQuoted (bracketed name) written → IsOperand written (ItemText name)
   text : (text written : List ℕ) → IsQuoted text written → ((name : List ℕ) → IsName name → text ≢ bracketed name) → IsOperand written (Text text)
 
--- one part stands for itself, several are joined
+-- one part stands for itself, several are joined by AND
 abbrev pub all_of : List Expr → Expr
 all_of (part ∷ []) = part
 all_of parts = And parts
 
+-- or by OR
 abbrev pub any_of : List Expr → Expr
 any_of (part ∷ []) = part
 any_of parts = Or parts

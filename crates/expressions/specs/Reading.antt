@@ -40,11 +40,12 @@ after_spaced word bytes = after_word word (after_spaces bytes)
 unfoldable pub after_either : List ℕ → List ℕ → List ℕ → Option (List ℕ)
 after_either word sign bytes = option_or (after_word word (after_spaces bytes)) (after_word sign (after_spaces bytes))
 
--- whether a literal number goes on with a byte before others: an `e` before a `q` begins `eq`
+-- whether some bytes begin with a `q`
 abbrev pub begins_q : List ℕ → Bool
 begins_q [] = false
 begins_q (b ∷ bs) = to_ascii_lowercase b == 113
 
+-- whether a literal number goes on with a byte before others: an `e` before a `q` begins `eq`
 abbrev pub is_of_number : ℕ → List ℕ → Bool
 is_of_number b bs = is_ascii_digit b || b == 46 || b == 43 || b == 45 || to_ascii_lowercase b == 101 && not (begins_q bs)
 
@@ -58,6 +59,7 @@ abbrev pub literal_number : List ℕ → List ℕ → Result ℤ NumberFault →
 literal_number text rest (Ok value) = Some (operand.Number value text, rest)
 literal_number text rest (Err fault) = None
 
+-- the literal number with which some bytes begin
 unfoldable pub number_at : Reading Operand
 number_at bytes = literal_number (take (number_len bytes) bytes) (drop (number_len bytes) bytes) (reading (take (number_len bytes) bytes) NUMBER_LIMIT)
 
@@ -73,14 +75,16 @@ is_name bytes = nat_lt 0 (length bytes) && is_utf8 bytes
 abbrev pub item_named : List ℕ × List ℕ → Option (Operand × List ℕ)
 item_named p = if is_name p.0 then Some (operand.Item p.0, p.1) else None
 
+-- the item whose name and closing bracket stand here
 unfoldable pub item_at : Reading Operand
 item_at bytes = option_and_then item_named (split_before 93 bytes)
 
--- the name between `[` and `]`, where a text is no more than that
+-- the name before a `]`, where nothing stands after that
 abbrev pub name_within : List ℕ × List ℕ → Option (List ℕ)
 name_within (name, []) = if is_name name then Some name else None
 name_within (name, b ∷ bs) = None
 
+-- the name between `[` and `]`, where a text is no more than that
 unfoldable pub name_of : List ℕ → Option (List ℕ)
 name_of [] = None
 name_of (b ∷ bs) = if b == 91 then option_and_then name_within (split_before 93 bs) else None
@@ -90,9 +94,11 @@ abbrev pub quoted_as : List ℕ → Option (List ℕ) → Operand
 quoted_as text None = operand.Text text
 quoted_as text (Some name) = operand.ItemText name
 
+-- the operand that is the text before a quote, if it is UTF-8
 abbrev pub quoted_text : List ℕ × List ℕ → Option (Operand × List ℕ)
 quoted_text p = if is_utf8 p.0 then Some (quoted_as p.0 (name_of p.0), p.1) else None
 
+-- the quoted text whose bytes and closing quote stand here
 unfoldable pub quoted_at : ℕ → Reading Operand
 quoted_at quote bytes = option_and_then quoted_text (split_before quote bytes)
 
@@ -101,13 +107,15 @@ abbrev pub operand_from : Reading Operand
 operand_from [] = None
 operand_from (b ∷ bs) = if b == 91 then item_at bs else (if b == 34 || b == 39 then quoted_at b bs else number_at (b ∷ bs))
 
+-- the operand after spaces
 unfoldable pub operand_at : Reading Operand
 operand_at bytes = operand_from (after_spaces bytes)
 
--- the comparison of two bytes in small letters, and of one
+-- two bytes are these
 abbrev pub is_pair : ℕ → ℕ → ℕ → ℕ → Bool
 is_pair a b first second = a == first && b == second
 
+-- the comparison of two bytes in small letters
 unfoldable pub comparison_of_two : ℕ → ℕ → Option Comparison
 comparison_of_two a b =
     if is_pair a b 61 61 || is_pair a b 101 113 then Some comparison.Equal
@@ -119,20 +127,23 @@ comparison_of_two a b =
     else (if is_pair a b 61 42 then Some comparison.EqualIgnoringCase
     else (if is_pair a b 105 110 then Some comparison.In else None)))))))
 
+-- the comparison of one byte
 unfoldable pub comparison_of_one : ℕ → Option Comparison
 comparison_of_one a =
     if a == 61 then Some comparison.Equal else (if a == 60 then Some comparison.Less else (if a == 62 then Some comparison.Greater else None))
 
--- the comparison with which some bytes begin: of two bytes if it can be, else of one
+-- a comparison of two bytes if there is one, else that of the first
 abbrev pub or_of_one : ℕ → List ℕ → Option Comparison → List ℕ → Option (Comparison × List ℕ)
 or_of_one a bs (Some how) rest = Some (how, rest)
 or_of_one a bs None rest = option_map (λ how. (how, bs)) (comparison_of_one a)
 
+-- the comparison with which some bytes begin: of two bytes if it can be, else of one
 abbrev pub comparison_from : Reading Comparison
 comparison_from [] = None
 comparison_from (a ∷ []) = option_map (λ how. (how, [])) (comparison_of_one a)
 comparison_from (a ∷ b ∷ bs) = or_of_one a (b ∷ bs) (comparison_of_two (to_ascii_lowercase a) (to_ascii_lowercase b)) bs
 
+-- the comparison after spaces
 unfoldable pub comparison_at : Reading Comparison
 comparison_at bytes = comparison_from (after_spaces bytes)
 
@@ -177,12 +188,13 @@ joined_at how part = joined_by how (part_of how part)
 abbrev pub closed : Expr × List ℕ → Option (Expr × List ℕ)
 closed p = option_map (λ rest. (p.0, rest)) (after_spaced (codes ")") p.1)
 
--- a NOT, a bracket or a comparison, where this reads what is nested in them
+-- what stands after a NOT or after a bracket decides what is read, where this reads what is nested in them
 abbrev pub part_by : Reading Expr → Reading Expr → Option (List ℕ) → Option (List ℕ) → Reading Expr
 part_by negated within (Some rest) opened bytes = option_map (λ p. (expr.Not p.0, p.1)) (negated rest)
 part_by negated within None (Some rest) bytes = option_and_then closed (within rest)
 part_by negated within None None bytes = compare_at bytes
 
+-- a NOT, a bracket or a comparison
 abbrev pub part_with : Reading Expr → Reading Expr → Reading Expr
 part_with negated within bytes = part_by negated within (after_either (codes "NOT") (codes "!") bytes) (after_spaced (codes "(") bytes) bytes
 

@@ -52,16 +52,25 @@ const NOT: [&[u8]; 1] = [b"NOT"];
 // The words that may stand after a part.
 const AFTER_PART: [&[u8]; 5] = [b"OR", b"||", b"AND", b"&&", b")"];
 
-// The comparison of two operands that stands here, and what stands after it.
+// How many bytes are left where neither an operand, of which so many are, nor a NOT goes on.
+fn left_or_begun(left: usize, text: &[u8], room: usize) -> usize {
+    if room == 0 {
+        return left;
+    }
+    left.min(left_without(&NOT, text))
+}
+
+// The comparison of two operands that stands here, and what stands after it. Where there is room for a
+// NOT, one may be begun here in its place.
 #[tactic(auto, unfolding(crate::specs::Reading::compare_at))]
-fn compare_at(alloc: Global, text: &[u8]) -> Result<(Expr, &[u8]), Stop>
+fn compare_at(alloc: Global, text: &[u8], room: usize) -> Result<(Expr, &[u8]), Stop>
     ensures value { MatchResult result (λ r. compare_at text.now ≡ Some (r.0, r.1.now)) (IsStop (compare_at text.now)) }
     ensures shorter { IfOk result (λ r. length r.1.now < length text.now) }
 {
     let (left, after) = match operand_at(alloc, text) {
         Ok(found) => found,
         Err(Stop::Fault { left }) => {
-            let left = left.min(left_without(&NOT, text));
+            let left = left_or_begun(left, text, room);
             return Err(Stop::Fault { left });
         }
         Err(Stop::NoMemory) => return Err(Stop::NoMemory),
@@ -164,7 +173,7 @@ fn part_at(alloc: Global, text: &[u8], room: usize) -> Result<(Expr, &[u8]), Sto
         let (expr, rest) = joined_at(alloc, Joint::Or, rest, room - 1)?;
         return closed(expr, rest);
     }
-    compare_at(alloc, text)
+    compare_at(alloc, text, room)
 }
 
 // The tree of a text, if it is a Logic.

@@ -69,6 +69,14 @@ fn without_digits(text: &[u8]) -> &[u8] {
     text.get(digits..).unwrap_or(&[])
 }
 
+// How many bytes are left after the letter that may begin an `eq`, if it stands here.
+fn left_after_e(text: &[u8]) -> usize {
+    match text {
+        [b'e' | b'E', rest @ ..] => rest.len(),
+        _ => text.len(),
+    }
+}
+
 // How many bytes are left where a text that begins with no number ceases to look like one. Where a fault
 // is told is tested, not proved.
 fn left_after_number(text: &[u8]) -> usize {
@@ -84,7 +92,11 @@ fn left_after_number(text: &[u8]) -> usize {
         return rest.len();
     }
     if let [b'e' | b'E', power @ ..] = rest {
-        rest = without_digits(without_sign(power));
+        let unsigned = without_sign(power);
+        rest = without_digits(unsigned);
+        if rest.len() < unsigned.len() {
+            return left_after_e(rest);
+        }
     }
     rest.len()
 }

@@ -9,22 +9,22 @@ use geom::{Micro, NUMBER_LIMIT};
 use mapdefs::{Comparison, Expr, Operand, Rule, Text};
 use std::cmp::Ordering;
 
-// Whether two texts are alike without regard to case.
+// Whether two texts are alike without regard to case of ASCII letters.
 fn is_alike(a: &str, b: &str) -> bool
     ensures { result ≡ str_eq_ignore_ascii_case a.now b.now }
 {
     a.eq_ignore_ascii_case(b)
 }
 
-// The index of the first item of this name, without regard to case.
+// The index of the first item of this name, without regard to case of ASCII letters.
 fn item_index(names: &[Text], name: &str) -> Option<usize>
     ensures { result ≡ position (λ item. str_eq_ignore_ascii_case item name.now) names.now }
 {
     names.iter().position(|item| is_alike(item.as_str(), name))
 }
 
-/// The value of the item of this name, without regard to case, the first of equal names counting: the
-/// empty text where there is none.
+/// The value of the item of this name, without regard to case of ASCII letters, the first of equal names
+/// counting: the empty text where there is none.
 pub fn item_value<'a>(names: &[Text], values: &'a [Text], name: &str) -> &'a str
     ensures { result.now ≡ item_value names.now values.now name.now }
 {
@@ -178,13 +178,13 @@ fn is_among(texts: &[Text], value: &str) -> bool
 /// the value of the class item.
 ///
 /// It takes no memory, and goes as deep as the expression is nested.
-pub fn holds(rule: &Rule, names: &[Text], values: &[Text], classitem: &str) -> bool
-    ensures { result ≡ holds rule.now names.now values.now classitem.now }
+pub fn holds(rule: &Rule, names: &[Text], values: &[Text], class_value: &str) -> bool
+    ensures { result ≡ holds rule.now names.now values.now class_value.now }
 {
     match rule {
         Rule::Always => true,
-        Rule::Equals(text) => text.as_str() == classitem,
-        Rule::OneOf(texts) => is_among(texts.as_slice(), classitem),
+        Rule::Equals(text) => text.as_str() == class_value,
+        Rule::OneOf(texts) => is_among(texts.as_slice(), class_value),
         Rule::Logic(expr) => is_expr_true(names, values, expr),
     }
 }

@@ -68,7 +68,7 @@ closing-more : (x y from : DevicePoint) (rest : List DevicePoint) →
 closing-more x y from [] = refl
 closing-more x y from (to ∷ rest) = ap (λ more. record { from = from; to = to } ∷ more) (closing-more x y to rest)
 
--- an edge more behind others
+-- an edge more after others
 crossings-more : (p : DevicePoint) (edges : List EdgeEnds) (e : EdgeEnds) → crossings p (edges ++ e ∷ []) ≡ crossings p edges + share p e
 crossings-more p edges e = crossings-append p edges (e ∷ []) ∙ ap (λ n. crossings p edges + n) (crossings-cons p e [] ∙ alone (share p e))
   where

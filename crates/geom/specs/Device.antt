@@ -13,7 +13,7 @@ pub record PixelPlace : Type 0 where
   pub i : ℤ
   pub j : ℤ
 
--- both coordinates have the sizes of device points
+-- both numbers have the sizes of those of device points
 pub record IsDevicePoint (p : DevicePoint) : Type 0 where
   pub across : IsBelow (2 ^ 47) p.x
   pub down : IsBelow (2 ^ 47) p.y
@@ -23,7 +23,7 @@ pub record IsPixel (p : PixelPlace) : Type 0 where
   pub column : IsBelow (2 ^ 44) p.i
   pub row : IsBelow (2 ^ 44) p.j
 
--- the pixel that a device point lies in: a sixteenth of both coordinates, rounded down
+-- the pixel that a device point lies in: a sixteenth of both numbers, rounded down
 abbrev pub pixel_of : DevicePoint → PixelPlace
 pixel_of p = record { i = int_div_euclid p.x (pos 16); j = int_div_euclid p.y (pos 16) }
 

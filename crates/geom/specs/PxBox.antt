@@ -20,7 +20,7 @@ pub record HasPixel (area : PixelBoxValue) (column row : ℤ) : Type 0 where
 abbrev pub Meets : PixelBoxValue → PixelBoxValue → Type 0
 Meets a b = (column : ℤ) × (row : ℤ) × HasPixel a column row × HasPixel b column row
 
--- some position lies in both ranges, each from its start to before its end
+-- some column or row lies in both ranges, each from its start to before its end
 abbrev pub Overlap : ℤ → ℤ → ℤ → ℤ → Type 0
 Overlap start end other_start other_end =
     (z : ℤ) × (start ≤ℤ z) × (z <ℤ end) × (other_start ≤ℤ z) × (z <ℤ other_end)

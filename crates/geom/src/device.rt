@@ -4,7 +4,7 @@ ghost use Rattle.geom.specs.Range.{IsBelow};
 use std::marker::Model;
 
 /// A device point: a point of the picture, in sixteenths of a pixel from the upper left corner, to
-/// the right and down. Both coordinates have sizes below 2^47.
+/// the right and down. Both numbers have sizes below 2^47.
 #[derive(Clone, Copy)]
 pub struct Device {
     x: i64,

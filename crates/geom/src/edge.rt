@@ -105,7 +105,7 @@ impl Edge {
     }
 }
 
-// The difference of two coordinates.
+// The difference of two numbers of device points.
 fn difference(a: i64, b: i64) -> i128
     requires a { IsBelow (2 ^ 47) a }
     requires b { IsBelow (2 ^ 47) b }

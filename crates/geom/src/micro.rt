@@ -53,6 +53,7 @@ fn limited(limit: u64, is_negative: bool, size: u64) -> Result<Micro, NumberFaul
 
 impl Micro {
     ghost use Rattle.geom.specs.Decimal.{reading, whole_of};
+    ghost use Rattle.geom.specs.Number.{count_of};
 
     /// That many millionths.
     pub const fn new(millionths: i64) -> Self
@@ -92,5 +93,13 @@ impl Micro {
     {
         let size = nearest(u128::from(self.millionths.unsigned_abs()), 1_000_000);
         with_sign(self.millionths < 0, size)
+    }
+
+    /// The count that a decimal text means: its number, rounded to the nearest whole one, if it is within
+    /// `NUMBER_LIMIT`.
+    pub fn read_count(text: &[u8]) -> Option<i64>
+        ensures { result ≡ count_of text.now }
+    {
+        Some(Micro::read(text, NUMBER_LIMIT).ok()?.whole())
     }
 }

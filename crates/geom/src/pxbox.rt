@@ -96,14 +96,14 @@ impl PxBox {
     }
 }
 
-// Whether some position lies in both ranges, from a start to before an end.
+// Whether some column or row lies in both ranges, from a start to before an end.
 fn overlap(start: i64, end: i64, other_start: i64, other_end: i64) -> bool
     ensures { IsTrue result ↔ Overlap start end other_start other_end }
 {
     start.max(other_start) < end.min(other_end)
 }
 
-// Whether two positions lie on a side of the picture, its ends included.
+// Whether a box's first column or row and the one after its last lie on a side of the picture, ends included.
 fn is_within(start: i64, end: i64, side: PictureSide) -> bool
     ensures { IsTrue result ↔ (IsUpTo side start × IsUpTo side end) }
 {

@@ -2,7 +2,7 @@
 use Rattle.std.proofs.Common.{◌≡◌, ◌∙◌, ℕ, List, ◌++◌, Bool, true, false, not, refl, sym}
 use Rattle.std.specs.List.{list_all}
 use Rattle.std.proofs.lemmas.List.Folds.{list_all-append}
-use Rattle.httpedge.specs.Came.{is_newline}
+use Rattle.httpedge.specs.Received.{is_newline}
 use Rattle.httpedge.specs.Head.{HasNoHead}
 use Rattle.httpedge.proofs.Heads.{blank-headless}
 

@@ -9,7 +9,7 @@ use Rattle.std.proofs.Math.Seq.{take-append_seam, drop-append_seam}
 use Rattle.httparse.specs.Grammar.{RequestHead, LineEnd, crlf, lf, print_end, print_blank, print_version, print_field, print_section, print_request}
 use Rattle.httparse.specs.Spans.{RequestOverflows}
 use Rattle.httparse.proofs.GrammarLemmas.{ReadsRequest-append, print_request-append, request_unique}
-use Rattle.httpedge.specs.Came.{is_line_feed, is_newline}
+use Rattle.httpedge.specs.Received.{is_line_feed, is_newline}
 use Rattle.httpedge.specs.Head.{HasHead, HasNoHead}
 use Rattle.httpedge.specs.Meaning.{Meaning, Refused, IsMeaning, AlwaysMeans, head_meaning}
 use Rattle.httpedge.specs.declared.refusal.Refusal.TheVariants.{BadRequest}

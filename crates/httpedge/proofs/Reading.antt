@@ -33,7 +33,7 @@ asked-so bytes (Decided (Refused refusal)) s comes e is = absurd (cc)
 asked-so bytes (Decided (Asks query)) s comes e is = (comes, refl)
 
 -- and where the stream is refused
-pub refused-so : (bytes : List ℕ) (new : Progress) (s : Step) (refusal : Refusal) → Comes bytes new → s ≡ step_of new → s ≡ step.Http refusal → AlwaysMeans bytes (Refused refusal)
+pub refused-so : (bytes : List ℕ) (new : Progress) (s : Step) (refusal : Refusal) → Comes bytes new → s ≡ step_of new → s ≡ step.Refused refusal → AlwaysMeans bytes (Refused refusal)
 refused-so bytes (Open others) s refusal comes e is = absurd (cc)
 refused-so bytes (Decided Nothing) s refusal comes e is = absurd (cc)
 refused-so bytes (Decided (Refused other)) s refusal comes e is = let same : other ≡ refusal = cc in subst (λ (r : Refusal). AlwaysMeans bytes (Refused r)) same comes

@@ -8,7 +8,7 @@ use Rattle.httpedge.specs.Head.{HasNoHead}
 use Rattle.httpedge.specs.Meaning.{Meaning, Refused, Asks, AlwaysMeans}
 use Rattle.httpedge.specs.Verdict.{IsVerdict}
 use Rattle.httpedge.specs.declared.verdict.Verdict.{Verdict}
-use Rattle.httpedge.specs.declared.verdict.Verdict.TheVariants.{Open, Ask, Http}
+use Rattle.httpedge.specs.declared.verdict.Verdict.TheVariants as verdict
 use Rattle.httpedge.proofs.Heads.{always-more}
 
 -- below the limit the piece was taken whole
@@ -32,23 +32,23 @@ always old piece front new count meaning cut e means =
 -- what the bytes decide with the front of the piece, all that came decides
 pub taken : (old piece front new : List ℕ) (count : ℕ) (v : Verdict) → length old < 16384 → count ≡ min (length piece) (16384 - length old) →
     front ≡ take count piece → new ≡ old ++ front → IsVerdict new v → Comes (old ++ piece) (progress new v)
-taken old piece front new count Open room is cut e decides =
+taken old piece front new count verdict.Open room is cut e decides =
     let all = whole old piece front new count room is cut e decides.1 in
     (all, subst HasNoHead all decides.0, omega (arith, ap length all, decides.1))
-taken old piece front new count (Ask query) room is cut e decides = always old piece front new count (Asks (span_bytes new query)) cut e decides.1
-taken old piece front new count (Http refusal) room is cut e decides = always old piece front new count (Refused refusal) cut e decides
+taken old piece front new count (verdict.Ask query) room is cut e decides = always old piece front new count (Asks (span_bytes new query)) cut e decides.1
+taken old piece front new count (verdict.Refused refusal) room is cut e decides = always old piece front new count (Refused refusal) cut e decides
 
-pub open-headless : (bytes : List ℕ) (v : Verdict) → IsVerdict bytes v → v ≡ Open → HasNoHead bytes
-open-headless bytes Open decides e = decides.0
-open-headless bytes (Ask query) decides e = absurd (cc)
-open-headless bytes (Http refusal) decides e = absurd (cc)
+pub open-headless : (bytes : List ℕ) (v : Verdict) → IsVerdict bytes v → v ≡ verdict.Open → HasNoHead bytes
+open-headless bytes verdict.Open decides e = decides.0
+open-headless bytes (verdict.Ask query) decides e = absurd (cc)
+open-headless bytes (verdict.Refused refusal) decides e = absurd (cc)
 
-pub open-below : (bytes : List ℕ) (v : Verdict) → IsVerdict bytes v → v ≡ Open → length bytes < 16384
-open-below bytes Open decides e = decides.1
-open-below bytes (Ask query) decides e = absurd (cc)
-open-below bytes (Http refusal) decides e = absurd (cc)
+pub open-below : (bytes : List ℕ) (v : Verdict) → IsVerdict bytes v → v ≡ verdict.Open → length bytes < 16384
+open-below bytes verdict.Open decides e = decides.1
+open-below bytes (verdict.Ask query) decides e = absurd (cc)
+open-below bytes (verdict.Refused refusal) decides e = absurd (cc)
 
-pub query-within : (bytes : List ℕ) (v : Verdict) → IsVerdict bytes v → (span : Span) → v ≡ Ask span → IsWithin (length bytes) span
-query-within bytes Open decides span e = absurd (cc)
-query-within bytes (Ask query) decides span e = let same : query ≡ span = cc in subst (IsWithin (length bytes)) same decides.0
-query-within bytes (Http refusal) decides span e = absurd (cc)
+pub query-within : (bytes : List ℕ) (v : Verdict) → IsVerdict bytes v → (span : Span) → v ≡ verdict.Ask span → IsWithin (length bytes) span
+query-within bytes verdict.Open decides span e = absurd (cc)
+query-within bytes (verdict.Ask query) decides span e = let same : query ≡ span = cc in subst (IsWithin (length bytes)) same decides.0
+query-within bytes (verdict.Refused refusal) decides span e = absurd (cc)

@@ -19,7 +19,7 @@ pub data Progress : Type 0 where
 abbrev pub progress : List ℕ → Verdict → Progress
 progress bytes verdict.Open = Open bytes
 progress bytes (verdict.Ask query) = Decided (Asks (span_bytes bytes query))
-progress bytes (verdict.Http refusal) = Decided (Refused refusal)
+progress bytes (verdict.Refused refusal) = Decided (Refused refusal)
 
 -- these bytes came: they have no head yet and may get one, or they decide for each continuation
 abbrev pub Comes : List ℕ → Progress → Type 0
@@ -48,13 +48,13 @@ Ends (Decided decided) meaning new = (meaning ≡ decided) × (new ≡ Decided d
 abbrev pub step_of : Progress → Step
 step_of (Open came) = step.More
 step_of (Decided Nothing) = step.More
-step_of (Decided (Refused refusal)) = step.Http refusal
+step_of (Decided (Refused refusal)) = step.Refused refusal
 step_of (Decided (Asks query)) = step.Ask
 
 -- what an end is answered with
 abbrev pub end_of : Meaning → End
 end_of Nothing = end.Nothing
-end_of (Refused refusal) = end.Http refusal
+end_of (Refused refusal) = end.Refused refusal
 end_of (Asks query) = end.Ask
 
 -- the query that was asked
@@ -70,5 +70,5 @@ is_asked _ = false
 -- the meaning that an end and the query tell
 abbrev pub meaning_of : End → List ℕ → Meaning
 meaning_of end.Nothing query = Nothing
-meaning_of (end.Http refusal) query = Refused refusal
+meaning_of (end.Refused refusal) query = Refused refusal
 meaning_of end.Ask query = Asks query

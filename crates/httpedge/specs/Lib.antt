@@ -1,8 +1,8 @@
 pub mod Asking
-pub mod Came
 pub mod Connection
 pub mod Exchange
 pub mod Head
 pub mod Meaning
+pub mod Received
 pub mod Response
 pub mod Verdict

@@ -2,7 +2,7 @@ ghost use Rattle.std.specs.Prelude.{◌≡◌, IfOk, [], true};
 ghost use Rattle.httpedge.specs.Connection.{Progress, Open, Feeds, Ends, step_of, end_of, query_of, is_asked};
 ghost use Rattle.httpedge.specs.Meaning.{Meaning};
 
-use crate::came::Came;
+use crate::received::Received;
 use crate::verdict::Verdict;
 use crate::{End, Step};
 use std::alloc::{AllocError, Global};
@@ -11,18 +11,18 @@ use std::marker::Model;
 /// A connection: the bytes of its stream that came, and what they decide.
 #[derive(Drop)]
 pub struct Conn {
-    came: Came,
+    received: Received,
 }
 
 impl Model for Conn {
     ghost use Rattle.httpedge.specs.Connection.{Progress, progress};
-    ghost use Rattle.httpedge.specs.Came.{IsCame};
+    ghost use Rattle.httpedge.specs.Received.{IsReceived};
 
     ghost Value = { Progress };
 
-    ghost view = { λ conn. progress conn.came.bytes.items conn.came.verdict };
+    ghost view = { λ conn. progress conn.received.bytes.items conn.received.verdict };
 
-    ghost invariant = { λ conn. IsCame conn.came };
+    ghost invariant = { λ conn. IsReceived conn.received };
 }
 
 impl Conn {
@@ -31,7 +31,7 @@ impl Conn {
         ensures { IfOk result (λ conn. conn ≡ Open []) }
     {
         Ok(Conn {
-            came: Came::new(alloc)?,
+            received: Received::new(alloc)?,
         })
     }
 
@@ -41,7 +41,7 @@ impl Conn {
         ensures step { result ≡ step_of self.new }
         ensures asked { result ≡ Step.Ask → is_asked self.new ≡ true }
     {
-        self.came.feed(piece)
+        self.received.feed(piece)
     }
 
     /// Takes the end of the stream. Once something is decided it says so again.
@@ -49,7 +49,7 @@ impl Conn {
         ensures ends { (meaning : Meaning) × Ends self.old meaning self.new × (result ≡ end_of meaning) }
         ensures asked { result ≡ End.Ask → is_asked self.new ≡ true }
     {
-        self.came.end()
+        self.received.end()
     }
 
     /// The query that was asked.
@@ -57,8 +57,8 @@ impl Conn {
         requires asked { is_asked self.now ≡ true }
         ensures { result.now ≡ query_of self.now }
     {
-        match self.came.verdict {
-            Verdict::Ask(query) => query.of(&self.came.bytes),
+        match self.received.verdict {
+            Verdict::Ask(query) => query.of(&self.received.bytes),
             _ => unreachable!(),
         }
     }

@@ -47,7 +47,7 @@ fn read_request<R: Source>(conn: &mut Conn, reader: &mut R) -> Result<End, TakeF
         match conn.feed(piece) {
             Step::More => {}
             Step::Ask => return Ok(End::Ask),
-            Step::Http(refusal) => return Ok(End::Http(refusal)),
+            Step::Refused(refusal) => return Ok(End::Refused(refusal)),
         }
     }
 }
@@ -70,7 +70,7 @@ fn outcome<A: Asks>(conn: &Conn, end: End, asks: &mut A) -> Option<Outcome>
     match end {
         End::Nothing => None,
         End::Ask => Some(ask(asks, conn.query())),
-        End::Http(refusal) => Some(Outcome::Refused(refusal)),
+        End::Refused(refusal) => Some(Outcome::Refused(refusal)),
     }
 }
 

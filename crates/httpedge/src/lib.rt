@@ -12,11 +12,11 @@
 #![tactic(auto)]
 
 mod asks;
-mod came;
 mod conn;
 mod edge;
 pub mod laws;
 mod outcome;
+mod received;
 mod refusal;
 mod response;
 mod step;

@@ -8,7 +8,7 @@ pub enum Step {
     /// A query is asked, which `Conn::query` has.
     Ask,
     /// The stream is refused.
-    Http(Refusal),
+    Refused(Refusal),
 }
 
 /// What the end of a stream leads to.
@@ -19,5 +19,5 @@ pub enum End {
     /// A query is asked, which `Conn::query` has.
     Ask,
     /// The stream is refused.
-    Http(Refusal),
+    Refused(Refusal),
 }

@@ -24,7 +24,7 @@ pub enum Verdict {
     /// A query is asked, which stands there.
     Ask(Span),
     /// The stream is refused.
-    Http(Refusal),
+    Refused(Refusal),
 }
 
 // How many bytes stand before the first question mark.
@@ -50,7 +50,7 @@ fn judge_target(bytes: &[u8], target: Span) -> Verdict
     let text = target.of(bytes);
     let (path, _) = text.split_at(path_len(text));
     if !is_served(path) {
-        return Verdict::Http(Refusal::NotFound);
+        return Verdict::Refused(Refusal::NotFound);
     }
     Verdict::Ask(Span {
         start: (target.start + path.len() + 1).min(target.end),
@@ -70,11 +70,11 @@ fn judge_head(bytes: &[u8]) -> Verdict
             if head.method.of(bytes) == b"GET".as_slice() {
                 judge_target(bytes, head.path)
             } else {
-                Verdict::Http(Refusal::MethodNotAllowed)
+                Verdict::Refused(Refusal::MethodNotAllowed)
             }
         }
         Ok(Status::Partial) => Verdict::Open,
-        Err(_) => Verdict::Http(Refusal::BadRequest),
+        Err(_) => Verdict::Refused(Refusal::BadRequest),
     }
 }
 
@@ -85,7 +85,7 @@ fn judge_headless(bytes: &[u8]) -> Verdict
     ensures { IsVerdict bytes.now result }
 {
     if bytes.len() == HEAD_BYTES {
-        Verdict::Http(Refusal::BadRequest)
+        Verdict::Refused(Refusal::BadRequest)
     } else {
         Verdict::Open
     }

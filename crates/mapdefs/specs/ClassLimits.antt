@@ -12,12 +12,14 @@ pub record IsExprWithinLimits (e : Expr) : Type 0 where
   pub nested : nesting e < MAX_NESTING
   pub parts : 2 ≤ fewest_parts e
 
+-- a rule that is an expression is one within the limits; the other rules have none
 abbrev pub IsRuleWithinLimits : Rule → Type 0
 IsRuleWithinLimits Always = Unit {0}
 IsRuleWithinLimits (Equals text) = Unit {0}
 IsRuleWithinLimits (OneOf texts) = Unit {0}
 IsRuleWithinLimits (Logic e) = IsExprWithinLimits e
 
+-- there are not too many styles, and the rule is within its limits
 pub record IsClassWithinLimits (c : ClassFields) : Type 0 where
   pub styles : length c.styles ≤ MAX_STYLES
   pub rule : ∥ IsRuleWithinLimits c.rule ∥₁

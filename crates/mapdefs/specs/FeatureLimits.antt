@@ -7,5 +7,6 @@ use Rattle.mapdefs.specs.declared.limits.TheConstants.{MAX_VERTICES}
 abbrev pub vertex_count : FeatureFields → ℕ
 vertex_count f = sum_by length f.parts
 
+-- there are not too many vertices
 pub record IsFeatureWithinLimits (f : FeatureFields) : Type 0 where
   pub vertices : vertex_count f ≤ MAX_VERTICES

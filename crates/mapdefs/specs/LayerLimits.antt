@@ -1,4 +1,4 @@
--- What a layer may hold (docs/MAPFILE.md, "Limits").
+-- What a layer may hold (docs/MAPFILE.md, "Blocks and words", "Keys and values" and "Limits").
 use Rattle.std.specs.Prelude.{◌≡◌, ℕ, ◌≤◌, length, All}
 use Rattle.mapdefs.specs.declared.layer.LayerFields.{LayerFields}
 use Rattle.mapdefs.specs.declared.feature.FeatureFields.{FeatureFields}
@@ -8,6 +8,7 @@ use Rattle.mapdefs.specs.declared.limits.TheConstants.{MAX_ITEMS, MAX_CLASSES, M
 abbrev pub HasValues : ℕ → FeatureFields → Type 0
 HasValues count feature = length feature.values ≡ count
 
+-- there are not too many items, classes and features, the tolerance is not too great, and each feature has a value per item
 pub record IsLayerWithinLimits (l : LayerFields) : Type 0 where
   pub item_count : length l.items ≤ MAX_ITEMS
   pub class_count : length l.classes ≤ MAX_CLASSES

@@ -1,4 +1,4 @@
--- What a map may hold (docs/MAPFILE.md, "Limits").
+-- What a map may hold (docs/MAPFILE.md, "Values", "Symbols" and "Limits").
 use Rattle.std.specs.Prelude.{ℕ, ◌<◌, ◌≤◌, length, All, IfSome}
 use Rattle.geom.specs.World.{IsExtent}
 use Rattle.mapdefs.specs.declared.map.MapFields.{MapFields}
@@ -19,6 +19,7 @@ ClassNamesSymbolsOf count class = All (NamesSymbolOf count) class.styles
 abbrev pub LayerNamesSymbolsOf : ℕ → LayerFields → Type 0
 LayerNamesSymbolsOf count layer = All (ClassNamesSymbolsOf count) layer.classes
 
+-- the extent has an area, there are not too many symbols and layers, and each symbol that a style names is there
 pub record IsMapWithinLimits (m : MapFields) : Type 0 where
   pub extent : IsExtent m.extent
   pub symbol_count : length m.symbols ≤ MAX_SYMBOLS

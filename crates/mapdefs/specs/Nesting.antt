@@ -39,16 +39,19 @@ abbrev mutual
 
 -- The fewest parts that an OR or an AND has anywhere in an expression, up to two.
 abbrev mutual
+  -- of an expression, its own parts among them
   pub fewest_parts : Expr → ℕ
   fewest_parts (Or' shape parts) = min (part_count parts) (fewest_parts_among parts)
   fewest_parts (And' shape parts) = min (part_count parts) (fewest_parts_among parts)
   fewest_parts (Not' shape parts) = fewest_parts_among parts
   fewest_parts (Compare comparison left right) = 2
 
+  -- the least among some parts
   pub fewest_parts_among : {shape : _} → Row_of-Expr shape → ℕ
   fewest_parts_among end_of-Expr = 2
   fewest_parts_among (more_of-Expr part rest) = min (fewest_parts part) (fewest_parts_among rest)
 
+  -- how many parts there are
   pub part_count : {shape : _} → Row_of-Expr shape → ℕ
   part_count end_of-Expr = 0
   part_count (more_of-Expr part rest) = 1 + part_count rest

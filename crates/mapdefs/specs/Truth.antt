@@ -16,7 +16,7 @@ use Rattle.mapdefs.specs.declared.expr.Operand.{Operand}
 use Rattle.mapdefs.specs.declared.expr.Operand.TheVariants as operand
 use Rattle.mapdefs.specs.declared.expr.Expr.{Expr, Or', And', Not', Compare, Row_of-Expr, end_of-Expr, more_of-Expr}
 
--- the value of the item of this name, read without case, or the empty text where there is none
+-- the value of the first item of this name, without regard to case of ASCII letters, or the empty text where there is none
 abbrev pub item_value : List (List ℕ) → List (List ℕ) → List ℕ → List ℕ
 item_value items values name =
     option_map_or (λ index. unwrap_or (slice_get values index) []) (position (λ item. str_eq_ignore_ascii_case item name) items) []
@@ -54,7 +54,7 @@ abbrev pub is_true_of_numbers : Comparison → Option ℤ → Option ℤ → Boo
 is_true_of_numbers how (Some a) (Some b) = accepts how (int_cmp a b)
 is_true_of_numbers how _ _ = false
 
--- of two texts: by their order byte by byte, without case, or as one of the right one's parts between commas
+-- of two texts: by their order byte by byte, without regard to case of ASCII letters, or as one of the right one's parts between commas
 abbrev pub is_true_of_texts : Comparison → List ℕ → List ℕ → Bool
 is_true_of_texts comparison.EqualIgnoringCase a b = str_eq_ignore_ascii_case a b
 is_true_of_texts comparison.In a b = list_any (λ part. is_same_name part a) (slice_split (λ c. c == 44) b)

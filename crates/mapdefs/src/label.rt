@@ -21,7 +21,9 @@ pub enum Position {
 pub struct LabelFields {
     /// The colour of the glyphs; without one they leave no ink.
     pub colour: Option<Rgb>,
+    /// The colour round them; without one they have no outline.
     pub outline: Option<Rgb>,
+    /// Labels of higher priority go first.
     pub priority: u8,
     pub position: Position,
     /// How far the text's box is widened on each side, in pixels.

@@ -9,7 +9,8 @@ pub enum Kind {
     Polygon,
 }
 
-/// What a layer says. `min` and `max` bound the scale denominator at which it is visible.
+/// What a layer says. `min` and `max` bound the scale denominator at which it is visible, in millionths:
+/// the first is included, the second is not, and a `max` of 0 or less is none.
 #[derive(Drop)]
 pub struct LayerFields {
     pub name: Text,

@@ -21,7 +21,7 @@ use Rattle.mapwords.specs.declared.fault.ParseKind.TheVariants.{UnknownWord}
 use Rattle.mapwords.specs.declared.fault.ParseFault.{ParseFault}
 use Rattle.mapwords.specs.declared.fault.ParseFault.TheVariants.{At}
 use Rattle.maptree.specs.Answer.{moved, goes_on}
-use Rattle.mapfaults.specs.Explained.{Standing, IsOpenAfter, IsAt, IsStop, IsWalked, IsFinding, begun, standing, stepped, stepped_in, walked}
+use Rattle.mapfaults.specs.Explained.{Standing, IsOpenAfter, IsAt, IsRefusal, IsStop, IsWalked, IsFinding, begun, fault_in, standing, stepped, stepped_in, walked}
 use Rattle.mapwords.specs.Fault.{and_then, missing, lexical, fault_of}
 use Rattle.mapwords.specs.Keyword.{is_at}
 use Rattle.mapfaults.specs.Opening.{OpeningValue, opened}
@@ -32,10 +32,6 @@ use Rattle.maptree.proofs.OnePass.{same-meaning}
 
 abbrev contexts : List OpeningValue → List Context
 contexts openings = map (λ (o : OpeningValue). o.context) openings
-
--- the fault that is told
-abbrev pub fault_in : Explained → Fault
-fault_in e = record { line = e.line; kind = e.kind }
 
 -- what is open moves as the contexts do
 opened-contexts : (move : Move) (t : TokenValue) (o : OpeningValue) (outer : List OpeningValue) → contexts (opened move t o outer) ≡ moved move o.context (contexts outer)
@@ -72,19 +68,31 @@ module _ (t : TokenValue) (ts : List TokenValue) (tail : Tail) (d : Drafts) wher
   taken-in [] s p = let no : ⊥ = cc in absurd no
   taken-in (o ∷ outer) s p = taken-step o outer s (read_token o.context d t) refl p
 
+-- a token that is taken, and then others
+walked-on : (s next end : Standing) (t : TokenValue) (front : List TokenValue) → stepped s t ≡ Ok next → walked next front ≡ Ok end →
+    walked s (t ∷ front) ≡ Ok end
+unfolding walked
+walked-on s next end t front step p = rw step p
+
 after-back : (s next : Standing) (t : TokenValue) (front : List TokenValue) (openings : List OpeningValue) → stepped s t ≡ Ok next →
     IsOpenAfter next front openings → IsOpenAfter s (t ∷ front) openings
-unfolding walked
-after-back s next t front openings step p = record { drafts = p.drafts; read = rw step p.read }
+after-back s next t front openings step p = record {
+  drafts = p.drafts;
+  no_fault = walked-on s next (standing openings p.drafts) t front step p.no_fault;
+}
 
-place-back : (s next : Standing) (t : TokenValue) (ts : List TokenValue) (openings : List OpeningValue) (token : Option TokenValue) → stepped s t ≡ Ok next →
-    IsAt next ts openings token → IsAt s (t ∷ ts) openings token
-place-back s next t ts openings None step p = after-back s next t ts openings step p
-place-back s next t ts openings (Some found) step p = record {
-  front = t ∷ p.front;
-  rest = p.rest;
+place-back : (s next : Standing) (t : TokenValue) (ts : List TokenValue) (fault : Fault) (openings : List OpeningValue) (token : Option TokenValue) → stepped s t ≡ Ok next →
+    IsAt next ts fault openings token → IsAt s (t ∷ ts) fault openings token
+place-back s next t ts fault openings None step p = after-back s next t ts openings step p
+place-back s next t ts fault openings (Some found) step p = record {
+  before = t ∷ p.before;
+  after = p.after;
   cut = ap (λ us. t ∷ us) p.cut;
-  open_there = after-back s next t p.front openings step p.open_there;
+  open_before = record {
+    drafts = p.open_before.drafts;
+    no_fault = walked-on s next (standing openings p.open_before.drafts) t p.before step p.open_before.no_fault;
+  };
+  is_refused = p.is_refused;
 }
 
 -- what is found after a token that is taken is found before it
@@ -92,20 +100,30 @@ pub walked-back : (s next : Standing) (t : TokenValue) (left : Lexed) (f : Findi
 walked-back s next t left finding.Sound step p = (p.0, taken-in t left.tokens left.tail s.drafts s.openings next step ∙ p.1)
 walked-back s next t left (finding.Faulty e) step p = record {
   fault = taken-in t left.tokens left.tail s.drafts s.openings next step ∙ p.fault;
-  place = place-back s next t left.tokens e.openings e.token step p.place;
+  place = place-back s next t left.tokens (fault_in e) e.openings e.token step p.place;
 }
 walked-back s next t left finding.NoMemory step p = tt
 
-open-here : (s : Standing) (openings : List OpeningValue) → openings ≡ s.openings → IsOpenAfter s [] openings
+-- no token was read yet
+walked-none : (s : Standing) (openings : List OpeningValue) → openings ≡ s.openings → walked s [] ≡ Ok (standing openings s.drafts)
 unfolding walked
-open-here s openings same = record { drafts = s.drafts; read = rw same refl }
+walked-none s openings same = rw same refl
+
+open-here : (s : Standing) (openings : List OpeningValue) → openings ≡ s.openings → IsOpenAfter s [] openings
+open-here s openings same = record { drafts = s.drafts; no_fault = walked-none s openings same }
 
 -- at a token that is refused its fault is found
-pub stopped-here : (s : Standing) (t : TokenValue) (left : Lexed) (e : Explained) → stepped s t ≡ Err (record { line = e.line; kind = e.kind }) →
-    e.openings ≡ s.openings → e.token ≡ Some t → IsWalked s (with_token t left) (finding.Faulty e)
-stopped-here s t left e refuses same token = record {
-  fault = refused-in t left.tokens left.tail s.drafts s.openings (record { line = e.line; kind = e.kind }) refuses;
-  place = rw token (record { front = []; rest = left.tokens; cut = refl; open_there = open-here s e.openings same });
+pub stopped-here : (s : Standing) (t : TokenValue) (left : Lexed) (e : Explained) → IsRefusal s t e.openings (fault_in e) → e.token ≡ Some t →
+    IsWalked s (with_token t left) (finding.Faulty e)
+stopped-here s t left e stop token = record {
+  fault = refused-in t left.tokens left.tail s.drafts s.openings (fault_in e) stop.is_refused;
+  place = rw token (record {
+    before = [];
+    after = left.tokens;
+    cut = refl;
+    open_before = record { drafts = s.drafts; no_fault = walked-none s e.openings stop.still_open };
+    is_refused = subst (λ openings. stepped_in openings s.drafts t ≡ Err (fault_in e)) (sym stop.still_open) stop.is_refused;
+  });
 }
 
 pub stopped-by : (s : Standing) (t : TokenValue) (left : Lexed) (e : Explained) (line : ℕ) (kind : ParseKind) (openings : List OpeningValue) (error : ParseFault) →
@@ -113,7 +131,7 @@ pub stopped-by : (s : Standing) (t : TokenValue) (left : Lexed) (e : Explained) 
     IsWalked s (with_token t left) (finding.Faulty e)
 stopped-by s t left e line kind openings error at stop is_line is_kind is_open token =
     let known = subst (IsStop s t openings) at stop in
-    stopped-here s t left e (rw (is_line, is_kind) known.0) (is_open ∙ known.1) token
+    stopped-here s t left e (record { is_refused = rw (is_line, is_kind) known.is_refused; still_open = is_open ∙ known.still_open }) token
 
 -- after the END of MAP the source may end
 pub sound-here : (s : Standing) (line end : ℕ) → (length s.openings == 0) ≡ true → IsWalked s (stopped line (Ends end)) finding.Sound
@@ -157,12 +175,12 @@ pub before-map : (t : TokenValue) (left : Lexed) (e : Explained) → is_at keywo
     e.openings ≡ [] → e.token ≡ Some t → IsFinding (with_token t left) (finding.Faulty e)
 before-map t left e is fault none token = record {
   fault = sym (same-meaning (t ∷ left.tokens) left.tail) ∙ rw (is, fault) refl;
-  place = rw (is, token, none) (refl, (left.tokens, refl));
+  place = rw (is, token, none) (record { after = left.tokens; is_first = refl; is_not_map = is; nothing_open = refl });
 }
 
 pub without-map : (line : ℕ) (tail : Tail) (e : Explained) → fault_in e ≡ missing tail →
     e.openings ≡ [] → e.token ≡ None → IsFinding (stopped line tail) (finding.Faulty e)
 without-map line tail e fault none token = record {
   fault = sym (same-meaning [] tail) ∙ rw fault refl;
-  place = rw (token, none) (refl, refl);
+  place = rw (token, none) (record { no_token = refl; nothing_open = refl });
 }

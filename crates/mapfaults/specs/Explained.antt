@@ -1,4 +1,4 @@
--- Where the first fault of a mapfile stands (docs/MAPFILE.md, "Faults").
+-- Where the first fault of a mapfile stands (docs/MAPFILE.md, "Faults in words").
 use Rattle.std.specs.Prelude.{◌≡◌, Bool, true, false, List, [], ◌∷◌, ◌++◌, map, Option, None, Some, Result, Ok, Err}
 use Rattle.maplex.specs.Lexed.{Lexed}
 use Rattle.maplex.specs.Token.{TokenValue}
@@ -27,6 +27,7 @@ pub record Standing : Type 0 where
   pub openings : List OpeningValue
   pub drafts : Drafts
 
+-- these are open, and this was read of the open blocks
 abbrev pub standing : List OpeningValue → Drafts → Standing
 standing openings drafts = record { openings = openings; drafts = drafts }
 
@@ -40,6 +41,7 @@ stepped_in [] d t = refused UnknownWord t
 stepped_in (o ∷ outer) d t =
     and_then (read_token o.context d t) (λ step. Ok (record { openings = opened step.0 t o outer; drafts = step.1 }))
 
+-- a token is read after others
 abbrev pub stepped : Standing → TokenValue → Result Standing Fault
 stepped s t = stepped_in s.openings s.drafts t
 
@@ -51,23 +53,29 @@ walked s (t ∷ ts) = and_then (stepped s t) (λ next. walked next ts)
 -- these are open after some tokens that are read without a fault
 pub record IsOpenAfter (s : Standing) (front : List TokenValue) (openings : List OpeningValue) : Type 0 where
   pub drafts : Drafts
-  pub read : walked s front ≡ Ok (record { openings = openings; drafts = drafts })
+  pub no_fault : walked s front ≡ Ok (standing openings drafts)
 
--- the fault is found at a token, before which these are open, or after the last token
-pub record IsFoundAt (s : Standing) (tokens : List TokenValue) (openings : List OpeningValue) (found : TokenValue) : Type 0 where
-  pub front : List TokenValue
-  pub rest : List TokenValue
-  pub cut : tokens ≡ front ++ (found ∷ rest)
-  pub open_there : IsOpenAfter s front openings
+-- the tokens before this one are read without a fault, these are open then, and this one is refused with the fault
+pub record IsFoundAt (s : Standing) (tokens : List TokenValue) (fault : Fault) (openings : List OpeningValue) (found : TokenValue) : Type 0 where
+  pub before : List TokenValue
+  pub after : List TokenValue
+  pub cut : tokens ≡ before ++ (found ∷ after)
+  pub open_before : IsOpenAfter s before openings
+  pub is_refused : stepped_in openings open_before.drafts found ≡ Err fault
 
-abbrev pub IsAt : Standing → List TokenValue → List OpeningValue → Option TokenValue → Type 0
-IsAt s tokens openings None = IsOpenAfter s tokens openings
-IsAt s tokens openings (Some found) = IsFoundAt s tokens openings found
+-- the fault is found at a token, or after the last one
+abbrev pub IsAt : Standing → List TokenValue → Fault → List OpeningValue → Option TokenValue → Type 0
+IsAt s tokens fault openings None = IsOpenAfter s tokens openings
+IsAt s tokens fault openings (Some found) = IsFoundAt s tokens fault openings found
+
+-- the fault that is told
+abbrev pub fault_in : Explained → Fault
+fault_in e = record { line = e.line; kind = e.kind }
 
 -- what is left to be read has this fault, and there it is found
 pub record HasFault (reading : Result MapTree Fault) (s : Standing) (tokens : List TokenValue) (e : Explained) : Type 0 where
-  pub fault : reading ≡ Err (record { line = e.line; kind = e.kind })
-  pub place : IsAt s tokens e.openings e.token
+  pub fault : reading ≡ Err (fault_in e)
+  pub place : IsAt s tokens (fault_in e) e.openings e.token
 
 -- what is left to be read is found to have no fault, or its first one
 abbrev pub IsFoundIn : Result MapTree Fault → Standing → List TokenValue → Finding → Type 0
@@ -79,32 +87,51 @@ IsFoundIn reading s tokens finding.NoMemory = Unit {0}
 abbrev pub read_on : Standing → Lexed → Result MapTree Fault
 read_on s left = goes_on left.tail (map (λ (o : OpeningValue). o.context) s.openings) (Ok (s.drafts, left.tokens))
 
+-- this is found where the tokens that are left are read on
 abbrev pub IsWalked : Standing → Lexed → Finding → Type 0
 IsWalked s left f = IsFoundIn (read_on s left) s left.tokens f
 
--- why a token is not read: its fault, with what was open before it, or memory was refused
+-- a token is refused with this fault, and leaves open what was open
+pub record IsRefusal (s : Standing) (t : TokenValue) (openings : List OpeningValue) (fault : Fault) : Type 0 where
+  pub is_refused : stepped s t ≡ Err fault
+  pub still_open : openings ≡ s.openings
+
+-- why a token is not read: it is refused, or memory was refused
 abbrev pub IsStop : Standing → TokenValue → List OpeningValue → ParseFault → Type 0
-IsStop s t openings (At line kind) = (stepped s t ≡ Err (record { line = line; kind = kind })) × (openings ≡ s.openings)
+IsStop s t openings (At line kind) = IsRefusal s t openings (record { line = line; kind = kind })
 IsStop s t openings NoMemory = Unit {0}
 
--- before MAP there is no block: the fault is found at the first token, or the mapfile has none
-abbrev pub IsBeforeMap : List TokenValue → List OpeningValue → Option TokenValue → Type 0
-IsBeforeMap tokens openings None = (tokens ≡ []) × (openings ≡ [])
-IsBeforeMap tokens openings (Some found) = (openings ≡ []) × ((rest : List TokenValue) × (tokens ≡ found ∷ rest))
+-- a mapfile has no token, and nothing is open
+pub record HasNoToken (tokens : List TokenValue) (openings : List OpeningValue) : Type 0 where
+  pub no_token : tokens ≡ []
+  pub nothing_open : openings ≡ []
 
--- where the first fault of a mapfile is found: after MAP, or before it
-abbrev pub IsPlacedBy : Bool → TokenValue → List TokenValue → List OpeningValue → Option TokenValue → Type 0
-IsPlacedBy true t ts openings token = IsAt (begun t) ts openings token
-IsPlacedBy false t ts openings token = IsBeforeMap (t ∷ ts) openings token
+-- the first token of a mapfile isn't MAP, and nothing is open
+pub record BeginsWithout (tokens : List TokenValue) (openings : List OpeningValue) (found : TokenValue) : Type 0 where
+  pub after : List TokenValue
+  pub is_first : tokens ≡ found ∷ after
+  pub is_not_map : is_at keyword.Map found ≡ false
+  pub nothing_open : openings ≡ []
 
-abbrev pub IsPlaced : List TokenValue → List OpeningValue → Option TokenValue → Type 0
-IsPlaced [] openings token = IsBeforeMap [] openings token
-IsPlaced (t ∷ ts) openings token = IsPlacedBy (is_at keyword.Map t) t ts openings token
+-- without MAP the fault is found at the first token, or there is none
+abbrev pub IsWithoutMap : List TokenValue → List OpeningValue → Option TokenValue → Type 0
+IsWithoutMap tokens openings None = HasNoToken tokens openings
+IsWithoutMap tokens openings (Some found) = BeginsWithout tokens openings found
+
+-- the fault is found after a first token that is MAP, or without MAP
+abbrev pub IsPlacedBy : Bool → TokenValue → List TokenValue → Fault → List OpeningValue → Option TokenValue → Type 0
+IsPlacedBy true t ts fault openings token = IsAt (begun t) ts fault openings token
+IsPlacedBy false t ts fault openings token = IsWithoutMap (t ∷ ts) openings token
+
+-- where the first fault of a mapfile is found
+abbrev pub IsPlaced : List TokenValue → Fault → List OpeningValue → Option TokenValue → Type 0
+IsPlaced [] fault openings token = IsWithoutMap [] openings token
+IsPlaced (t ∷ ts) fault openings token = IsPlacedBy (is_at keyword.Map t) t ts fault openings token
 
 -- a mapfile has this first fault, and there it is found
 pub record IsExplained (source : Lexed) (e : Explained) : Type 0 where
-  pub fault : tree_of source ≡ Err (record { line = e.line; kind = e.kind })
-  pub place : IsPlaced source.tokens e.openings e.token
+  pub fault : tree_of source ≡ Err (fault_in e)
+  pub place : IsPlaced source.tokens (fault_in e) e.openings e.token
 
 -- what is found of a mapfile: a tree, or its first fault
 abbrev pub IsFinding : Lexed → Finding → Type 0

@@ -1,7 +1,8 @@
 -- What is open between two tokens (docs/MAPFILE.md, "Blocks and words").
-use Rattle.std.specs.Prelude.{ℕ, List, ◌∷◌}
+use Rattle.std.specs.Prelude.{ℕ, Bool, true, false, List, ◌∷◌}
 use Rattle.maplex.specs.Token.{TokenValue}
 use Rattle.maptree.specs.declared.context.Context.{Context}
+use Rattle.maptree.specs.declared.context.Context.TheVariants.{Values}
 use Rattle.maptree.specs.declared.context.Move.{Move}
 use Rattle.maptree.specs.declared.context.Move.TheVariants.{GoesOn, Enters, Leaves}
 
@@ -10,6 +11,11 @@ pub record OpeningValue : Type 0 where
   pub context : Context
   pub word : List ℕ
   pub line : ℕ
+
+-- a word opens a block, if not values that it wants
+abbrev pub opens_block : Context → Bool
+opens_block (Values expected) = false
+opens_block _ = true
 
 -- what a token opens
 abbrev pub opening : Context → TokenValue → OpeningValue

@@ -2,8 +2,9 @@
 //!
 //! `explain` reads a source once more, up to its first fault, and keeps what is open there. Proved, by
 //! `IsFinding`: it has the line and the kind of the fault that the definition `tree_of` of `maptree` is
-//! for the source, the token at which it is found, and what is open there. The words, which
-//! `Explained::words` makes of that, are only tested.
+//! for the source, the token that is refused with that fault, and what is open before it; there is no
+//! token where the fault comes after the last one. The words, which `Explained::words` makes of that, are
+//! only tested.
 //!
 //! Words: the *openings* are the contexts that are open, with the words that opened them.
 #![tactic(auto)]

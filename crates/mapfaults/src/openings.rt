@@ -1,5 +1,5 @@
-ghost use Rattle.std.specs.Prelude.{◌≡◌, ◌==◌, [], ◌∷◌, length, OnOk, MatchOption};
-ghost use Rattle.mapfaults.specs.Opening.{opened, opening};
+ghost use Rattle.std.specs.Prelude.{◌≡◌, ◌==◌, [], ◌∷◌, length, reverse, OnOk, MatchOption};
+ghost use Rattle.mapfaults.specs.Opening.{opened, opening, opens_block};
 
 use maplex::Token;
 use maptree::{Context, Move};
@@ -38,7 +38,9 @@ impl<'a> Opening<'a> {
     }
 
     /// Whether the word opened a block.
-    pub fn is_block(&self) -> bool {
+    pub fn is_block(&self) -> bool
+        ensures { result ≡ opens_block self.now.context }
+    {
         !matches!(self.context, Context::Values(_))
     }
 
@@ -123,7 +125,9 @@ impl<'a> Openings<'a> {
     }
 
     /// All that is open, the outermost first.
-    pub fn as_slice(&self) -> &[Opening<'a>] {
+    pub fn as_slice(&self) -> &[Opening<'a>]
+        ensures { self.now ≡ reverse result.now }
+    {
         &self.open
     }
 }

@@ -18,7 +18,7 @@ pub struct Explained<'a> {
     pub line: u64,
     /// What is wrong there.
     pub kind: ParseKind,
-    /// The token at which it was found. There is none after the last token.
+    /// The token that is refused with it. There is none after the last token.
     pub token: Option<Token<'a>>,
     /// What is open there. Nothing is before MAP, and after its END.
     pub openings: Openings<'a>,
@@ -215,7 +215,7 @@ fn outside<'a>(alloc: Global, fault: Fault, token: Option<Token<'a>>) -> Explain
 /// Reads a mapfile once more for the words on its first fault.
 ///
 /// Unless memory is refused, it finds a fault exactly where `tree_of` is one, with its line and its
-/// kind, and with the token at which it was found and all that is open there.
+/// kind, the token that is refused with it, if it has one, and all that is open there.
 pub fn explain<'a>(alloc: Global, source: &'a [u8]) -> Finding<'a>
     ensures { IsFinding (lexed source.now) result }
 {

@@ -1,5 +1,5 @@
--- From a mapfile as it is written to the map that it describes (docs/MAPFILE.md, "From the file to the map"). What no
--- keyword gives yet has the value that it will have where its keyword isn't given.
+-- From a mapfile as it is written to the map that it describes (docs/MAPFILE.md, "From the file to the map", "Labels" and
+-- "Keys and values"). What no keyword gives yet has the value that it will have where its keyword isn't given.
 use Rattle.std.specs.Prelude.{ℕ, Bool, true, false, ◌==◌, ◌-◌, List, [], ◌++◌, length, map, take, replicate, codes, pos, neg_ℤ, Option, None, Some, unwrap_or, option_map, Result, Ok}
 use Rattle.std.specs.Option.{option_or}
 use Rattle.std.specs.List.{slice_split}
@@ -50,7 +50,7 @@ label_of label = record {
   force = unwrap_or label.force false;
 }
 
--- a class has its rule, without which it holds all features, its bounds on the scale, its styles and its label
+-- a class has its rule, without which it takes each feature, its bounds on the scale, its styles and its label
 abbrev pub class_of : List Symbol → ClassTree → ClassFields
 class_of symbols class = record {
   rule = unwrap_or class.rule Always;
@@ -60,13 +60,15 @@ class_of symbols class = record {
   label = option_map label_of class.label;
 }
 
--- The values of so many items: the texts between semicolons in their order, further ones dropped, and missing ones empty.
+-- a byte is a semicolon
 abbrev pub is_semicolon : ℕ → Bool
 is_semicolon byte = byte == 59
 
+-- values with empty ones for those that are missing
 abbrev pub padded : ℕ → List (List ℕ) → List (List ℕ)
 padded count values = values ++ replicate (count - length values) []
 
+-- the values of so many items: the texts between semicolons in their order, of which further ones are dropped
 abbrev pub values_of : ℕ → Option (List ℕ) → List (List ℕ)
 values_of count None = padded count []
 values_of count (Some text) = padded count (take count (slice_split is_semicolon text))
@@ -75,7 +77,8 @@ values_of count (Some text) = padded count (take count (slice_split is_semicolon
 abbrev pub feature_of : ℕ → FeatureTree → FeatureFields
 feature_of count feature = record { parts = feature.parts; text = feature.text; values = values_of count feature.items }
 
--- how far from the asked pixel a feature counts where that isn't given: features with an area are hit themselves, others from 3 pixels on
+-- how far from the asked pixel a feature counts where that isn't given: one with an area is hit itself, another within 3
+-- pixels
 abbrev pub tolerance_of : Kind → ℕ
 tolerance_of Polygon = 0
 tolerance_of _ = 3

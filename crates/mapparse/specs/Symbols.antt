@@ -1,4 +1,4 @@
--- The symbols of a map, and the files that their pixmaps are in (docs/MAPFILE.md, "Symbols").
+-- The symbols of a map, and the files that their pixmaps are in (docs/MAPFILE.md, "Symbols" and "Files").
 use Rattle.std.specs.Prelude.{ℕ, suc, Bool, if◌then◌else◌, List, [], ◌∷◌, ◌++◌, Option, None, Some, option_map, option_and_then, Result, Ok, Err}
 use Rattle.std.specs.List.{list_any}
 use Rattle.std.specs.Option.{option_or}
@@ -26,11 +26,12 @@ last_named name (symbol ∷ after) =
 abbrev pub symbol_index : List Symbol → Option Named → Option ℕ
 symbol_index symbols named = option_and_then (λ (n : Named). last_named n.text symbols) named
 
--- a file that is missing is a fault at the line of its name, and so is one that is no pixmap
+-- a file that is no pixmap is a fault at the line of its name
 abbrev pub unless_bad : ℕ → Result PixmapFields PixFault → Result PixmapFields Fault
 unless_bad line (Ok pixmap) = Ok pixmap
 unless_bad line (Err f) = Err (record { line = line; kind = BadFile })
 
+-- a file that is missing is a fault there too
 abbrev pub pixmap_from : ℕ → Option (List ℕ) → Result PixmapFields Fault
 pixmap_from line None = Err (record { line = line; kind = MissingFile })
 pixmap_from line (Some bytes) = unless_bad line (pixmap_of bytes)
@@ -50,10 +51,11 @@ symbols_of files (tree ∷ trees) =
 abbrev pub is_among : List (List ℕ) → List ℕ → Bool
 is_among names name = list_any (λ other. is_same_name other name) names
 
--- the names of files, each once, in the order of their first use
+-- one more use of a file: its name stands among the names once
 abbrev pub with_use : List (List ℕ) → List ℕ → List (List ℕ)
 with_use names name = if is_among names name then names else names ++ name ∷ []
 
+-- the names with those that the symbols use, in the order of their first use
 abbrev pub uses_after : List (List ℕ) → List SymbolTree → List (List ℕ)
 uses_after names [] = names
 uses_after names (tree ∷ trees) = uses_after (with_use names tree.image.text) trees

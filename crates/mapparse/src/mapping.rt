@@ -25,15 +25,15 @@ use maptree::{
 use mapwords::texts_of;
 use std::alloc::{AllocError, Global};
 
-/// A tree of a block, from which a part of the map is made.
+// A tree of a block, from which a part of the map is made.
 trait Build: Drop + Sized {
-    /// The part of the map.
+    // The part of the map.
     type Part: Drop;
 
-    /// The part that the tree describes, in a map with these symbols.
+    // The part that the tree describes, in a map with these symbols.
     ghost part: { List SymbolValue → Self → Self.Part };
 
-    /// Makes the part.
+    // Makes the part.
     fn build(self, symbols: &[Symbol], alloc: Global) -> Result<Self::Part, AllocError>
         ensures { IfOk result (λ made. made ≡ part symbols.now self) };
 }
@@ -171,10 +171,9 @@ fn fill_up(values: &mut Vec<Text>, count: usize, alloc: Global) -> Result<(), Al
 fn first_parts(text: &str, count: usize, alloc: Global) -> Result<Vec<Text>, AllocError>
     ensures { IfOk result (λ made. made.items ≡ take count (slice_split is_semicolon text.now)) }
 {
-    let parts = semicolon_parts(text, alloc)?;
-    let mut texts = texts_of(&parts, alloc)?;
-    texts.truncate(count);
-    Ok(texts)
+    let mut parts = semicolon_parts(text, alloc)?;
+    parts.truncate(count);
+    texts_of(&parts, alloc)
 }
 
 // The feature of a layer with so many items.

@@ -32,7 +32,7 @@ use Rattle.maptree.specs.declared.tree.SymbolTree.{SymbolTree}
 use Rattle.maptree.specs.Entries.{Entries, Nothing, Inside, with_block, last, blocks, last_block, last_within, vertices}
 use Rattle.mapwords.specs.Fault.{and_then}
 use Rattle.maptree.specs.Name.{is_taken}
-use Rattle.maptree.specs.Says.{layer_fault, closing_fault, is_full}
+use Rattle.maptree.specs.Says.{layer_end_fault, closing_fault, is_full}
 use Rattle.mapwords.specs.Table.{map_role, web_role, symbol_role, layer_role, class_role, style_role, label_role, feature_role, passed_role, passed_label_role, end_role, role_of}
 use Rattle.maptree.specs.Tree.{style_tree, label_tree, class_tree, feature_tree, layer_name, layer_kind, class_item, label_item, template, layer_tolerance, layer_min, layer_max, layer_items, layer_csv_x, layer_csv_y, layer_wms_title, layer_ows_title, feature_text, feature_items, layer_tree, symbol_name, symbol_kind, symbol_image, symbol_tree, service_wms_title, service_ows_title, service_wms_url, service_ows_url, web_text, service_text, map_tree}
 use Rattle.mapwords.specs.declared.value.Value.{Value}
@@ -404,7 +404,7 @@ module _ (earlier : List LayerTree) (t : TokenValue) (layer : LayerDraft) (with_
 
   layer-ends : (name : Option Named) (kind : Option Kind) →
       and_then (finished_layer name kind layer earlier t) (λ made. Ok (with_layer made))
-      ≡ unless_fault (layer_fault name kind earlier t) (with_layer (layer_with (option_map_or (λ (n : Named). n.text) name []) (unwrap_or kind Polygon) layer))
+      ≡ unless_fault (layer_end_fault name kind earlier t) (with_layer (layer_with (option_map_or (λ (n : Named). n.text) name []) (unwrap_or kind Polygon) layer))
   layer-ends (Some name) (Some kind) = taken-ends name kind (is_taken name.text earlier)
   layer-ends (Some name) None = refl
   layer-ends None (Some kind) = refl

@@ -32,17 +32,17 @@ pub data Saying : Type 0 where
   Passes : Saying
 
 -- the END of a LAYER asks for a NAME, which none of the earlier layers has, and a TYPE
-abbrev pub layer_fault : Option Named → Option Kind → List LayerTree → TokenValue → Option Fault
-layer_fault (Some name) (Some kind) earlier t =
+abbrev pub layer_end_fault : Option Named → Option Kind → List LayerTree → TokenValue → Option Fault
+layer_end_fault (Some name) (Some kind) earlier t =
     if is_taken name.text earlier then Some (record { line = name.line; kind = DuplicateName }) else None
-layer_fault _ _ earlier t = Some (fault_of MissingValue t)
+layer_end_fault _ _ earlier t = Some (fault_of MissingValue t)
 
 -- what is wrong at the END of a block, by what its parent says before it and what it says itself
 abbrev pub closing_fault : Block → Entries → Entries → TokenValue → Option Fault
 closing_fault block.Map above own t = map_fault (map_tree own).symbols (map_tree own).layers
 closing_fault block.Symbol above own t =
     symbol_fault (last symbol_name own) (is_some (last symbol_kind own)) (last symbol_image own) t
-closing_fault block.Layer above own t = layer_fault (last layer_name own) (last layer_kind own) (map_tree above).layers t
+closing_fault block.Layer above own t = layer_end_fault (last layer_name own) (last layer_kind own) (map_tree above).layers t
 closing_fault block.Feature above own t = if length (blocks block.Points own) == 0 then Some (fault_of MissingValue t) else None
 closing_fault block.Points above own t = if length (vertices own) == 0 then Some (fault_of MissingValue t) else None
 closing_fault _ above own t = None
@@ -69,12 +69,13 @@ role_says b (Some role.Closes) above own t = ends_unless (closing_fault b above 
 role_says b (Some (role.Opens inner)) above own t = if is_full inner own then refused Limit t else Ok (Opens inner)
 role_says b (Some (role.Takes expected)) above own t = Ok (Takes expected)
 
--- in POINTS stands their END, or the longitude of a vertex, for which the feature has room
+-- a token is the longitude of a vertex, for which the feature has room
 abbrev pub vertex_says : Entries → Entries → TokenValue → Result Saying Fault
 vertex_says above own t =
     if nat_le MAX_VERTICES (vertex_count above own) then refused Limit t
     else and_then (ok_or (coordinate_in t) (fault_of WrongValue t)) (λ x. Ok (Longitude x))
 
+-- a token in POINTS is their END, or begins a vertex
 abbrev pub points_say : Entries → Entries → TokenValue → Result Saying Fault
 points_say above own t = if is_end t then ends_unless (closing_fault block.Points above own t) else vertex_says above own t
 

@@ -37,15 +37,18 @@ named_fault symbols None = None
 named_fault symbols (Some named) =
     if has_symbol symbols named.text then None else Some (record { line = named.line; kind = WrongValue })
 
--- the first style, in the order of the mapfile, that names a symbol which the map doesn't have
+-- a style may name a symbol that the map doesn't have
 abbrev pub style_fault : List SymbolTree → StyleTree → Option Fault
 style_fault symbols style = named_fault symbols style.symbol
 
+-- the first of a class's styles that does
 abbrev pub class_fault : List SymbolTree → ClassTree → Option Fault
 class_fault symbols class = first_fault (style_fault symbols) class.styles
 
+-- the first of a layer's styles that does, one class after the other
 abbrev pub layer_fault : List SymbolTree → LayerTree → Option Fault
 layer_fault symbols layer = first_fault (class_fault symbols) layer.classes
 
+-- the first of a map's styles that does, in the order of the mapfile
 abbrev pub map_fault : List SymbolTree → List LayerTree → Option Fault
 map_fault symbols layers = first_fault (layer_fault symbols) layers

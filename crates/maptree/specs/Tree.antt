@@ -26,24 +26,27 @@ use Rattle.maptree.specs.declared.tree.MapTree.{MapTree}
 use Rattle.maptree.specs.Symbol.{symbol_named}
 use Rattle.maptree.specs.Entries.{Entries, last, blocks, last_block, last_within, vertices}
 
--- the colours that COLOR and OUTLINECOLOR give a style, which may be none
+-- the colour that COLOR gives a style, which may be none
 abbrev pub style_colour : Value → ℕ → Option (Option Rgb)
 style_colour (value.Colour StyleColour colour) line = Some colour
 style_colour _ line = None
 
+-- the colour that OUTLINECOLOR gives a style, which may be none
 abbrev pub style_outline : Value → ℕ → Option (Option Rgb)
 style_outline (value.Colour StyleOutline colour) line = Some colour
 style_outline _ line = None
 
--- the counts that WIDTH and SIZE give a style, and TOLERANCE a layer
+-- the width that WIDTH gives a style
 abbrev pub style_width : Value → ℕ → Option ℕ
 style_width (value.Width width) line = Some width
 style_width _ line = None
 
+-- the size that SIZE gives a style
 abbrev pub style_size : Value → ℕ → Option ℕ
 style_size (value.Size size) line = Some size
 style_size _ line = None
 
+-- the tolerance that TOLERANCE gives a layer
 abbrev pub layer_tolerance : Value → ℕ → Option ℕ
 layer_tolerance (value.Tolerance tolerance) line = Some tolerance
 layer_tolerance _ line = None
@@ -63,37 +66,42 @@ style_tree own = record {
   symbol = option_flatten (last style_symbol own);
 }
 
--- the colours that COLOR and OUTLINECOLOR give a label, which may be none
+-- the colour that COLOR gives a label, which may be none
 abbrev pub label_colour : Value → ℕ → Option (Option Rgb)
 label_colour (value.Colour LabelColour colour) line = Some colour
 label_colour _ line = None
 
+-- the colour that OUTLINECOLOR gives a label, which may be none
 abbrev pub label_outline : Value → ℕ → Option (Option Rgb)
 label_outline (value.Colour LabelOutline colour) line = Some colour
 label_outline _ line = None
 
--- the counts that PRIORITY, BUFFER and MINDISTANCE give a label
+-- the priority that PRIORITY gives a label
 abbrev pub label_priority : Value → ℕ → Option ℕ
 label_priority (value.Priority priority) line = Some priority
 label_priority _ line = None
 
+-- the buffer that BUFFER gives a label
 abbrev pub label_buffer : Value → ℕ → Option ℕ
 label_buffer (value.Buffer buffer) line = Some buffer
 label_buffer _ line = None
 
+-- the distance that MINDISTANCE gives a label
 abbrev pub label_distance : Value → ℕ → Option ℕ
 label_distance (value.Distance distance) line = Some distance
 label_distance _ line = None
 
--- the place that POSITION gives a label, and what PARTIALS and FORCE say of it
+-- the place that POSITION gives a label
 abbrev pub label_position : Value → ℕ → Option Position
 label_position (value.Position position) line = Some position
 label_position _ line = None
 
+-- whether PARTIALS lets a part of a label lie off the picture
 abbrev pub label_partials : Value → ℕ → Option Bool
 label_partials (value.Flag Partials flag) line = Some flag
 label_partials _ line = None
 
+-- whether FORCE places a label over others
 abbrev pub label_force : Value → ℕ → Option Bool
 label_force (value.Flag Force flag) line = Some flag
 label_force _ line = None
@@ -111,15 +119,17 @@ label_tree own = record {
   force = last label_force own;
 }
 
--- the rule that EXPRESSION gives a class, and the bounds on the scale of MINSCALEDENOM and MAXSCALEDENOM
+-- the rule that EXPRESSION gives a class
 abbrev pub class_rule : Value → ℕ → Option Rule
 class_rule (value.Rule rule) line = Some rule
 class_rule _ line = None
 
+-- the least scale denominator that MINSCALEDENOM gives a class
 abbrev pub class_min : Value → ℕ → Option ℤ
 class_min (value.Scale ClassMin scale) line = Some scale
 class_min _ line = None
 
+-- the greatest scale denominator that MAXSCALEDENOM gives a class
 abbrev pub class_max : Value → ℕ → Option ℤ
 class_max (value.Scale ClassMax scale) line = Some scale
 class_max _ line = None
@@ -157,11 +167,12 @@ abbrev pub layer_name : Value → ℕ → Option Named
 layer_name (value.Text LayerName text) line = Some (record { text = text; line = line })
 layer_name _ line = None
 
--- the names of items that CLASSITEM and LABELITEM give
+-- the name of an item that CLASSITEM gives
 abbrev pub class_item : Value → ℕ → Option (List ℕ)
 class_item (value.Text ClassItem text) line = Some text
 class_item _ line = None
 
+-- the name of an item that LABELITEM gives
 abbrev pub label_item : Value → ℕ → Option (List ℕ)
 label_item (value.Text LabelItem text) line = Some text
 label_item _ line = None
@@ -176,33 +187,37 @@ abbrev pub layer_kind : Value → ℕ → Option Kind
 layer_kind (value.Kind kind) line = Some kind
 layer_kind _ line = None
 
--- the bounds on the scale that MINSCALEDENOM and MAXSCALEDENOM give a layer
+-- the least scale denominator that MINSCALEDENOM gives a layer
 abbrev pub layer_min : Value → ℕ → Option ℤ
 layer_min (value.Scale LayerMin scale) line = Some scale
 layer_min _ line = None
 
+-- the greatest scale denominator that MAXSCALEDENOM gives a layer
 abbrev pub layer_max : Value → ℕ → Option ℤ
 layer_max (value.Scale LayerMax scale) line = Some scale
 layer_max _ line = None
 
--- the names of items and the columns of tables that PROCESSING gives
+-- the names of items that the ITEMS of a PROCESSING gives
 abbrev pub layer_items : Value → ℕ → Option (List (List ℕ))
 layer_items (value.Items items) line = Some items
 layer_items _ line = None
 
+-- the column of longitudes that the CSV_X of a PROCESSING gives
 abbrev pub layer_csv_x : Value → ℕ → Option (List ℕ)
 layer_csv_x (value.Text CsvX text) line = Some text
 layer_csv_x _ line = None
 
+-- the column of latitudes that the CSV_Y of a PROCESSING gives
 abbrev pub layer_csv_y : Value → ℕ → Option (List ℕ)
 layer_csv_y (value.Text CsvY text) line = Some text
 layer_csv_y _ line = None
 
--- the titles that METADATA gives a layer
+-- the title that wms_title gives a layer
 abbrev pub layer_wms_title : Value → ℕ → Option (List ℕ)
 layer_wms_title (value.Text LayerWmsTitle text) line = Some text
 layer_wms_title _ line = None
 
+-- the title that ows_title gives a layer
 abbrev pub layer_ows_title : Value → ℕ → Option (List ℕ)
 layer_ows_title (value.Text LayerOwsTitle text) line = Some text
 layer_ows_title _ line = None
@@ -229,15 +244,17 @@ layer_tree own = record {
   features = map feature_tree (blocks block.Feature own);
 }
 
--- the name, the kind and the file that NAME, TYPE and IMAGE give a symbol
+-- the name that NAME gives a symbol
 abbrev pub symbol_name : Value → ℕ → Option (List ℕ)
 symbol_name (value.Text SymbolName text) line = Some text
 symbol_name _ line = None
 
+-- the kind that TYPE gives a symbol, which is PIXMAP
 abbrev pub symbol_kind : Value → ℕ → Option Bool
 symbol_kind value.Pixmap line = Some true
 symbol_kind _ line = None
 
+-- the file that IMAGE gives a symbol, and its line
 abbrev pub symbol_image : Value → ℕ → Option Named
 symbol_image (value.Text SymbolImage text) line = Some (record { text = text; line = line })
 symbol_image _ line = None
@@ -259,27 +276,31 @@ abbrev pub map_extent : Value → ℕ → Option Area
 map_extent (value.Extent area) line = Some area
 map_extent _ line = None
 
--- the titles and addresses that the METADATA of a WEB give the service
+-- the title that wms_title gives the service
 abbrev pub service_wms_title : Value → ℕ → Option (List ℕ)
 service_wms_title (value.Text ServiceWmsTitle text) line = Some text
 service_wms_title _ line = None
 
+-- the title that ows_title gives the service
 abbrev pub service_ows_title : Value → ℕ → Option (List ℕ)
 service_ows_title (value.Text ServiceOwsTitle text) line = Some text
 service_ows_title _ line = None
 
+-- the address that wms_onlineresource gives the service
 abbrev pub service_wms_url : Value → ℕ → Option (List ℕ)
 service_wms_url (value.Text ServiceWmsUrl text) line = Some text
 service_wms_url _ line = None
 
+-- the address that ows_onlineresource gives the service
 abbrev pub service_ows_url : Value → ℕ → Option (List ℕ)
 service_ows_url (value.Text ServiceOwsUrl text) line = Some text
 service_ows_url _ line = None
 
--- the last of these in the METADATA of a WEB, and in the WEB blocks of a MAP
+-- the last of these in the METADATA of a WEB
 abbrev pub web_text : (Value → ℕ → Option (List ℕ)) → Entries → Option (List ℕ)
 web_text wanted web = last_within block.WebMetadata (last wanted) web
 
+-- the last of these in the WEB blocks of a MAP
 abbrev pub service_text : (Value → ℕ → Option (List ℕ)) → Entries → Option (List ℕ)
 service_text wanted own = last_within block.Web (web_text wanted) own
 

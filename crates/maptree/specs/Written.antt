@@ -32,13 +32,15 @@ use Rattle.maptree.specs.Meaning.{meaning}
 use Rattle.mapwords.specs.Rule.{is_comma}
 use Rattle.maptree.specs.Says.{closing_fault, is_full}
 
--- a bare word, a quoted text and a List on a line
+-- a bare word on a line
 abbrev pub bare : ℕ → List ℕ → TokenValue
 bare line text = record { shape = shape.Word; text = text; line = line }
 
+-- a quoted text on a line
 abbrev pub quoted : ℕ → List ℕ → TokenValue
 quoted line text = record { shape = shape.Text; text = text; line = line }
 
+-- a List on a line
 abbrev pub listed : ℕ → List ℕ → TokenValue
 listed line text = record { shape = shape.List; text = text; line = line }
 
@@ -100,10 +102,12 @@ position_text LowerCentre = codes "LC"
 position_text LowerRight = codes "LR"
 position_text Automatic = codes "AUTO"
 
+-- how the keyword of a flag is written
 abbrev pub flag_keyword : FlagKeyword → List ℕ
 flag_keyword Partials = codes "PARTIALS"
 flag_keyword Force = codes "FORCE"
 
+-- how a flag is written
 abbrev pub flag_text : Bool → List ℕ
 flag_text true = codes "TRUE"
 flag_text false = codes "FALSE"

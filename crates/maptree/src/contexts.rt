@@ -45,6 +45,7 @@ impl Contexts {
     {
         self.open.pop()
     }
+
     /// Goes on after a token of a context, inside the contexts that are open.
     pub fn go_on(&mut self, context: Context, next: Move) -> Result<(), AllocError>
         ensures { OnOk result (self.new ≡ moved next context self.old) }

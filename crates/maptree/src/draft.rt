@@ -207,7 +207,8 @@ impl Drafts {
 
     /// The map, in whose place a new one is left.
     pub fn take_map(&mut self, alloc: Global) -> MapTree
-        ensures { result ≡ self.old.map }
+        ensures map { result ≡ self.old.map }
+        ensures left { self.new ≡ record self.old { map = new_map } }
     {
         mem::replace(&mut self.map, MapTree::new(alloc))
     }

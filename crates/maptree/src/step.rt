@@ -161,7 +161,8 @@ fn read_pair(block: Block, token: &Token) -> Result<Move, Fault>
     Ok(Move::Enters(Context::Values(pair_expects(block, token.text))))
 }
 
-/// Reads a token in its context, and notes what was read. The result is how reading goes on.
+/// Reads a token in its context, and notes what was read. The result is how reading goes on. After an error
+/// the drafts are of no further use.
 pub fn read_token(
     context: &Context,
     drafts: &mut Drafts,

@@ -1,4 +1,4 @@
--- Numbers, and counts within bounds (docs/MAPFILE.md, "Limits").
+-- Numbers, and counts within bounds (docs/MAPFILE.md, "Numbers").
 use Rattle.std.specs.Prelude.{ℕ, ◌&&◌, nat_le, if◌then◌else◌, List, ℤ, pos, negsuc, Option, None, Some, option_and_then}
 use Rattle.std.specs.Result.{result_ok}
 use Rattle.geom.specs.declared.micro.TheConstants.{NUMBER_LIMIT}

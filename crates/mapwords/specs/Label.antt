@@ -22,6 +22,7 @@ position_of text =
     else if str_eq_ignore_ascii_case text (codes "AUTO") then Some Automatic
     else None
 
+-- a flag is TRUE or FALSE, in letters of either case
 abbrev pub flag_of : List ℕ → Option Bool
 flag_of text =
     if str_eq_ignore_ascii_case text (codes "TRUE") then Some true
@@ -34,5 +35,6 @@ distance_in (pos n) = bounded 0 MAX_DISTANCE (pos n)
 distance_in (negsuc zero) = Some 0
 distance_in (negsuc (suc n)) = None
 
+-- the distance that a text stands for
 abbrev pub distance_of : List ℕ → Option ℕ
 distance_of text = option_and_then distance_in (count_of text)

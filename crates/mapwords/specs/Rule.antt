@@ -1,4 +1,4 @@
--- The rules of classes as they are written (docs/MAPFILE.md, "Classes").
+-- The rules of classes as they are written (docs/MAPFILE.md, "Expressions").
 use Rattle.std.specs.Prelude.{◌≡◌, ℕ, Bool, false, ◌==◌, if◌then◌else◌, List, [], ◌∷◌, Option, None, Some, option_map}
 use Rattle.std.specs.List.{slice_split}
 use Rattle.maplex.specs.declared.token.Shape.{Shape}
@@ -9,6 +9,7 @@ use Rattle.expressions.specs.Reading.{logic_of}
 use Rattle.mapwords.specs.declared.rule.RuleError.{RuleError}
 use Rattle.mapwords.specs.declared.rule.RuleError.TheVariants.{NoExpression, NoMemory}
 
+-- a byte is a comma
 abbrev pub is_comma : ℕ → Bool
 is_comma byte = byte == 44
 

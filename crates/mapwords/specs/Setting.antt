@@ -39,6 +39,7 @@ pair_expects block.WebMetadata key = web_expects key
 pair_expects block.LayerMetadata key = layer_expects key
 pair_expects _ key = expected.Unused 0
 
+-- a byte is an equals sign
 abbrev pub is_equals : ℕ → Bool
 is_equals byte = byte == 61
 

@@ -76,11 +76,12 @@ abbrev pub unused_step : ℕ → ValueStep
 unused_step zero = Whole value.Nothing
 unused_step (suc fewer) = More (expected.Unused fewer)
 
--- the east of an extent lies to the east of its west, and its north to the north of its south
+-- the east of an extent lies to the east of its west
 abbrev pub east_step : ℤ → ℤ → Option ℤ → Option ValueStep
 east_step minx miny None = None
 east_step minx miny (Some maxx) = if int_lt minx maxx then Some (More (expected.North minx miny maxx)) else None
 
+-- the north of an extent lies to the north of its south
 abbrev pub north_step : ℤ → ℤ → ℤ → Option ℤ → Option ValueStep
 north_step minx miny maxx None = None
 north_step minx miny maxx (Some maxy) = option_map (λ area. Whole (value.Extent area)) (extent_of minx miny maxx maxy)

@@ -8,7 +8,7 @@ use thiserror::Error;
 /// What is wrong with a mapfile.
 #[derive(Clone, Copy, Debug, Error)]
 pub enum ParseKind {
-    /// The source has no further token here.
+    /// The source can't be cut into further tokens there.
     #[error("{0}")]
     Lex(LexKind),
     /// A token that is no keyword of its block, or that stands after the last END.
@@ -20,7 +20,7 @@ pub enum ParseKind {
     /// The source ends before the END of MAP. The line is the last of the source.
     #[error("the mapfile ends where an END is missing")]
     MissingEnd,
-    /// An END before a value or a keyword that has to be given.
+    /// An END before a value, a keyword, a block or a vertex that has to be given.
     #[error("an END before all that has to be given was given")]
     MissingValue,
     /// A block, a vertex or an item more than a map may have.

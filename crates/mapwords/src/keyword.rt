@@ -87,9 +87,10 @@ pub enum Keyword {
     End,
 }
 
-// The keywords by the length of their spelling.
+// The keywords whose spelling has this length.
 const THREE: [Keyword; 4] = [Keyword::Map, Keyword::Log, Keyword::Web, Keyword::End];
 
+// The keywords whose spelling has this length.
 const FOUR: [Keyword; 6] = [
     Keyword::Name,
     Keyword::Kind,
@@ -99,6 +100,7 @@ const FOUR: [Keyword; 6] = [
     Keyword::Text,
 ];
 
+// The keywords whose spelling has this length.
 const FIVE: [Keyword; 16] = [
     Keyword::Layer,
     Keyword::Class,
@@ -118,6 +120,7 @@ const FIVE: [Keyword; 16] = [
     Keyword::Image,
 ];
 
+// The keywords whose spelling has this length.
 const SIX: [Keyword; 10] = [
     Keyword::Points,
     Keyword::Buffer,
@@ -131,6 +134,7 @@ const SIX: [Keyword; 10] = [
     Keyword::Symbol,
 ];
 
+// The keywords whose spelling has this length.
 const SEVEN: [Keyword; 4] = [
     Keyword::Feature,
     Keyword::FontSet,
@@ -138,6 +142,7 @@ const SEVEN: [Keyword; 4] = [
     Keyword::MinSize,
 ];
 
+// The keywords whose spelling has this length.
 const EIGHT: [Keyword; 11] = [
     Keyword::Encoding,
     Keyword::ImageUrl,
@@ -152,6 +157,7 @@ const EIGHT: [Keyword; 11] = [
     Keyword::Template,
 ];
 
+// The keywords whose spelling has this length.
 const NINE: [Keyword; 8] = [
     Keyword::Antialias,
     Keyword::ClassItem,
@@ -163,6 +169,7 @@ const NINE: [Keyword; 8] = [
     Keyword::Tolerance,
 ];
 
+// The keywords whose spelling has this length.
 const TEN: [Keyword; 7] = [
     Keyword::Expression,
     Keyword::ImageColor,
@@ -173,26 +180,31 @@ const TEN: [Keyword; 7] = [
     Keyword::Validation,
 ];
 
+// The keywords whose spelling has this length.
 const ELEVEN: [Keyword; 3] = [
     Keyword::MinDistance,
     Keyword::Transparent,
     Keyword::AnchorPoint,
 ];
 
+// The keywords whose spelling has this length.
 const TWELVE: [Keyword; 3] = [
     Keyword::OutlineColor,
     Keyword::OutlineWidth,
     Keyword::OutputFormat,
 ];
 
+// The keywords whose spelling has this length.
 const THIRTEEN: [Keyword; 2] = [Keyword::MaxScaleDenom, Keyword::MinScaleDenom];
 
+// The keywords whose spelling has this length.
 const FOURTEEN: [Keyword; 3] = [
     Keyword::MinFeatureSize,
     Keyword::RepeatDistance,
     Keyword::ToleranceUnits,
 ];
 
+// The keywords whose spelling has this length.
 const EIGHTEEN: [Keyword; 2] = [Keyword::LabelMaxScaleDenom, Keyword::LabelMinScaleDenom];
 
 // The spelling of each keyword, in their order.

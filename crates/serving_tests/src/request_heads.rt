@@ -25,13 +25,13 @@ fn meaning(alloc: Global, pieces: &[&[u8]]) -> Result<String, AllocError> {
         match conn.feed(piece) {
             Step::More => {}
             Step::Ask => return asked(alloc, conn.query()),
-            Step::Http(refusal) => return refused(alloc, refusal),
+            Step::Refused(refusal) => return refused(alloc, refusal),
         }
     }
     match conn.end() {
         End::Nothing => Ok(String::new(alloc)),
         End::Ask => asked(alloc, conn.query()),
-        End::Http(refusal) => refused(alloc, refusal),
+        End::Refused(refusal) => refused(alloc, refusal),
     }
 }
 

@@ -12,8 +12,10 @@ use Rattle.geom.proofs.Digits.{digit-range, digits-cons}
 use Rattle.geom.proofs.Written.{digit-not}
 use Rattle.std.proofs.lemmas.Bool.Decides.{nat_tests}
 use Rattle.symbols.specs.File.{AreDigits, IsPiece, Piece, Space, Comment, file_bytes, blank_bytes, piece_bytes}
-use Rattle.symbols.specs.Format.{capped, blanks_len, has_space_at, header_of, is_line_end, is_space, number_at}
+use Rattle.mapdefs.specs.declared.limits.TheConstants.{MAX_SYMBOL_SIDE}
+use Rattle.symbols.specs.Format.{capped, blanks_len, has_space_at, header_of, is_line_end, is_space, number_at, pixels_of}
 use Rattle.symbols.specs.Law.{AreFilesRead}
+use Rattle.symbols.proofs.Capping.{capped-same}
 
 or-left : (t u : Bool) → (t || u) ≡ false → t ≡ false
 or-left true u h = h
@@ -129,6 +131,24 @@ header-read : (bytes : List ℕ) (width height greatest one two three : ℕ) →
     has_space_at bytes three ≡ true → header_of bytes ≡ Some (record { width = width; height = height; start = three + 1 })
 header-read bytes width height greatest one two three begins first second third most across down ends = rw (begins, first, second, third, most, across, down, ends)
 
+-- a side is past the limit where its capped number is, and sides within it are themselves
+side-capped : (n : ℕ) → nat_lt MAX_SYMBOL_SIDE (capped n) ≡ nat_lt MAX_SYMBOL_SIDE n
+unfolding capped
+side-capped n = grind (arith, nat_tests)
+
+side-within : (n : ℕ) → nat_lt MAX_SYMBOL_SIDE n ≡ false → n ≤ MAX_SYMBOL_SIDE
+side-within n h = grind (arith, nat_tests)
+
+sides-capped : (width height : ℕ) (bytes : List ℕ) → pixels_of (capped width) (capped height) bytes ≡ pixels_of width height bytes
+sides-capped width height bytes = go (nat_lt MAX_SYMBOL_SIDE width || nat_lt MAX_SYMBOL_SIDE height) refl
+  where
+    go : (t : Bool) → (nat_lt MAX_SYMBOL_SIDE width || nat_lt MAX_SYMBOL_SIDE height) ≡ t → pixels_of (capped width) (capped height) bytes ≡ pixels_of width height bytes
+    go true h = rw (side-capped width, side-capped height, h) refl
+    go false h =
+        let across = side-within width (or-left (nat_lt MAX_SYMBOL_SIDE width) (nat_lt MAX_SYMBOL_SIDE height) h) in
+        let down = side-within height (or-right (nat_lt MAX_SYMBOL_SIDE width) (nat_lt MAX_SYMBOL_SIDE height) h) in
+        rw (capped-same width (omega arith), capped-same height (omega arith)) refl
+
 pub files : AreFilesRead
 files f is =
     let bytes = file_bytes f in
@@ -152,4 +172,4 @@ files f is =
     (capped-greatest (number_of f.greatest) is.colours) (capped-some (number_of f.width) is.columns) (capped-some (number_of f.height) is.rows)
     (space-read bytes last f.end f.pixels end is.closed) in
     let pixels : drop (last + 1) bytes ≡ f.pixels = sym (drop-drop 1 last bytes) ∙ ap (drop 1) end in
-    rw (header, pixels)
+    rw (header, pixels) (sides-capped (number_of f.width) (number_of f.height) f.pixels)

@@ -10,10 +10,9 @@ use Rattle.mapdefs.specs.declared.colour.Rgb.{Rgb}
 use Rattle.mapdefs.specs.declared.limits.TheConstants.{MAX_SYMBOL_SIDE}
 use Rattle.mapdefs.specs.declared.picture.PictureFields.{PictureFields}
 use Rattle.symbols.specs.File.{File, IsFile, IsPiece, Space, file_bytes}
-use Rattle.symbols.specs.Format.{capped, colours_of, pixels_of, pixmap_of}
+use Rattle.symbols.specs.Format.{colours_of, pixels_of, pixmap_of}
 use Rattle.symbols.specs.Law.{ArePicturesRead}
 use Rattle.symbols.specs.Netpbm.{ppm, rgb_bytes}
-use Rattle.symbols.proofs.Capping.{capped-same}
 use Rattle.symbols.proofs.Files.{files}
 
 -- the bytes of colours are three each, and are read as the colours
@@ -83,8 +82,8 @@ pub pictures : ArePicturesRead
 pictures p within some_columns columns some_rows rows =
     let across = numeral p.width (omega arith) in
     let down = numeral p.height (omega arith) in
-    let width : capped (number_of (decimal p.width)) ≡ p.width = ap capped across.number ∙ capped-same p.width (omega arith) in
-    let height : capped (number_of (decimal p.height)) ≡ p.height = ap capped down.number ∙ capped-same p.height (omega arith) in
+    let width : number_of (decimal p.width) ≡ p.width = across.number in
+    let height : number_of (decimal p.height) ≡ p.height = down.number in
     ap pixmap_of (same-bytes p)
     ∙ (files (file_of p) (is-file p some_columns columns some_rows rows)
     ∙ rw (width, height) (pixels-read p.width p.height p.pixels columns rows within.area))

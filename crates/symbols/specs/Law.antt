@@ -5,12 +5,12 @@ use Rattle.mapdefs.specs.PictureLimits.{IsPictureWithinLimits}
 use Rattle.mapdefs.specs.declared.limits.TheConstants.{MAX_SYMBOL_SIDE}
 use Rattle.mapdefs.specs.declared.picture.PictureFields.{PictureFields}
 use Rattle.symbols.specs.File.{File, IsFile, file_bytes}
-use Rattle.symbols.specs.Format.{capped, pixels_of, pixmap_of}
+use Rattle.symbols.specs.Format.{pixels_of, pixmap_of}
 use Rattle.symbols.specs.Netpbm.{ppm}
 
 -- the bytes of a file are the pixmap of its sides and its pixels' bytes, or their fault
 abbrev pub AreFilesRead : Type 0
-AreFilesRead = (f : File) → IsFile f → pixmap_of (file_bytes f) ≡ pixels_of (capped (number_of f.width)) (capped (number_of f.height)) f.pixels
+AreFilesRead = (f : File) → IsFile f → pixmap_of (file_bytes f) ≡ pixels_of (number_of f.width) (number_of f.height) f.pixels
 
 -- a picture that is small enough for a symbol is read as it was, after it was written
 abbrev pub ArePicturesRead : Type 0

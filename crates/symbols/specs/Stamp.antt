@@ -27,10 +27,11 @@ pixel_at s i j =
 abbrev pub is_transparent : Rgb → Bool
 is_transparent colour = colour.red == 255 && colour.green == 0 && colour.blue == 255
 
--- a stamp covers the pixels into which one falls that has a colour
+-- there is a pixel of the pixmap, and it has a colour
 abbrev pub is_coloured : Option Rgb → Bool
 is_coloured None = false
 is_coloured (Some colour) = not (is_transparent colour)
 
+-- a stamp covers the pixels of the picture into which a coloured one of its pixmap falls
 unfoldable pub covers_pixel : StampValue → ℤ → ℤ → Bool
 covers_pixel s i j = is_coloured (pixel_at s i j)

@@ -1,4 +1,5 @@
-//! What follows from the rules of pixmaps.
+//! Laws of the definitions. A law is a function without arguments whose contract states it.
+
 ghost use Rattle.symbols.specs.Law.{AreFilesRead, ArePicturesRead};
 
 /// A file that is made from a header, with any white space and any comments between its numbers, and from

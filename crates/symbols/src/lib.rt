@@ -6,8 +6,8 @@
 //! states that a file is read as the parts that it is made of, `laws::pictures` that a small picture is
 //! read as it was written.
 //!
-//! Words: a *pixmap* is the picture of a symbol. To *stamp* it is to lay it on the picture round a pixel. A
-//! *blanks* are the white space and the comments between two numbers of a header.
+//! Words: a *pixmap* is the picture of a symbol. To *stamp* it is to lay it on the picture round a pixel.
+//! *Blanks* are the white space and the comments between two numbers of a header.
 #![tactic(auto)]
 
 mod fault;

@@ -28,14 +28,15 @@ impl<'a> Model for Stamp<'a> {
 }
 
 impl<'a> Stamp<'a> {
-    /// The pixmap, stamped round a pixel: that many whole halves of its sides lie left of it and above it.
+    /// The pixmap, stamped round a pixel: half of its columns lie left of it and half of its rows above
+    /// it, a half rounded down.
     pub fn new(pixmap: &'a Pixmap, pixel: Pixel) -> Self
         ensures { result ≡ record { pixmap = pixmap.now; pixel = pixel } }
     {
         Stamp { pixmap, pixel }
     }
 
-    /// The colour of a pixel that it covers.
+    /// The colour of the pixel in column `i` and row `j`, which it covers.
     #[tactic(auto, unfolding(crate::specs::Stamp::covers_pixel))]
     pub fn colour(&self, i: u16, j: u16) -> Rgb
         requires { covers_pixel self.now (pos i) (pos j) ≡ true }

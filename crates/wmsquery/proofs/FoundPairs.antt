@@ -13,7 +13,7 @@ use Rattle.wmsquery.specs.Pairs.{text_of, pair_of, value_of, parameters, is_firs
 use Rattle.wmsquery.specs.Report.{parameter_text}
 
 -- a test passes or fails
-either : (b : Bool) → (b ≡ true) ⊎ (b ≡ false)
+pub either : (b : Bool) → (b ≡ true) ⊎ (b ≡ false)
 either true = inl refl
 either false = inr refl
 

@@ -1,6 +1,7 @@
 pub mod Accepted
 pub mod FirstFault
 pub mod FoundPairs
+pub mod LaterParameters
 pub mod OneMeaning
 pub mod SameValues
 pub mod WrittenAreas

@@ -9,7 +9,7 @@ use Rattle.wmsquery.specs.declared.pairs.Pair.{Pair}
 use Rattle.wmsquery.specs.declared.request.MapRequest.{MapRequest}
 use Rattle.wmsquery.specs.Pairs.{pairs_of}
 use Rattle.wmsquery.specs.Checks.{checks}
-use Rattle.wmsquery.specs.Meaning.{Passes, IsFirstFault, HasValues, IsMeaningOf, FirstFaultIsMeant, MeaningIsOne}
+use Rattle.wmsquery.specs.Meaning.{Passes, IsFirstFault, HasValues, IsMeaningOf, MeaningIsOne}
 
 -- what is the value of one result is one value
 value-is-one : {X E : Type 0} {r : Result X E} {a b : X} → r ≡ Ok a → r ≡ Ok b → a ≡ b
@@ -74,7 +74,3 @@ one-meaning-of map pairs (Err a) (Ok b) p q = absurd (both-never (checks map pai
 -- and so does a query
 pub meaning-is-one : MeaningIsOne
 meaning-is-one map query a b p q = one-meaning-of map (pairs_of query) a b p q
-
--- the first fault is what is meant
-pub first-fault-is-meant : FirstFaultIsMeant
-first-fault-is-meant = record { fault = λ map query f meant. meant; request = λ map query r meant. meant.0 }

@@ -1,6 +1,7 @@
 -- Pairs that give each parameter the same value mean the same.
 use Rattle.std.proofs.Common.{◌≡◌, ◌∙◌, ℕ, List, ◌∷◌, [], All, Option, Result, Ok, Err, IfOk, IfErr, ap, sym, subst, length}
 use Rattle.std.specs.Option.{option_and_then, option_map_or}
+use Rattle.crsaxes.specs.Axes.{parts}
 use Rattle.mapdefs.specs.declared.map.MapFields.{MapFields}
 use Rattle.wmsquery.specs.declared.checks.Check.{Check}
 use Rattle.wmsquery.specs.declared.error.QueryError.{QueryError}
@@ -12,12 +13,12 @@ use Rattle.wmsquery.specs.declared.pairs.Pair.{Pair}
 use Rattle.wmsquery.specs.declared.request.MapRequest.{MapRequest}
 use Rattle.wmsquery.specs.Pairs.{value_of, some_text, HaveSameValues}
 use Rattle.wmsquery.specs.Report.{parameter_text}
-use Rattle.wmsquery.specs.Values.{service_of, request_of, version_of, names_of, layers_of, styles_of, crs_value, area_of, side_of, format_of, transparent_of, background_of}
+use Rattle.wmsquery.specs.Values.{service_of, request_of, version_of, layers_of, styles_of, crs_value, area_of, side_of, format_of, transparent_of, background_of}
 use Rattle.wmsquery.specs.Checks.{check, checks}
 use Rattle.wmsquery.specs.Meaning.{Passes, IsFirstFault, IsMeaningOf, IsMeaningErrorOf}
 
 -- the value of each parameter
-abbrev ValuesBy : Type 0
+abbrev pub ValuesBy : Type 0
 ValuesBy = Parameter → Option (List ℕ)
 
 -- where it is not empty
@@ -25,9 +26,9 @@ abbrev given_by : ValuesBy → Parameter → Option (List ℕ)
 given_by v p = option_and_then some_text (v p)
 
 -- the checks of the values of the parameters
-abbrev checks_by : MapFields → ValuesBy → List Check
+abbrev pub checks_by : MapFields → ValuesBy → List Check
 checks_by map v =
-    let count = option_map_or (λ text. length (names_of text)) (given_by v parameter.Layers) 0 in
+    let count = option_map_or (λ text. length (parts text)) (given_by v parameter.Layers) 0 in
     check parameter.Service (service_of (given_by v parameter.Service))
     ∷ check parameter.Request (request_of (given_by v parameter.Request))
     ∷ check parameter.Version (version_of (given_by v parameter.Version))
@@ -43,7 +44,7 @@ checks_by map v =
     ∷ []
 
 -- the values that pairs give
-abbrev values_by : List Pair → ValuesBy
+abbrev pub values_by : List Pair → ValuesBy
 values_by pairs p = value_of (parameter_text p) pairs
 
 -- the same values are one

@@ -1,5 +1,5 @@
 -- Boxes and colours that are written out are read again.
-use Rattle.std.proofs.Common.{◌≡◌, ◌≢◌, ℕ, zero, suc, ℤ, pos, negsuc, ◌/◌, ◌^◌, ◌<◌, ◌≤◌, ◌<ℤ◌, ◌&&◌, true, int_lt, unsigned_abs, List, [], ◌∷◌, All, Some, Ok, ap, refl, ◌∙◌, arith}
+use Rattle.std.proofs.Common.{ok_or, ◌≡◌, ◌≢◌, ℕ, zero, suc, ℤ, pos, negsuc, ◌/◌, ◌^◌, ◌<◌, ◌<ℤ◌, ◌&&◌, true, int_lt, List, [], ◌∷◌, All, Some, Ok, ap, refl, ◌∙◌, arith}
 use Rattle.std.proofs.lemmas.Bool.{and_from, lt-ltb}
 use Rattle.std.proofs.lemmas.List.Elements.{All-nil, All-cons, All-append, All-weaker}
 use Rattle.std.proofs.lemmas.Int.{ints}
@@ -13,14 +13,13 @@ use Rattle.hex.proofs.HexLemmas.{decode_of-encode_lower, decode_sized-twice, len
 use Rattle.geom.specs.Number.{coordinate_of}
 use Rattle.geom.specs.World.{Area, IsCoordinate, IsExtent}
 use Rattle.geom.specs.Written.{written, written_size, six_digits}
-use Rattle.geom.specs.declared.micro.TheConstants.{COORDINATE_LIMIT}
 use Rattle.geom.proofs.Written.{numeral, six-are, coordinate-size, coordinate-written}
 use Rattle.geom.proofs.Digits.{digit-range, digits-cons}
 use Rattle.crsaxes.specs.Axes.{parts, box_of, box_of_parts, box_in, with_area}
 use Rattle.crsaxes.specs.declared.crs.Crs.{Crs}
 use Rattle.crsaxes.specs.declared.crs.Crs.TheVariants.{Crs84, Epsg4326}
 use Rattle.mapdefs.specs.declared.colour.Rgb.{Rgb}
-use Rattle.wmsquery.specs.Values.{area_of, background_of, rgb_of_bytes, or_refused}
+use Rattle.wmsquery.specs.Values.{area_of, background_of, rgb_of_bytes}
 use Rattle.wmsquery.specs.declared.fault.Code.TheVariants as code
 use Rattle.wmsquery.specs.Written.{crs_text, bbox_text, colour_text, IsColour, with_commas}
 use Rattle.wmsquery.proofs.WrittenValues.{split-joined}
@@ -38,7 +37,7 @@ colour-written colour is =
     let bytes = colour.red ∷ colour.green ∷ colour.blue ∷ [] in
     let decoded : decode_sized (encode_lower bytes) 3 ≡ Ok bytes =
     decode_sized-twice (encode_lower bytes) 3 (length-encode_with _ bytes) ∙ decode_of-encode_lower bytes (three-bytes colour is) in
-    ap (λ d. or_refused code.InvalidParameterValue (option_and_then rgb_of_bytes (result_ok d))) decoded
+    ap (λ d. ok_or (option_and_then rgb_of_bytes (result_ok d)) code.InvalidParameterValue) decoded
 
 -- a byte of a number: ASCII, and no comma
 pub record IsNumberByte (b : ℕ) : Type 0 where
@@ -104,8 +103,8 @@ extent-area area is =
 -- the sides of a box in the axis order of a system mean that box
 pub area-written : (crs : Crs) (area : Area) → IsExtent area → area_of (Some (crs_text crs)) (Some (bbox_text crs area)) ≡ Ok area
 area-written Crs84 area is =
-    ap (λ r. or_refused code.InvalidParameterValue (result_ok r))
+    ap (λ r. ok_or (result_ok r) code.InvalidParameterValue)
     (four-box Crs84 area.minx area.miny area.maxx area.maxy is.world.west is.world.south is.world.east is.world.north ∙ extent-area area is)
 area-written Epsg4326 area is =
-    ap (λ r. or_refused code.InvalidParameterValue (result_ok r))
+    ap (λ r. ok_or (result_ok r) code.InvalidParameterValue)
     (four-box Epsg4326 area.miny area.minx area.maxy area.maxx is.world.south is.world.west is.world.north is.world.east ∙ extent-area area is)

@@ -1,14 +1,15 @@
 -- Layers that are named are those that the names mean.
-use Rattle.std.proofs.Common.{◌≡◌, ◌≢◌, ℕ, suc, ◌≤◌, ◌++◌, Bool, true, false, ◌⊎◌, nat_lt, nat_le, List, [], ◌∷◌, All, length, Some, None, Ok, ap, refl, sym, ◌∙◌, inl, inr, arith, cond, length-append, slice_get}
+use Rattle.std.proofs.Common.{ok_or, ◌≡◌, ◌≢◌, ℕ, suc, ◌≤◌, ◌++◌, Bool, true, false, ◌⊎◌, nat_lt, nat_le, List, [], ◌∷◌, All, length, Some, None, Ok, ap, refl, sym, ◌∙◌, inl, inr, arith, cond, length-append, slice_get}
 use Rattle.std.proofs.lemmas.Bool.{le-leb, lt-ltb}
 use Rattle.std.proofs.lemmas.List.Elements.{All-nil, All-cons, All-head, All-tail}
 use Rattle.std.specs.List.{position_or_len}
 use Rattle.std.specs.Option.{option_map_or, option_and_then}
 use Rattle.std.specs.Cmp.Lexicographic.{same_text, other_text}
+use Rattle.crsaxes.specs.Axes.{parts}
 use Rattle.mapdefs.specs.declared.layer.LayerFields.{LayerFields}
 use Rattle.mapdefs.specs.declared.map.MapFields.{MapFields}
 use Rattle.mapdefs.specs.Name.{index_of, is_same_name}
-use Rattle.wmsquery.specs.Values.{and_then, listed, names_of, layer_named, indices_of, layers_of, or_refused}
+use Rattle.wmsquery.specs.Values.{and_then, listed, layer_named, indices_of, layers_of}
 use Rattle.wmsquery.specs.declared.fault.Code.TheVariants as code
 use Rattle.wmsquery.specs.Written.{IsNamed, AreNamed, with_commas}
 use Rattle.wmsquery.proofs.WrittenValues.{split-joined}
@@ -90,7 +91,7 @@ no-commas map [] (n ∷ ns) are = absurd are
 no-commas map (i ∷ is) [] are = absurd are
 
 -- names between commas are those names
-names-split : (names : List (List ℕ)) → 1 ≤ length names → All (All (λ b. b ≢ 44)) names → names_of (with_commas names) ≡ names
+names-split : (names : List (List ℕ)) → 1 ≤ length names → All (All (λ b. b ≢ 44)) names → parts (with_commas names) ≡ names
 names-split [] some plain = absurd (omega arith)
 names-split (n ∷ ns) some plain =
     split-joined n ns (All-head (All (λ b. b ≢ 44)) n ns plain) (All-tail (All (λ b. b ≢ 44)) n ns plain)
@@ -102,11 +103,11 @@ layers-written map indices names some most are =
     let count = same-count map indices names are in
     let split = names-split names (omega (arith, count)) (no-commas map indices names are) in
     let few : nat_le (length names) 64 ≡ true = le-leb (length names) 64 (omega (arith, count)) in
-    ap (λ ns. and_then (listed ns) (λ ms. or_refused code.LayerNotDefined (indices_of map ms))) split
-    ∙ rw few (ap (or_refused code.LayerNotDefined) (indices-named map indices names are))
+    ap (λ ns. and_then (listed ns) (λ ms. ok_or (indices_of map ms) code.LayerNotDefined)) split
+    ∙ rw few (ap (λ found. ok_or found code.LayerNotDefined) (indices-named map indices names are))
 
 -- and so many names stand there
 pub count-written : (map : MapFields) (indices : List ℕ) (names : List (List ℕ)) → 1 ≤ length indices → AreNamed map indices names →
-    names_of (with_commas names) ≡ names
+    parts (with_commas names) ≡ names
 count-written map indices names some are =
     names-split names (omega (arith, same-count map indices names are)) (no-commas map indices names are)

@@ -1,5 +1,5 @@
 -- Values that are written out are read again.
-use Rattle.std.proofs.Common.{◌≡◌, ◌≢◌, ℕ, pos, ◌&&◌, true, false, nat_le, List, [], ◌∷◌, All, Some, None, Ok, ap, refl, ◌∙◌, arith, cond}
+use Rattle.std.proofs.Common.{ok_or, ◌≡◌, ◌≢◌, ℕ, pos, ◌&&◌, true, false, nat_le, List, [], ◌∷◌, All, Some, None, Ok, ap, refl, ◌∙◌, arith, cond}
 use Rattle.std.proofs.lemmas.Bool.{and_from, le-leb, ne_eqb}
 use Rattle.std.proofs.lemmas.List.Elements.{All-head, All-tail, All-weaker}
 use Rattle.std.proofs.lemmas.List.Splits.{slice_split_none, slice_split_at}
@@ -14,7 +14,7 @@ use Rattle.geom.specs.declared.micro.TheConstants.{NUMBER_LIMIT}
 use Rattle.geom.proofs.Numerals.{numeral-read, whole-read}
 use Rattle.geom.proofs.Written.{numeral}
 use Rattle.crsaxes.specs.Axes.{is_comma}
-use Rattle.wmsquery.specs.Values.{side_within, side_of, or_refused}
+use Rattle.wmsquery.specs.Values.{side_within, side_of}
 use Rattle.wmsquery.specs.declared.fault.Code.TheVariants as code
 
 -- a side that a picture may have
@@ -33,9 +33,9 @@ count-read n is =
 pub side-written : (n : ℕ) → IsPictureSide n → side_of (Some (decimal n)) ≡ Ok n
 side-written n is =
     let digits = (numeral n (omega (arith, is.most))).digits in
-    ap (λ b. or_refused code.InvalidParameterValue (cond b (option_and_then side_within (count_of (decimal n))) None)) digits
-    ∙ ap (λ c. or_refused code.InvalidParameterValue (option_and_then side_within c)) (count-read n is)
-    ∙ ap (or_refused code.InvalidParameterValue) (side-within n is)
+    ap (λ b. ok_or (cond b (option_and_then side_within (count_of (decimal n))) None) code.InvalidParameterValue) digits
+    ∙ ap (λ c. ok_or (option_and_then side_within c) code.InvalidParameterValue) (count-read n is)
+    ∙ ap (λ side. ok_or side code.InvalidParameterValue) (side-within n is)
 
 -- bytes that are no commas
 commas-none : (text : List ℕ) → All (λ b. b ≢ 44) text → All (λ b. is_comma b ≡ false) text

@@ -1,6 +1,7 @@
 -- The order of refusal: a list of checks, each of one parameter (OGC 06-042, 7.3; docs/PROFILE.md, "Queries").
 use Rattle.std.specs.Prelude.{◌≡◌, ℕ, List, [], ◌∷◌, length, Option, None, Some, Result, Ok, Err, codes}
 use Rattle.std.specs.Option.{option_map_or}
+use Rattle.crsaxes.specs.Axes.{parts}
 use Rattle.mapdefs.specs.declared.map.MapFields.{MapFields}
 use Rattle.wmsquery.specs.declared.checks.Check.{Check}
 use Rattle.wmsquery.specs.declared.checks.Values.{Values}
@@ -9,7 +10,7 @@ use Rattle.wmsquery.specs.declared.fault.Parameter.{Parameter}
 use Rattle.wmsquery.specs.declared.fault.Parameter.TheVariants as parameter
 use Rattle.wmsquery.specs.declared.pairs.Pair.{Pair}
 use Rattle.wmsquery.specs.Pairs.{value_of, given}
-use Rattle.wmsquery.specs.Values.{service_of, request_of, version_of, names_of, layers_of, styles_of, crs_value, area_of, side_of, format_of, transparent_of, background_of}
+use Rattle.wmsquery.specs.Values.{service_of, request_of, version_of, layers_of, styles_of, crs_value, area_of, side_of, format_of, transparent_of, background_of}
 
 -- the code that refuses a value, if there is one
 abbrev pub refusal_of : {X : Type 0} → Result X Code → Option Code
@@ -22,7 +23,7 @@ check p value = record { parameter = p; refusal = refusal_of value }
 
 -- how many layers a query lists
 abbrev pub layer_count : List Pair → ℕ
-layer_count pairs = option_map_or (λ text. length (names_of text)) (given (codes "LAYERS") pairs) 0
+layer_count pairs = option_map_or (λ text. length (parts text)) (given (codes "LAYERS") pairs) 0
 
 -- what the parameters of a request mean, and the refusal of the styles
 abbrev pub values_of : MapFields → List Pair → Values

@@ -1,13 +1,14 @@
 -- What a query means: a request, or the fault of the first check that fails (docs/PROFILE.md, "Queries").
-use Rattle.std.specs.Prelude.{◌≡◌, ℕ, List, ◌∷◌, ◌++◌, All, None, Some, Result, Ok, Err, codes}
+use Rattle.std.specs.Prelude.{◌≡◌, ℕ, List, [], ◌∷◌, ◌++◌, All, None, Some, Result, Ok, Err, codes}
 use Rattle.mapdefs.specs.declared.map.MapFields.{MapFields}
 use Rattle.wmsquery.specs.declared.checks.Check.{Check}
 use Rattle.wmsquery.specs.declared.error.QueryError.{QueryError}
 use Rattle.wmsquery.specs.declared.error.QueryError.TheVariants.{Fault, NoMemory}
+use Rattle.wmsquery.specs.declared.fault.Parameter.{Parameter}
 use Rattle.wmsquery.specs.declared.fault.WmsFault.{WmsFault}
 use Rattle.wmsquery.specs.declared.pairs.Pair.{Pair}
 use Rattle.wmsquery.specs.declared.request.MapRequest.{MapRequest}
-use Rattle.wmsquery.specs.Pairs.{pairs_of, given}
+use Rattle.wmsquery.specs.Pairs.{pairs_of, given, parameters, HaveSameValue}
 use Rattle.wmsquery.specs.Values.{layers_of, area_of, side_of, background_of}
 use Rattle.wmsquery.specs.Checks.{checks}
 
@@ -51,11 +52,12 @@ IsMeaningErrorOf map pairs NoMemory = Unit {0}
 abbrev pub IsMeaningError : MapFields → List ℕ → QueryError → Type 0
 IsMeaningError map query e = IsMeaningErrorOf map (pairs_of query) e
 
--- the law of the first fault: where a query means a fault, all checks before its check pass and that one fails by it;
--- where it means a request, all checks pass
-pub record FirstFaultIsMeant : Type 0 where
-  pub fault : (map : MapFields) (query : List ℕ) (f : WmsFault) → IsMeaning map query (Err f) → IsFirstFault (checks map (pairs_of query)) f
-  pub request : (map : MapFields) (query : List ℕ) (r : MapRequest) → IsMeaning map query (Ok r) → All Passes (checks map (pairs_of query))
+-- the law that what stands after the parameter of the first fault, in the order of refusal, changes nothing: a query
+-- that gives each parameter up to that one the same value means the same fault
+abbrev pub LaterChangesNothing : Type 0
+LaterChangesNothing = (map : MapFields) (a b : List ℕ) (f : WmsFault) (before after : List Parameter) →
+    parameters ≡ before ++ f.parameter ∷ after → All (HaveSameValue a b) (before ++ f.parameter ∷ []) →
+    IsMeaning map a (Err f) → IsMeaning map b (Err f)
 
 -- the law that a query has one meaning: a request or a fault, never both, and never two of either
 abbrev pub MeaningIsOne : Type 0

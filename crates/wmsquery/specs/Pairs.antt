@@ -44,6 +44,10 @@ parameters =
 abbrev pub HaveSameValues : List Pair → List Pair → Type 0
 HaveSameValues a b = (p : Parameter) → value_of (parameter_text p) a ≡ value_of (parameter_text p) b
 
+-- two queries give a parameter the same value
+abbrev pub HaveSameValue : List ℕ → List ℕ → Parameter → Type 0
+HaveSameValue a b p = value_of (parameter_text p) (pairs_of a) ≡ value_of (parameter_text p) (pairs_of b)
+
 -- a name is that of a parameter which has no value yet
 abbrev pub is_first_of : List Pair → List ℕ → Parameter → Bool
 is_first_of found name p = str_eq_ignore_ascii_case name (parameter_text p) && is_none (value_of (parameter_text p) found)

@@ -1,4 +1,4 @@
--- Service exceptions (OGC 06-042, 7.3.3.11 and annex E; docs/PROFILE.md, "Exceptions").
+-- Service exceptions (OGC 06-042, 7.3; docs/PROFILE.md, "Exceptions").
 use Rattle.std.specs.Prelude.{ℕ, List, ◌++◌, codes}
 use Rattle.wmsquery.specs.declared.fault.Code.{Code}
 use Rattle.wmsquery.specs.declared.fault.Code.TheVariants as code
@@ -6,7 +6,7 @@ use Rattle.wmsquery.specs.declared.fault.Parameter.{Parameter}
 use Rattle.wmsquery.specs.declared.fault.Parameter.TheVariants as parameter
 use Rattle.wmsquery.specs.declared.fault.WmsFault.{WmsFault}
 
--- the names of the codes, as the standard writes them
+-- the names of the codes, as documents write them
 abbrev pub code_text : Code → List ℕ
 code_text code.MissingParameterValue = codes "MissingParameterValue"
 code_text code.InvalidParameterValue = codes "InvalidParameterValue"

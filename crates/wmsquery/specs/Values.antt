@@ -1,11 +1,10 @@
 -- What the value of each parameter means, or the code that refuses it (OGC 06-042, 7.3; docs/PROFILE.md, "Queries").
-use Rattle.std.specs.Prelude.{ℕ, ◌==◌, ◌&&◌, ◌||◌, Bool, true, false, not, slice_get, nat_eq, nat_le, if◌then◌else◌, List, [], ◌∷◌, length, ℤ, pos, negsuc, Option, None, Some, Result, Ok, Err, codes, option_and_then}
+use Rattle.std.specs.Prelude.{ℕ, ◌==◌, ◌&&◌, ◌||◌, Bool, true, false, not, slice_get, nat_le, if◌then◌else◌, List, [], ◌∷◌, length, ℤ, pos, negsuc, Option, None, Some, Result, Ok, Err, codes, option_and_then, ok_or}
 use Rattle.std.specs.Option.{option_map_or}
 use Rattle.std.specs.Result.{result_ok}
-use Rattle.std.specs.List.{slice_split, list_all}
+use Rattle.std.specs.List.{list_all}
 use Rattle.std.specs.Char.{is_ascii_digit}
 use Rattle.std.specs.Str.{str_eq_ignore_ascii_case}
-use Rattle.std.specs.Cmp.Lexicographic.{pointwise}
 use Rattle.hex.specs.Hex.{decode_sized}
 use Rattle.geom.specs.Number.{count_of}
 use Rattle.geom.specs.Side.{picture_side}
@@ -13,11 +12,12 @@ use Rattle.geom.specs.World.{Area}
 use Rattle.mapdefs.specs.declared.colour.Rgb.{Rgb}
 use Rattle.mapdefs.specs.declared.layer.LayerFields.{LayerFields}
 use Rattle.mapdefs.specs.declared.map.MapFields.{MapFields}
-use Rattle.mapdefs.specs.Name.{index_of}
-use Rattle.crsaxes.specs.Axes.{bbox, crs_of, is_comma}
+use Rattle.mapdefs.specs.Name.{index_of, is_same_name}
+use Rattle.crsaxes.specs.Axes.{bbox, crs_of, parts}
 use Rattle.crsaxes.specs.declared.crs.Crs.{Crs}
 use Rattle.wmsquery.specs.declared.fault.Code.{Code}
 use Rattle.wmsquery.specs.declared.fault.Code.TheVariants as code
+use Rattle.wmsquery.specs.declared.lists.TheConstants.{MAX_NAMES}
 
 -- going on with a value, where it isn't refused
 abbrev pub and_then : {X Y : Type 0} → Result X Code → (X → Result Y Code) → Result Y Code
@@ -26,21 +26,11 @@ and_then (Err refusal) f = Err refusal
 
 -- a value has to be given
 abbrev pub required : {X : Type 0} → Option X → Result X Code
-required None = Err code.MissingParameterValue
-required (Some x) = Ok x
-
--- what a value means, or the code that refuses it
-abbrev pub or_refused : {X : Type 0} → Code → Option X → Result X Code
-or_refused refusal None = Err refusal
-or_refused refusal (Some x) = Ok x
-
--- two texts are the same, byte by byte
-abbrev pub is_text : List ℕ → List ℕ → Bool
-is_text a b = pointwise nat_eq a b
+required value = ok_or value code.MissingParameterValue
 
 -- a value that has to be this text
 abbrev pub fixed : List ℕ → Code → List ℕ → Result (List ℕ) Code
-fixed text refusal value = if is_text value text then Ok value else Err refusal
+fixed text refusal value = if is_same_name value text then Ok value else Err refusal
 
 -- SERVICE may be missing, and is WMS
 abbrev pub service_of : Option (List ℕ) → Result (List ℕ) Code
@@ -55,10 +45,6 @@ request_of value = and_then (required value) (fixed (codes "GetMap") code.Operat
 abbrev pub version_of : Option (List ℕ) → Result (List ℕ) Code
 version_of value = and_then (required value) (fixed (codes "1.3.0") code.InvalidParameterValue)
 
--- the names in a list between commas
-abbrev pub names_of : List ℕ → List (List ℕ)
-names_of text = slice_split is_comma text
-
 -- a layer is defined where the map has one of its name that is switched on, and the name is not empty
 abbrev pub layer_named : MapFields → List ℕ → Option ℕ
 layer_named map [] = None
@@ -72,19 +58,19 @@ indices_of map [] = Some []
 indices_of map (name ∷ names) =
     option_and_then (λ index. option_and_then (λ indices. Some (index ∷ indices)) (indices_of map names)) (layer_named map name)
 
--- at most 64 names may be listed
+-- at most `MAX_NAMES` names may be listed
 abbrev pub listed : List (List ℕ) → Result (List (List ℕ)) Code
-listed names = if nat_le (length names) 64 then Ok names else Err code.InvalidParameterValue
+listed names = if nat_le (length names) MAX_NAMES then Ok names else Err code.InvalidParameterValue
 
 -- LAYERS lists layers that are defined
 abbrev pub layers_of : MapFields → Option (List ℕ) → Result (List ℕ) Code
 layers_of map value =
-    and_then (required value) (λ text. and_then (listed (names_of text)) (λ names. or_refused code.LayerNotDefined (indices_of map names)))
+    and_then (required value) (λ text. and_then (listed (parts text)) (λ names. ok_or (indices_of map names) code.LayerNotDefined))
 
 -- an entry of STYLES is empty or `default`
 abbrev pub is_default : List ℕ → Bool
 is_default [] = true
-is_default (b ∷ bs) = is_text (b ∷ bs) (codes "default")
+is_default (b ∷ bs) = is_same_name (b ∷ bs) (codes "default")
 
 -- an entry for each layer, each the default
 abbrev pub style_list : ℕ → List (List ℕ) → Result (List (List ℕ)) Code
@@ -92,22 +78,23 @@ style_list count entries =
     if not (length entries == count) then Err code.InvalidParameterValue
     else (if list_all is_default entries then Ok entries else Err code.StyleNotDefined)
 
--- STYLES has to be there; an empty one is the default of all layers, else it has an entry for each
+-- an empty STYLES is the default of all layers, else it has an entry for each
 abbrev pub styles_in : ℕ → List ℕ → Result (List (List ℕ)) Code
 styles_in count [] = Ok []
-styles_in count (b ∷ bs) = style_list count (names_of (b ∷ bs))
+styles_in count (b ∷ bs) = style_list count (parts (b ∷ bs))
 
+-- STYLES has to be there, and may be empty
 abbrev pub styles_of : ℕ → Option (List ℕ) → Result (List (List ℕ)) Code
 styles_of count value = and_then (required value) (styles_in count)
 
 -- CRS is a known coordinate reference system
 abbrev pub crs_value : Option (List ℕ) → Result Crs Code
-crs_value value = and_then (required value) (λ name. or_refused code.InvalidCrs (crs_of name))
+crs_value value = and_then (required value) (λ name. ok_or (crs_of name) code.InvalidCrs)
 
 -- BBOX is a box in the axis order of CRS
 abbrev pub area_of : Option (List ℕ) → Option (List ℕ) → Result Area Code
 area_of crs value =
-    and_then (required value) (λ text. or_refused code.InvalidParameterValue (option_and_then (λ name. result_ok (bbox name text)) crs))
+    and_then (required value) (λ text. ok_or (option_and_then (λ name. result_ok (bbox name text)) crs) code.InvalidParameterValue)
 
 -- the side of that many pixels, if a picture may have it
 abbrev pub side_within : ℤ → Option ℕ
@@ -117,8 +104,8 @@ side_within (negsuc n) = None
 -- WIDTH and HEIGHT are digits alone, of a side that a picture may have
 abbrev pub side_of : Option (List ℕ) → Result ℕ Code
 side_of value =
-    and_then (required value) (λ text. or_refused code.InvalidParameterValue
-    (if list_all is_ascii_digit text then option_and_then side_within (count_of text) else None))
+    and_then (required value) (λ text. ok_or
+    (if list_all is_ascii_digit text then option_and_then side_within (count_of text) else None) code.InvalidParameterValue)
 
 -- FORMAT is that of portable pixmaps
 abbrev pub format_of : Option (List ℕ) → Result (List ℕ) Code
@@ -145,4 +132,4 @@ colour_of _ = None
 -- BGCOLOR is a colour, white where it is missing
 abbrev pub background_of : Option (List ℕ) → Result Rgb Code
 background_of None = Ok (record { red = 255; green = 255; blue = 255 })
-background_of (Some value) = or_refused code.InvalidParameterValue (colour_of value)
+background_of (Some value) = ok_or (colour_of value) code.InvalidParameterValue

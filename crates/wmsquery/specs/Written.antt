@@ -1,4 +1,4 @@
--- Queries that are written out from a request (OGC 06-042, 7.3.2; URL Standard, application/x-www-form-urlencoded).
+-- Queries that are written out from a request (OGC 06-042, 7.3; URL Standard, application/x-www-form-urlencoded).
 use Rattle.std.specs.Prelude.{◌≡◌, ◌≢◌, ℕ, ◌≤◌, ◌<◌, true, List, [], ◌∷◌, ◌++◌, All, length, Ok, codes, IsUtf8}
 use Rattle.std.specs.Fmt.{decimal}
 use Rattle.std.specs.List.{join_with_byte}
@@ -12,6 +12,7 @@ use Rattle.geom.specs.Written.{written}
 use Rattle.mapdefs.specs.declared.colour.Rgb.{Rgb}
 use Rattle.mapdefs.specs.declared.layer.LayerFields.{LayerFields}
 use Rattle.mapdefs.specs.declared.map.MapFields.{MapFields}
+use Rattle.wmsquery.specs.declared.lists.TheConstants.{MAX_NAMES}
 use Rattle.wmsquery.specs.declared.request.MapRequest.{MapRequest}
 use Rattle.wmsquery.specs.Meaning.{IsMeaning}
 
@@ -80,10 +81,10 @@ pub record IsColour (colour : Rgb) : Type 0 where
   pub green : colour.green < 256
   pub blue : colour.blue < 256
 
--- a request of 1 to 64 layers, an extent of the world, and sides that a picture may have
+-- a request of 1 to `MAX_NAMES` layers, an extent of the world, and sides that a picture may have
 pub record IsRequest (request : MapRequest) : Type 0 where
   pub some : 1 ≤ length request.chosen
-  pub most : length request.chosen ≤ 64
+  pub most : length request.chosen ≤ MAX_NAMES
   pub area : IsExtent request.area
   pub width : IsPictureSide request.width
   pub height : IsPictureSide request.height

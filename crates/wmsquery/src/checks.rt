@@ -15,29 +15,37 @@ use std::alloc::{AllocError, Global};
 /// A check of a parameter: the code that refuses its value, if there is one.
 #[derive(Clone, Copy)]
 pub struct Check {
+    /// The parameter that is looked at.
     pub parameter: Parameter,
+    /// The code that refuses its value, if there is one.
     pub refusal: Option<Code>,
 }
 
 /// What the parameters of a request mean, and the refusal of the styles.
 #[derive(Drop)]
 pub struct Values {
+    /// The indices of the layers that LAYERS lists.
     pub layers: Result<Items<usize>, Code>,
+    /// The refusal of STYLES.
     pub styles: Option<Code>,
+    /// The area that BBOX means.
     pub area: Result<WorldBox, Code>,
+    /// The side that WIDTH means.
     pub width: Result<PictureSide, Code>,
+    /// The side that HEIGHT means.
     pub height: Result<PictureSide, Code>,
+    /// The colour that BGCOLOR means.
     pub background: Result<Rgb, Code>,
 }
 
-/// What the parameters of a request mean.
+/// What the parameters of a request mean. The error is that memory was refused.
 pub fn evaluate(alloc: Global, map: &Map, pairs: &[Pair]) -> Result<Values, AllocError>
     ensures value { IfOk result (λ values. values ≡ values_of map.now pairs.now) }
     ensures within { IfOk result (λ values. IfOk values.layers (All (λ index. index < length map.now.layers))) }
     ensures extent { IfOk result (λ values. IfOk values.area IsExtent) }
 {
     let listed = given(pairs, "LAYERS");
-    let count = layer_count(alloc, listed)?;
+    let count = layer_count(listed);
     Ok(Values {
         layers: layers(alloc, map, listed)?,
         styles: styles(alloc, count, value_of(pairs, "STYLES"))?,

@@ -7,8 +7,10 @@ use thiserror::Error;
 /// Why a query has no request.
 #[derive(Clone, Copy, Debug, Error)]
 pub enum QueryError {
+    /// A parameter is at fault.
     #[error("{0}")]
     Fault(WmsFault),
+    /// Memory was refused.
     #[error("out of memory")]
     NoMemory,
 }

@@ -5,15 +5,15 @@ use crate::fault::{Code, Parameter, WmsFault};
 use mapdefs::Items;
 use std::alloc::{AllocError, Global};
 
-/// What stands before the code of a report.
+// What stands before the code of a report.
 const HEAD: &str =
     "<?xml version=\"1.0\" encoding=\"UTF-8\"?>\n<ServiceExceptionReport version=\"1.3.0\" xmlns=\"http://www.opengis.net/ogc\">\n<ServiceException code=\"";
 
-/// What stands after the name of the parameter.
+// What stands after the name of the parameter.
 const TAIL: &str = "</ServiceException>\n</ServiceExceptionReport>\n";
 
 impl Code {
-    /// The name of the code, as the standard writes it.
+    /// The name of the code, as documents write it.
     pub fn text(self) -> &'static str
         ensures { result.now ≡ code_text self }
     {
@@ -74,7 +74,7 @@ fn add(bytes: &mut Vec<u8>, text: &str) -> Result<(), AllocError>
     bytes.extend_from_slice(text.as_bytes())
 }
 
-/// The document of a service exception.
+/// The document of a service exception. The error is that memory was refused.
 pub fn report(alloc: Global, fault: WmsFault) -> Result<Items<u8>, AllocError>
     ensures { IfOk result (λ document. document ≡ report fault) }
 {

@@ -1,12 +1,13 @@
 //! Laws of the definitions. A law is a function without arguments whose contract states it.
 
-ghost use Rattle.wmsquery.specs.Meaning.{FirstFaultIsMeant, MeaningIsOne};
+ghost use Rattle.wmsquery.specs.Meaning.{LaterChangesNothing, MeaningIsOne};
 ghost use Rattle.wmsquery.specs.Written.{WrittenIsMeant};
 
-/// Where a query means a fault, all checks before its check pass, and that one fails by it. Where a
-/// query means a request, all checks pass.
-pub fn first_fault()
-    ensures { FirstFaultIsMeant }
+/// A query means the fault of its first check that fails whatever the parameters have that come later
+/// in the order of refusal: one that gives each parameter up to that of the fault the same value means
+/// the same fault.
+pub fn later_parameters_change_nothing()
+    ensures { LaterChangesNothing }
 {}
 
 /// A query means one request, or one fault: that of the first check that fails.

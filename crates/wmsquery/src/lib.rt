@@ -2,9 +2,10 @@
 //!
 //! Proved: `read` gives the request that a query makes of a map (clause `request`), or the fault of the
 //! first check that fails (`fault`). The layers that are chosen are in the map (`layers`), and the area
-//! is one within the world (`extent`). A query means what its first failing check says, or its values
-//! (`laws::first_fault`), and nothing besides (`laws::one_meaning`). A query that is written out from a
-//! request means it (`laws::written_requests`).
+//! is one within the world (`extent`). A query means one request or one fault (`laws::one_meaning`), and
+//! the fault whatever the parameters have that come after its own in the order of refusal
+//! (`laws::later_parameters_change_nothing`). A query that is written out from a request means it
+//! (`laws::written_requests`).
 //!
 //! Words: a *pair* is a name and a value of a query. A *value* is what a parameter means. A *check* of
 //! a parameter has the code that refuses its value, if there is one; the *refusal* is that code.
@@ -24,5 +25,6 @@ mod values;
 pub use error::QueryError;
 pub use exception::report;
 pub use fault::{Code, Parameter, WmsFault};
+pub use lists::MAX_NAMES;
 pub use query::read;
 pub use request::MapRequest;

@@ -1,19 +1,20 @@
 ghost use Rattle.std.specs.Prelude.{◌≡◌, ◌<◌, All, length, map as each, IfOk, IfSome};
 ghost use Rattle.std.specs.List.{list_all};
 ghost use Rattle.std.specs.Option.{option_copied, option_map_or};
+ghost use Rattle.crsaxes.specs.Axes.{parts};
 ghost use Rattle.wmsquery.specs.Checks.{refusal_of};
-ghost use Rattle.wmsquery.specs.Values.{names_of, layer_named, indices_of, layers_of, is_default, style_list, styles_of};
+ghost use Rattle.wmsquery.specs.Values.{layer_named, indices_of, layers_of, is_default, style_list, styles_of};
 
 use crate::fault::Code;
 use mapdefs::{Items, Map};
 use std::alloc::{AllocError, Global};
 
-// How many layers may be listed.
-const MAX_LISTED: usize = 64;
+/// The most names of LAYERS.
+pub const MAX_NAMES: usize = 64;
 
 // The names in a list between commas.
 fn names(alloc: Global, text: &str) -> Result<Vec<&str>, AllocError>
-    ensures { IfOk result (λ found. each (λ x. x.now) found.items ≡ names_of text.now) }
+    ensures { IfOk result (λ found. each (λ x. x.now) found.items ≡ parts text.now) }
 {
     text.split(',').collect(alloc)
 }
@@ -63,7 +64,7 @@ pub fn layers(
         return Ok(Err(Code::MissingParameterValue));
     };
     let listed = names(alloc, text)?;
-    if listed.len() > MAX_LISTED {
+    if listed.len() > MAX_NAMES {
         return Ok(Err(Code::InvalidParameterValue));
     }
     match indices(alloc, map, &listed)? {
@@ -72,15 +73,21 @@ pub fn layers(
     }
 }
 
-/// How many layers LAYERS lists.
-pub fn layer_count(alloc: Global, value: Option<&str>) -> Result<usize, AllocError>
-    ensures { IfOk result (λ count. count ≡ option_map_or (λ text. length (names_of text)) (option_copied value.entry) 0) }
+// How many names a list has between commas.
+fn name_count(text: &str) -> usize
+    ensures { result ≡ length (parts text.now) }
 {
-    let Some(text) = value else {
-        return Ok(0);
-    };
-    let listed = names(alloc, text)?;
-    Ok(listed.len())
+    text.split(',').count()
+}
+
+/// How many layers LAYERS lists.
+pub fn layer_count(value: Option<&str>) -> usize
+    ensures { result ≡ option_map_or (λ text. length (parts text)) (option_copied value.entry) 0 }
+{
+    match value {
+        Some(text) => name_count(text),
+        None => 0,
+    }
 }
 
 // Whether an entry of STYLES is the default.

@@ -11,7 +11,9 @@ use std::alloc::{AllocError, Global};
 /// A name of a query and its value, as texts.
 #[derive(Drop)]
 pub struct Pair {
+    /// The name, decoded.
     pub name: Text,
+    /// The value, decoded.
     pub value: Text,
 }
 

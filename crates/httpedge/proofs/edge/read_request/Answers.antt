@@ -25,12 +25,12 @@ returns-in-Ask-clause-means g c =
     (Consumes-trans _ _ _ before.came piece before.bytes read)
     (asked-so (before.came ++ piece) c.feed.new.self c.feed.result comes c.feed.ensures.step c.in-Ask.is).0
 
-pub returns-in-Http-clause-means : goal.returns-in-Http-clause-means
-returns-in-Http-clause-means g c =
+pub returns-in-Refused-clause-means : goal.returns-in-Refused-clause-means
+returns-in-Refused-clause-means g c =
     let before = c.loop-count.invariant in
     let piece = c.split_at.result.0.now in
     let comes = fed before.came piece c.loop-count.conn c.feed.new.self before.is c.feed.ensures.feeds in
     let read = subst (Consumes (g.R.Source.left c.loop-count.reader) (g.R.Source.left c.take.new.self)) (sym c.split_at.ensures.front) c.in-Ok.ensures.bytes.0 in
-    means-always (g.R.Source.left c.args.reader.now) (g.R.Source.left c.take.new.self) (before.came ++ piece) (Refused c.in-Http.refusal)
+    means-always (g.R.Source.left c.args.reader.now) (g.R.Source.left c.take.new.self) (before.came ++ piece) (Refused c.in-Refused.refusal)
     (Consumes-trans _ _ _ before.came piece before.bytes read)
-    (refused-so (before.came ++ piece) c.feed.new.self c.feed.result c.in-Http.refusal comes c.feed.ensures.step c.in-Http.is)
+    (refused-so (before.came ++ piece) c.feed.new.self c.feed.result c.in-Refused.refusal comes c.feed.ensures.step c.in-Refused.is)

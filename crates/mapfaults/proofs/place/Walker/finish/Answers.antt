@@ -2,8 +2,8 @@ use Rattle.std.proofs.Common.{◌∙◌, ap, sym, subst}
 use Rattle.maplex.specs.Lexed.{stopped}
 use Rattle.mapfaults.specs.declared.place.Explained.{Explained}
 use Rattle.mapfaults.specs.declared.place.Finding.TheVariants as finding
-use Rattle.mapfaults.specs.Explained.{IsWalked, standing}
-use Rattle.mapfaults.proofs.Explaining.{fault_in, sound-here, ends-here, breaks-here}
+use Rattle.mapfaults.specs.Explained.{IsWalked, fault_in, standing}
+use Rattle.mapfaults.proofs.Explaining.{sound-here, ends-here, breaks-here}
 use Rattle.mapfaults.proofs.place.Walker.finish.Goals as goal
 
 pub returns-then-is_empty : goal.returns-then-is_empty

@@ -1,11 +1,11 @@
 use Rattle.std.proofs.Common.{length, ap, arith}
 use Rattle.std.specs.List.{list_all}
-use Rattle.httpedge.specs.Came.{is_newline}
+use Rattle.httpedge.specs.Received.{is_newline}
 use Rattle.httpedge.proofs.Heads.{nothing-headless}
-use Rattle.httpedge.proofs.came.Came.new.Goals as goal
+use Rattle.httpedge.proofs.received.Received.new.Goals as goal
 
-pub returns-clause-came : goal.returns-clause-came
-returns-clause-came c =
+pub returns-clause-received : goal.returns-clause-received
+returns-clause-received c =
     let none = c.in_ok-with_capacity.ensures.items in
     record {
       room = omega (arith, c.in_ok-with_capacity.ensures.exact);

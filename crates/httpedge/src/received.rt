@@ -1,6 +1,6 @@
 ghost use Rattle.std.specs.Prelude.{◌≡◌, ◌<◌, ◌≤◌, ◌+◌, ◌++◌, length, vec_capacity, IfOk, [], true, false};
 ghost use Rattle.std.specs.List.{list_any, list_all};
-ghost use Rattle.httpedge.specs.Came.{is_line_feed, is_newline, IsCame};
+ghost use Rattle.httpedge.specs.Received.{is_line_feed, is_newline, IsReceived};
 ghost use Rattle.httpedge.specs.Connection.{Open, progress, Comes, Feeds, Ends, ended, step_of, end_of, is_asked};
 ghost use Rattle.httpedge.specs.Head.{HasNoHead};
 ghost use Rattle.httpedge.specs.Meaning.{Meaning, IsMeaning};
@@ -12,8 +12,10 @@ use std::alloc::{AllocError, Global};
 
 /// The bytes that came, up to the limit of a head, and what they decide.
 #[derive(Drop)]
-pub struct Came {
+pub struct Received {
+    /// The bytes, for which there is room up to the limit.
     pub bytes: Vec<u8>,
+    /// What they decide.
     pub verdict: Verdict,
     /// Whether one of the bytes is neither CR nor LF.
     pub has_text: bool,
@@ -44,13 +46,13 @@ fn add(bytes: &mut Vec<u8>, more: &[u8])
     let _ = bytes.extend_from_slice(more);
 }
 
-impl Came {
+impl Received {
     /// No bytes, with room for a head.
     pub fn new(alloc: Global) -> Result<Self, AllocError>
-        ensures came { IfOk result IsCame }
-        ensures nothing { IfOk result (λ came. progress came.bytes.items came.verdict ≡ Open []) }
+        ensures received { IfOk result IsReceived }
+        ensures nothing { IfOk result (λ received. progress received.bytes.items received.verdict ≡ Open []) }
     {
-        Ok(Came {
+        Ok(Received {
             bytes: Vec::with_capacity(alloc, HEAD_BYTES)?,
             verdict: Verdict::Open,
             has_text: false,
@@ -60,7 +62,7 @@ impl Came {
 
     // Whether a head may end in a further piece: a line ends in it, and not all lines are empty.
     fn may_end_head(&self, piece: &[u8]) -> bool
-        requires came { IsCame self.now }
+        requires received { IsReceived self.now }
         requires open { self.now.verdict ≡ Verdict.Open }
         ensures { result ≡ false → HasNoHead (self.now.bytes.items ++ piece.now) }
     {
@@ -73,7 +75,7 @@ impl Came {
     // Whether the bytes with a further piece are to be parsed: where a head may end in the piece, and
     // where they have doubled since they were last parsed, so that bytes without a line are refused too.
     fn is_due(&self, piece: &[u8]) -> bool
-        requires came { IsCame self.now }
+        requires received { IsReceived self.now }
         requires open { self.now.verdict ≡ Verdict.Open }
         requires limit { length piece.now ≤ HEAD_BYTES }
         ensures { result ≡ false → HasNoHead (self.now.bytes.items ++ piece.now) }
@@ -83,7 +85,7 @@ impl Came {
 
     // Whether the bytes with a further piece have text.
     fn has_text_with(&self, piece: &[u8]) -> bool
-        requires came { IsCame self.now }
+        requires received { IsReceived self.now }
         ensures { result ≡ false → list_all is_newline (self.now.bytes.items ++ piece.now) ≡ true }
     {
         self.has_text || !is_blank(piece)
@@ -91,10 +93,10 @@ impl Came {
 
     // Takes a further piece in, and judges the bytes.
     fn take_in(&mut self, piece: &[u8])
-        requires came { IsCame self.old }
+        requires received { IsReceived self.old }
         requires open { self.old.verdict ≡ Verdict.Open }
         requires some { 0 < length piece.now }
-        ensures came { IsCame self.new }
+        ensures received { IsReceived self.new }
         ensures comes { Comes (self.old.bytes.items ++ piece.now) (progress self.new.bytes.items self.new.verdict) }
     {
         let room = HEAD_BYTES - self.bytes.len();
@@ -112,9 +114,9 @@ impl Came {
 
     // Takes a piece while nothing is decided.
     fn feed_open(&mut self, piece: &[u8])
-        requires came { IsCame self.old }
+        requires received { IsReceived self.old }
         requires open { self.old.verdict ≡ Verdict.Open }
-        ensures came { IsCame self.new }
+        ensures received { IsReceived self.new }
         ensures comes { Comes (self.old.bytes.items ++ piece.now) (progress self.new.bytes.items self.new.verdict) }
     {
         if piece.is_empty() {
@@ -131,14 +133,14 @@ impl Came {
         match self.verdict {
             Verdict::Open => Step::More,
             Verdict::Ask(_) => Step::Ask,
-            Verdict::Http(refusal) => Step::Http(refusal),
+            Verdict::Refused(refusal) => Step::Refused(refusal),
         }
     }
 
     /// Takes a piece. What was decided stays.
     pub fn feed(&mut self, piece: &[u8]) -> Step
-        requires came { IsCame self.old }
-        ensures came { IsCame self.new }
+        requires received { IsReceived self.old }
+        ensures received { IsReceived self.new }
         ensures feeds { Feeds (progress self.old.bytes.items self.old.verdict) piece.now (progress self.new.bytes.items self.new.verdict) }
         ensures step { result ≡ step_of (progress self.new.bytes.items self.new.verdict) }
         ensures asked { result ≡ Step.Ask → is_asked (progress self.new.bytes.items self.new.verdict) ≡ true }
@@ -148,15 +150,15 @@ impl Came {
                 self.feed_open(piece);
                 self.step()
             }
-            Verdict::Ask(_) | Verdict::Http(_) => self.step(),
+            Verdict::Ask(_) | Verdict::Refused(_) => self.step(),
         }
     }
 
     // Takes the end while nothing is decided.
     fn end_open(&mut self) -> End
-        requires came { IsCame self.old }
+        requires received { IsReceived self.old }
         requires open { self.old.verdict ≡ Verdict.Open }
-        ensures came { IsCame self.new }
+        ensures received { IsReceived self.new }
         ensures ends { (meaning : Meaning) × IsMeaning self.old.bytes.items meaning
             × (progress self.new.bytes.items self.new.verdict ≡ ended self.old.bytes.items meaning) × (result ≡ end_of meaning) }
         ensures asked { result ≡ End.Ask → is_asked (progress self.new.bytes.items self.new.verdict) ≡ true }
@@ -164,14 +166,14 @@ impl Came {
         if self.bytes.is_empty() {
             return End::Nothing;
         }
-        self.verdict = Verdict::Http(Refusal::BadRequest);
-        End::Http(Refusal::BadRequest)
+        self.verdict = Verdict::Refused(Refusal::BadRequest);
+        End::Refused(Refusal::BadRequest)
     }
 
     /// Takes the end. What was decided stays.
     pub fn end(&mut self) -> End
-        requires came { IsCame self.old }
-        ensures came { IsCame self.new }
+        requires received { IsReceived self.old }
+        ensures received { IsReceived self.new }
         ensures ends { (meaning : Meaning) × Ends (progress self.old.bytes.items self.old.verdict) meaning (progress self.new.bytes.items self.new.verdict)
             × (result ≡ end_of meaning) }
         ensures asked { result ≡ End.Ask → is_asked (progress self.new.bytes.items self.new.verdict) ≡ true }
@@ -179,7 +181,7 @@ impl Came {
         match self.verdict {
             Verdict::Open => self.end_open(),
             Verdict::Ask(_) => End::Ask,
-            Verdict::Http(refusal) => End::Http(refusal),
+            Verdict::Refused(refusal) => End::Refused(refusal),
         }
     }
 }
