@@ -182,6 +182,9 @@ fault 7~([a]=1e)
 fault 6~([a]=-)
 fault 6~([a]=.)
 fault 5~([a]=1e99)
+fault 5~(1e5e5)
+fault 5~(1e5e
+fault 3~(1ee5)
 # what comes after a part, or doesn't
 fault 6~([a]=1
 fault 8~(([a]=1)
@@ -196,7 +199,7 @@ fault 5~(NOT )";
 
 #[test]
 fn faults_stand_at_worked_bytes(rt: HostRuntime) -> Result<(), TableFault> {
-    check_rows(rt.alloc(), FAULTS, '~', 35, told_letters)
+    check_rows(rt.alloc(), FAULTS, '~', 38, told_letters)
 }
 
 // What is told of a text, and its parts: how often a sign stands after the opening bracket, the sign, what
@@ -205,6 +208,8 @@ const NESTED: &str = "\
 [a]=1:1000000~63*(*[a]=1*64
 fault 64~64*(*[a]=1*65
 fault 64~64*!*[a]=1*1
+fault 64~63*(*NO [a]=1*64
+fault 65~62*(*NO [a]=1*63
 (not (not (not (not (not (not (not (not (not (not (not (not (not (not (not (not (not (not (not (not (not (not (not (not (not (not (not (not (not (not (not (not (not (not (not (not (not (not (not (not (not (not (not (not (not (not (not (not (not (not (not (not (not (not (not (not (not (not (not (not (not (not (not [a]=1:1000000)))))))))))))))))))))))))))))))))))))))))))))))))))))))))))))))~63*!*[a]=1*1";
 
 // Likewise, of texts of 65,536 bytes: more than so many signs are cut.
@@ -242,7 +247,7 @@ fn told_parts(alloc: Global, row: &str) -> Result<String, AllocError> {
 
 #[test]
 fn sixty_four_brackets_may_stand_within_one_another(rt: HostRuntime) -> Result<(), TableFault> {
-    check_rows(rt.alloc(), NESTED, '~', 4, told_parts)
+    check_rows(rt.alloc(), NESTED, '~', 6, told_parts)
 }
 
 #[test]

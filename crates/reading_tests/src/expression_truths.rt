@@ -3,8 +3,9 @@ use mapdefs::{Expr, Items, Rule, Text};
 use std::alloc::{AllocError, Global};
 use test_tables::{TableFault, check_rows};
 
-// The names and the values of the items. Two names are equal but for their case.
-const ITEMS: &str = "a:10;t:y;e:;n:1e3;s:abc;z:-5;A:7;q:x,,y;w: 10;big:1e13";
+// The names and the values of the items. Two names are equal but for the case of ASCII
+// letters.
+const ITEMS: &str = "a:10;t:y;e:;n:1e3;s:abc;z:-5;A:7;q:x,,y;w: 10;big:1e13;\u{c9}:x";
 
 // Names and values of the items.
 fn items(alloc: Global) -> Result<(Items<Text>, Items<Text>), AllocError> {
@@ -90,6 +91,8 @@ yes (\"[none]\"=\"\")
 no (\"[none]\"!=\"\")
 yes (\"[S]\"=\"abc\")
 yes (\"[A]\"=\"10\")
+yes (\"[\u{c9}]\"=\"x\")
+no (\"[\u{e9}]\"=\"x\")
 # without regard to case
 yes (\"[t]\"=*\"Y\")
 yes (\"ABC\"=*[s])
@@ -125,7 +128,7 @@ yes ([none]=1 OR [a]=10)";
 
 #[test]
 fn expressions_are_true_of_worked_items(rt: HostRuntime) -> Result<(), TableFault> {
-    check_rows(rt.alloc(), TRUTHS, ' ', 75, truth)
+    check_rows(rt.alloc(), TRUTHS, ' ', 77, truth)
 }
 
 // Whether one of `a` and `b` holds of a value.

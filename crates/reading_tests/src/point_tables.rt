@@ -18,6 +18,9 @@ x+y;1000000 2000000 1+2|%x,y/1,2
 x+y;1000000 2000000 1+2;3000000 4000000 3+4|/^/x,y///1,2//3,4//
 x+y;1000000 2000000 1+2|\"x\",y/\"1\",\"2\"
 x+y+n;1000000 2000000 1+2+a,\"b\"^/c|x,y,n/1,2,\"a,\"\"b\"\"^/c\"/
+x+y+n;1000000 2000000 1+2+a|x,y,n/1,2,\"a
+x+y+n;1000000 2000000 1+2+ab|x,y,n/1,2,\"a\"b
+x+y+n;1000000 2000000 1+2+a\"b|x,y,n/1,2,a\"b
 x+y;1000000 -2500000  1 +  -2.5|x,y/ 1 ,  -2.5/
 x+y+n;1 500000 1e-6++.5+  |x,y,n/1e-6,+.5,  /
 x+y;1000000000 -1000000000 1000+-1000|x,y/1000,-1000/";
@@ -118,7 +121,7 @@ fn told_text(alloc: Global, text: &str) -> Result<String, AllocError> {
 
 #[test]
 fn texts_are_read_as_tables(rt: HostRuntime) -> Result<(), TableFault> {
-    check_rows(rt.alloc(), TABLES, '|', 14, told_text)
+    check_rows(rt.alloc(), TABLES, '|', 17, told_text)
 }
 
 #[test]
