@@ -12,7 +12,7 @@ pub fn wanted(expected: Expected) -> &'static str {
         Expected::Distance => "a count from -1 to 4096",
         Expected::Position => "UL, UC, UR, CL, CC, CR, LL, LC, LR or AUTO",
         Expected::Flag(_) => "TRUE or FALSE",
-        Expected::Scale(_) => "a number",
+        Expected::Scale(_) => "a number from -1000000000000 to 1000000000000",
         Expected::Rule => "a text, a list or an expression",
         Expected::ConfigKey => "a key other than LABELFONT",
         Expected::West | Expected::South(_) => "a number from -1000 to 1000",

@@ -1,5 +1,6 @@
 mod explained;
 mod faults;
+mod keywords;
 mod limits;
 mod map;
 mod messages;

@@ -40,6 +40,20 @@ sound|MAP END
 2: 2 is no value of EXTENT, which takes a number up to 1000 that is greater than the second|MAP EXTENT 1 2 3~2
 2: x is no value of COLOR, which takes three counts from -1 to 255|MAP LAYER CLASS STYLE COLOR 1~x
 2: RASTER is no value of TYPE, which takes POINT, LINE or POLYGON|MAP LAYER TYPE~RASTER
+2: VECTOR is no value of TYPE, which takes PIXMAP alone|MAP SYMBOL TYPE~VECTOR
+2: 257 is no value of SIZE, which takes a count from 1 to 256|MAP LAYER CLASS STYLE SIZE~257
+2: 65 is no value of TOLERANCE, which takes a count from 0 to 64|MAP LAYER TOLERANCE~65
+2: 65 is no value of BUFFER, which takes a count from 0 to 64|MAP LAYER CLASS LABEL BUFFER~65
+2: 11 is no value of PRIORITY, which takes a count from 1 to 10|MAP LAYER CLASS LABEL PRIORITY~11
+2: 4097 is no value of MINDISTANCE, which takes a count from -1 to 4096|MAP LAYER CLASS LABEL MINDISTANCE~4097
+2: YES is no value of PARTIALS, which takes TRUE or FALSE|MAP LAYER CLASS LABEL PARTIALS~YES
+2: 1e13 is no value of MINSCALEDENOM, which takes a number from -1000000000000 to 1000000000000|MAP LAYER MINSCALEDENOM~1e13
+2: 1001 is no value of EXTENT, which takes a number from -1000 to 1000|MAP EXTENT~1001
+2: -1001 is no value of EXTENT, which takes a number from -1000 to 1000|MAP EXTENT 1~-1001
+2: red is no value of COLOR, which takes '#rrggbb' or three counts from -1 to 255|MAP LAYER CLASS STYLE COLOR~red
+2: METERS is no value of TOLERANCEUNITS, which takes PIXELS alone|MAP LAYER TOLERANCEUNITS~METERS
+2: OFF is no value of LABELCACHE, which takes ON alone|MAP LAYER LABELCACHE~OFF
+2: this SYMBOL names no symbol of MAP|MAP LAYER NAME a TYPE POINT CLASS STYLE SYMBOL~b END END END~END
 1: (a) is no value of NAME, which takes a word or a quoted text|MAP LAYER NAME (a)
 2: x is no longitude in POINTS: a number from -1000 to 1000|MAP LAYER FEATURE POINTS 1 2~x
 2: 1001 is no latitude in POINTS: a number from -1000 to 1000|MAP LAYER FEATURE POINTS 1 2 3~1001
@@ -75,11 +89,12 @@ sound|MAP END
 
 #[test]
 fn faults_are_told_in_words(rt: HostRuntime) -> Result<(), TableFault> {
-    check_rows(rt.alloc(), ROWS, '|', 48, told_row)
+    check_rows(rt.alloc(), ROWS, '|', 62, told_row)
 }
 
 // What is told of sources with a block, a vertex or an item more than a map may have.
 const LIMITS: &str = "\
+1: MAP of line 1 has more than 64 SYMBOL blocks|MAP {65*SYMBOL NAME a TYPE PIXMAP IMAGE b END }
 2: LAYER of line 2 has more than 64 CLASS blocks|MAP~LAYER {65*CLASS END }
 3: CLASS of line 2 has more than 16 STYLE blocks|MAP LAYER~CLASS~{17*STYLE END }
 4: FEATURE of line 2 has more than 65536 vertices|MAP LAYER~FEATURE~POINTS~{65537*1 2 }
@@ -87,5 +102,21 @@ const LIMITS: &str = "\
 
 #[test]
 fn limits_are_told_in_words(rt: HostRuntime) -> Result<(), TableFault> {
-    check_rows(rt.alloc(), LIMITS, '|', 4, told_row)
+    check_rows(rt.alloc(), LIMITS, '|', 5, told_row)
+}
+
+// What is told of 128 layers and one more.
+fn told_after_layers(alloc: Global, end: &str) -> Result<String, AllocError> {
+    let mut source = String::from_str(alloc, "MAP\n")?;
+    for i in 1..=128 {
+        write!(source, "LAYER NAME {i} TYPE LINE END\n")?;
+    }
+    source.push_str(end)?;
+    told(alloc, source.as_str())
+}
+
+#[test]
+fn a_layer_too_many_is_told_in_words(rt: HostRuntime) -> Result<(), TableFault> {
+    const ROW: &str = "130: MAP of line 1 has more than 128 LAYER blocks|LAYER";
+    check_rows(rt.alloc(), ROW, '|', 1, told_after_layers)
 }

@@ -4,7 +4,7 @@ use std::alloc::{AllocError, Global};
 use test_tables::{TableFault, check_rows};
 
 // Each differs from the one above it in one field.
-const FAULTS: [ParseFault; 12] = [
+const FAULTS: [ParseFault; 13] = [
     ParseFault::At {
         line: 7,
         kind: ParseKind::Lex(LexKind::OpenString),
@@ -47,6 +47,10 @@ const FAULTS: [ParseFault; 12] = [
     },
     ParseFault::At {
         line: 80,
+        kind: ParseKind::BadExpression,
+    },
+    ParseFault::At {
+        line: 80,
         kind: ParseKind::BadFile,
     },
     ParseFault::NoMemory,
@@ -64,8 +68,9 @@ const MESSAGES: &str = "\
 7 line 7: a file that can't be read=7
 8 line 7: an earlier layer has the same name=8
 8 line 80: an earlier layer has the same name=9
-10 line 80: a file that is none of its kind=10
-out of memory=11";
+9 line 80: no expression=10
+10 line 80: a file that is none of its kind=11
+out of memory=12";
 
 fn message(alloc: Global, fault: ParseFault) -> Result<String, AllocError> {
     match fault {
@@ -83,5 +88,5 @@ fn told(alloc: Global, place: &str) -> Result<String, AllocError> {
 
 #[test]
 fn faults_have_numbers_and_messages(rt: HostRuntime) -> Result<(), TableFault> {
-    check_rows(rt.alloc(), MESSAGES, '=', 12, told)
+    check_rows(rt.alloc(), MESSAGES, '=', 13, told)
 }
