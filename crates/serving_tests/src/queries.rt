@@ -6,7 +6,7 @@ use mapdefs::{Items, Layer, MAX_LAYERS, Map, Text};
 use std::alloc::{AllocError, Global};
 use test_maps::{layer_fields, map_fields};
 use test_tables::{TableFault, check_rows};
-use wmsquery::{MapRequest, read};
+use wmsquery::{MAX_NAMES, MapRequest, read};
 
 // A query without a fault. The first pair of a name counts, so that the rows put others before it.
 const QUERY: &str =
@@ -156,4 +156,10 @@ fn rows_of_queries(alloc: Global, row: &str) -> Result<String, AllocError> {
 #[test]
 fn queries_are_told_as_worked(rt: HostRuntime) -> Result<(), TableFault> {
     check_rows(rt.alloc(), QUERIES, '|', 64, rows_of_queries)
+}
+
+// A definition cites the same constant as the code, so only a test can tell a wrong limit.
+#[test]
+fn limits_have_their_numbers(rt: HostRuntime) {
+    assert_eq!(rt; MAX_NAMES, 64);
 }
