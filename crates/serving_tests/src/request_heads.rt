@@ -188,10 +188,10 @@ fn at_most_16384_bytes_are_a_head(rt: HostRuntime) -> Result<(), TableFault> {
 
 // What a piece leads to, a head after it, the end and a head after that, `>` and the piece.
 const DECISIONS: &str = "\
-Http(MethodNotAllowed) Http(MethodNotAllowed) Http(MethodNotAllowed) Http(MethodNotAllowed)>POST_/_HTTP/1.1||
-Http(NotFound) Http(NotFound) Http(NotFound) Http(NotFound)>GET_/x_HTTP/1.1||
+Refused(MethodNotAllowed) Refused(MethodNotAllowed) Refused(MethodNotAllowed) Refused(MethodNotAllowed)>POST_/_HTTP/1.1||
+Refused(NotFound) Refused(NotFound) Refused(NotFound) Refused(NotFound)>GET_/x_HTTP/1.1||
 # what can't become a head is refused at once
-Http(BadRequest) Http(BadRequest) Http(BadRequest) Http(BadRequest)>\x16\x03\x01
+Refused(BadRequest) Refused(BadRequest) Refused(BadRequest) Refused(BadRequest)>\x16\x03\x01
 # a query is asked once and for all
 Ask Ask Ask Ask>GET_/?a=b_HTTP/1.1||
 # no piece is no end
@@ -215,7 +215,7 @@ fn decisions_stay(rt: HostRuntime) -> Result<(), TableFault> {
 // What the end after a piece leads to, what a head after it, `>` and the piece.
 const ENDS: &str = "\
 Nothing Ask>
-Http(BadRequest) Http(BadRequest)>G";
+Refused(BadRequest) Refused(BadRequest)>G";
 
 fn rows_of_ends(alloc: Global, row: &str) -> Result<String, AllocError> {
     let mut conn = Conn::new(alloc)?;
