@@ -1,7 +1,7 @@
 ghost use Rattle.std.specs.Prelude.{◌≡◌, ◌≤◌};
 ghost use Rattle.mapwords.specs.Count.{bounded, bounded_of};
 
-use crate::number::read_count;
+use geom::Micro;
 use std::marker::Model;
 
 /// A count from `LEAST` to `MOST`.
@@ -39,7 +39,7 @@ impl<const LEAST: usize, const MOST: usize> Bounded<LEAST, MOST> {
         requires { MOST ≤ 65535 }
         ensures { result ≡ bounded_of LEAST MOST text.now }
     {
-        match read_count(text) {
+        match Micro::read_count(text.as_bytes()) {
             Some(count) => Bounded::of(count),
             None => None,
         }

@@ -1,7 +1,7 @@
 ghost use Rattle.std.specs.Prelude.{◌≡◌};
 ghost use Rattle.mapwords.specs.Colour.{component_of, component_of_count, rgb_of, hex_colour};
 
-use crate::number::read_count;
+use geom::Micro;
 use hex::FromHex;
 use mapdefs::Rgb;
 
@@ -29,7 +29,7 @@ impl Component {
     pub fn read(text: &str) -> Option<Component>
         ensures { result ≡ component_of text.now }
     {
-        match read_count(text) {
+        match Micro::read_count(text.as_bytes()) {
             Some(count) => Component::of_count(count),
             None => None,
         }

@@ -2,7 +2,7 @@ ghost use Rattle.std.specs.Prelude.{◌≡◌};
 ghost use Rattle.mapwords.specs.Label.{position_of, flag_of, distance_of};
 
 use crate::bounded::Bounded;
-use crate::number::read_count;
+use geom::Micro;
 use mapdefs::Position;
 
 /// The position that a text names, in letters of either case.
@@ -51,7 +51,7 @@ pub fn flag_of(text: &str) -> Option<bool>
 pub fn distance_of(text: &str) -> Option<Bounded<0, 4096>>
     ensures { result ≡ distance_of text.now }
 {
-    match read_count(text) {
+    match Micro::read_count(text.as_bytes()) {
         Some(-1) => Bounded::of(0),
         Some(count) => Bounded::of(count),
         None => None,

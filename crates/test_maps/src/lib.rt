@@ -19,8 +19,21 @@ fn no_text(alloc: Global) -> Text
 /// The fields of a layer of polygons of that name, which is switched on and has nothing else.
 pub fn layer_fields(alloc: Global, name: Text) -> LayerFields
     ensures { result ≡ record {
-        name = name; title = []; kind = kind.Polygon; on = true; classitem = None; labelitem = None; items = []; csv_x = []; csv_y = [];
-        queryable = false; tolerance = 0; min = None; max = None; classes = []; features = []
+      name = name;
+      title = [];
+      kind = kind.Polygon;
+      on = true;
+      classitem = None;
+      labelitem = None;
+      items = [];
+      csv_x = [];
+      csv_y = [];
+      queryable = false;
+      tolerance = 0;
+      min = None;
+      max = None;
+      classes = [];
+      features = [];
     } }
 {
     LayerFields {
@@ -46,7 +59,12 @@ pub fn layer_fields(alloc: Global, name: Text) -> LayerFields
 /// layers and nothing else.
 pub fn map_fields(alloc: Global, layers: Items<Layer>) -> MapFields
     ensures { result ≡ record {
-        title = []; url = []; extent = record { minx = pos 0; miny = pos 0; maxx = pos 4000000; maxy = pos 4000000 }; font = None; symbols = []; layers = layers
+      title = [];
+      url = [];
+      extent = record { minx = pos 0; miny = pos 0; maxx = pos 4000000; maxy = pos 4000000 };
+      font = None;
+      symbols = [];
+      layers = layers;
     } }
 {
     let (zero, four) = (Micro::new(0), Micro::new(4_000_000));

@@ -2,14 +2,13 @@ ghost use Rattle.std.specs.Prelude.{◌≡◌, IfOk};
 ghost use Rattle.std.specs.Char.{is_ascii_digit};
 ghost use Rattle.std.specs.List.{list_all};
 ghost use Rattle.std.specs.Option.{option_copied};
-ghost use Rattle.geom.specs.Number.{count_of};
 ghost use Rattle.geom.specs.World.{IsExtent};
 ghost use Rattle.wmsquery.specs.Checks.{refusal_of};
 ghost use Rattle.wmsquery.specs.Values.{fixed, service_of, request_of, version_of, crs_value, area_of, side_within, side_of, format_of, transparent_of, colour_of, background_of};
 
 use crate::fault::Code;
 use crsaxes::{bbox, crs_of};
-use geom::{Micro, NUMBER_LIMIT, PictureSide, WorldBox};
+use geom::{Micro, PictureSide, WorldBox};
 use hex::FromHex;
 use mapdefs::Rgb;
 
@@ -97,13 +96,6 @@ fn are_digits(text: &[u8]) -> bool
     text.iter().all(|byte| byte.is_ascii_digit())
 }
 
-// The count that a text means, rounded to a whole one.
-fn count_of(text: &[u8]) -> Option<i64>
-    ensures { result ≡ count_of text.now }
-{
-    Some(Micro::read(text, NUMBER_LIMIT).ok()?.whole())
-}
-
 /// The side that WIDTH or HEIGHT means.
 pub fn side(value: Option<&str>) -> Result<PictureSide, Code>
     ensures { result ≡ side_of (option_copied value.entry) }
@@ -115,7 +107,7 @@ pub fn side(value: Option<&str>) -> Result<PictureSide, Code>
     if !are_digits(text) {
         return Err(Code::InvalidParameterValue);
     }
-    let Some(number) = count_of(text) else {
+    let Some(number) = Micro::read_count(text) else {
         return Err(Code::InvalidParameterValue);
     };
     side_within(number).ok_or(Code::InvalidParameterValue)
