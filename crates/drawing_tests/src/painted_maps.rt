@@ -6,12 +6,12 @@ use crate::shapes::{numbers, place};
 use compose::picture;
 use geom::{Micro, NUMBER_LIMIT, PictureSide, World, WorldBox};
 use mapdefs::{
-    Class, ClassFields, Feature, FeatureFields, Items, Kind, Layer, MAX_VERTICES, Map, Picture,
-    Rgb, Rule, Style, StyleFields, Symbol, Text,
+    Class, ClassFields, Feature, FeatureFields, Items, Kind, Layer, LayerFields, MAX_VERTICES, Map,
+    Picture, Rgb, Rule, Style, StyleFields, Symbol, Text,
 };
 use scaledenom::Scale;
 use std::alloc::{AllocError, Global};
-use test_maps::{layer_fields, map_fields};
+use test_maps::map_fields;
 use viewport::View;
 
 // The colours by their letters: `#` is brown, `o` dark and `.` white. Any other letter is none.
@@ -220,15 +220,24 @@ fn layer_of(
     ensures { LayerNamesSymbolsOf 2 result }
 {
     let (min, max) = bounds;
-    let mut fields = layer_fields(alloc, Text::of(String::new(alloc)));
-    fields.kind = kind;
-    // what is chosen is painted, switched on or not
-    fields.on = false;
-    fields.min = min;
-    fields.max = max;
-    fields.classes = classes;
-    fields.features = features;
-    Layer::new(fields)
+    Layer::new(LayerFields {
+        name: Text::of(String::new(alloc)),
+        title: Text::of(String::new(alloc)),
+        kind,
+        // what is chosen is painted, switched on or not
+        on: false,
+        classitem: None,
+        labelitem: None,
+        items: Items::new(alloc),
+        csv_x: Text::of(String::new(alloc)),
+        csv_y: Text::of(String::new(alloc)),
+        queryable: false,
+        tolerance: 0,
+        min,
+        max,
+        classes,
+        features,
+    })
 }
 
 /// A layer of this feature with one class. Its kind, the letters of the class's styles, and the bounds on

@@ -1,5 +1,6 @@
-ghost use Rattle.std.specs.Prelude.{◌≡◌, [], IfOk};
+ghost use Rattle.std.specs.Prelude.{◌≡◌, ◌≤◌, [], length, All, IfOk};
 ghost use Rattle.mapdefs.specs.MapLimits.{ClassNamesSymbolsOf, LayerNamesSymbolsOf};
+ghost use Rattle.mapdefs.specs.declared.limits.TheConstants.{MAX_LAYERS};
 
 use geom::{Coordinate, Micro, NUMBER_LIMIT, World};
 use mapdefs::{
@@ -74,11 +75,19 @@ fn layer(alloc: Global, min: Option<Micro>, max: Option<Micro>) -> Result<Layer,
     Ok(Layer::new(fields))
 }
 
+// A map with these layers.
+fn map_of(alloc: Global, layers: Items<Layer>) -> Map
+    requires count { length layers ≤ MAX_LAYERS }
+    requires symbols { All (LayerNamesSymbolsOf 0) layers }
+{
+    Map::new(map_fields(alloc, layers))
+}
+
 // The machine of a map with that layer alone.
 fn machine(alloc: Global, min: Option<Micro>, max: Option<Micro>) -> Result<Machine, AllocError> {
     let mut layers = Items::new(alloc);
     layers.push(layer(alloc, min, max)?)?;
-    Ok(Machine::open(alloc, Map::new(map_fields(alloc, layers))))
+    Ok(Machine::open(alloc, map_of(alloc, layers)))
 }
 
 // A bound, `-` for none.
