@@ -1,13 +1,13 @@
 -- How a session ends.
-use Rattle.std.proofs.Common.{ℕ, Bool, List, Option, Ok, length, arith, take_all}
+use Rattle.std.proofs.Common.{◌≡◌, ◌||◌, inr, ℕ, Bool, List, Option, Ok, length, arith, take_all}
 use Rattle.std.specs.Io.KnownBytes.{Keeps}
 use Rattle.std.proofs.KnownBytes.{Appends-kept}
 use Rattle.mapdefs.specs.declared.map.MapFields.{MapFields}
 use Rattle.mapmachine.specs.Machine.{State}
 use Rattle.sessions.specs.Folder.{Giving, ComesTo}
-use Rattle.sessions.specs.Forms.{HasReadFile, HasReadMap, RunsTo}
+use Rattle.sessions.specs.Forms.{HasReadFile, HasReadMap, IsUnread, RunsTo, TellsUnread}
 use Rattle.sessions.specs.Sent.{IsSent}
-use Rattle.sessions.specs.Session.{Streams, HasRead, Ends, IsTold, Tells, opened}
+use Rattle.sessions.specs.Session.{Streams, HasRead, Ends, IsTold, Tells, is_file_failed, opened}
 use Rattle.sessions.specs.declared.outcome.Outcome.{Outcome}
 use Rattle.sessions.specs.declared.outcome.Outcome.TheVariants.{Played, Checked, MapfileFault, FileFailed, WordsRefused, InputFailed, OutputFailed, NoMemory, Served, SocketFailed}
 
@@ -52,3 +52,10 @@ ran gives FileFailed file script before after old new failed map bytes state rea
 ran gives WordsRefused file script before after old new failed map bytes state read read_script ends kept = absurd ends
 ran gives InputFailed file script before after old new failed map bytes state read read_script ends kept = absurd ends
 ran gives NoMemory file script before after old new failed map bytes state read read_script ends kept = absurd ends
+
+-- a script that was not read after its mapfile was told by its name
+pub script-told : (outcome : Outcome) (file script : List ℕ) (a b : Option (List ℕ)) (failed file_before file_after script_before script_after : Bool) (untouched : Type 0) →
+    IsUnread outcome script a b failed → file_after ≡ file_before → script_after ≡ (is_file_failed outcome || script_before) → outcome ≡ FileFailed →
+    TellsUnread file script a b failed file_before file_after script_after untouched
+script-told outcome file script a b failed file_before file_after script_before script_after untouched unread same flag e =
+    inr ((rw e at unread), (rw e at flag), same)

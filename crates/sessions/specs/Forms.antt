@@ -108,6 +108,13 @@ RunsTo gives outcome file script before after old new failed =
     × (GivesNoMap gives outcome file before after old.errors new.errors failed
     ⊎ IsWithoutScript gives outcome script before after old.errors new.errors failed)
 
+-- running a script told the errors a file that was not read. It is the mapfile: its reader has failed, and that of the script stayed
+-- as it was, which `untouched` says; or it is the script: its reader has failed, and that of the mapfile has not
+abbrev pub TellsUnread : List ℕ → List ℕ → Option (List ℕ) → Option (List ℕ) → Bool → Bool → Bool → Bool → Type 0 → Type 0
+TellsUnread file script errors_before errors_after failed file_failed_before file_failed script_failed untouched =
+    (IsTold errors_before errors_after (file_fault file) failed × (file_failed ≡ true) × untouched)
+    ⊎ (IsTold errors_before errors_after (file_fault script) failed × (script_failed ≡ true) × (file_failed ≡ file_failed_before))
+
 -- something was told to the errors: a fault of a mapfile, or a file that was not read
 abbrev pub has_told : Outcome → Bool
 has_told MapfileFault = true

@@ -1,7 +1,7 @@
 ghost use Rattle.std.specs.Prelude.{◌≡◌, ◌||◌, IfOk, IfErr, OnOk, MatchResult, true, false};
-ghost use Rattle.sessions.specs.declared.outcome.Outcome.TheVariants.{Played, Checked, FileFailed};
+ghost use Rattle.sessions.specs.declared.outcome.Outcome.TheVariants.{Played, Checked, MapfileFault, FileFailed};
 ghost use Rattle.sessions.specs.Session.{is_file_failed, is_input_failed, is_output_failed};
-ghost use Rattle.sessions.specs.Forms.{HasReadFile, IsUnread, HasReadMap, GivesNoMap, SumsUp, RunsTo, has_told};
+ghost use Rattle.sessions.specs.Forms.{HasReadFile, IsUnread, HasReadMap, GivesNoMap, SumsUp, RunsTo, TellsUnread, has_told};
 
 use crate::folder::Folder;
 use crate::input::{ReadFault, read_all};
@@ -95,6 +95,9 @@ pub fn run_files<F: Folder, I: Source, J: Source, O: Sink, E: Sink>(
         (E.put_failed errors.new) }
     ensures flushed { result ≡ Played → O.is_flushed output.new ≡ true }
     ensures errors_flushed { has_told result ≡ true → E.put_failed errors.new ≡ false → E.is_flushed errors.new ≡ true }
+    ensures unread { result ≡ FileFailed → TellsUnread name.now script_name.now (E.held errors.old) (E.held errors.new) (E.put_failed errors.new)
+        (I.take_failed file.old) (I.take_failed file.new) (J.take_failed script.new) (script.new ≡ script.old) }
+    ensures untouched { result ≡ MapfileFault → script.new ≡ script.old }
     ensures file_flags { (I.take_failed file.new || J.take_failed script.new) ≡ (is_file_failed result || (I.take_failed file.old || J.take_failed script.old)) }
     ensures output_flag { O.put_failed output.new ≡ (is_output_failed result || O.put_failed output.old) }
 {
