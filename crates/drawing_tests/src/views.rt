@@ -2,7 +2,7 @@ use crate::shapes::{numbers, place, side};
 use geom::{Micro, World, WorldBox};
 use std::alloc::{AllocError, Global};
 use test_tables::{TableFault, check_rows};
-use viewport::{MAX_MARGIN, View};
+use viewport::{MAX_MARGIN, Projection, View};
 
 // Four degrees by four degrees in four pixels by four pixels.
 fn square() -> View {
@@ -37,6 +37,31 @@ fn world() -> View {
     View::new(WorldBox::new(low, low, high, high), side(3), side(1))
 }
 
+// The same area, 2,048 pixels wide.
+fn wide() -> View {
+    let low = Micro::new(-1_000_000_000);
+    let high = Micro::new(1_000_000_000);
+    View::new(WorldBox::new(low, low, high, high), side(2_048), side(1))
+}
+
+// The smallest area in the world's south-eastern corner, one pixel wide and 2,048 high.
+fn corner() -> View {
+    let (west, east) = (Micro::new(999_999_999), Micro::new(1_000_000_000));
+    let (south, north) = (Micro::new(-1_000_000_000), Micro::new(-999_999_999));
+    View::new(
+        WorldBox::new(west, south, east, north),
+        side(1),
+        side(2_048),
+    )
+}
+
+// Three millionths of a degree each way, by one pixel and by 2,048.
+fn thirds() -> View {
+    let low = Micro::new(0);
+    let high = Micro::new(3);
+    View::new(WorldBox::new(low, low, high, high), side(1), side(2_048))
+}
+
 // The view of a name.
 fn view(name: &str) -> Option<View> {
     match name {
@@ -44,6 +69,9 @@ fn view(name: &str) -> Option<View> {
         "oblong" => Some(oblong()),
         "dot" => Some(dot()),
         "world" => Some(world()),
+        "wide" => Some(wide()),
+        "corner" => Some(corner()),
+        "thirds" => Some(thirds()),
         _ => None,
     }
 }
@@ -66,7 +94,31 @@ const PLACES: &str = "\
 64 32 4 2=oblong 3000000 0
 # on the dot a millionth of a degree is 32,768 sixteenths
 -32768000000000 -32767999967232 -2048000000000 -2047999997952=dot -1000000000 1000000000
-32768000000000 32768000032768 2048000000000 2048000002048=dot 1000000000 -1000000000";
+32768000000000 32768000032768 2048000000000 2048000002048=dot 1000000000 -1000000000
+# of the world 2,000,000,000 millionths are 48 sixteenths to the right and 16 down
+0 16 0 1=world -1000000000 -1000000000
+48 0 3 0=world 1000000000 1000000000
+24 8 1 0=world 0 0
+24 7 1 0=world 1 1
+23 8 1 0=world -1 -1
+# and 32,768 to the right where it is wide: one for 61,035 millionths and some
+16384 8 1024 0=wide 0 0
+16383 8 1023 0=wide -1 -1
+16384 7 1024 0=wide 61035 61035
+16385 7 1024 0=wide 61036 61036
+32768 16 2048 1=wide 1000000000 -1000000000
+# in the corner a millionth is 16 to the right and 32,768 down
+16 32768 1 2048=corner 1000000000 -1000000000
+0 0 0 0=corner 999999999 -999999999
+-31999999984 -65535999967232 -1999999999 -4095999997952=corner -1000000000 1000000000
+# a millionth of three is 16/3 to the right and 32768/3 down, and the top is 3
+5 10922 0 682=thirds 1 2
+10 21845 0 1365=thirds 2 1
+16 32768 1 2048=thirds 3 0
+21 43690 1 2730=thirds 4 -1
+-6 -10923 -1 -683=thirds -1 4
+-11 -21846 -1 -1366=thirds -2 5
+-16 -32768 -1 -2048=thirds -3 6";
 
 // The view and the place of a row.
 fn view_and_place(row: &str) -> Option<(View, World)> {
@@ -85,7 +137,22 @@ fn point(alloc: Global, row: &str) -> Result<String, AllocError> {
 
 #[test]
 fn places_lie_at_worked_points(rt: HostRuntime) -> Result<(), TableFault> {
-    check_rows(rt.alloc(), PLACES, '=', 13, point)
+    check_rows(rt.alloc(), PLACES, '=', 33, point)
+}
+
+fn projected(alloc: Global, row: &str) -> Result<String, AllocError> {
+    let Some((view, place)) = view_and_place(row) else {
+        return format!(in alloc; "malformed");
+    };
+    let projection = Projection::new(view);
+    let (point, pixel) = (projection.device(place), projection.pixel(place));
+    let (x, y, i, j) = (point.x(), point.y(), pixel.i(), pixel.j());
+    format!(in alloc; "{x} {y} {i} {j}")
+}
+
+#[test]
+fn projections_place_where_views_do(rt: HostRuntime) -> Result<(), TableFault> {
+    check_rows(rt.alloc(), PLACES, '=', 33, projected)
 }
 
 // The west, south, east and north side of a window, worked by hand, its view and its margin. A pixel of the

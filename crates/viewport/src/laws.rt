@@ -1,5 +1,6 @@
 //! Laws of the definitions. A law is a function without arguments whose contract states it.
 
+ghost use Rattle.viewport.specs.Axis.{ProductsAreQuotients};
 ghost use Rattle.viewport.specs.View.{MarginsAreRoundedUp, SixteenthsAreRoundedDown, WindowHasNearPlaces};
 
 /// Sixteenths are rounded down: they are the greatest number that isn't more than the part's share.
@@ -16,4 +17,9 @@ pub fn margins()
 /// rows above or below it, lies in the window of that margin.
 pub fn window()
     ensures { WindowHasNearPlaces }
+{}
+
+/// A quotient by a whole is a product with one factor, cut by a limit.
+pub fn products()
+    ensures { ProductsAreQuotients }
 {}

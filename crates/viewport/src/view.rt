@@ -48,6 +48,14 @@ impl View {
         }
     }
 
+    // The part of the world that it shows.
+    pub(crate) fn area(self) -> WorldBox
+        ensures value { result ≡ self.area }
+        ensures limits { IsExtent result }
+    {
+        self.area
+    }
+
     /// How many columns of pixels the picture has.
     pub fn width(self) -> PictureSide
         ensures { result ≡ self.width }
@@ -122,7 +130,7 @@ impl View {
 }
 
 // The difference of two coordinates, in millionths of a degree.
-fn difference(a: Micro, b: Micro) -> i64
+pub(crate) fn difference(a: Micro, b: Micro) -> i64
     requires a { IsCoordinate a }
     requires b { IsCoordinate b }
     ensures value { result ≡ a -ℤ b }
@@ -143,7 +151,7 @@ fn sixteenths(side: PictureSide, part: i64, whole: i64) -> i64
 }
 
 // How far two coordinates are apart, in millionths of a degree.
-fn span(low: Micro, high: Micro) -> u64
+pub(crate) fn span(low: Micro, high: Micro) -> u64
     requires low { IsCoordinate low }
     requires high { IsCoordinate high }
     ensures value { result ≡ unsigned_abs (high -ℤ low) }

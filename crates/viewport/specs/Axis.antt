@@ -1,0 +1,30 @@
+-- One axis of a view, without a division for each place (docs/PROFILE.md, "From the world to the picture").
+use Rattle.std.specs.Prelude.{◌≡◌, ℕ, ◌+◌, ◌*◌, ◌/◌, ◌<◌, ◌≤◌, ◌^◌}
+
+-- a side of so many sixteenths of a pixel, and the whole that it shows in millionths of a degree
+pub record AxisValue : Type 0 where
+  pub times : ℕ
+  pub whole : ℕ
+
+-- what one multiplies by in place of dividing by the whole, before the product is cut by a limit
+abbrev pub factor_of : ℕ → ℕ → ℕ → ℕ
+factor_of times whole limit = times * limit / whole + 1
+
+-- the law: a number's share of a whole, rounded down, is its product with the factor, cut by a limit above the number times the whole
+abbrev pub ProductsAreQuotients : Type 0
+ProductsAreQuotients =
+    (number times whole limit : ℕ) → 0 < whole → number * whole < limit →
+    number * factor_of times whole limit / limit ≡ number * times / whole
+
+-- what an axis keeps: as many wholes as lift each part above 0, the sixteenths that those make, and the factor
+pub record IsAxis (times whole lifts lift back factor : ℕ) : Type 0 where
+  pub some : 0 < whole
+  pub times_below : times ≤ 2 ^ 15
+  pub whole_below : whole < 2 ^ 31
+  pub lift_least : 2 ^ 31 ≤ lift
+  pub lift_below : lift < 2 ^ 32
+  pub lift_is : lift ≡ whole * lifts
+  pub back_is : back ≡ times * lifts
+  pub back_below : back < 2 ^ 49
+  pub factor_is : factor ≡ factor_of times whole (2 ^ 64)
+  pub factor_below : factor < 2 ^ 80

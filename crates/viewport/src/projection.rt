@@ -1,0 +1,106 @@
+ghost use Rattle.std.specs.Prelude.{◌≡◌, ◌<◌, ◌≤◌, ◌*◌, ◌^◌, pos, ◌-ℤ◌};
+ghost use Rattle.geom.specs.Device.{pixel_of};
+ghost use Rattle.geom.specs.Range.{IsBelow};
+ghost use Rattle.geom.specs.World.{IsExtent};
+
+use crate::axis::Axis;
+use crate::view::{View, difference, span};
+use geom::{Coordinate, Device, PictureSide, Pixel, World, WorldBox};
+use std::marker::Model;
+
+/// A view that is ready for many places: it has divided for each of its two axes, and divides no more.
+#[derive(Drop)]
+pub struct Projection {
+    view: View,
+    across: Axis,
+    down: Axis,
+}
+
+impl Model for Projection {
+    ghost use Rattle.viewport.specs.Projection.{IsProjection};
+    ghost use Rattle.viewport.specs.View.{ViewValue};
+
+    ghost Value = { ViewValue };
+
+    ghost view = { λ p. p.view };
+
+    ghost invariant = { λ p. IsProjection p.view p.across p.down };
+}
+
+impl Projection {
+    ghost use Rattle.viewport.specs.View.{device_point, sixteenths};
+
+    /// The projection of a view. It divides for the two axes, so it is made once a picture.
+    pub fn new(view: View) -> Self
+        ensures { result ≡ view }
+    {
+        let area = view.area();
+        Projection {
+            view,
+            across: Axis::new(
+                16 * u64::from(view.width().pixels()),
+                span(area.minx(), area.maxx()),
+            ),
+            down: Axis::new(
+                16 * u64::from(view.height().pixels()),
+                span(area.miny(), area.maxy()),
+            ),
+        }
+    }
+
+    /// The part of the world that the view shows.
+    pub fn area(&self) -> WorldBox
+        ensures value { result ≡ self.now.area }
+        ensures limits { IsExtent result }
+    {
+        self.view.area()
+    }
+
+    /// How many columns of pixels the picture has.
+    pub fn width(&self) -> PictureSide
+        ensures { result ≡ self.now.width }
+    {
+        self.view.width()
+    }
+
+    /// How many rows of pixels the picture has.
+    pub fn height(&self) -> PictureSide
+        ensures { result ≡ self.now.height }
+    {
+        self.view.height()
+    }
+
+    /// Where a place lies on the picture, or off it: what `View::device` gives.
+    pub fn device(&self, place: World) -> Device
+        ensures { result ≡ device_point self.now place }
+    {
+        Device::new(self.across(place.x()), self.down(place.y()))
+    }
+
+    /// The pixel that a place lies in: what `View::pixel` gives.
+    pub fn pixel(&self, place: World) -> Pixel
+        ensures { result ≡ pixel_of (device_point self.now place) }
+    {
+        self.device(place).pixel()
+    }
+
+    /// How far a longitude is from the left, in sixteenths of a pixel.
+    pub fn across(&self, longitude: Coordinate) -> i64
+        ensures value { result ≡ sixteenths self.now.width (longitude -ℤ self.now.area.minx) (self.now.area.maxx -ℤ self.now.area.minx) }
+        ensures range { IsBelow (2 ^ 47) result }
+    {
+        let area = self.view.area();
+        self.across
+            .sixteenths(difference(longitude.get(), area.minx()))
+    }
+
+    /// How far a latitude is from the top, in sixteenths of a pixel.
+    pub fn down(&self, latitude: Coordinate) -> i64
+        ensures value { result ≡ sixteenths self.now.height (self.now.area.maxy -ℤ latitude) (self.now.area.maxy -ℤ self.now.area.miny) }
+        ensures range { IsBelow (2 ^ 47) result }
+    {
+        let area = self.view.area();
+        self.down
+            .sixteenths(difference(area.maxy(), latitude.get()))
+    }
+}
