@@ -5,7 +5,7 @@ use Rattle.std.proofs.Math.Bool.{or-false}
 use Rattle.std.proofs.lemmas.Bool.{and_left, and_parts, and_right, cases_Bool, cases_lt, false≢true, le-ltb, leb-true, lt-leb, ltb-true}
 use Rattle.std.specs.Prelude.{nat_le, nat_lt}
 use Rattle.std.proofs.lemmas.List.Folds.{list_any-append}
-use Rattle.std.proofs.lemmas.List.{get_or-append_right, get_or-drop, get_or-take, get_or_append_left, length-drop, length-take, length-take-le, take_more}
+use Rattle.std.proofs.lemmas.List.{get_or-append_right, get_or-drop, get_or-take, get_or_append_left, length-append, length-drop, length-take, length-take-le, take_more}
 use Rattle.std.proofs.lemmas.Nat.{div-add-mod', div_below, mod_below}
 use Rattle.std.proofs.Math.Nat.{mul-le-mul_right}
 use borrow.Rule.Slice.PartMut.{mid_of, post_of, put_mid}
@@ -16,7 +16,7 @@ use Rattle.mapdefs.specs.declared.picture.PictureFields.{PictureFields}
 use Rattle.scanfill.proofs.Covering.{spans-test, spans-within}
 use Rattle.scanfill.specs.Runs.{AreRunsFrom, has_column, is_in_spans}
 use Rattle.scanfill.specs.declared.span.Span.{Span}
-use Rattle.compose.specs.Painted.{AreFilled, AreRowsFilled, IsFilled, colour_of}
+use Rattle.compose.specs.Painted.{AreFilled, AreRowsFilled, HasRowsFilled, IsFilled, colour_of}
 
 -- what a list of pixels holds where a part of it was put back
 put-before : (a k : ℕ) (xs ys : List Rgb) (at : ℕ) → a ≤ length xs → at < a → colour_of (put_mid a k xs ys) at ≡ colour_of xs at
@@ -37,20 +37,23 @@ put-after a k xs ys j h width =
     ∙ (get_or-append_right ys (post_of a k xs) k (k + j) _ width (omega arith)
     ∙ (ap (λ n. colour_of (post_of a k xs) n) further ∙ (get_or-drop k (drop a xs) j _ ∙ get_or-drop a xs (k + j) _))))
 
+-- and it holds as many
+pub put-length : (a k : ℕ) (xs ys : List Rgb) → a + k ≤ length xs → length ys ≡ k → length (put_mid a k xs ys) ≡ length xs
+put-length a k xs ys h width =
+    omega (
+      arith,
+      length-append (take a xs) (ys ++ post_of a k xs),
+      length-append ys (post_of a k xs),
+      length-take-le a xs (omega arith),
+      length-drop k (drop a xs),
+      length-drop a xs,
+    )
+
 -- one of the first elements passes, or the next one does
 any-next : {X : Type 0} (test : X → Bool) (xs : List X) (i : ℕ) (x : X) → i < length xs → x ≡ get_or xs i x →
     list_any test (take (i + 1) xs) ≡ (list_any test (take i xs) || test x)
 any-next test xs i x h e =
     rw (take_more xs i x h, ← e, list_any-append test (take i xs) (x ∷ []), or-false (test x)) refl
-
--- rows that have no covered pixel stay as they are
-pub filled-none : (test : ℕ → ℕ → Bool) (colour : ℕ → ℕ → Rgb) (width from past : ℕ) (pixels : List Rgb) → 0 < width →
-    ((i j : ℕ) → i < width → from ≤ j → j < past → test i j ≡ false) → AreRowsFilled test colour width from past pixels pixels
-filled-none test colour width from past pixels some empty = record {
-  filled = λ at h low high. rw (empty (at % width) (at / width) (mod_below at width some) low high) refl;
-  before = λ at h low. refl;
-  after = λ at h high. refl;
-}
 
 -- rows after rows
 pub filled-more : (test : ℕ → ℕ → Bool) (colour : ℕ → ℕ → Rgb) (width from at past : ℕ) (a b c : List Rgb) → from ≤ at → at ≤ past → length b ≡ length a →
@@ -66,23 +69,21 @@ filled-more test colour width from at past a b c first last area p q = record {
 }
 
 -- one row is filled by its spans
-pub filled-row : (test : ℕ → ℕ → Bool) (colour : ℕ → ℕ → Rgb) (spans : List Span) (width r a k : ℕ) (pixels row : List Rgb) → 0 < width → a ≡ r * width → k ≡ width →
-    a + k ≤ length pixels → length row ≡ k → AreRunsFrom (λ i. test i r) 0 width spans →
-    ((i : ℕ) → colour_of row i ≡ (if is_in_spans spans i then colour i r else colour_of (mid_of a k pixels) i)) →
-    AreRowsFilled test colour width r (r + 1) pixels (put_mid a k pixels row)
-filled-row test colour spans width r a k pixels row some start is within wide runs filled = record {
+pub filled-row : (spans : List Span) (colour : ℕ → ℕ → Rgb) (width r a k : ℕ) (pixels row : List Rgb) → 0 < width → a ≡ r * width → k ≡ width →
+    a + k ≤ length pixels → length row ≡ k → ((i : ℕ) → colour_of row i ≡ (if is_in_spans spans i then colour i r else colour_of (mid_of a k pixels) i)) →
+    AreRowsFilled (λ i j. is_in_spans spans i) colour width r (r + 1) pixels (put_mid a k pixels row)
+filled-row spans colour width r a k pixels row some start is within wide filled = record {
   filled = λ at h low high.
       let j : ℕ = at % width in
-      let below : j < width = mod_below at width some in
       let here : at / width ≡ r = omega arith in
+      let below : j < width = mod_below at width some in
       let place : at ≡ a + j = sym (div-add-mod' at width) ∙ rw (here, start) refl in
-      let tests : is_in_spans spans j ≡ test j (at / width) = spans-test (λ i. test i r) 0 width j spans runs (omega arith) below ∙ ap (λ n. test j n) (sym here) in
       let shown : colour j r ≡ colour j (at / width) = ap (λ n. colour j n) (sym here) in
       let old : colour_of (mid_of a k pixels) j ≡ colour_of pixels at =
       get_or-take k (drop a pixels) j _ (omega arith) ∙ (get_or-drop a pixels j _ ∙ ap (λ n. colour_of pixels n) (sym place)) in
       ap (λ n. colour_of (put_mid a k pixels row) n) place
       ∙ (put-within a k pixels row j (omega arith) wide (omega arith)
-      ∙ (filled j ∙ rw (tests, old, shown) refl));
+      ∙ (filled j ∙ rw (old, shown) refl));
   before = λ at h low.
       let less : (at / width + 1) * width ≤ r * width = mul-le-mul_right width (omega arith) in
       put-before a k pixels row at (omega arith) (omega (arith, less, start, div-add-mod' at width, mod_below at width some));
@@ -94,12 +95,10 @@ filled-row test colour spans width r a k pixels row some start is within wide ru
       ∙ (put-after a k pixels row (at - a - k) (omega arith) wide ∙ ap (λ n. colour_of pixels n) (sym place));
 }
 
--- the spans of a row lie within it
-pub spans-fit : (test : ℕ → Bool) (spans runs : List Span) (width a k : ℕ) (pixels : List Rgb) → a + k ≤ length pixels → k ≡ width → spans ≡ runs →
-    AreRunsFrom test 0 width runs → All (λ (span : Span). (span.from ≤ span.to) × (span.to ≤ length (mid_of a k pixels))) spans
-spans-fit test spans runs width a k pixels inside is read all = λ j d h.
-    let within = spans-within test 0 width j runs d all (omega (arith, ap length read)) in
-    rw read (within.0, omega (arith, within.1, is, inside, length-take k (drop a pixels), length-drop a pixels))
+-- the runs of a row lie within it
+pub runs-fit : (test : ℕ → Bool) (spans runs : List Span) (width : ℕ) → spans ≡ runs → AreRunsFrom test 0 width runs →
+    All (λ (span : Span). (span.from ≤ span.to) × (span.to ≤ width)) spans
+runs-fit test spans runs width read all = λ j d h. rw read (spans-within test 0 width j runs d all (omega (arith, ap length read)))
 
 -- a pixel that lies in one of the runs passes
 pub spans-inside : (test : ℕ → Bool) (from end i : ℕ) (spans : List Span) → AreRunsFrom test from end spans → is_in_spans spans i ≡ true → test i ≡ true
@@ -108,6 +107,30 @@ spans-inside test from end i (span ∷ spans) runs h = elim (cases_Bool (has_col
   | inl here ↦ let both = and_parts (nat_le span.from i) (nat_lt i span.to) here in runs.0.inside i (leb-true span.from i both.0) (ltb-true i span.to both.1)
   | inr later ↦ spans-inside test span.to end i spans runs.1 (rw later at h)
 ]
+
+-- a picture that has a pixel has a column
+pub some-columns : (at width height : ℕ) → at < width * height → 0 < width
+some-columns at zero height h = absurd (omega arith)
+some-columns at (suc width) height h = omega arith
+
+-- the rows that the runs of a test fill are filled by the test
+pub filled-runs : (test : ℕ → ℕ → Bool) (colour : ℕ → ℕ → Rgb) (spans runs : List Span) (j : ℕ) (a b : PictureFields) → length a.pixels ≡ a.width * a.height →
+    spans ≡ runs → AreRunsFrom (λ i. test i j) 0 a.width runs → HasRowsFilled (λ i k. is_in_spans spans i) colour j (j + 1) a b → HasRowsFilled test colour j (j + 1) a b
+filled-runs test colour spans runs j a b area read all f = record {
+  width = f.width;
+  height = f.height;
+  area = f.area;
+  rows = record {
+    filled = λ at h low high.
+        let here : at / a.width ≡ j = omega arith in
+        let below : at % a.width < a.width = mod_below at a.width (some-columns at a.width a.height (omega (arith, area))) in
+        let tests : is_in_spans spans (at % a.width) ≡ test (at % a.width) (at / a.width) =
+        rw read (spans-test (λ i. test i j) 0 a.width (at % a.width) runs all (omega arith) below) ∙ ap (λ n. test (at % a.width) n) (sym here) in
+        f.rows.filled at h low high ∙ rw tests refl;
+    before = f.rows.before;
+    after = f.rows.after;
+  };
+}
 
 -- each pixel that lies in the spans is covered
 pub spans-covered : (test : ℕ → Bool) (width : ℕ) (spans runs : List Span) → spans ≡ runs → AreRunsFrom test 0 width runs →
@@ -118,11 +141,6 @@ spans-covered test width spans runs read all i h = spans-inside test 0 width i r
 pub part-wide : (a width k : ℕ) (pixels row : List Rgb) → k ≡ width → a + k ≤ length pixels → length row ≡ length (mid_of a k pixels) → length row ≡ width
 part-wide a width k pixels row is within same =
     omega (arith, is, same, length-take k (drop a pixels), length-drop a pixels)
-
--- a picture that has a pixel has a column
-pub some-columns : (at width height : ℕ) → at < width * height → 0 < width
-some-columns at zero height h = absurd (omega arith)
-some-columns at (suc width) height h = omega arith
 
 -- a row above some rows, or below them, is none of them
 rows-before : (rows : Rows) (j : ℕ) → j < rows.from → has_row rows j ≡ false
@@ -148,11 +166,32 @@ filled-rows test colour width height rows past a b area last none filled = λ k 
     (cases_lt (k / width) rows.from)
 
 -- no row is filled yet
-pub filled-start : (test : ℕ → ℕ → Bool) (colour : ℕ → ℕ → Rgb) (width from : ℕ) (a : List Rgb) → AreRowsFilled test colour width from from a a
-filled-start test colour width from a = record {
-  filled = λ at h low high. absurd (omega arith);
-  before = λ at h low. refl;
-  after = λ at h high. refl;
+pub rows-start : (test : ℕ → ℕ → Bool) (colour : ℕ → ℕ → Rgb) (from : ℕ) (a : PictureFields) → HasRowsFilled test colour from from a a
+rows-start test colour from a = record {
+  width = refl;
+  height = refl;
+  area = refl;
+  rows = record { filled = λ at h low high. absurd (omega arith); before = λ at h low. refl; after = λ at h high. refl };
+}
+
+-- a picture's rows after rows
+pub rows-more : (test : ℕ → ℕ → Bool) (colour : ℕ → ℕ → Rgb) (from at past : ℕ) (a b c : PictureFields) → from ≤ at → at ≤ past →
+    HasRowsFilled test colour from at a b → HasRowsFilled test colour at past b c → HasRowsFilled test colour from past a c
+rows-more test colour from at past a b c first last p q = record {
+  width = q.width ∙ p.width;
+  height = q.height ∙ p.height;
+  area = q.area ∙ p.area;
+  rows = filled-more test colour a.width from at past a.pixels b.pixels c.pixels first last p.area p.rows (rw p.width at q.rows);
+}
+
+-- where all rows of a cover are filled the picture is
+pub rows-all : (test : ℕ → ℕ → Bool) (colour : ℕ → ℕ → Rgb) (rows : Rows) (past : ℕ) (a b : PictureFields) → length a.pixels ≡ a.width * a.height → rows.to ≤ past →
+    ((i j : ℕ) → i < a.width → j < a.height → has_row rows j ≡ false → test i j ≡ false) → HasRowsFilled test colour rows.from past a b → IsFilled test colour a b
+rows-all test colour rows past a b area last none f = record {
+  width = f.width;
+  height = f.height;
+  area = f.area;
+  filled = filled-rows test colour a.width a.height rows past a.pixels b.pixels area last none f.rows;
 }
 
 -- where two tests agree, what one fills the other does

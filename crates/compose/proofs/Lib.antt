@@ -1,4 +1,3 @@
 pub mod Filling
-pub mod Finding
 pub mod Painting
 pub mod Sweeping

@@ -7,6 +7,7 @@ use Rattle.std.proofs.lemmas.Nat.{mod-mul-add, div-mul-add, mul-add-lt}
 use Rattle.std.proofs.lemmas.Option.{slice_get-get_or}
 use Rattle.std.specs.List.{flat_map, find}
 use Rattle.std.specs.Option.{option_map_or, option_or}
+use Rattle.std.specs.Prelude.{slice_get}
 use Rattle.geom.specs.Scale.{PictureScale}
 use Rattle.mapdefs.specs.declared.colour.Rgb.{Rgb}
 use Rattle.mapdefs.specs.declared.layer.LayerFields.{LayerFields}
@@ -108,6 +109,6 @@ painted-thing thing test colour a b same shown f = record {
 }
 
 -- what a layer paints is what its index in the map does
-pub painted-chosen : (view : ViewValue) (scale : PictureScale) (m : MapFields) (index : ℕ) (layer : LayerFields) (a b : PictureFields) → index < length m.layers →
-    layer ≡ get_or m.layers index layer → IsPainted a b (layer_things view scale m.symbols layer) → IsPainted a b (chosen_things view scale m index)
-painted-chosen view scale m index layer a b h e p = rw (slice_get-get_or m.layers index layer h, ← e) p
+pub painted-chosen : (view : ViewValue) (scale : PictureScale) (m : MapFields) (index : ℕ) (layer : LayerFields) (a b : PictureFields) →
+    slice_get m.layers index ≡ Some layer → IsPainted a b (layer_things view scale m.symbols layer) → IsPainted a b (chosen_things view scale m index)
+painted-chosen view scale m index layer a b e p = rw e p

@@ -29,7 +29,13 @@ pub record AreRowsFilled (test : ℕ → ℕ → Bool) (colour : ℕ → ℕ →
   pub before : (at : ℕ) → at < length old → at / width < from → colour_of new at ≡ colour_of old at
   pub after : (at : ℕ) → at < length old → past ≤ at / width → colour_of new at ≡ colour_of old at
 
--- the same of a picture
+-- the same of a picture's rows from one to before another, and of a whole picture
+pub record HasRowsFilled (test : ℕ → ℕ → Bool) (colour : ℕ → ℕ → Rgb) (from past : ℕ) (old new : PictureFields) : Type 0 where
+  pub width : new.width ≡ old.width
+  pub height : new.height ≡ old.height
+  pub area : length new.pixels ≡ length old.pixels
+  pub rows : AreRowsFilled test colour old.width from past old.pixels new.pixels
+
 pub record IsFilled (test : ℕ → ℕ → Bool) (colour : ℕ → ℕ → Rgb) (old new : PictureFields) : Type 0 where
   pub width : new.width ≡ old.width
   pub height : new.height ≡ old.height

@@ -1,14 +1,12 @@
-ghost use Rattle.std.specs.Prelude.{◌≡◌, ℕ, ◌*◌, true, pos, replicate, IfOk, OnOk};
-ghost use Rattle.geom.specs.Device.{pixel_centre};
-ghost use Rattle.geom.specs.EvenOdd.{is_covered};
-ghost use Rattle.compose.specs.Painted.{IsFilled};
+ghost use Rattle.std.specs.Prelude.{◌≡◌, ℕ, ◌*◌, ◌+◌, ◌≤◌, ◌<◌, true, All, length, replicate, IfOk};
+ghost use Rattle.scanfill.specs.Runs.{is_in_spans};
+ghost use Rattle.compose.specs.Painted.{HasRowsFilled};
 
-use crate::colouring::Colouring;
-use crate::rows::fill_cover;
-use crate::sweep::fill_polygon;
+use crate::colouring::{Colouring, fill_spans};
 use geom::PictureSide;
 use mapdefs::{Items, Picture, PictureFields, Rgb};
-use scanfill::{Cover, Polygon};
+use scanfill::Span;
+use scene::Scene;
 use std::alloc::{AllocError, Global};
 use std::marker::Model;
 
@@ -32,16 +30,14 @@ impl Model for Canvas {
 }
 
 impl Canvas {
-    /// A canvas of the background colour.
-    pub fn new(
-        alloc: Global,
-        width: PictureSide,
-        height: PictureSide,
-        background: Rgb,
-    ) -> Result<Self, AllocError>
-        ensures { let pixels = replicate (width * height) background in
-            IfOk result (λ canvas. canvas ≡ record { width = width; height = height; pixels = pixels }) }
+    /// A canvas of the background colour, as wide and as high as the scene's picture. What is painted on it
+    /// takes its memory from the same allocator.
+    pub fn new(alloc: Global, scene: &Scene<'_>, background: Rgb) -> Result<Self, AllocError>
+        ensures { let view = scene.now.view in
+            IfOk result (λ canvas. canvas ≡ record { width = view.width; height = view.height; pixels = replicate (view.width * view.height) background }) }
     {
+        let projection = scene.projection();
+        let (width, height) = (projection.width(), projection.height());
         let count = usize::from(width.pixels()) * usize::from(height.pixels());
         let pixels = vec![in alloc; background; count]?;
         Ok(Canvas {
@@ -51,28 +47,36 @@ impl Canvas {
         })
     }
 
-    /// Fills the polygon with the colour. It takes memory for the edges that cross the picture, and for a
-    /// row. Where that is refused some rows may be filled already.
-    pub fn fill(&mut self, alloc: Global, polygon: &Polygon, colour: Rgb) -> Result<(), AllocError>
-        ensures { OnOk result (IsFilled (λ i j. is_covered polygon.now (pixel_centre (pos i) (pos j))) (λ i j. colour) self.old self.new) }
-    {
-        let (width, height) = (self.width, self.height);
-        fill_polygon(alloc, &mut self.pixels, width, height, polygon, colour)
+    /// The allocator that it was made with.
+    pub fn alloc(&self) -> Global {
+        *self.pixels.allocator()
     }
 
-    /// Gives their colours to the pixels that the cover covers. It takes memory for a row. Where that is
-    /// refused some rows may have theirs already.
-    pub fn paint<C: Cover, K: Colouring>(
-        &mut self,
-        alloc: Global,
-        cover: &C,
-        colouring: &K,
-    ) -> Result<(), AllocError>
-        requires { (i j : ℕ) → C.covered cover.now i j ≡ true → K.has colouring.now i j ≡ true }
-        ensures { OnOk result (IsFilled (C.covered cover.now) (K.colour colouring.now) self.old self.new) }
+    /// How many columns of pixels it has.
+    pub fn width(&self) -> PictureSide
+        ensures value { result ≡ self.now.width }
+        ensures area { length self.now.pixels ≡ self.now.width * self.now.height }
     {
-        let (width, height) = (self.width, self.height);
-        fill_cover(alloc, &mut self.pixels, width, height, cover, colouring)
+        self.width
+    }
+
+    /// How many rows of pixels it has.
+    pub fn height(&self) -> PictureSide
+        ensures { result ≡ self.now.height }
+    {
+        self.height
+    }
+
+    /// Gives their colours to the pixels of the row `j` that lie in the spans.
+    pub fn fill_row<K: Colouring>(&mut self, j: u16, spans: &[Span], colouring: &K)
+        requires row { j < self.old.height }
+        requires within { All (λ span. (span.from ≤ span.to) × (span.to ≤ self.old.width)) spans.now }
+        requires has { (i : ℕ) → is_in_spans spans.now i ≡ true → K.has colouring.now i j ≡ true }
+        ensures { HasRowsFilled (λ i k. is_in_spans spans.now i) (K.colour colouring.now) j (j + 1) self.old self.new }
+    {
+        let width = usize::from(self.width.pixels());
+        let start = usize::from(j) * width;
+        fill_spans(&mut self.pixels[start..start + width], j, spans, colouring);
     }
 
     /// The picture as it has been painted.

@@ -10,11 +10,9 @@
 #![tactic(auto)]
 
 mod canvas;
-mod classes;
 mod colouring;
 mod lines;
 mod paint;
-mod parts;
 mod points;
 mod polygons;
 mod rows;

@@ -1,15 +1,15 @@
 ghost use Rattle.std.specs.Prelude.{◌≡◌, ◌<◌, All, IfOk, OnOk, length};
-ghost use Rattle.compose.specs.Paint.{class_things, feature_things, layer_things};
+ghost use Rattle.compose.specs.Paint.{feature_things, layer_things};
 ghost use Rattle.compose.specs.Painted.{IsPainted};
 ghost use Rattle.compose.specs.Picture.{IsPictureOf};
 
 use crate::canvas::Canvas;
-use crate::classes::class_of;
 use crate::lines::paint_lines;
 use crate::points::paint_points;
 use crate::polygons::paint_polygon;
-use mapdefs::{ClassFields, Feature, Kind, LayerFields, Map, Picture, Rgb, Symbol};
+use mapdefs::{FeatureFields, Kind, LayerFields, Map, Picture, Rgb};
 use scaledenom::Scale;
+use scene::Scene;
 use std::alloc::{AllocError, Global};
 use viewport::View;
 
@@ -31,77 +31,48 @@ pub fn picture(
     requires { All (λ index. index < length map.now.layers) chosen.now }
     ensures { IfOk result (IsPictureOf map.now view scale chosen.now background) }
 {
-    let fields = map.get();
-    let (symbols, layers) = (fields.symbols.as_slice(), fields.layers.as_slice());
-    let mut canvas = Canvas::new(alloc, view.width(), view.height(), background)?;
+    let scene = Scene::new(map, view, scale);
+    let mut canvas = Canvas::new(alloc, &scene, background)?;
     for index in chosen {
-        paint_layer(
-            alloc,
-            &mut canvas,
-            view,
-            scale,
-            symbols,
-            layers[*index].get(),
-        )?;
+        paint_layer(&mut canvas, &scene, scene.layer(*index))?;
     }
     Ok(canvas.into_picture())
 }
 
-// Paints a layer, where it is visible at the scale.
+// Paints a layer, where it shows at the scale.
 fn paint_layer(
-    alloc: Global,
     canvas: &mut Canvas,
-    view: View,
-    scale: Scale,
-    symbols: &[Symbol],
+    scene: &Scene<'_>,
     layer: &LayerFields,
 ) -> Result<(), AllocError>
-    ensures { OnOk result (IsPainted canvas.old canvas.new (layer_things view scale symbols.now layer.now)) }
+    ensures { OnOk result (IsPainted canvas.old canvas.new (layer_things scene.now.view scene.now.scale scene.now.map.symbols layer.now)) }
 {
-    if !scale.within(layer.min, layer.max) {
+    if !scene.shows(layer) {
         return Ok(());
     }
     for feature in layer.features.as_slice() {
-        paint_feature(alloc, canvas, view, scale, symbols, layer, feature)?;
+        paint_feature(canvas, scene, layer, feature.get())?;
     }
     Ok(())
 }
 
-// Paints a feature of the layer, if it has a class at the scale.
+// Paints a feature of the layer by its class, if it has one at the scale.
 fn paint_feature(
-    alloc: Global,
     canvas: &mut Canvas,
-    view: View,
-    scale: Scale,
-    symbols: &[Symbol],
+    scene: &Scene<'_>,
     layer: &LayerFields,
-    feature: &Feature,
+    feature: &FeatureFields,
 ) -> Result<(), AllocError>
-    ensures { OnOk result (IsPainted canvas.old canvas.new (feature_things view scale symbols.now layer.now feature.now)) }
+    ensures { OnOk result (IsPainted canvas.old canvas.new (feature_things scene.now.view scene.now.scale scene.now.map.symbols layer.now feature.now)) }
 {
-    match class_of(scale, layer, feature.get()) {
-        Some(class) => paint_class(alloc, canvas, view, symbols, layer.kind, feature, class),
-        None => Ok(()),
-    }
-}
-
-// Paints what the class paints of a feature of that kind.
-fn paint_class(
-    alloc: Global,
-    canvas: &mut Canvas,
-    view: View,
-    symbols: &[Symbol],
-    kind: Kind,
-    feature: &Feature,
-    class: &ClassFields,
-) -> Result<(), AllocError>
-    ensures { OnOk result (IsPainted canvas.old canvas.new (class_things view symbols.now kind feature.now class.now)) }
-{
-    let parts = feature.get().parts.as_slice();
+    let Some(class) = scene.class_of(layer, feature) else {
+        return Ok(());
+    };
+    let parts = feature.parts.as_slice();
     let styles = class.styles.as_slice();
-    match kind {
-        Kind::Polygon => paint_polygon(alloc, canvas, view, parts, styles),
-        Kind::Line => paint_lines(alloc, canvas, view, parts, styles),
-        Kind::Point => paint_points(alloc, canvas, view, symbols, parts, styles),
+    match layer.kind {
+        Kind::Polygon => paint_polygon(canvas, scene, parts, styles),
+        Kind::Line => paint_lines(canvas, scene, parts, styles),
+        Kind::Point => paint_points(canvas, scene, parts, styles),
     }
 }

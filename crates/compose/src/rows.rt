@@ -1,58 +1,27 @@
-ghost use Rattle.std.specs.Prelude.{◌≡◌, ℕ, ◌≤◌, ◌<◌, ◌+◌, ◌*◌, true, length, OnOk};
-ghost use Rattle.geom.specs.declared.side.TheConstants.{MAX_PICTURE_SIDE};
-ghost use Rattle.compose.specs.Painted.{AreFilled, AreRowsFilled};
+ghost use Rattle.std.specs.Prelude.{◌≡◌, ℕ, true, OnOk};
+ghost use Rattle.compose.specs.Painted.{IsFilled};
 
-use crate::colouring::{Colouring, fill_spans};
-use geom::PictureSide;
-use mapdefs::Rgb;
+use crate::canvas::Canvas;
+use crate::colouring::Colouring;
 use scanfill::{Cover, Spans};
-use std::alloc::{AllocError, Global};
+use std::alloc::AllocError;
 
-/// Gives their colours to the pixels that the cover covers. They stand row by row. It goes over the rows
-/// of the cover alone.
-pub fn fill_cover<C: Cover, K: Colouring>(
-    alloc: Global,
-    pixels: &mut [Rgb],
-    width: PictureSide,
-    height: PictureSide,
+/// Gives their colours to the pixels that the cover covers. It goes over the rows of the cover alone, and
+/// takes memory for a row. Where that is refused some rows may have their colours already.
+pub fn paint_cover<C: Cover, K: Colouring>(
+    canvas: &mut Canvas,
     cover: &C,
     colouring: &K,
 ) -> Result<(), AllocError>
-    requires area { length pixels.old ≡ width * height }
-    requires has { (i j : ℕ) → C.covered cover.now i j ≡ true → K.has colouring.now i j ≡ true }
-    ensures { OnOk result (AreFilled (C.covered cover.now) (K.colour colouring.now) width pixels.old pixels.new) }
+    requires { (i j : ℕ) → C.covered cover.now i j ≡ true → K.has colouring.now i j ≡ true }
+    ensures { OnOk result (IsFilled (C.covered cover.now) (K.colour colouring.now) canvas.old canvas.new) }
 {
+    let (width, height) = (canvas.width(), canvas.height());
     let rows = cover.rows(width, height);
-    let mut spans = Spans::new(alloc);
+    let mut spans = Spans::new(canvas.alloc());
     for row in rows.from..rows.to {
-        fill_row(pixels, width, cover, row, &mut spans, colouring)?;
+        cover.row(row, width, &mut spans)?;
+        canvas.fill_row(row, spans.as_slice(), colouring);
     }
-    Ok(())
-}
-
-// Gives their colours to those of one row.
-fn fill_row<C: Cover, K: Colouring>(
-    pixels: &mut [Rgb],
-    width: PictureSide,
-    cover: &C,
-    row: u16,
-    spans: &mut Spans,
-    colouring: &K,
-) -> Result<(), AllocError>
-    requires row { row < MAX_PICTURE_SIDE }
-    requires area { (row + 1) * width ≤ length pixels.old }
-    requires has { (i j : ℕ) → C.covered cover.now i j ≡ true → K.has colouring.now i j ≡ true }
-    ensures area { length pixels.new ≡ length pixels.old }
-    ensures filled { OnOk result (AreRowsFilled (C.covered cover.now) (K.colour colouring.now) width row (row + 1) pixels.old pixels.new) }
-{
-    cover.row(row, width, spans)?;
-    let width = usize::from(width.pixels());
-    let start = usize::from(row) * width;
-    fill_spans(
-        &mut pixels[start..start + width],
-        row,
-        spans.as_slice(),
-        colouring,
-    );
     Ok(())
 }

@@ -9,11 +9,11 @@ loop-style-init c = painted-none c.args.canvas.now
 
 pub loop-style-preserved : goal.loop-style-preserved
 loop-style-preserved c =
-    let painted = rw (c.get-style.ensures.value, c.deref.ensures.value, c.in_ok-parts.ensures) at c.in_ok-paint_line.ensures in
-    painted_next (line_things (map (map (device_point c.args.view)) c.args.parts.now)) c.args.styles.now c.loop-style.style-index c.style-item.result _ c.loop-style.canvas _
+    let painted = rw (c.deref.ensures.value, c.in_ok-parts.ensures) at c.in_ok-paint_by_style.ensures in
+    painted_next (line_things (map (map (device_point c.args.scene.now.view)) c.args.parts.now)) c.args.styles.now c.loop-style.style-index c.style-item.result _ c.loop-style.canvas _
     c.loop-style-test.true c.style-item.is c.loop-style.invariant painted
 
 pub returns : goal.returns
 returns c =
-    painted_end (line_things (map (map (device_point c.args.view)) c.args.parts.now)) c.args.styles.now c.loop-style.style-index c.args.canvas.now c.loop-style.canvas
+    painted_end (line_things (map (map (device_point c.args.scene.now.view)) c.args.parts.now)) c.args.styles.now c.loop-style.style-index c.args.canvas.now c.loop-style.canvas
     (omega arith) c.loop-style.invariant

@@ -6,4 +6,4 @@ use Rattle.compose.specs.Painted.{IsPainted}
 use Rattle.compose.proofs.lines.paint_lines.Given as goal
 
 abbrev pub invariant-loop-style : goal.invariant-loop-style
-invariant-loop-style l = IsPainted l.fn.canvas l.canvas (flat_map (line_things (map (map (device_point l.fn.view)) l.fn.parts)) (take l.style-index l.styles))
+invariant-loop-style l = IsPainted l.fn.canvas l.canvas (flat_map (line_things (map (map (device_point l.scene.view)) l.fn.parts)) (take l.style-index l.styles))

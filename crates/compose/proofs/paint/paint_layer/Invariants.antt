@@ -5,4 +5,5 @@ use Rattle.compose.specs.Painted.{IsPainted}
 use Rattle.compose.proofs.paint.paint_layer.Given as goal
 
 abbrev pub invariant-loop-feature : goal.invariant-loop-feature
-invariant-loop-feature l = IsPainted l.fn.canvas l.canvas (flat_map (feature_things l.view l.scale l.symbols l.layer) (take l.feature-index l.feature-items))
+invariant-loop-feature l =
+    IsPainted l.fn.canvas l.canvas (flat_map (feature_things l.scene.view l.scene.scale l.scene.map.symbols l.layer) (take l.feature-index l.feature-items))

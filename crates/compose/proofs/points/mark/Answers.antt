@@ -7,11 +7,11 @@ use Rattle.compose.proofs.Painting.{painted-none, painted-thing}
 use Rattle.compose.proofs.points.mark.Goals as goal
 
 pub returns-in-Some : goal.returns-in-Some
-returns-in-Some c = on_ok_weaker c.paint.result
+returns-in-Some c = on_ok_weaker c.paint_cover.result
     (λ filled. rw c.in-Some.is
     (painted-thing (Mark (record { pixel = c.args.pixel; size = c.args.size }) c.in-Some.colour) (λ (i j : ℕ). covers_square c.new.result (pos i) (pos j)) (λ i j. c.in-Some.colour)
-    c.args.canvas.now c.paint.new.self (λ i j. rw c.new.ensures refl) (λ i j. refl) filled))
-    c.paint.ensures
+    c.args.canvas.now c.paint_cover.new.canvas (λ i j. rw c.new.ensures refl) (λ i j. refl) filled))
+    c.paint_cover.ensures
 
 pub returns-in-None : goal.returns-in-None
 returns-in-None c = rw c.in-None.is (painted-none c.args.canvas.now)

@@ -5,4 +5,4 @@ use Rattle.compose.specs.Painted.{IsPainted}
 use Rattle.compose.proofs.points.paint_by_style.Given as goal
 
 abbrev pub invariant-loop-part : goal.invariant-loop-part
-invariant-loop-part l = IsPainted l.fn.canvas l.canvas (flat_map (λ part. flat_map (point_things l.view l.symbols l.style) part) (take l.part-index l.parts))
+invariant-loop-part l = IsPainted l.fn.canvas l.canvas (flat_map (λ part. flat_map (point_things l.scene.view l.scene.map.symbols l.style) part) (take l.part-index l.parts))

@@ -5,4 +5,4 @@ use Rattle.compose.specs.Painted.{IsPainted}
 use Rattle.compose.proofs.points.paint_part.Given as goal
 
 abbrev pub invariant-loop-place : goal.invariant-loop-place
-invariant-loop-place l = IsPainted l.fn.canvas l.canvas (flat_map (point_things l.view l.symbols l.style) (take l.place-index l.part))
+invariant-loop-place l = IsPainted l.fn.canvas l.canvas (flat_map (point_things l.scene.view l.scene.map.symbols l.style) (take l.place-index l.part))

@@ -5,4 +5,4 @@ use Rattle.compose.specs.Painted.{IsPainted}
 use Rattle.compose.proofs.points.paint_points.Given as goal
 
 abbrev pub invariant-loop-style : goal.invariant-loop-style
-invariant-loop-style l = IsPainted l.fn.canvas l.canvas (flat_map (λ style. flat_map (λ part. flat_map (point_things l.view l.symbols style) part) l.parts) (take l.style-index l.styles))
+invariant-loop-style l = IsPainted l.fn.canvas l.canvas (flat_map (λ style. flat_map (λ part. flat_map (point_things l.scene.view l.scene.map.symbols style) part) l.parts) (take l.style-index l.styles))

@@ -7,7 +7,7 @@ use Rattle.compose.proofs.Painting.{painted-thing}
 use Rattle.compose.proofs.points.stamp.Goals as goal
 
 pub returns : goal.returns
-returns c = on_ok_weaker c.paint.result
+returns c = on_ok_weaker c.paint_cover.result
     (λ filled. painted-thing (Stamped (record { pixmap = c.args.symbol.now.pixmap; pixel = c.args.pixel })) (λ (i j : ℕ). covers_pixel c.new-stamp.result (pos i) (pos j))
-    (λ (i j : ℕ). stamp_colour c.new-stamp.result i j) c.args.canvas.now c.paint.new.self (λ i j. rw c.new-stamp.ensures refl) (λ i j. rw c.new-stamp.ensures refl) filled)
-    c.paint.ensures
+    (λ (i j : ℕ). stamp_colour c.new-stamp.result i j) c.args.canvas.now c.paint_cover.new.canvas (λ i j. rw c.new-stamp.ensures refl) (λ i j. rw c.new-stamp.ensures refl) filled)
+    c.paint_cover.ensures

@@ -8,11 +8,11 @@ use Rattle.compose.proofs.Painting.{painted-none, painted-thing}
 use Rattle.compose.proofs.polygons.fill_rings.Goals as goal
 
 pub returns-in-Some : goal.returns-in-Some
-returns-in-Some c = on_ok_weaker c.fill.result
+returns-in-Some c = on_ok_weaker c.fill_polygon.result
     (λ filled. λ rings same. rw c.in-Some.is
     (painted-thing (Fill rings c.in-Some.colour) (λ (i j : ℕ). is_covered c.args.polygon.now (pixel_centre (pos i) (pos j))) (λ i j. c.in-Some.colour)
-    c.args.canvas.now c.fill.new.self (λ i j. rw same refl) (λ i j. refl) filled))
-    c.fill.ensures
+    c.args.canvas.now c.fill_polygon.new.canvas (λ i j. rw same refl) (λ i j. refl) filled))
+    c.fill_polygon.ensures
 
 pub returns-in-None : goal.returns-in-None
 returns-in-None c = λ rings same. rw c.in-None.is (painted-none c.args.canvas.now)

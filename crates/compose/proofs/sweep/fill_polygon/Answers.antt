@@ -3,6 +3,6 @@ use Rattle.compose.proofs.sweep.fill_polygon.Goals as goal
 
 pub returns : goal.returns
 returns c =
-    filled-all c.args.polygon.now c.args.colour c.args.width c.args.height c.fill_next.new.sweep.row c.loop-spans.sweep c.args.pixels.now c.loop-spans.pixels c.fill_next.new.pixels
-    c.requires c.loop-spans.invariant.area c.loop-spans.invariant.sweep c.in_ok-fill_next.ensures.rows.0 (c.in_ok-fill_next.ensures.last c.if-branch.false)
+    filled-all c.args.polygon.now c.args.colour c.fill_next.new.sweep.row c.loop-spans.sweep c.args.canvas.now c.loop-spans.canvas c.fill_next.new.canvas
+    c.width.ensures.area c.loop-spans.invariant.sweep c.in_ok-fill_next.ensures.rows.0 (c.in_ok-fill_next.ensures.last c.if-branch.false)
     c.loop-spans.invariant.filled c.in_ok-fill_next.ensures.filled

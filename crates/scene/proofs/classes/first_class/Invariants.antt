@@ -1,7 +1,7 @@
 use Rattle.std.proofs.Common.{◌≡◌, drop}
 use Rattle.std.specs.Prelude.{find}
 use Rattle.mapdefs.specs.Class.{admits, class_of}
-use Rattle.compose.proofs.classes.class_of.Given as goal
+use Rattle.scene.proofs.classes.first_class.Given as goal
 
 abbrev pub invariant-loop-class : goal.invariant-loop-class
 invariant-loop-class l = find (admits l.scale l.layer l.feature) (drop l.class-index l.class-items) ≡ class_of l.scale l.layer l.feature

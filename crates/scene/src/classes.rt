@@ -36,11 +36,11 @@ fn admits(
 }
 
 /// The class of a feature of the layer at the scale: the first one that it may be of.
-pub fn class_of<'a>(
+pub fn first_class<'l>(
     scale: Scale,
-    layer: &'a LayerFields,
+    layer: &'l LayerFields,
     feature: &FeatureFields,
-) -> Option<&'a ClassFields>
+) -> Option<&'l ClassFields>
     ensures { option_copied result ≡ class_of scale layer.now feature.now }
 {
     let value = class_value(layer, feature);

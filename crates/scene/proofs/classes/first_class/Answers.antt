@@ -1,7 +1,7 @@
 use Rattle.std.proofs.Common.{sym, ◌∙◌, ap, Some}
 use Rattle.mapdefs.specs.Class.{admits}
-use Rattle.compose.proofs.Finding.{find-here, find-after}
-use Rattle.compose.proofs.classes.class_of.Goals as goal
+use Rattle.scene.proofs.Finding.{find-here, find-after}
+use Rattle.scene.proofs.classes.first_class.Goals as goal
 
 pub returns-then-admits : goal.returns-then-admits
 returns-then-admits c =

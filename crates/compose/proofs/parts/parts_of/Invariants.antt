@@ -1,6 +1,0 @@
-use Rattle.std.proofs.Common.{◌≡◌, map, take, vec_items}
-use Rattle.viewport.specs.View.{device_point}
-use Rattle.compose.proofs.parts.parts_of.Given as goal
-
-abbrev pub invariant-loop-part : goal.invariant-loop-part
-invariant-loop-part l = map vec_items l.points.items ≡ map (map (device_point l.view)) (take l.part-index l.parts)

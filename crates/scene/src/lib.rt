@@ -1,0 +1,15 @@
+//! What is looked at: a map, the view that shows a part of the world, and the scale of that picture.
+//!
+//! Proved: `Scene` gives what a picture and feature information ask of the three together: a layer and a
+//! symbol by their indices, whether a layer shows at the scale, the class of a feature there (`class_of`
+//! of `mapdefs`), and where places and the parts of a feature lie on the picture (`device_point` of
+//! `viewport`). Its value is the record of the three (`SceneValue`).
+//!
+//! Words: a *scene* borrows its map, and owns a projection of the view, so it is made once a picture.
+#![tactic(auto)]
+
+mod classes;
+mod parts;
+mod scene;
+
+pub use scene::Scene;
