@@ -62,7 +62,7 @@ fn paint_layer(
         return Ok(());
     }
     for feature in layer.features.as_slice() {
-        paint_feature(alloc, canvas, view, scale, symbols, layer, feature)?;
+        paint_feature(alloc, canvas, view, scale, symbols, layer, feature.get())?;
     }
     Ok(())
 }
