@@ -1,4 +1,4 @@
-use crate::mapfiles::told::told_row;
+use crate::told::told_row;
 use test_tables::{TableFault, check_rows};
 
 // What is read without effect, in the form of `told_row`.

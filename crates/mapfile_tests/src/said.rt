@@ -1,4 +1,4 @@
-use crate::mapfiles::told::told_fault;
+use crate::told::told_fault;
 use geom::Micro;
 use mapdefs::{Class, Feature, Label, Layer, Map, Rgb, Rule, Style, Text};
 use mapparse::{Files, parse};
@@ -125,7 +125,7 @@ fn write_layer(text: &mut String, layer: &Layer) -> Result<(), AllocError> {
         write_class(text, class)?;
     }
     for feature in layer.features.as_slice() {
-        write_feature(text, feature)?;
+        write_feature(text, feature.get())?;
     }
     Ok(())
 }

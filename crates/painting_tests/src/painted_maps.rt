@@ -2,16 +2,16 @@ ghost use Rattle.std.specs.Prelude.{◌≡◌, ◌<◌, ◌≤◌, [], ◌∷◌
 ghost use Rattle.mapdefs.specs.MapLimits.{ClassNamesSymbolsOf, LayerNamesSymbolsOf, NamesSymbolOf};
 ghost use Rattle.mapdefs.specs.declared.limits.TheConstants.{MAX_LAYERS};
 
-use crate::shapes::{numbers, place};
 use compose::picture;
 use geom::{Micro, NUMBER_LIMIT, PictureSide, World, WorldBox};
 use mapdefs::{
     Class, ClassFields, Feature, FeatureFields, Items, Kind, Layer, LayerFields, MAX_VERTICES, Map,
-    Picture, Rgb, Rule, Style, StyleFields, Symbol, Text,
+    Picture, Rgb, Rule, Shared, SharedItems, Style, StyleFields, Symbol, Text,
 };
 use scaledenom::Scale;
 use std::alloc::{AllocError, Global};
-use test_maps::map_fields;
+use test_maps::{map_fields, one_feature, place};
+use test_tables::numbers;
 use viewport::View;
 
 // The colours by their letters: `#` is brown, `o` dark and `.` white. Any other letter is none.
@@ -103,7 +103,11 @@ fn styles_of(alloc: Global, letters: &str) -> Result<Items<Style>, AllocError>
 }
 
 // One class of these two styles.
-fn classes_of(alloc: Global, letters: &str, bounds: Bounds) -> Result<Items<Class>, AllocError>
+fn classes_of(
+    alloc: Global,
+    letters: &str,
+    bounds: Bounds,
+) -> Result<SharedItems<Class>, AllocError>
     ensures symbols { IfOk result (All (ClassNamesSymbolsOf 2)) }
     ensures count { IfOk result (λ classes. length classes ≡ 1) }
 {
@@ -117,7 +121,7 @@ fn classes_of(alloc: Global, letters: &str, bounds: Bounds) -> Result<Items<Clas
         styles,
         label: None,
     }))?;
-    Ok(classes)
+    SharedItems::new(alloc, classes)
 }
 
 // A vertex of two counts of tenths of a degree, as `15,-5`.
@@ -197,21 +201,13 @@ fn words_of(words: &str) -> Option<(Kind, &str, Bounds, Bounds)> {
     Some((kind_of(kind)?, letters, of_class, of_layer))
 }
 
-fn features_of(alloc: Global, feature: Feature) -> Result<Items<Feature>, AllocError>
-    ensures { IfOk result (λ features. features ≡ feature ∷ []) }
-{
-    let mut features = Items::new(alloc);
-    features.push(feature)?;
-    Ok(features)
-}
-
 // A layer of that kind, with these bounds on the scale.
 fn layer_of(
     alloc: Global,
     kind: Kind,
     bounds: Bounds,
-    classes: Items<Class>,
-    features: Items<Feature>,
+    classes: SharedItems<Class>,
+    features: SharedItems<Shared<Feature>>,
 ) -> Layer
     requires feature { length features ≡ 1 }
     requires values { All (λ f. f.values ≡ []) features }
@@ -247,7 +243,7 @@ pub(crate) fn layer(alloc: Global, words: &str, feature: Feature) -> Result<Laye
     requires { feature.values ≡ [] }
     ensures { IfOk result (LayerNamesSymbolsOf 2) }
 {
-    let features = features_of(alloc, feature)?;
+    let features = one_feature(alloc, feature)?;
     let Some((kind, letters, of_class, of_layer)) = words_of(words) else {
         return Err(AllocError);
     };
@@ -267,14 +263,14 @@ fn symbol(alloc: Global, file: &[u8]) -> Result<Symbol, AllocError> {
 }
 
 // Two symbols: `#` and `o` above nothing and `#`; and three pixels one below another, `o`, nothing and `#`.
-fn two_symbols(alloc: Global) -> Result<Items<Symbol>, AllocError>
+fn two_symbols(alloc: Global) -> Result<SharedItems<Symbol>, AllocError>
     ensures { IfOk result (λ symbols. length symbols ≡ 2) }
 {
     let square = b"P6 2 2 255\n\x64\x3c\x14\x0a\x14\x1e\xff\x00\xff\x64\x3c\x14";
     let column = b"P6 1 3 255\n\x0a\x14\x1e\xff\x00\xff\x64\x3c\x14";
     let square = symbol(alloc, square)?;
     let column = symbol(alloc, column)?;
-    Ok(Items::of(vec![in alloc; square, column]?))
+    SharedItems::new(alloc, Items::of(vec![in alloc; square, column]?))
 }
 
 /// A map of four degrees by four, with these layers and two symbols.

@@ -1,5 +1,5 @@
-use crate::mapfiles::said::said;
-use crate::mapfiles::told::told;
+use crate::said::said;
+use crate::told::told;
 use std::alloc::{AllocError, Global};
 use test_tables::{TableFault, check_rows};
 

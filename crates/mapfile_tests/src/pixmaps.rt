@@ -1,4 +1,4 @@
-use crate::mapfiles::told::{told_fault, written};
+use crate::told::{told_fault, written};
 use mapdefs::{Items, Layer, Map, Text};
 use mapparse::{Files, parse, wanted};
 use std::alloc::{AllocError, Global};

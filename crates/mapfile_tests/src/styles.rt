@@ -1,4 +1,4 @@
-use crate::mapfiles::said::said;
+use crate::said::said;
 use std::alloc::{AllocError, Global};
 use test_tables::{TableFault, check_rows};
 

@@ -1,13 +1,13 @@
 ghost use Rattle.std.specs.Prelude.{◌≡◌, ◌<◌, ◌≤◌, [], length, All, IfOk};
 
 use crate::painted_maps::{feature_of, layer, map_of};
-use crate::shapes::place;
 use compose::picture;
 use geom::{Micro, PictureSide, World, WorldBox};
 use mapdefs::{Feature, Items, Map, Picture, Rgb};
 use scaledenom::Scale;
 use std::alloc::{AllocError, Global};
 use std::test::Fail;
+use test_maps::place;
 use viewport::View;
 
 // A square from 1 to 3 degrees, whose left side has 65,533 vertices.

@@ -1,4 +1,4 @@
-use crate::mapfiles::told::{told, told_row};
+use crate::told::{told, told_row};
 use std::alloc::{AllocError, Global};
 use test_tables::{TableFault, check_rows};
 

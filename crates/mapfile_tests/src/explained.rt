@@ -1,4 +1,4 @@
-use crate::mapfiles::told::repeated;
+use crate::told::repeated;
 use mapfaults::{Finding, explain};
 use std::alloc::{AllocError, Global};
 use test_tables::{TableFault, check_rows};
