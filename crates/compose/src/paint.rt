@@ -51,7 +51,7 @@ fn paint_layer(
         return Ok(());
     }
     for feature in layer.features.as_slice() {
-        paint_feature(canvas, scene, layer, feature.get())?;
+        paint_feature(canvas, scene, layer, feature.get().get())?;
     }
     Ok(())
 }

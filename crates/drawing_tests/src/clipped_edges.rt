@@ -1,7 +1,7 @@
-use crate::shapes::{edge, numbers, sides};
+use crate::shapes::{edge, sides};
 use clip::{Class, Rows, clamped, classify};
 use std::alloc::{AllocError, Global};
-use test_tables::{TableFault, check_rows};
+use test_tables::{TableFault, check_rows, numbers};
 
 // What an edge is on a picture and in which rows, worked by hand, the ends of the edge, and width and height
 // of the picture. Rows without pixels of it are given as 0 0.

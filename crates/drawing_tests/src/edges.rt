@@ -1,6 +1,6 @@
-use crate::shapes::{edge, numbers, point};
+use crate::shapes::{edge, point};
 use std::alloc::{AllocError, Global};
-use test_tables::{TableFault, check_rows};
+use test_tables::{TableFault, check_rows, numbers};
 
 // Whether an edge crosses the height of a point at it or left of it, the ends of the edge, and the point.
 const CROSSINGS: &str = "\

@@ -1,4 +1,4 @@
-//! Tests of the crates that say which pixels are drawn, by their public calls alone: each test checks a
+//! Tests of the crates that say which pixels a shape covers, by their public calls alone: each test checks a
 //! value that was worked by hand, or that no clause can say.
 #![tactic(auto)]
 
@@ -13,13 +13,7 @@ mod filled_rows;
 #[cfg(test)]
 mod lines_and_squares;
 #[cfg(test)]
-mod long_rings;
-#[cfg(test)]
 mod numbers;
-#[cfg(test)]
-mod painted_maps;
-#[cfg(test)]
-mod painted_pixels;
 #[cfg(test)]
 mod pixels;
 #[cfg(test)]

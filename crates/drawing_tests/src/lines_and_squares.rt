@@ -1,11 +1,9 @@
-use crate::shapes::{
-    draw_spans, drawn, edge, numbers, pixel, point, rings, side, sides, three, told_rows,
-};
+use crate::shapes::{draw_spans, drawn, edge, pixel, point, rings, side, sides, three, told_rows};
 use geom::{Device, PictureSide};
 use scanfill::{Cover, Spans};
 use std::alloc::{AllocError, Global};
 use strokes::{Line, Segment, Square};
-use test_tables::{TableFault, check_rows};
+use test_tables::{TableFault, check_rows, numbers};
 
 // A line along parts, of a width.
 fn line(alloc: Global, parts: &str, is_closed: bool, width: i64) -> Result<Line, AllocError> {

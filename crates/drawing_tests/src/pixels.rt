@@ -1,10 +1,10 @@
 ghost use Rattle.std.specs.Prelude.{◌^◌};
 ghost use Rattle.geom.specs.Range.{IsBelow};
 
-use crate::shapes::{numbers, pixels, side};
+use crate::shapes::{pixels, side};
 use geom::{Device, PictureSide, PxBox};
 use std::alloc::{AllocError, Global};
-use test_tables::{TableFault, check_rows};
+use test_tables::{TableFault, check_rows, numbers};
 
 // The column and the row of the pixel that a point 40 sixteenths down lies in, and its x in sixteenths.
 const COLUMNS: &str = "\

@@ -1,11 +1,11 @@
-use crate::shapes::{drawn, numbers, pixel, side, sides, three};
+use crate::shapes::{drawn, pixel, side, sides, three};
 use geom::{PictureSide, Pixel};
 use mapdefs::{Items, Picture, PictureFields, Pixmap, Rgb};
 use scanfill::Cover;
 use std::alloc::{AllocError, Global};
 use std::test::Fail;
 use symbols::{PixFault, Stamp, read, write_ppm};
-use test_tables::{TableFault, check_rows};
+use test_tables::{TableFault, check_rows, numbers};
 
 // A pixmap as its sides and its last colour.
 fn summed_up(alloc: Global, pixmap: &Pixmap) -> Result<String, AllocError> {

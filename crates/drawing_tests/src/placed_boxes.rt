@@ -1,9 +1,9 @@
-use crate::shapes::{numbers, pixels, side};
+use crate::shapes::{pixels, side};
 use collide::Boxes;
 use geom::PxBox;
 use std::alloc::{AllocError, Global};
 use std::test::Fail;
-use test_tables::{TableFault, check_rows};
+use test_tables::{TableFault, check_rows, numbers};
 
 // What is told of steps, the side of the picture in pixels, and the steps, which begin with no boxes. `ask`
 // tells whether a box is hit, `#` or `-`, `add` adds one, and `note` tells whether it is hit before, adds it,

@@ -1,6 +1,7 @@
-use crate::shapes::{area, numbers, place};
+use crate::shapes::area;
 use std::alloc::{AllocError, Global};
-use test_tables::{TableFault, check_rows};
+use test_maps::place;
+use test_tables::{TableFault, check_rows, numbers};
 
 // Whether two boxes share a place, asked of each, and their sides, west, south, east and north.
 const MEETINGS: &str = "\

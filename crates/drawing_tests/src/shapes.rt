@@ -1,19 +1,7 @@
-use geom::{Coordinate, Device, Edge, Micro, PictureSide, Pixel, PxBox, World, WorldBox};
+use geom::{Device, Edge, Micro, PictureSide, Pixel, PxBox, WorldBox};
 use scanfill::{Cover, Rows, Spans};
 use std::alloc::{AllocError, Global};
-
-/// The numbers of a text with that character between them, if it has just so many.
-pub(crate) fn numbers<const N: usize>(text: &str, between: char) -> Option<[i64; N]> {
-    let mut words = text.split(between);
-    let mut numbers = [0_i64; N];
-    for number in numbers.iter_mut() {
-        *number = words.next()?.parse::<i64>().ok()?;
-    }
-    match words.next() {
-        None => Some(numbers),
-        Some(_) => None,
-    }
-}
+use test_tables::numbers;
 
 /// The side of a picture. That of a row is within the limits.
 pub(crate) fn side(pixels: i64) -> PictureSide {
@@ -41,14 +29,6 @@ pub(crate) fn pixel([i, j]: [i64; 2]) -> Pixel {
 /// The edge of the numbers of its ends.
 pub(crate) fn edge([ax, ay, bx, by]: [i64; 4]) -> Edge {
     Edge::new(point([ax, ay]), point([bx, by]))
-}
-
-/// The place of these millionths of a degree. That of a row is within the limits.
-pub(crate) fn place([x, y]: [i64; 2]) -> World {
-    let limit = 1_000_000_000;
-    let x = Coordinate::new(Micro::new(x.clamp(-limit, limit)));
-    let y = Coordinate::new(Micro::new(y.clamp(-limit, limit)));
-    World::new(x, y)
 }
 
 /// The box of its west, south, east and north side, in millionths of a degree.

@@ -1,7 +1,8 @@
-use crate::shapes::{numbers, place, side};
+use crate::shapes::side;
 use geom::{Micro, World, WorldBox};
 use std::alloc::{AllocError, Global};
-use test_tables::{TableFault, check_rows};
+use test_maps::place;
+use test_tables::{TableFault, check_rows, numbers};
 use viewport::{MAX_MARGIN, Projection, View};
 
 // Four degrees by four degrees in four pixels by four pixels.

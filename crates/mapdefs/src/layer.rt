@@ -1,5 +1,11 @@
-use crate::{Class, Feature, Items, Limited, Limits, Text};
+ghost use Rattle.std.specs.Prelude.{◌≡◌, ◌+◌, ◌<◌, ◌≤◌, length, All, OnOk, OnErr};
+ghost use Rattle.mapdefs.specs.Change.{changed_at, switched, extended, emptied, CanTakeAt};
+ghost use Rattle.mapdefs.specs.LayerLimits.{HasValues};
+ghost use Rattle.mapdefs.specs.declared.limits.TheConstants.{MAX_FEATURES};
+
+use crate::{Class, Feature, Items, Limited, Limits, Shared, SharedItems, Text};
 use geom::Micro;
+use std::alloc::{AllocError, Global};
 
 /// What the features of a layer are.
 #[derive(Clone, Copy, Debug)]
@@ -33,8 +39,8 @@ pub struct LayerFields {
     pub tolerance: u8,
     pub min: Option<Micro>,
     pub max: Option<Micro>,
-    pub classes: Items<Class>,
-    pub features: Items<Feature>,
+    pub classes: SharedItems<Class>,
+    pub features: SharedItems<Shared<Feature>>,
 }
 
 impl Limits for LayerFields {
@@ -46,3 +52,67 @@ impl Limits for LayerFields {
 /// A layer. It has at most `MAX_ITEMS` items, `MAX_CLASSES` classes and `MAX_FEATURES` features, each
 /// with one value per item, and a tolerance of at most `MAX_TOLERANCE`.
 pub type Layer = Limited<LayerFields>;
+
+impl Layer {
+    /// Switches it on or off.
+    pub fn switch(&mut self, on: bool)
+        ensures { self.new ≡ switched on self.old }
+    {
+        self.fields.on = on;
+    }
+
+    /// Adds features behind those that it has. Where memory is refused nothing changes.
+    pub fn append(
+        &mut self,
+        alloc: Global,
+        features: Items<Shared<Feature>>,
+    ) -> Result<(), AllocError>
+        requires room { length self.old.features + length features ≤ MAX_FEATURES }
+        requires values { All (HasValues (length self.old.items)) features }
+        ensures ok { OnOk result (self.new ≡ extended features self.old) }
+        ensures err { OnErr result (self.new ≡ self.old) }
+    {
+        self.fields.features.append(alloc, features)?;
+        Ok(())
+    }
+
+    /// Takes all features out. It takes no memory.
+    pub fn clear(&mut self)
+        ensures { self.new ≡ emptied self.old }
+    {
+        self.fields.features = SharedItems::empty();
+    }
+}
+
+// Switches the layer of that index on or off.
+pub(crate) fn switch_at(layers: &mut Items<Layer>, index: usize, on: bool)
+    requires { index < length layers.old }
+    ensures { layers.new ≡ changed_at index (switched on) layers.old }
+{
+    let layer = &mut layers.items[index];
+    layer.switch(on);
+}
+
+// Adds features to the layer of that index. Where memory is refused nothing changes.
+pub(crate) fn append_at(
+    alloc: Global,
+    layers: &mut Items<Layer>,
+    index: usize,
+    features: Items<Shared<Feature>>,
+) -> Result<(), AllocError>
+    requires { CanTakeAt features index layers.old }
+    ensures ok { OnOk result (layers.new ≡ changed_at index (extended features) layers.old) }
+    ensures err { OnErr result (layers.new ≡ layers.old) }
+{
+    let layer = &mut layers.items[index];
+    layer.append(alloc, features)
+}
+
+// Takes all features out of the layer of that index.
+pub(crate) fn clear_at(layers: &mut Items<Layer>, index: usize)
+    requires { index < length layers.old }
+    ensures { layers.new ≡ changed_at index emptied layers.old }
+{
+    let layer = &mut layers.items[index];
+    layer.clear();
+}

@@ -1,7 +1,11 @@
-ghost use Rattle.std.specs.Prelude.{◌≡◌};
+ghost use Rattle.std.specs.Prelude.{◌≡◌, ◌<◌, ◌+◌, ◌≤◌, length, All, OnOk, OnErr, IfSome, slice_get};
+ghost use Rattle.mapdefs.specs.LayerLimits.{HasValues};
+ghost use Rattle.mapdefs.specs.declared.limits.TheConstants.{MAX_FEATURES};
 
-use crate::{Font, Items, Layer, Limited, Limits, Symbol, Text};
+use crate::layer::{append_at, clear_at, switch_at};
+use crate::{Feature, Font, Items, Layer, Limited, Limits, Shared, SharedItems, Symbol, Text};
 use geom::WorldBox;
+use std::alloc::{AllocError, Global};
 
 /// What a map says.
 #[derive(Drop)]
@@ -13,8 +17,8 @@ pub struct MapFields {
     /// The part of the world that the map shows.
     pub extent: WorldBox,
     /// The font of the labels.
-    pub font: Option<Font>,
-    pub symbols: Items<Symbol>,
+    pub font: Option<Shared<Font>>,
+    pub symbols: SharedItems<Symbol>,
     pub layers: Items<Layer>,
 }
 
@@ -30,14 +34,47 @@ pub type Map = Limited<MapFields>;
 
 impl Map {
     ghost use Rattle.mapdefs.specs.Name.{index_of};
+    ghost use Rattle.mapdefs.specs.Change.{with_layer, switched, extended, emptied, CanTakeAt};
 
     /// The index of the first layer of that name, compared byte by byte.
-    pub fn find(&self, name: &str) -> Option<usize>
-        ensures { result ≡ index_of name.now self.now.layers }
+    pub fn find(&self, name: &[u8]) -> Option<usize>
+        ensures value { result ≡ index_of name.now self.now.layers }
+        ensures within { IfSome result (λ index. index < length self.now.layers) }
     {
         let layers = self.get().layers.as_slice();
         layers
             .iter()
-            .position(|layer| layer.get().name.as_str() == name)
+            .position(|layer| layer.get().name.as_str().as_bytes() == name)
+    }
+
+    /// Switches the layer of that index on or off.
+    pub fn switch(&mut self, index: usize, on: bool)
+        requires { index < length self.old.layers }
+        ensures { self.new ≡ with_layer index (switched on) self.old }
+    {
+        switch_at(&mut self.fields.layers, index, on);
+    }
+
+    /// Adds features to the layer of that index, behind those that it has. Where memory is refused
+    /// nothing changes.
+    pub fn append(
+        &mut self,
+        alloc: Global,
+        index: usize,
+        features: Items<Shared<Feature>>,
+    ) -> Result<(), AllocError>
+        requires { CanTakeAt features index self.old.layers }
+        ensures ok { OnOk result (self.new ≡ with_layer index (extended features) self.old) }
+        ensures err { OnErr result (self.new ≡ self.old) }
+    {
+        append_at(alloc, &mut self.fields.layers, index, features)
+    }
+
+    /// Takes all features out of the layer of that index.
+    pub fn clear(&mut self, index: usize)
+        requires { index < length self.old.layers }
+        ensures { self.new ≡ with_layer index emptied self.old }
+    {
+        clear_at(&mut self.fields.layers, index);
     }
 }

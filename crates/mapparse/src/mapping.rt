@@ -6,8 +6,8 @@ ghost use Rattle.geom.specs.World.{IsExtent};
 ghost use Rattle.mapdefs.specs.declared.limits.TheConstants.{MAX_FEATURES, MAX_LINE_WIDTH, MAX_SQUARE, MAX_TOLERANCE};
 ghost use Rattle.mapdefs.specs.ClassLimits.{IsRuleWithinLimits};
 ghost use Rattle.mapdefs.specs.declared.class.Rule.TheVariants.{Always};
-ghost use Rattle.mapdefs.specs.declared.limits.TheConstants.{MAX_ITEMS};
-ghost use Rattle.mapparse.specs.Mapping.{is_semicolon, label_of, padded, values_of, feature_of, tolerance_of, whole_world, map_of};
+ghost use Rattle.mapdefs.specs.declared.limits.TheConstants.{MAX_CLASSES, MAX_ITEMS};
+ghost use Rattle.mapparse.specs.Mapping.{is_semicolon, label_of, padded, values_of, class_of, feature_of, tolerance_of, whole_world, map_of};
 
 use crate::files::Files;
 use crate::symbol::{symbol_index, symbols_of};
@@ -15,8 +15,8 @@ use crate::texts::semicolon_parts;
 use geom::{Micro, WorldBox};
 use mapdefs::{
     Class, ClassFields, Feature, FeatureFields, Items, Kind, Label, LabelFields, Layer,
-    LayerFields, MAX_FEATURES, MAX_ITEMS, Map, MapFields, Position, Rgb, Rule, Style, StyleFields,
-    Symbol, Text,
+    LayerFields, MAX_CLASSES, MAX_FEATURES, MAX_ITEMS, Map, MapFields, Position, Rgb, Rule, Shared,
+    SharedItems, Style, StyleFields, Symbol, Text,
 };
 use maptree::{
     Bounded, Capped, ClassRule, ClassTree, Extent, FeatureTree, LabelTree, LayerTree, MapTree,
@@ -188,19 +188,30 @@ fn feature_of(tree: FeatureTree, count: usize, alloc: Global) -> Result<Feature,
     }))
 }
 
+// The same, for copies of the map to share.
+fn shared_feature(
+    tree: FeatureTree,
+    count: usize,
+    alloc: Global,
+) -> Result<Shared<Feature>, AllocError>
+    ensures { IfOk result (λ made. made ≡ feature_of count tree) }
+{
+    Shared::new(alloc, feature_of(tree, count, alloc)?)
+}
+
 // The features of a layer with so many items, in their order.
 fn features_of(
     trees: Vec<FeatureTree>,
     count: usize,
     alloc: Global,
-) -> Result<Items<Feature>, AllocError>
+) -> Result<SharedItems<Shared<Feature>>, AllocError>
     ensures { IfOk result (λ made. made ≡ map (feature_of count) trees.items) }
 {
     let mut features = Vec::with_capacity(alloc, trees.len())?;
     for tree in trees {
-        features.push(feature_of(tree, count, alloc)?)?;
+        features.push(shared_feature(tree, count, alloc)?)?;
     }
-    Ok(Items::of(features))
+    SharedItems::new(alloc, Items::of(features))
 }
 
 // How far from the asked pixel a feature counts, in pixels.
@@ -230,7 +241,7 @@ fn with_items(
     items: Option<Capped<Text, MAX_ITEMS>>,
     features: Capped<FeatureTree, MAX_FEATURES>,
     alloc: Global,
-) -> Result<(Items<Text>, Items<Feature>), AllocError>
+) -> Result<(Items<Text>, SharedItems<Shared<Feature>>), AllocError>
     ensures items { IfOk result (λ made. made.0 ≡ unwrap_or items []) }
     ensures features { IfOk result (λ made. made.1 ≡ map (feature_of (length made.0)) features) }
     ensures item_count { IfOk result (λ made. length made.0 ≤ MAX_ITEMS) }
@@ -249,6 +260,19 @@ fn text_or(text: Option<Text>, default: &str, alloc: Global) -> Result<Text, All
         Some(text) => Ok(text),
         None => Text::from_str(alloc, default),
     }
+}
+
+// The classes of a layer.
+fn classes_of(
+    classes: Capped<ClassTree, MAX_CLASSES>,
+    symbols: &[Symbol],
+    alloc: Global,
+) -> Result<SharedItems<Class>, AllocError>
+    ensures value { IfOk result (λ made. made ≡ map (class_of symbols.now) classes) }
+    ensures limit { IfOk result (λ made. length made ≤ MAX_CLASSES) }
+{
+    let classes = build_all(classes.into_vec(), symbols, alloc)?;
+    SharedItems::new(alloc, classes)
 }
 
 impl Build for LayerTree {
@@ -280,7 +304,7 @@ impl Build for LayerTree {
         let title = text_or(wms_title.or(ows_title), name.as_str(), alloc)?;
         let csv_x = text_or(csv_x, "x", alloc)?;
         let csv_y = text_or(csv_y, "y", alloc)?;
-        let classes = build_all(classes.into_vec(), symbols, alloc)?;
+        let classes = classes_of(classes, symbols, alloc)?;
         let tolerance = count_or(tolerance, tolerance_of(kind)) as u8;
         Ok(Layer::new(LayerFields {
             name,

@@ -4,7 +4,7 @@ ghost use Rattle.mapwords.specs.Fault.{IsFaultOf};
 ghost use Rattle.mapparse.specs.Symbols.{last_named, symbol_index, pixmap_in, symbols_of, is_among, with_use, uses_of};
 
 use crate::files::Files;
-use mapdefs::{Items, MAX_SYMBOLS, Pixmap, Symbol, Text};
+use mapdefs::{Items, MAX_SYMBOLS, Pixmap, SharedItems, Symbol, Text};
 use maptree::{Capped, MapTree, Named, ParseFault, ParseKind, SymbolTree};
 use std::alloc::{AllocError, Global};
 use symbols::{PixFault, read};
@@ -59,7 +59,7 @@ pub fn symbols_of(
     trees: Capped<SymbolTree, MAX_SYMBOLS>,
     files: &Files,
     alloc: Global,
-) -> Result<Items<Symbol>, ParseFault>
+) -> Result<SharedItems<Symbol>, ParseFault>
     ensures symbols { IfOk result (λ made. symbols_of files.now trees ≡ Ok made) }
     ensures limit { IfOk result (λ made. length made ≤ MAX_SYMBOLS) }
     ensures fault { IfErr result (IsFaultOf (symbols_of files.now trees)) }
@@ -70,7 +70,7 @@ pub fn symbols_of(
         let pixmap = pixmap_in(files, &image, alloc)?;
         symbols.push(Symbol { name, pixmap })?;
     }
-    Ok(Items::of(symbols.into_vec()))
+    Ok(SharedItems::new(alloc, Items::of(symbols.into_vec()))?)
 }
 
 // Whether a name is one of the names.

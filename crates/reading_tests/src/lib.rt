@@ -1,5 +1,5 @@
-//! Tests of the crates that read mapfiles and what belongs to them, by their public calls alone: each test
-//! checks a value that was worked by hand, or that no clause can say.
+//! Tests of the crates that read tokens, expressions, fonts and tables, and of the types of maps, by their public
+//! calls alone: each test checks a value that was worked by hand, or that no clause can say.
 #![tactic(auto)]
 
 #[cfg(test)]
@@ -10,8 +10,6 @@ mod expression_truths;
 mod fonts;
 #[cfg(test)]
 mod map_values;
-#[cfg(test)]
-mod mapfiles;
 #[cfg(test)]
 mod point_tables;
 #[cfg(test)]

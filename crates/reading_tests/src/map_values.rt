@@ -44,7 +44,7 @@ fn test_map(alloc: Global) -> Result<Map, AllocError> {
 // The index of a layer in that map.
 fn found(alloc: Global, name: &str) -> Result<String, AllocError> {
     let map = test_map(alloc)?;
-    let index = map.find(name);
+    let index = map.find(name.as_bytes());
     drop(map);
     format!(in alloc; "{index:?}")
 }

@@ -4,12 +4,12 @@ ghost use Rattle.mapdefs.specs.declared.limits.TheConstants.{MAX_LAYERS};
 
 use geom::{Coordinate, Micro, NUMBER_LIMIT, World};
 use mapdefs::{
-    Class, ClassFields, Feature, FeatureFields, Items, Layer, Map, Rgb, Rule, Style, StyleFields,
-    Text,
+    Class, ClassFields, Feature, FeatureFields, Items, Layer, Map, Rgb, Rule, SharedItems, Style,
+    StyleFields, Text,
 };
 use mapmachine::Machine;
 use std::alloc::{AllocError, Global};
-use test_maps::{layer_fields, map_fields};
+use test_maps::{layer_fields, map_fields, one_feature};
 use test_tables::{TableFault, check_rows};
 
 // A class that paints in the colour 10 20 30, whatever the scale.
@@ -65,8 +65,8 @@ fn layer(alloc: Global, min: Option<Micro>, max: Option<Micro>) -> Result<Layer,
     let name = Text::from_str(alloc, "a")?;
     let mut classes = Items::new(alloc);
     classes.push(class(alloc)?)?;
-    let mut features = Items::new(alloc);
-    features.push(square(alloc)?)?;
+    let classes = SharedItems::new(alloc, classes)?;
+    let features = one_feature(alloc, square(alloc)?)?;
     let mut fields = layer_fields(alloc, name);
     fields.min = min;
     fields.max = max;

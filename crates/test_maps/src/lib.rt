@@ -1,13 +1,13 @@
-//! Maps of tests: the fields of a layer and of a map with nothing in them but what is handed over. A test
-//! changes the fields that it is about.
+//! Maps of tests: places, and the fields of a layer and of a map with nothing in them but what is handed over. A
+//! test changes the fields that it is about.
 #![tactic(auto)]
 
-ghost use Rattle.std.specs.Prelude.{◌≡◌, [], None, true, false, pos};
+ghost use Rattle.std.specs.Prelude.{◌≡◌, [], ◌∷◌, None, true, false, pos, IfOk};
 ghost use Rattle.mapdefs.specs.declared.layer.Kind.TheVariants as kind;
 
-use geom::{Micro, WorldBox};
-use mapdefs::{Items, Kind, Layer, LayerFields, MapFields, Text};
-use std::alloc::Global;
+use geom::{Coordinate, Micro, World, WorldBox};
+use mapdefs::{Feature, Items, Kind, Layer, LayerFields, MapFields, Shared, SharedItems, Text};
+use std::alloc::{AllocError, Global};
 
 // A text without characters.
 fn no_text(alloc: Global) -> Text
@@ -50,9 +50,21 @@ pub fn layer_fields(alloc: Global, name: Text) -> LayerFields
         tolerance: 0,
         min: None,
         max: None,
-        classes: Items::new(alloc),
-        features: Items::new(alloc),
+        classes: SharedItems::empty(),
+        features: SharedItems::empty(),
     }
+}
+
+/// The features of a layer that has this one alone.
+pub fn one_feature(
+    alloc: Global,
+    feature: Feature,
+) -> Result<SharedItems<Shared<Feature>>, AllocError>
+    ensures { IfOk result (λ features. features ≡ feature ∷ []) }
+{
+    let mut features = Items::new(alloc);
+    features.push(Shared::new(alloc, feature)?)?;
+    SharedItems::new(alloc, features)
 }
 
 /// The fields of a map of four degrees by four, from the place without longitude and latitude on, with these
@@ -73,7 +85,15 @@ pub fn map_fields(alloc: Global, layers: Items<Layer>) -> MapFields
         url: no_text(alloc),
         extent: WorldBox::new(zero, zero, four, four),
         font: None,
-        symbols: Items::new(alloc),
+        symbols: SharedItems::empty(),
         layers,
     }
+}
+
+/// The place of these millionths of a degree. That of a row is within the limits.
+pub fn place([x, y]: [i64; 2]) -> World {
+    let limit = 1_000_000_000;
+    let x = Coordinate::new(Micro::new(x.clamp(-limit, limit)));
+    let y = Coordinate::new(Micro::new(y.clamp(-limit, limit)));
+    World::new(x, y)
 }

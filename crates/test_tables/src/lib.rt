@@ -99,3 +99,16 @@ pub fn check_all<F: Fn(Global, &str) -> Result<bool, AllocError>>(
         }
     })
 }
+
+/// The numbers of a text with that character between them, if it has just so many.
+pub fn numbers<const N: usize>(text: &str, between: char) -> Option<[i64; N]> {
+    let mut words = text.split(between);
+    let mut numbers = [0_i64; N];
+    for number in numbers.iter_mut() {
+        *number = words.next()?.parse::<i64>().ok()?;
+    }
+    match words.next() {
+        None => Some(numbers),
+        Some(_) => None,
+    }
+}

@@ -27,7 +27,7 @@ fn layer_named(map: &Map, name: &str) -> Option<usize>
     if name.is_empty() {
         return None;
     }
-    let index = map.find(name)?;
+    let index = map.find(name.as_bytes())?;
     let layers = map.get().layers.as_slice();
     if layers.get(index)?.get().on {
         Some(index)

@@ -6,7 +6,7 @@ use Rattle.mapparse.proofs.mapping.LayerTreeBuild.build.Goals as goal
 pub new-requires : goal.new-requires
 new-requires c = record {
   item_count = c.in_ok-items.ensures.item_count;
-  class_count = rw (c.in_ok-classes.ensures, length-map) c.into_vec.ensures.limit;
+  class_count = c.in_ok-classes.ensures.limit;
   feature_count = c.in_ok-items.ensures.feature_count;
   tolerance = omega (arith, c.count_or-tolerance.ensures.most);
   values = rw c.in_ok-items.ensures.features (∣ feature_values _ _ ∣₁);

@@ -1,0 +1,122 @@
+use crate::told::repeated;
+use mapfaults::{Finding, explain};
+use std::alloc::{AllocError, Global};
+use test_tables::{TableFault, check_rows};
+
+// What is told of a source: its line and the words on its fault.
+fn told(alloc: Global, source: &str) -> Result<String, AllocError> {
+    match explain(alloc, source.as_bytes()) {
+        Finding::Sound => String::from_str(alloc, "sound"),
+        Finding::Faulty(fault) => {
+            let (line, words) = (fault.line, fault.words(alloc)?);
+            format!(in alloc; "{line}: {words}")
+        }
+        Finding::NoMemory => Err(AllocError),
+    }
+}
+
+// What is told of a source in which `~` stands for the end of a line and `{3*ab}` for `ababab`.
+fn told_row(alloc: Global, row: &str) -> Result<String, AllocError> {
+    let lines = row.replace(alloc, '~', "\n")?;
+    let source = repeated(alloc, lines.as_str())?;
+    told(alloc, source.as_str())
+}
+
+// What is told of sources, and the sources.
+const ROWS: &str = "\
+sound|MAP END
+2: the mapfile has no MAP|# MAP~
+2: LAYER stands where MAP has to begin|~LAYER END
+2: \"MAP\" stands where MAP has to begin|~'MAP' END
+2: END stands after the END of MAP|MAP LAYER NAME a TYPE LINE END END~END
+2: (a) stands after the END of MAP|MAP END~(a)
+4: COLOUR is no keyword of STYLE|MAP~LAYER~CLASS STYLE END~STYLE COLOUR 1
+4: colour is no keyword of CLASS|map~layer~class style end~colour 1
+2: \"NAME\" is no keyword of LAYER|MAP LAYER~'NAME' a
+2: {a b} is no keyword of MAP|MAP~{a b}
+2: MANY is no value of WIDTH, which takes a count from 1 to 32|MAP LAYER CLASS STYLE~WIDTH MANY
+2: XX is no value of POSITION, which takes UL, UC, UR, CL, CC, CR, LL, LC, LR or AUTO|MAP LAYER CLASS LABEL~Position XX
+2: 0.5 is no value of EXTENT, which takes a number up to 1000 that is greater than the first|MAP EXTENT 1 2~0.5 9
+2: 2 is no value of EXTENT, which takes a number up to 1000 that is greater than the second|MAP EXTENT 1 2 3~2
+2: x is no value of COLOR, which takes three counts from -1 to 255|MAP LAYER CLASS STYLE COLOR 1~x
+2: RASTER is no value of TYPE, which takes POINT, LINE or POLYGON|MAP LAYER TYPE~RASTER
+2: VECTOR is no value of TYPE, which takes PIXMAP alone|MAP SYMBOL TYPE~VECTOR
+2: 257 is no value of SIZE, which takes a count from 1 to 256|MAP LAYER CLASS STYLE SIZE~257
+2: 65 is no value of TOLERANCE, which takes a count from 0 to 64|MAP LAYER TOLERANCE~65
+2: 65 is no value of BUFFER, which takes a count from 0 to 64|MAP LAYER CLASS LABEL BUFFER~65
+2: 11 is no value of PRIORITY, which takes a count from 1 to 10|MAP LAYER CLASS LABEL PRIORITY~11
+2: 4097 is no value of MINDISTANCE, which takes a count from -1 to 4096|MAP LAYER CLASS LABEL MINDISTANCE~4097
+2: YES is no value of PARTIALS, which takes TRUE or FALSE|MAP LAYER CLASS LABEL PARTIALS~YES
+2: 1e13 is no value of MINSCALEDENOM, which takes a number from -1000000000000 to 1000000000000|MAP LAYER MINSCALEDENOM~1e13
+2: 1001 is no value of EXTENT, which takes a number from -1000 to 1000|MAP EXTENT~1001
+2: -1001 is no value of EXTENT, which takes a number from -1000 to 1000|MAP EXTENT 1~-1001
+2: red is no value of COLOR, which takes '#rrggbb' or three counts from -1 to 255|MAP LAYER CLASS STYLE COLOR~red
+2: METERS is no value of TOLERANCEUNITS, which takes PIXELS alone|MAP LAYER TOLERANCEUNITS~METERS
+2: OFF is no value of LABELCACHE, which takes ON alone|MAP LAYER LABELCACHE~OFF
+2: this SYMBOL names no symbol of MAP|MAP LAYER NAME a TYPE POINT CLASS STYLE SYMBOL~b END END END~END
+1: (a) is no value of NAME, which takes a word or a quoted text|MAP LAYER NAME (a)
+2: x is no longitude in POINTS: a number from -1000 to 1000|MAP LAYER FEATURE POINTS 1 2~x
+2: 1001 is no latitude in POINTS: a number from -1000 to 1000|MAP LAYER FEATURE POINTS 1 2 3~1001
+2: (a) is no key of METADATA|MAP WEB METADATA a b~(a)
+1: LABELFONT is no value of CONFIG, which takes a key other than LABELFONT|MAP CONFIG LABELFONT
+2: the mapfile ends inside LAYER of line 2, which has no END|MAP~LAYER NAME a
+3: the mapfile ends inside LAYER of line 2, which has no END|MAP~LAYER~NAME
+7: the mapfile ends inside LABEL of line 5, which has no END|MAP~LAYER CLASS~style end~STYLE END~LABEL~COLOR 1 2~
+4: the mapfile ends inside LEGEND of line 2, which has no END|MAP~LEGEND~LABEL END~
+3: the mapfile ends inside POINTS of line 2, which has no END|MAP LAYER FEATURE~POINTS 1~
+4: LAYER of line 3 has no TYPE|MAP~LAYER NAME a TYPE LINE END~LAYER NAME b~END
+4: LAYER of line 3 has no NAME|MAP~LAYER NAME a TYPE LINE END~LAYER TYPE LINE~END
+3: FEATURE of line 3 has no POINTS|MAP LAYER~FEATURE POINTS 1 2 END END~FEATURE TEXT a END
+3: SYMBOL of line 2 has no NAME|MAP SYMBOL NAME a TYPE PIXMAP IMAGE b END~SYMBOL TYPE PIXMAP IMAGE b~END
+3: SYMBOL of line 2 has no TYPE|MAP SYMBOL NAME a TYPE PIXMAP IMAGE b END~SYMBOL IMAGE b NAME c~END
+3: SYMBOL of line 2 has no IMAGE|MAP SYMBOL NAME a TYPE PIXMAP IMAGE b END~SYMBOL NAME c~TYPE PIXMAP END
+4: POINTS of line 3 has no vertex|MAP LAYER FEATURE~POINTS 1 2 END~POINTS~END
+3: the last vertex of POINTS of line 2 has no latitude|MAP LAYER FEATURE~POINTS 1 2~3 END
+2: NAME has no value|MAP LAYER~NAME END
+2: wms_title has no value|MAP WEB METADATA a b wms_title~END
+2: COLOR has too few values|MAP LAYER CLASS STYLE COLOR 1~END
+2: EXTENT has too few values|MAP EXTENT 1 2~END
+2: SIZE lacks a value|MAP SIZE 9~END
+4: CLASS of line 3 has one LABEL too many|MAP LAYER~CLASS LABEL END END~CLASS LABEL END~LABEL END
+4: an earlier LAYER has the NAME b|MAP LAYER~NAME a TYPE LINE END~LAYER NAME b TYPE LINE END LAYER~NAME b TYPE LINE~END
+2: ('[a]' = ) is no expression|MAP LAYER CLASS~EXPRESSION ('[a]' = )
+2: a bracket that closes nothing, a control character, or a byte that is not UTF-8|MAP~)
+2: the quoted text, expression or list that begins here is not closed|MAP LAYER~NAME 'a
+2: \"a?b?c\" is no keyword of MAP|MAP~'a~b\tc'
+1: 1234567890123456789012345678901234567890 is no keyword of MAP|MAP 1234567890123456789012345678901234567890
+1: 1234567890123456789012345678901234567890.. is no keyword of MAP|MAP 12345678901234567890123456789012345678901
+1: éééééééééééééééééééééééééééééééééééééééé.. is no keyword of MAP|MAP ééééééééééééééééééééééééééééééééééééééééé";
+
+#[test]
+fn faults_are_told_in_words(rt: HostRuntime) -> Result<(), TableFault> {
+    check_rows(rt.alloc(), ROWS, '|', 62, told_row)
+}
+
+// What is told of sources with a block, a vertex or an item more than a map may have.
+const LIMITS: &str = "\
+1: MAP of line 1 has more than 64 SYMBOL blocks|MAP {65*SYMBOL NAME a TYPE PIXMAP IMAGE b END }
+2: LAYER of line 2 has more than 64 CLASS blocks|MAP~LAYER {65*CLASS END }
+3: CLASS of line 2 has more than 16 STYLE blocks|MAP LAYER~CLASS~{17*STYLE END }
+4: FEATURE of line 2 has more than 65536 vertices|MAP LAYER~FEATURE~POINTS~{65537*1 2 }
+2: PROCESSING names more than 64 items|MAP LAYER PROCESSING~ITEMS=a{64*,b}";
+
+#[test]
+fn limits_are_told_in_words(rt: HostRuntime) -> Result<(), TableFault> {
+    check_rows(rt.alloc(), LIMITS, '|', 5, told_row)
+}
+
+// What is told of 128 layers and one more.
+fn told_after_layers(alloc: Global, end: &str) -> Result<String, AllocError> {
+    let mut source = String::from_str(alloc, "MAP\n")?;
+    for i in 1..=128 {
+        write!(source, "LAYER NAME {i} TYPE LINE END\n")?;
+    }
+    source.push_str(end)?;
+    told(alloc, source.as_str())
+}
+
+#[test]
+fn a_layer_too_many_is_told_in_words(rt: HostRuntime) -> Result<(), TableFault> {
+    const ROW: &str = "130: MAP of line 1 has more than 128 LAYER blocks|LAYER";
+    check_rows(rt.alloc(), ROW, '|', 1, told_after_layers)
+}

@@ -1,0 +1,28 @@
+//! Tests of the crates that read mapfiles, by their public calls alone: each test checks a value that was worked
+//! by hand, or that no clause can say.
+#![tactic(auto)]
+
+#[cfg(test)]
+mod explained;
+#[cfg(test)]
+mod faults;
+#[cfg(test)]
+mod keywords;
+#[cfg(test)]
+mod limits;
+#[cfg(test)]
+mod map;
+#[cfg(test)]
+mod messages;
+#[cfg(test)]
+mod pixmaps;
+#[cfg(test)]
+mod said;
+#[cfg(test)]
+mod styles;
+#[cfg(test)]
+mod told;
+#[cfg(test)]
+mod unused;
+#[cfg(test)]
+mod words;

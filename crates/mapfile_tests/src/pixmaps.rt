@@ -1,0 +1,170 @@
+use crate::told::{told_fault, written};
+use mapdefs::{Items, Layer, Map, Text};
+use mapparse::{Files, parse, wanted};
+use std::alloc::{AllocError, Global};
+use test_tables::{TableFault, check_rows};
+
+fn add(files: &mut Files, alloc: Global, name: &str, bytes: &[u8]) -> Result<(), AllocError> {
+    let mut copy = Vec::new(alloc);
+    copy.extend_from_slice(bytes)?;
+    files.add(Text::from_str(alloc, name)?, Items::of(copy))
+}
+
+// A pixmap of one column and two rows, one of two columns and one row, and a file that is no pixmap.
+fn some_files(alloc: Global) -> Result<Files, AllocError> {
+    let mut files = Files::new(alloc);
+    add(&mut files, alloc, "a.ppm", b"P6 1 2 255\nabcdef")?;
+    add(&mut files, alloc, "b.ppm", b"P6 2 1 255\nghijkl")?;
+    add(&mut files, alloc, "bad.ppm", b"P5")?;
+    Ok(files)
+}
+
+fn write_styles(text: &mut String, layer: &Layer) -> Result<(), AllocError> {
+    for class in layer.get().classes.as_slice() {
+        for style in class.get().styles.as_slice() {
+            match style.get().symbol {
+                Some(index) => write!(text, " {index}")?,
+                None => text.push_str(" -")?,
+            }
+        }
+    }
+    Ok(())
+}
+
+// The symbols of a map with their sides, and the symbol of each style.
+fn symbols_of(alloc: Global, map: &Map) -> Result<String, AllocError> {
+    let mut text = String::new(alloc);
+    for symbol in map.get().symbols.as_slice() {
+        let pixmap = symbol.pixmap.get();
+        let (width, height) = (pixmap.width, pixmap.height);
+        write!(text, "{} {width} by {height},", symbol.name.as_str())?;
+    }
+    for layer in map.get().layers.as_slice() {
+        write_styles(&mut text, layer)?;
+    }
+    Ok(text)
+}
+
+// What a source with the files above gives.
+fn drawn(alloc: Global, source: &str) -> Result<String, AllocError> {
+    let files = some_files(alloc)?;
+    match parse(alloc, source.as_bytes(), &files) {
+        Ok(map) => symbols_of(alloc, &map),
+        Err(fault) => told_fault(alloc, fault),
+    }
+}
+
+fn list_of(alloc: Global, names: &[Text]) -> Result<String, AllocError> {
+    let mut text = String::new(alloc);
+    for name in names {
+        write!(text, "{},", name.as_str())?;
+    }
+    Ok(text)
+}
+
+// The names of the files that a source uses.
+fn used(alloc: Global, source: &str) -> Result<String, AllocError> {
+    match wanted(alloc, source.as_bytes()) {
+        Ok(names) => list_of(alloc, names.as_slice()),
+        Err(fault) => told_fault(alloc, fault),
+    }
+}
+
+// What is drawn and what is used of a source, each row of the form `DRAWN:USED~SOURCE`, in which `|` stands
+// for the end of a line.
+const ROWS: &str = "\
+:~MAP END
+p 1 by 2,:a.ppm,~MAP SYMBOL NAME p TYPE PIXMAP IMAGE a.ppm END END
+p 1 by 2,q 2 by 1, 1 0 - - -:a.ppm,b.ppm,~MAP SYMBOL NAME p TYPE PIXMAP IMAGE a.ppm END SYMBOL NAME q TYPE pixmap IMAGE 'b.ppm' END LAYER NAME x TYPE POINT CLASS STYLE SYMBOL q END STYLE SYMBOL 'p' END STYLE SYMBOL 0 END STYLE SYMBOL '0' END STYLE SYMBOL q SYMBOL 0 END END END END
+# A layer may stand before the symbols, and names are compared letter by letter.
+q 2 by 1,p 1 by 2, 1 - 0:b.ppm,a.ppm,~MAP LAYER NAME x TYPE POINT CLASS STYLE SYMBOL p END STYLE END STYLE SYMBOL q END END END SYMBOL NAME q TYPE PIXMAP IMAGE b.ppm END SYMBOL NAME p TYPE PIXMAP IMAGE a.ppm END END
+2 WrongValue:2 WrongValue~MAP LAYER NAME x TYPE POINT CLASS STYLE|SYMBOL P END END END SYMBOL NAME p TYPE PIXMAP IMAGE a.ppm END END
+# The last of equal keywords counts, and the last symbol of a name.
+p 2 by 1,:b.ppm,~MAP SYMBOL NAME q IMAGE none.ppm TYPE PIXMAP TYPE PIXMAP NAME p IMAGE b.ppm END END
+p 1 by 2,p 2 by 1,r 1 by 2, 1 2:a.ppm,b.ppm,~MAP SYMBOL NAME p TYPE PIXMAP IMAGE a.ppm END SYMBOL NAME p TYPE PIXMAP IMAGE b.ppm END SYMBOL NAME r TYPE PIXMAP IMAGE a.ppm END LAYER NAME x TYPE POINT CLASS STYLE SYMBOL p END STYLE SYMBOL none SYMBOL r END END END END
+p 1 by 2,:a.ppm,~MAP SYMBOL TRANSPARENT 3 ANCHORPOINT 0.5 1 NAME p TYPE PIXMAP IMAGE a.ppm END END
+# A STYLE in a LABEL is read over.
+ -:~MAP LAYER NAME x TYPE POINT CLASS LABEL STYLE SYMBOL none END END STYLE END END END END
+# What a SYMBOL needs, and what it doesn't know.
+3 MissingValue:3 MissingValue~MAP SYMBOL|TYPE PIXMAP IMAGE a.ppm|END END
+3 MissingValue:3 MissingValue~MAP SYMBOL|NAME p IMAGE a.ppm|END END
+3 MissingValue:3 MissingValue~MAP SYMBOL|NAME p TYPE PIXMAP|END END
+2 WrongValue:2 WrongValue~MAP SYMBOL TYPE|ELLIPSE
+2 UnknownWord:2 UnknownWord~MAP SYMBOL|POINTS
+2 MissingValue:2 MissingValue~MAP SYMBOL IMAGE|END
+2 MissingValue:2 MissingValue~MAP SYMBOL ANCHORPOINT 1|END
+2 UnknownWord:2 UnknownWord~MAP SYMBOL NAME p TYPE PIXMAP IMAGE a.ppm END LAYER|SYMBOL p
+# Each SYMBOL needs its own.
+2 MissingValue:2 MissingValue~MAP SYMBOL NAME p TYPE PIXMAP IMAGE a.ppm END SYMBOL|END END
+# Names that no symbol has, at the END of MAP: the first in the order of the file, before what comes after.
+4 WrongValue:4 WrongValue~MAP LAYER NAME x TYPE POINT CLASS STYLE|SYMBOL p|END STYLE|SYMBOL r END STYLE|SYMBOL s END END END SYMBOL NAME p TYPE PIXMAP IMAGE a.ppm END|END FOO
+3 UnknownWord:3 UnknownWord~MAP LAYER NAME x TYPE POINT CLASS STYLE|SYMBOL r END END END|FOO
+# Files that are missing, or no pixmaps, at the line of their first use, after all other faults.
+4 MissingFile:s.ppm,~MAP|SYMBOL NAME p|TYPE PIXMAP|IMAGE \"s.ppm\"|END|END
+4 BadFile:bad.ppm,~MAP|SYMBOL NAME p|TYPE PIXMAP|IMAGE \"bad.ppm\"|END|END
+2 MissingFile:A.ppm,~MAP SYMBOL NAME p TYPE PIXMAP IMAGE|A.ppm|END END
+2 BadFile:bad.ppm,none.ppm,~MAP SYMBOL NAME p TYPE PIXMAP|IMAGE bad.ppm END SYMBOL NAME q TYPE PIXMAP|IMAGE none.ppm END SYMBOL NAME r TYPE PIXMAP|IMAGE bad.ppm END END
+3 MissingFile:a.ppm,none.ppm,bad.ppm,~MAP SYMBOL NAME p TYPE PIXMAP|IMAGE a.ppm END SYMBOL NAME q TYPE PIXMAP|IMAGE none.ppm END SYMBOL NAME r TYPE PIXMAP|IMAGE bad.ppm END END
+3 UnknownWord:3 UnknownWord~MAP SYMBOL NAME p TYPE PIXMAP|IMAGE none.ppm END END|END";
+
+fn drawn_and_used(alloc: Global, row: &str) -> Result<String, AllocError> {
+    let source = written(alloc, row)?;
+    let drawn = drawn(alloc, source.as_str())?;
+    let used = used(alloc, source.as_str())?;
+    format!(in alloc; "{drawn}:{used}")
+}
+
+#[test]
+fn symbols_have_their_pixmaps(rt: HostRuntime) -> Result<(), TableFault> {
+    check_rows(rt.alloc(), ROWS, '~', 26, drawn_and_used)
+}
+
+// What is used of a source with 64 symbols, in the form of `written`.
+const MANY: &str = "\
+a.ppm,~MAP|{64*SYMBOL NAME p TYPE PIXMAP IMAGE a.ppm END|}END
+67 Limit~MAP|{64*SYMBOL NAME p TYPE PIXMAP IMAGE a.ppm END|}# one more|SYMBOL";
+
+fn used_of_row(alloc: Global, row: &str) -> Result<String, AllocError> {
+    let source = written(alloc, row)?;
+    used(alloc, source.as_str())
+}
+
+#[test]
+fn a_map_has_at_most_64_symbols(rt: HostRuntime) -> Result<(), TableFault> {
+    check_rows(rt.alloc(), MANY, '~', 2, used_of_row)
+}
+
+// The files of the names, after two that were added. `|` stands for the end of a line.
+const ADDED: &str = "\
+P6 1 2 255|abcdef~a.ppm
+new~b.ppm
+P5~bad.ppm
+other~c.ppm
+no file~B.ppm";
+
+fn letters_of(alloc: Global, bytes: Option<&[u8]>) -> Result<String, AllocError> {
+    let Some(bytes) = bytes else {
+        return String::from_str(alloc, "no file");
+    };
+    let mut text = String::new(alloc);
+    for byte in bytes {
+        text.push(if *byte == b'\n' {
+            '|'
+        } else {
+            char::from(*byte)
+        })?;
+    }
+    Ok(text)
+}
+
+fn file_of(alloc: Global, name: &str) -> Result<String, AllocError> {
+    let mut files = some_files(alloc)?;
+    add(&mut files, alloc, "b.ppm", b"new")?;
+    add(&mut files, alloc, "c.ppm", b"other")?;
+    letters_of(alloc, files.bytes(name))
+}
+
+#[test]
+fn a_file_takes_the_place_of_one_of_its_name(rt: HostRuntime) -> Result<(), TableFault> {
+    check_rows(rt.alloc(), ADDED, '~', 5, file_of)
+}

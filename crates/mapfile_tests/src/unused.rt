@@ -1,0 +1,140 @@
+use crate::told::told_row;
+use test_tables::{TableFault, check_rows};
+
+// What is read without effect, in the form of `told_row`.
+const READ: &str = "\
+# Each keyword once in each of its blocks.
+0 0 0 0 0:MAP ANGLE 30 DEBUG on FONTSET 'fonts.txt' IMAGETYPE png MAXSIZE 4096 RESOLUTION 96 SHAPEPATH data STATUS ON UNITS dd END
+0 0 0 0 0:MAP SIZE 400 300 IMAGECOLOR 10 20 30 END
+1 0 0 0 0:map layer name x type polygon|DEBUG 5 DUMP TRUE FOOTER f GROUP g HEADER h STATUS DEFAULT UNITS METERS|end end
+1 0 0 0 0:map layer name x type polygon|LABELMAXSCALEDENOM 2 LABELMINSCALEDENOM 1 EXTENT 4 3 2 1|end end
+1 0 0 0 0:map layer name x type polygon|LABELCACHE On TOLERANCEUNITS 'pixels'|end end
+1 0 0 0 0:map layer name x type polygon|PROJECTION 'init=epsg:4326' AUTO END VALIDATION a 'b' 'a' c END|end end
+1 1 0 0 0:map layer name x type polygon|CLASS GROUP g NAME 'n' STATUS OFF TEMPLATE 't' TITLE u END|end end
+1 1 1 0 0:map layer name x type polygon|CLASS STYLE ANTIALIAS TRUE MAXSIZE 4 MAXWIDTH 3 MINSIZE 2 MINWIDTH 1 END END|end end
+0 0 0 0 0:MAP LEGEND KEYSIZE 18 12 END OUTPUTFORMAT NAME png DRIVER 'AGG/PNG' END QUERYMAP STYLE HILITE END END
+0 0 0 0 0:MAP REFERENCE IMAGE 'ref.png' END SCALEBAR STATUS ON END PROJECTION 'proj=longlat' END END
+# Values are looked at where their keyword takes only some.
+0 0 0 0 0:MAP SIZE x 'y' IMAGECOLOR '#0a141e' IMAGECOLOR -1 20 -1 END
+1 0 0 0 0:map layer name x type polygon|PROJECTION END VALIDATION END|end end
+# Blocks inside blocks that are read over.
+0 0 0 0 0:MAP|LEGEND|LABEL|STYLE|END|END|END|END
+0 0 0 0 0:MAP LEGEND LABEL METADATA LABEL STYLE END END END END END END
+0 0 0 0 0:MAP LEGEND LABEL STYLE STYLE END END END END
+0 0 0 0 0:MAP LEGEND METADATA a b c END VALIDATION a LABEL METADATA END LABEL END END END
+0 0 0 0 0:MAP LEGEND STYLE END END
+0 0 0 0 0:MAP LEGEND PROJECTION END END
+0 0 0 0 0:MAP LEGEND LABEL PROJECTION END END END
+0 0 0 0 0:MAP PROJECTION LABEL VALIDATION END END
+0 0 0 0 0:MAP LEGEND 'END' \"LABEL\" (END LABEL) CLASS LAYER 1 2 END END
+# Faults of values, and of blocks that are read over.
+2 WrongValue:MAP|IMAGECOLOR 0 0 256|END
+3 WrongValue:MAP|IMAGECOLOR 0|x 0
+2 MissingValue:MAP ANGLE|END END
+3 MissingValue:MAP|SIZE 1|END
+3 WrongValue:MAP|LEGEND END|ANGLE (1)
+3 WrongValue:MAP LAYER|EXTENT 1 2|(3)
+4 MissingValue:MAP LAYER|EXTENT 1 2|3|END
+2 WrongValue:MAP LAYER|LABELCACHE OFF
+2 WrongValue:MAP LAYER TOLERANCEUNITS|METERS
+3 MissingValue:MAP LAYER VALIDATION a b|c|END
+2 WrongValue:MAP LAYER VALIDATION|(a) b
+3 WrongValue:MAP LAYER VALIDATION|a|(b)
+3 MissingEnd:MAP|LEGEND|
+2 MissingEnd:MAP LEGEND LABEL END|
+2 MissingEnd:MAP LAYER PROJECTION LABEL|
+3 UnknownWord:MAP LEGEND|END|STYLE END";
+
+#[test]
+fn unused_words_are_read_without_effect(rt: HostRuntime) -> Result<(), TableFault> {
+    check_rows(rt.alloc(), READ, ':', 37, told_row)
+}
+
+// Keywords in blocks that don't know them, in the form of `told_row`.
+const UNKNOWN: &str = "\
+2 UnknownWord:MAP|BUFFER 1
+2 UnknownWord:MAP|DATA 1
+2 UnknownWord:MAP|EXPRESSION 1
+2 UnknownWord:MAP|ITEMS 1
+2 UnknownWord:MAP|MINSCALEDENOM 1
+2 UnknownWord:MAP|PROCESSING 1
+2 UnknownWord:MAP|IMAGE 1
+2 UnknownWord:MAP|ANTIALIAS 1
+2 UnknownWord:MAP|CLASSITEM 1
+2 UnknownWord:MAP|DUMP 1
+2 UnknownWord:MAP|FOOTER 1
+2 UnknownWord:MAP|GROUP 1
+2 UnknownWord:MAP|HEADER 1
+2 UnknownWord:MAP|LABEL 1
+2 UnknownWord:MAP|LABELCACHE 1
+2 UnknownWord:MAP|LABELITEM 1
+2 UnknownWord:MAP|LABELMAXSCALEDENOM 1
+2 UnknownWord:MAP|MAXWIDTH 1
+2 UnknownWord:MAP|METADATA 1
+2 UnknownWord:MAP|TEMPLATE 1
+2 UnknownWord:MAP|TOLERANCE 1
+2 UnknownWord:MAP|TOLERANCEUNITS 1
+2 UnknownWord:MAP|VALIDATION 1
+2 UnknownWord:MAP SYMBOL|COLOR 1
+2 UnknownWord:MAP SYMBOL|SIZE 1
+2 UnknownWord:MAP SYMBOL|SYMBOL 1
+2 UnknownWord:MAP WEB|EXTENT 1
+2 UnknownWord:MAP WEB|NAME 1
+2 UnknownWord:MAP WEB|STATUS 1
+2 UnknownWord:MAP WEB|WEB 1
+2 UnknownWord:MAP LAYER|CONFIG 1
+2 UnknownWord:MAP LAYER|DATA 1
+2 UnknownWord:MAP LAYER|EMPTY 1
+2 UnknownWord:MAP LAYER|LOG 1
+2 UnknownWord:MAP LAYER|SYMBOL 1
+2 UnknownWord:MAP LAYER|WEB 1
+2 UnknownWord:MAP LAYER|ANGLE 1
+2 UnknownWord:MAP LAYER|FONTSET 1
+2 UnknownWord:MAP LAYER|IMAGECOLOR 1
+2 UnknownWord:MAP LAYER|IMAGETYPE 1
+2 UnknownWord:MAP LAYER|LEGEND 1
+2 UnknownWord:MAP LAYER|MAXSIZE 1
+2 UnknownWord:MAP LAYER|MINSIZE 1
+2 UnknownWord:MAP LAYER|OUTPUTFORMAT 1
+2 UnknownWord:MAP LAYER|QUERYMAP 1
+2 UnknownWord:MAP LAYER|RESOLUTION 1
+2 UnknownWord:MAP LAYER|SCALEBAR 1
+2 UnknownWord:MAP LAYER|SHAPEPATH 1
+2 UnknownWord:MAP LAYER|SIZE 1
+2 UnknownWord:MAP LAYER|TITLE 1
+2 UnknownWord:MAP LAYER CLASS|OUTLINECOLOR 1
+2 UnknownWord:MAP LAYER CLASS|POSITION 1
+2 UnknownWord:MAP LAYER CLASS|PROCESSING 1
+2 UnknownWord:MAP LAYER CLASS|DEBUG 1
+2 UnknownWord:MAP LAYER CLASS|EXTENT 1
+2 UnknownWord:MAP LAYER CLASS|LABELMINSCALEDENOM 1
+2 UnknownWord:MAP LAYER CLASS|MINWIDTH 1
+2 UnknownWord:MAP LAYER CLASS|PROJECTION 1
+2 UnknownWord:MAP LAYER CLASS|REFERENCE 1
+2 UnknownWord:MAP LAYER CLASS|TEXT 1
+2 UnknownWord:MAP LAYER CLASS|UNITS 1
+2 UnknownWord:MAP LAYER CLASS|WIDTH 1
+2 UnknownWord:MAP LAYER CLASS LABEL|ERROR 1
+2 UnknownWord:MAP LAYER CLASS LABEL|EXPRESSION 1
+2 UnknownWord:MAP LAYER CLASS LABEL|IMAGEPATH 1
+2 UnknownWord:MAP LAYER CLASS LABEL|LABEL 1
+2 UnknownWord:MAP LAYER CLASS LABEL|NAME 1
+2 UnknownWord:MAP LAYER CLASS LABEL|WIDTH 1
+2 UnknownWord:MAP LAYER CLASS STYLE|EXPRESSION 1
+2 UnknownWord:MAP LAYER CLASS STYLE|FORCE 1
+2 UnknownWord:MAP LAYER CLASS STYLE|PRIORITY 1
+2 UnknownWord:MAP LAYER CLASS STYLE|ANCHORPOINT 1
+2 UnknownWord:MAP LAYER CLASS STYLE|STATUS 1
+2 UnknownWord:MAP LAYER CLASS STYLE|NAME 1
+2 UnknownWord:MAP LAYER CLASS STYLE|TYPE 1
+2 UnknownWord:MAP LAYER CLASS STYLE|LAYER 1
+2 UnknownWord:MAP LAYER FEATURE|FONT 1
+2 UnknownWord:MAP LAYER FEATURE|OFFSET 1
+2 UnknownWord:MAP LAYER FEATURE|STATUS 1
+2 UnknownWord:MAP LAYER FEATURE|STYLE 1
+2 UnknownWord:MAP LAYER FEATURE|COLOR 1";
+
+#[test]
+fn keywords_are_unknown_in_other_blocks(rt: HostRuntime) -> Result<(), TableFault> {
+    check_rows(rt.alloc(), UNKNOWN, ':', 81, told_row)
+}

@@ -1,0 +1,10 @@
+//! Tests of the pictures of maps, by public calls alone: each test checks a value that was worked by hand, or that
+//! no clause can say.
+#![tactic(auto)]
+
+#[cfg(test)]
+mod long_rings;
+#[cfg(test)]
+mod painted_maps;
+#[cfg(test)]
+mod painted_pixels;

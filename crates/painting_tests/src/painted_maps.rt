@@ -1,0 +1,389 @@
+ghost use Rattle.std.specs.Prelude.{◌≡◌, ◌<◌, ◌≤◌, [], ◌∷◌, length, sum_by, All, IfOk, IfSome};
+ghost use Rattle.mapdefs.specs.MapLimits.{ClassNamesSymbolsOf, LayerNamesSymbolsOf, NamesSymbolOf};
+ghost use Rattle.mapdefs.specs.declared.limits.TheConstants.{MAX_LAYERS};
+
+use compose::picture;
+use geom::{Micro, NUMBER_LIMIT, PictureSide, World, WorldBox};
+use mapdefs::{
+    Class, ClassFields, Feature, FeatureFields, Items, Kind, Layer, LayerFields, MAX_VERTICES, Map,
+    Picture, Rgb, Rule, Shared, SharedItems, Style, StyleFields, Symbol, Text,
+};
+use scaledenom::Scale;
+use std::alloc::{AllocError, Global};
+use test_maps::{map_fields, one_feature, place};
+use test_tables::numbers;
+use viewport::View;
+
+// The colours by their letters: `#` is brown, `o` dark and `.` white. Any other letter is none.
+fn colour_of(letter: u8) -> Option<Rgb> {
+    let (red, green, blue) = match letter {
+        b'#' => (100, 60, 20),
+        b'o' => (10, 20, 30),
+        b'.' => (255, 255, 255),
+        _ => return None,
+    };
+    Some(Rgb { red, green, blue })
+}
+
+// The letter of a colour, `?` of any other.
+fn letter(colour: Rgb) -> char {
+    match (colour.red, colour.green, colour.blue) {
+        (100, 60, 20) => '#',
+        (10, 20, 30) => 'o',
+        (255, 255, 255) => '.',
+        _ => '?',
+    }
+}
+
+// The digit of a letter, or 1 for any other one.
+fn digit(letter: u8) -> u8
+    ensures some { 1 ≤ result }
+    ensures most { result ≤ 9 }
+{
+    if (b'1'..=b'9').contains(&letter) {
+        letter - b'0'
+    } else {
+        1
+    }
+}
+
+// The index of a symbol, `0` or `1`.
+fn symbol_of(letter: u8) -> Option<usize>
+    ensures { IfSome result (λ index. index < 2) }
+{
+    match letter {
+        b'0' => Some(0),
+        b'1' => Some(1),
+        _ => None,
+    }
+}
+
+// A style. Its letters are the colour and the colour of the outline, the digits of width and size, and the
+// index of a symbol. What is left out is `-`: no colour, no symbol, and 1.
+fn style(letters: &str) -> Style
+    ensures { NamesSymbolOf 2 result }
+{
+    let letter = |at: usize| letters.as_bytes().get(at).copied().unwrap_or(b'-');
+    Style::new(StyleFields {
+        colour: colour_of(letter(0)),
+        outline: colour_of(letter(1)),
+        width: digit(letter(2)),
+        size: u16::from(digit(letter(3))),
+        symbol: symbol_of(letter(4)),
+    })
+}
+
+// The least scale denominator at which a thing is visible, and the first that is too great.
+type Bounds = (Option<Micro>, Option<Micro>);
+
+// A bound, `-` for none.
+fn bound(text: &str) -> Option<Option<Micro>> {
+    match text {
+        "-" => Some(None),
+        number => Some(Some(Micro::read(number.as_bytes(), NUMBER_LIMIT).ok()?)),
+    }
+}
+
+// Bounds with `..` between them.
+fn bounds(text: &str) -> Option<Bounds> {
+    let (min, max) = text.split_once("..")?;
+    Some((bound(min)?, bound(max)?))
+}
+
+// The two styles whose letters `/` parts.
+fn styles_of(alloc: Global, letters: &str) -> Result<Items<Style>, AllocError>
+    ensures symbols { IfOk result (All (NamesSymbolOf 2)) }
+    ensures count { IfOk result (λ styles. length styles ≡ 2) }
+{
+    let (first, second) = letters.split_once('/').ok_or(AllocError)?;
+    let mut styles = Items::new(alloc);
+    styles.push(style(first))?;
+    styles.push(style(second))?;
+    Ok(styles)
+}
+
+// One class of these two styles.
+fn classes_of(
+    alloc: Global,
+    letters: &str,
+    bounds: Bounds,
+) -> Result<SharedItems<Class>, AllocError>
+    ensures symbols { IfOk result (All (ClassNamesSymbolsOf 2)) }
+    ensures count { IfOk result (λ classes. length classes ≡ 1) }
+{
+    let (min, max) = bounds;
+    let styles = styles_of(alloc, letters)?;
+    let mut classes = Items::new(alloc);
+    classes.push(Class::new(ClassFields {
+        rule: Rule::Always,
+        min,
+        max,
+        styles,
+        label: None,
+    }))?;
+    SharedItems::new(alloc, classes)
+}
+
+// A vertex of two counts of tenths of a degree, as `15,-5`.
+fn vertex(text: &str) -> Option<World> {
+    let [x, y] = numbers::<2>(text, ',')?;
+    Some(place([
+        x.clamp(-10_000, 10_000) * 100_000,
+        y.clamp(-10_000, 10_000) * 100_000,
+    ]))
+}
+
+// A ring of at most eight vertices.
+fn ring(alloc: Global, text: &str) -> Result<Items<World>, AllocError>
+    ensures { IfOk result (λ ring. length ring ≤ 8) }
+{
+    let vertices: Vec<&str> = text.split_whitespace().collect(alloc)?;
+    if vertices.len() > 8 {
+        return Err(AllocError);
+    }
+    let mut ring = Items::new(alloc);
+    for text in vertices.as_slice() {
+        ring.push(vertex(text).ok_or(AllocError)?)?;
+    }
+    Ok(ring)
+}
+
+/// A feature of these rings.
+pub(crate) fn feature_of(alloc: Global, parts: Items<Items<World>>) -> Feature
+    requires { sum_by length parts ≤ MAX_VERTICES }
+    ensures { result.values ≡ [] }
+{
+    Feature::new(FeatureFields {
+        parts,
+        text: None,
+        values: Items::new(alloc),
+    })
+}
+
+// A feature of at most four rings, which `/` parts. `-` is none.
+fn feature(alloc: Global, text: &str) -> Result<Feature, AllocError>
+    ensures { IfOk result (λ feature. feature.values ≡ []) }
+{
+    let mut rings = Vec::new(alloc);
+    if text != "-" {
+        rings = text.split('/').collect(alloc)?;
+    }
+    if rings.len() > 4 {
+        return Err(AllocError);
+    }
+    let mut parts = Items::new(alloc);
+    for text in rings.as_slice() {
+        parts.push(ring(alloc, text)?)?;
+    }
+    Ok(feature_of(alloc, parts))
+}
+
+fn kind_of(word: &str) -> Option<Kind> {
+    match word {
+        "polygon" => Some(Kind::Polygon),
+        "line" => Some(Kind::Line),
+        "point" => Some(Kind::Point),
+        _ => None,
+    }
+}
+
+// The bounds on the scale of the class and of the layer with a comma between them, or `none`.
+fn bounds_of(bounded: &str) -> Option<(Bounds, Bounds)> {
+    let (of_class, of_layer) = bounded.split_once(',').unwrap_or(("-..-", "-..-"));
+    Some((bounds(of_class)?, bounds(of_layer)?))
+}
+
+// The kind of a layer, the letters of its class's styles, and the bounds of both.
+fn words_of(words: &str) -> Option<(Kind, &str, Bounds, Bounds)> {
+    let (kind, words) = words.split_once(' ')?;
+    let (letters, bounded) = words.split_once(' ')?;
+    let (of_class, of_layer) = bounds_of(bounded)?;
+    Some((kind_of(kind)?, letters, of_class, of_layer))
+}
+
+// A layer of that kind, with these bounds on the scale.
+fn layer_of(
+    alloc: Global,
+    kind: Kind,
+    bounds: Bounds,
+    classes: SharedItems<Class>,
+    features: SharedItems<Shared<Feature>>,
+) -> Layer
+    requires feature { length features ≡ 1 }
+    requires values { All (λ f. f.values ≡ []) features }
+    requires symbols { All (ClassNamesSymbolsOf 2) classes }
+    requires class { length classes ≡ 1 }
+    ensures { LayerNamesSymbolsOf 2 result }
+{
+    let (min, max) = bounds;
+    Layer::new(LayerFields {
+        name: Text::of(String::new(alloc)),
+        title: Text::of(String::new(alloc)),
+        kind,
+        // what is chosen is painted, switched on or not
+        on: false,
+        classitem: None,
+        labelitem: None,
+        items: Items::new(alloc),
+        csv_x: Text::of(String::new(alloc)),
+        csv_y: Text::of(String::new(alloc)),
+        queryable: false,
+        tolerance: 0,
+        min,
+        max,
+        classes,
+        features,
+    })
+}
+
+/// A layer of this feature with one class. Its kind, the letters of the class's styles, and the bounds on
+/// the scale of the class and of the layer with a comma between them, or `none`. Malformed ones end a test as
+/// those for which memory is refused.
+pub(crate) fn layer(alloc: Global, words: &str, feature: Feature) -> Result<Layer, AllocError>
+    requires { feature.values ≡ [] }
+    ensures { IfOk result (LayerNamesSymbolsOf 2) }
+{
+    let features = one_feature(alloc, feature)?;
+    let Some((kind, letters, of_class, of_layer)) = words_of(words) else {
+        return Err(AllocError);
+    };
+    let classes = classes_of(alloc, letters, of_class)?;
+    Ok(layer_of(alloc, kind, of_layer, classes, features))
+}
+
+// The symbol of a pixmap's file.
+fn symbol(alloc: Global, file: &[u8]) -> Result<Symbol, AllocError> {
+    match symbols::read(alloc, file) {
+        Ok(pixmap) => Ok(Symbol {
+            name: Text::of(String::new(alloc)),
+            pixmap,
+        }),
+        Err(_) => Err(AllocError),
+    }
+}
+
+// Two symbols: `#` and `o` above nothing and `#`; and three pixels one below another, `o`, nothing and `#`.
+fn two_symbols(alloc: Global) -> Result<SharedItems<Symbol>, AllocError>
+    ensures { IfOk result (λ symbols. length symbols ≡ 2) }
+{
+    let square = b"P6 2 2 255\n\x64\x3c\x14\x0a\x14\x1e\xff\x00\xff\x64\x3c\x14";
+    let column = b"P6 1 3 255\n\x0a\x14\x1e\xff\x00\xff\x64\x3c\x14";
+    let square = symbol(alloc, square)?;
+    let column = symbol(alloc, column)?;
+    SharedItems::new(alloc, Items::of(vec![in alloc; square, column]?))
+}
+
+/// A map of four degrees by four, with these layers and two symbols.
+pub(crate) fn map_of(alloc: Global, layers: Items<Layer>) -> Result<Map, AllocError>
+    requires count { length layers ≤ MAX_LAYERS }
+    requires symbols { All (LayerNamesSymbolsOf 2) layers }
+    ensures { IfOk result (λ map. map.layers ≡ layers) }
+{
+    let symbols = two_symbols(alloc)?;
+    let mut fields = map_fields(alloc, layers);
+    fields.symbols = symbols;
+    Ok(Map::new(fields))
+}
+
+// The layer of these words and rings.
+fn layer_of_rings(alloc: Global, words: &str, rings: &str) -> Result<Layer, AllocError>
+    ensures { IfOk result (LayerNamesSymbolsOf 2) }
+{
+    let feature = feature(alloc, rings)?;
+    layer(alloc, words, feature)
+}
+
+// A map of two layers. The first has these words and rings, the second paints the inner square dark.
+fn map_of_two(alloc: Global, words: &str, rings: &str) -> Result<Map, AllocError>
+    ensures { IfOk result (λ map. length map.layers ≡ 2) }
+{
+    let mut layers = Vec::new(alloc);
+    layers.push(layer_of_rings(alloc, words, rings)?)?;
+    layers.push(layer_of_rings(alloc, "polygon o/- none", "10,10 30,10 30,30 10,30")?)?;
+    map_of(alloc, Items::of(layers))
+}
+
+// The indices of the layers that are chosen.
+fn chosen_of(digits: &str) -> Option<&'static [usize]>
+    ensures { IfSome result (λ chosen. All (λ index. index < 2) chosen.now) }
+{
+    match digits {
+        "none" => Some(&[]),
+        "0" => Some(&[0]),
+        "1" => Some(&[1]),
+        "0 1" => Some(&[0, 1]),
+        "1 0" => Some(&[1, 0]),
+        "1 0 1" => Some(&[1, 0, 1]),
+        _ => None,
+    }
+}
+
+// The rows of a picture in letters, with blanks between them.
+fn letters_of(alloc: Global, picture: &Picture) -> Result<String, AllocError> {
+    let mut text = String::new(alloc);
+    for row in 0..picture.get().height.pixels() {
+        if row > 0 {
+            text.push(' ')?;
+        }
+        for column in 0..picture.get().width.pixels() {
+            text.push(letter(picture.at(column, row)))?;
+        }
+    }
+    Ok(text)
+}
+
+// The colour of a background and the number of degrees and pixels on a side, from one letter or two.
+fn ground_of(letters: &str) -> Option<(Rgb, u8)> {
+    match *letters.as_bytes() {
+        [letter] => Some((colour_of(letter)?, 4)),
+        [letter, _] => Some((colour_of(letter)?, 8)),
+        _ => None,
+    }
+}
+
+// The picture of four degrees by four in four pixels by four, or of eight by eight in eight by eight where
+// the background is written twice: the pixel centres are at half degrees. The scale that is given is that
+// of 0.28 degrees in a pixel.
+fn drawn(
+    alloc: Global,
+    map: &Map,
+    chosen: &[usize],
+    background: Rgb,
+    degrees: u8,
+) -> Result<String, AllocError>
+    requires { All (λ index. index < length map.now.layers) chosen.now }
+{
+    let degrees = degrees.clamp(1, 8);
+    let low = Micro::new(0);
+    let high = Micro::new(i64::from(degrees) * 1_000_000);
+    let side = PictureSide::new(u16::from(degrees)).unwrap();
+    let view = View::new(WorldBox::new(low, low, high, high), side, side);
+    let scale = Scale::of(280_000, PictureSide::new(1).unwrap());
+    let picture = picture(alloc, map, view, scale, chosen, background)?;
+    letters_of(alloc, &picture)
+}
+
+// The fields of a row after the picture: the background, the layers that are chosen, words and rings.
+fn fields_of(fields: &str) -> Option<(&str, &str, &str, &str)> {
+    let (background, fields) = fields.split_once(';')?;
+    let (chosen, fields) = fields.split_once(';')?;
+    let (words, rings) = fields.split_once(';')?;
+    Some((background, chosen, words, rings))
+}
+
+/// The picture of the fields of a row after the picture. A row is the picture in letters, the letter of the
+/// background, the layers that are chosen, and the words and the rings of the first layer, in tenths of a
+/// degree.
+pub(crate) fn drawn_row(alloc: Global, fields: &str) -> Result<String, AllocError> {
+    let Some((background, chosen, words, rings)) = fields_of(fields) else {
+        return format!(in alloc; "malformed");
+    };
+    let Some((background, degrees)) = ground_of(background) else {
+        return format!(in alloc; "malformed");
+    };
+    let Some(chosen) = chosen_of(chosen) else {
+        return format!(in alloc; "malformed");
+    };
+    let map = map_of_two(alloc, words, rings)?;
+    drawn(alloc, &map, chosen, background, degrees)
+}
