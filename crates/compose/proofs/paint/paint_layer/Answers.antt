@@ -13,7 +13,7 @@ loop-feature-init c = painted-none c.args.canvas.now
 
 pub loop-feature-preserved : goal.loop-feature-preserved
 loop-feature-preserved c =
-    let painted = rw c.get.ensures.value at c.in_ok-paint_feature.ensures in
+    let painted = rw (c.get-in-loop-feature.ensures.value, c.get.ensures) at c.in_ok-paint_feature.ensures in
     painted_next (feature_things c.args.scene.now.view c.args.scene.now.scale c.args.scene.now.map.symbols c.args.layer.now) c.as_slice-feature-items.result.now c.loop-feature.feature-index c.feature-item.result _ c.loop-feature.canvas _
     c.loop-feature-test.true c.feature-item.is c.loop-feature.invariant painted
 
