@@ -1,3 +1,4 @@
 pub mod Filling
 pub mod Painting
 pub mod Sweeping
+pub mod Thinning

@@ -1,9 +1,9 @@
 -- Painting one thing after another.
-use Rattle.std.proofs.Common.{◌≡◌, ℕ, ◌+◌, ◌*◌, ◌/◌, ◌%◌, ◌<◌, Bool, true, false, List, [], ◌∷◌, ◌++◌, length, get_or, take, reverse, replicate, Option, None, Some, cond, refl, sym, ◌∙◌, ap, arith, take_all, subst}
+use Rattle.std.proofs.Common.{◌≡◌, zero, suc, ℕ, ◌+◌, ◌*◌, ◌/◌, ◌%◌, ◌<◌, Bool, true, false, List, [], ◌∷◌, ◌++◌, length, get_or, take, reverse, replicate, Option, None, Some, cond, refl, sym, ◌∙◌, ap, arith, take_all, subst}
 use Rattle.std.proofs.lemmas.Grind.{flat_map-append}
 use Rattle.std.proofs.lemmas.List.{reverse-append, append-nil, take_more, get_or-replicate, length-replicate}
 use Rattle.std.proofs.lemmas.List.Folds.{find-append}
-use Rattle.std.proofs.lemmas.Nat.{mod-mul-add, div-mul-add, mul-add-lt}
+use Rattle.std.proofs.lemmas.Nat.{div_below, mod-mul-add, div-mul-add, mul-add-lt}
 use Rattle.std.proofs.lemmas.Option.{slice_get-get_or}
 use Rattle.std.specs.List.{flat_map, find}
 use Rattle.std.specs.Option.{option_map_or, option_or}
@@ -107,6 +107,23 @@ painted-thing thing test colour a b same shown f = record {
   pixels = λ at h. f.filled at h
       ∙ sym (colour_at-one (colour_of a.pixels at) thing (at % a.width) (at / a.width) ∙ rw (same (at % a.width) (at / a.width), shown (at % a.width) (at / a.width)) refl);
 }
+
+-- the same where the thing covers what the test says in the rows of the picture
+pub painted-rows : (thing : Thing) (test : ℕ → ℕ → Bool) (colour : ℕ → ℕ → Rgb) (a b : PictureFields) → length a.pixels ≡ a.width * a.height →
+    ((i j : ℕ) → j < a.height → covers thing i j ≡ test i j) →
+    ((i j : ℕ) → colour_in thing i j ≡ colour i j) → IsFilled test colour a b → IsPainted a b (thing ∷ [])
+painted-rows thing test colour a b area same shown f = record {
+  width = f.width;
+  height = f.height;
+  area = f.area;
+  pixels = λ at h. f.filled at h
+      ∙ sym (colour_at-one (colour_of a.pixels at) thing (at % a.width) (at / a.width)
+      ∙ rw (same (at % a.width) (at / a.width) (row-below at a.width a.height (rw area at h)), shown (at % a.width) (at / a.width)) refl);
+}
+  where
+    row-below : (at w h : ℕ) → at < w * h → at / w < h
+    row-below at zero h below = absurd (omega arith)
+    row-below at (suc w) h below = div_below at (suc w) h (omega arith) (omega arith)
 
 -- what a layer paints is what its index in the map does
 pub painted-chosen : (view : ViewValue) (scale : PictureScale) (m : MapFields) (index : ℕ) (layer : LayerFields) (a b : PictureFields) →

@@ -3,6 +3,7 @@ ghost use Rattle.scanfill.specs.Runs.{is_in_spans};
 ghost use Rattle.compose.specs.Painted.{HasRowsFilled};
 
 use crate::colouring::{Colouring, fill_spans};
+use crate::latitudes::RowLatitudes;
 use geom::PictureSide;
 use mapdefs::{Items, Picture, PictureFields, Rgb};
 use scanfill::Span;
@@ -10,12 +11,13 @@ use scene::Scene;
 use std::alloc::{AllocError, Global};
 use std::marker::Model;
 
-/// A picture while it is painted.
+/// A picture while it is painted, with guesses at the latitudes of its rows.
 #[derive(Drop)]
 pub struct Canvas {
     width: PictureSide,
     height: PictureSide,
     pixels: Vec<Rgb>,
+    latitudes: RowLatitudes,
 }
 
 impl Model for Canvas {
@@ -39,17 +41,24 @@ impl Canvas {
         let projection = scene.projection();
         let (width, height) = (projection.width(), projection.height());
         let count = usize::from(width.pixels()) * usize::from(height.pixels());
+        let latitudes = RowLatitudes::new(alloc, projection)?;
         let pixels = vec![in alloc; background; count]?;
         Ok(Canvas {
             width,
             height,
             pixels,
+            latitudes,
         })
     }
 
     /// The allocator that it was made with.
     pub fn alloc(&self) -> Global {
         *self.pixels.allocator()
+    }
+
+    /// The guesses at the latitudes of its rows.
+    pub fn latitudes(&self) -> &RowLatitudes {
+        &self.latitudes
     }
 
     /// How many columns of pixels it has.
@@ -87,6 +96,7 @@ impl Canvas {
             width,
             height,
             pixels,
+            ..
         } = self;
         Picture::new(PictureFields {
             width,

@@ -11,11 +11,14 @@
 
 mod canvas;
 mod colouring;
+mod latitudes;
 mod lines;
 mod paint;
 mod points;
 mod polygons;
 mod rows;
+mod run;
 mod sweep;
+mod thinned;
 
 pub use paint::picture;

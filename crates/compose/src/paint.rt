@@ -17,8 +17,9 @@ use viewport::View;
 /// in that order, one that is chosen twice also twice, and whether they are switched on or not. Layers
 /// and classes that aren't visible at the scale are left out.
 ///
-/// It takes memory for the picture, and for one feature at a time: for its vertices and edges, for those
-/// that cross the picture as its rows are swept, and for a row. `AllocError` comes only where that is
+/// It takes memory for the picture, and for one feature at a time: for the edges of a polygon that cross a row,
+/// again for those as its rows are swept, for the vertices of a line or an outline and what it is made of, and
+/// for a row. `AllocError` comes only where that is
 /// refused.
 pub fn picture(
     alloc: Global,
@@ -45,6 +46,7 @@ fn paint_layer(
     scene: &Scene<'_>,
     layer: &LayerFields,
 ) -> Result<(), AllocError>
+    requires { canvas.old.height ≡ scene.now.view.height }
     ensures { OnOk result (IsPainted canvas.old canvas.new (layer_things scene.now.view scene.now.scale scene.now.map.symbols layer.now)) }
 {
     if !scene.shows(layer) {
@@ -63,6 +65,7 @@ fn paint_feature(
     layer: &LayerFields,
     feature: &FeatureFields,
 ) -> Result<(), AllocError>
+    requires { canvas.old.height ≡ scene.now.view.height }
     ensures { OnOk result (IsPainted canvas.old canvas.new (feature_things scene.now.view scene.now.scale scene.now.map.symbols layer.now feature.now)) }
 {
     let Some(class) = scene.class_of(layer, feature) else {

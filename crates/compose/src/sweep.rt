@@ -11,7 +11,8 @@ use std::alloc::AllocError;
 /// Gives the colour to each pixel that the polygon covers. It takes memory for the edges that cross the
 /// picture, and for a row. Where that is refused some rows may be filled already.
 pub fn fill_polygon(canvas: &mut Canvas, polygon: &Polygon, colour: Rgb) -> Result<(), AllocError>
-    ensures { OnOk result (IsFilled (λ i j. is_covered polygon.now (pixel_centre (pos i) (pos j))) (λ i j. colour) canvas.old canvas.new) }
+    ensures filled { OnOk result (IsFilled (λ i j. is_covered polygon.now (pixel_centre (pos i) (pos j))) (λ i j. colour) canvas.old canvas.new) }
+    ensures area { length canvas.old.pixels ≡ canvas.old.width * canvas.old.height }
 {
     let mut sweep = polygon.sweep(canvas.width(), canvas.height(), &mut Work::new())?;
     let mut spans = Spans::new(canvas.alloc());

@@ -1,11 +1,11 @@
 ghost use Rattle.std.specs.Prelude.{◌≡◌, ◌<◌, ◌≤◌, ◌*◌, ◌^◌, pos, ◌-ℤ◌};
 ghost use Rattle.geom.specs.Device.{pixel_of};
 ghost use Rattle.geom.specs.Range.{IsBelow};
-ghost use Rattle.geom.specs.World.{IsExtent};
+ghost use Rattle.geom.specs.World.{IsCoordinate, IsExtent};
 
 use crate::axis::Axis;
 use crate::view::{View, difference, span};
-use geom::{Coordinate, Device, PictureSide, Pixel, World, WorldBox};
+use geom::{Coordinate, Device, Micro, PictureSide, Pixel, World, WorldBox};
 use std::marker::Model;
 
 /// A view that is ready for many places: it has divided for each of its two axes, and divides no more.
@@ -102,5 +102,28 @@ impl Projection {
         let area = self.view.area();
         self.down
             .sixteenths(difference(area.maxy(), latitude.get()))
+    }
+
+    /// About the southernmost latitude from which it is at most to the pixel centres of a row, counted from
+    /// the top. It is a guess, of which nothing is promised: whoever takes it looks where it lies.
+    pub fn about_south(&self, row: u16) -> Coordinate {
+        let area = self.view.area();
+        let whole = span(area.miny(), area.maxy());
+        let sixteenths = 16 * u64::from(row) + 9;
+        let below = (sixteenths * whole - 1) / (16 * u64::from(self.view.height().pixels()));
+        southward(area.maxy(), below)
+    }
+}
+
+// So many millionths of a degree south of a latitude, or the southernmost one.
+fn southward(latitude: Micro, below: u64) -> Coordinate
+    requires { IsCoordinate latitude }
+{
+    let lowest = -1_000_000_000;
+    if below < 2_000_000_000 {
+        let number = latitude.millionths() - below as i64;
+        Coordinate::new(Micro::new(number.max(lowest)))
+    } else {
+        Coordinate::new(Micro::new(lowest))
     }
 }

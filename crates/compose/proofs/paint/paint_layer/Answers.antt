@@ -22,3 +22,6 @@ returns c =
     let shown = sym c.shows.ensures ∙ c.if-not-shows.false in
     let painted = painted_end (feature_things c.args.scene.now.view c.args.scene.now.scale c.args.scene.now.map.symbols c.args.layer.now) c.as_slice-feature-items.result.now c.loop-feature.feature-index c.args.canvas.now c.loop-feature.canvas (omega arith) c.loop-feature.invariant in
     rw shown (rw c.as_slice-feature-items.ensures at painted)
+
+pub paint_feature-requires : goal.paint_feature-requires
+paint_feature-requires c = c.loop-feature.invariant.height ∙ c.requires

@@ -1,5 +1,6 @@
-use Rattle.std.proofs.Common.{ℕ, get_or, sym, arith}
+use Rattle.std.proofs.Common.{ℕ, get_or, sym, ap, ◌∙◌, arith}
 use Rattle.std.proofs.lemmas.Grind.{get_or_default_zero}
+use Rattle.mapdefs.specs.declared.picture.PictureFields.{PictureFields}
 use Rattle.compose.specs.Paint.{chosen_things}
 use Rattle.compose.proofs.Painting.{painted-none, painted_next, painted_end, painted-chosen, painted-picture}
 use Rattle.compose.proofs.paint.picture.Goals as goal
@@ -21,3 +22,6 @@ returns c =
     let blank = rw c.new-scene.ensures at c.in_ok-canvas.ensures in
     let painted = painted_end (chosen_things c.args.view c.args.scale c.args.map.now) c.args.chosen.now c.loop-index.index-index c.in_ok-canvas.canvas c.loop-index.canvas (omega arith) c.loop-index.invariant in
     rw c.into_picture.ensures (painted-picture c.args.map.now c.args.view c.args.scale c.args.chosen.now c.args.background c.in_ok-canvas.canvas c.loop-index.canvas blank painted)
+
+pub paint_layer-requires : goal.paint_layer-requires
+paint_layer-requires c = c.loop-index.invariant.height ∙ ap (λ (p : PictureFields). p.height) c.in_ok-canvas.ensures

@@ -7,5 +7,5 @@ returns-in_default c = rw (← c.get-style.ensures.value, c.in_default.is) (pain
 
 pub returns : goal.returns
 returns c = on_ok_weaker c.paint_line.result
-    (λ painted. rw (← c.get-style.ensures.value, c.in-Some.is) (rw c.in_ok-line.ensures at painted))
+    (λ painted. rw (← c.get-style.ensures.value, c.in-Some.is) (rw (c.in_ok-line.ensures, c.deref.ensures.value, c.in_ok-rings.ensures) at painted))
     c.paint_line.ensures

@@ -1,7 +1,7 @@
 use Rattle.std.proofs.Common.{map, arith}
 use Rattle.viewport.specs.View.{device_point}
 use Rattle.compose.specs.Paint.{polygon_things}
-use Rattle.compose.proofs.Painting.{painted-none, painted_end, painted_next}
+use Rattle.compose.proofs.Painting.{painted-none, painted-append, painted_end, painted_next}
 use Rattle.compose.proofs.polygons.paint_polygon.Goals as goal
 
 pub loop-style-init : goal.loop-style-init
@@ -9,9 +9,10 @@ loop-style-init c = painted-none c.args.canvas.now
 
 pub loop-style-preserved : goal.loop-style-preserved
 loop-style-preserved c =
-    let painted = rw (c.deref-in-loop-style.ensures.value, c.in_ok-rings.ensures) at c.in_ok-paint_by_style.ensures in
-    painted_next (polygon_things (map (map (device_point c.args.scene.now.view)) c.args.rings.now)) c.args.styles.now c.loop-style.style-index c.style-item.result _ c.loop-style.canvas _
-    c.loop-style-test.true c.style-item.is c.loop-style.invariant painted
+    let points = map (map (device_point c.args.scene.now.view)) c.args.rings.now in
+    painted_next (polygon_things points) c.args.styles.now c.loop-style.style-index c.style-item.result _ c.loop-style.canvas _
+    c.loop-style-test.true c.style-item.is c.loop-style.invariant
+    (painted-append c.loop-style.canvas c.fill_rings.new.canvas c.paint_outline.new.canvas _ _ (c.in_ok-fill_rings.ensures points (rw (c.loop-style.invariant.height, c.requires) c.in_ok-polygon.ensures)) c.in_ok-paint_outline.ensures)
 
 pub returns : goal.returns
 returns c =
