@@ -26,6 +26,8 @@ HERE = os.path.dirname(os.path.abspath(__file__))
 SIZES = [(2048, 1024), (1024, 512), (256, 128)]
 EARTH = (-180_000_000, -90_000_000, 180_000_000, 90_000_000)
 FAR = (500_000_000, 500_000_000, 501_000_000, 501_000_000)
+# A third of a degree each way, on the border of Germany and Switzerland.
+TILE = (8_000_000, 47_500_000, 8_350_000, 47_850_000)
 STAR = ["..#..", ".###.", "#####", ".###.", "..#.."]
 COLOUR, OTHER = (10, 20, 30), (40, 50, 60)
 
@@ -165,6 +167,18 @@ def teeth(count):
     return tops + [(180_000_000, -80_000_000), (-180_000_000, -80_000_000)]
 
 
+def winding(ring, most):
+    """The ring with each edge cut into as many short ones, at most 65,000 in all, which wind as a coast does."""
+    cuts, found = min(most, 65_000 // len(ring)), []
+    for (ax, ay), (bx, by) in zip(ring, ring[1:] + ring[:1]):
+        for k in range(cuts):
+            aside = k * 37 % 101 - 50 if k else 0
+            x = ax + (bx - ax) * k // cuts - (by - ay) * aside // (50 * cuts)
+            y = ay + (by - ay) * k // cuts + (bx - ax) * aside // (50 * cuts)
+            found.append((x, y))
+    return found
+
+
 def star():
     """The bytes of a pixmap of 5 by 5 pixels, of which 13 are not transparent."""
     pixels = b"".join(bytes(OTHER if mark == "#" else (255, 0, 255)) for line in STAR for mark in line)
@@ -217,6 +231,18 @@ def polygon_rows(bench, places):
             bench.pictures(name, text, "a", EARTH, size, count, picture)
 
 
+def coast_rows(bench, world):
+    """The countries' rings with more than 200 times as many vertices, each ring a feature of its own."""
+    rings = [winding(ring, 234) for _, rings in read_places(world, "countries") for ring in rings]
+    text = layer("POLYGON", "COLOR 10 20 30", [[ring] for ring in rings])
+    count = sum(map(len, rings))
+    for box, size in [(EARTH, (1024, 512)), (TILE, (256, 256))]:
+        picture = Picture(box, size)
+        for ring in rings:
+            picture.fill([ring], COLOUR)
+        bench.pictures(f"coasts of {count:,} vertices", text, "a", box, size, 5, picture)
+
+
 def processor():
     with open("/proc/cpuinfo") as file:
         names = re.findall(r"model name\s*: (.*)", file.read())
@@ -236,6 +262,7 @@ def main():
         world_rows(bench, world)
         point_rows(bench, scattered(20_000))
         polygon_rows(bench, scattered(20_000))
+        coast_rows(bench, world)
         bench.measure(runs)
     print(f"{time.strftime('%Y-%m-%d')}, {processor()}, medians of {runs} runs\n")
     print("| Workload | ms | From, to | MB at most |\n|---|---|---|---|")

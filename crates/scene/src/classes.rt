@@ -1,6 +1,6 @@
 ghost use Rattle.std.specs.Prelude.{◌≡◌};
 ghost use Rattle.std.specs.Option.{option_copied};
-ghost use Rattle.mapdefs.specs.Class.{class_value, admits, class_of};
+ghost use Rattle.mapdefs.specs.Class.{class_of, class_value, holds};
 
 use expressions::{holds, item_value};
 use mapdefs::{ClassFields, FeatureFields, LayerFields};
@@ -20,19 +20,13 @@ fn class_value<'a>(layer: &LayerFields, feature: &'a FeatureFields) -> &'a str
     }
 }
 
-// Whether a feature of the layer may be of the class at the scale. The value is that of the class item.
-fn admits(
-    scale: Scale,
-    layer: &LayerFields,
-    feature: &FeatureFields,
-    value: &str,
-    class: &ClassFields,
-) -> bool
+// Whether the class's rule is true of a feature of the layer. The value is that of the class item.
+fn takes(class: &ClassFields, layer: &LayerFields, feature: &FeatureFields, value: &str) -> bool
     requires { value.now ≡ class_value layer.now feature.now }
-    ensures { result ≡ admits scale layer.now feature.now class.now }
+    ensures { result ≡ holds class.now.rule layer.now.items feature.now.values (class_value layer.now feature.now) }
 {
     let (names, values) = (layer.items.as_slice(), feature.values.as_slice());
-    scale.within(class.min, class.max) && holds(&class.rule, names, values, value)
+    holds(&class.rule, names, values, value)
 }
 
 /// The class of a feature of the layer at the scale: the first one that it may be of.
@@ -46,7 +40,7 @@ pub fn first_class<'l>(
     let value = class_value(layer, feature);
     for class in layer.classes.as_slice() {
         let class = class.get();
-        if admits(scale, layer, feature, value, class) {
+        if scale.within(class.min, class.max) && takes(class, layer, feature, value) {
             return Some(class);
         }
     }
