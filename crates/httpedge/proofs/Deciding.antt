@@ -23,7 +23,7 @@ none-came (b ∷ bs) is-empty e f = let nothing : suc (length bs) ≡ 0 = eqb-tr
 pub nothing-comes : (bytes piece : List ℕ) (v : Verdict) → v ≡ verdict.Open → piece ≡ [] → HasNoHead bytes → length bytes < 16384 → Comes (bytes ++ piece) (progress bytes v)
 nothing-comes bytes piece v open-is empty none below =
     let all : bytes ≡ bytes ++ piece = sym (append-nil bytes) ∙ ap (λ l. bytes ++ l) (sym empty) in
-    rw open-is (all, subst HasNoHead all none, subst (λ (l : List ℕ). length l < 16384) all below)
+    rw open-is (all, (subst HasNoHead all none, subst (λ (l : List ℕ). length l < 16384) all below))
 
 pub feeds-open : (bytes piece : List ℕ) (v : Verdict) (new : Progress) → v ≡ verdict.Open → Comes (bytes ++ piece) new → Feeds (progress bytes v) piece new
 feeds-open bytes piece v new open-is comes = rw open-is comes

@@ -4,3 +4,4 @@ pub mod Heads
 pub mod Reading
 pub mod Taking
 pub mod Targets
+pub mod Wanted

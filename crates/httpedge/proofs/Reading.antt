@@ -1,8 +1,8 @@
 -- A stream is read piece by piece: what the pieces decide, the stream means.
-use Rattle.std.proofs.Common.{◌≡◌, ◌∙◌, ℕ, ◌-◌, ◌<◌, List, [], ◌++◌, Option, None, Some, IfSome, true, length, refl, sym, ap, subst, append-nil}
+use Rattle.std.proofs.Common.{◌≡◌, ◌∙◌, ℕ, ◌-◌, List, [], ◌++◌, Option, None, Some, IfSome, true, length, refl, sym, ap, subst, append-nil}
 use Rattle.std.specs.Io.KnownBytes.{Consumes, IsAtEnd}
 use Rattle.std.proofs.KnownBytes.{Consumes-trans, Consumes-whole}
-use Rattle.httpedge.specs.Connection.{Progress, Open, Decided, Comes, Feeds, Ends, ended, step_of, end_of, query_of, is_asked, meaning_of}
+use Rattle.httpedge.specs.Connection.{Progress, Open, Decided, LeavesOpen, Comes, Feeds, Ends, ended, step_of, end_of, query_of, is_asked, meaning_of}
 use Rattle.httpedge.specs.Meaning.{Meaning, Nothing, Refused, Asks, IsMeaning, AlwaysMeans}
 use Rattle.httpedge.specs.declared.refusal.Refusal.{Refusal}
 use Rattle.httpedge.specs.declared.step.Step.{Step}
@@ -19,8 +19,8 @@ pub fed : (came piece : List ℕ) (old new : Progress) → old ≡ Open came →
 fed came piece old new e feeds = subst (λ (p : Progress). Feeds p piece new) e feeds
 
 -- where more is wanted, nothing is decided
-pub goes-on : (bytes : List ℕ) (new : Progress) (s : Step) → Comes bytes new → s ≡ step_of new → s ≡ step.More → (new ≡ Open bytes) × (length bytes < 16384)
-goes-on bytes (Open others) s comes e is = (ap Open comes.0, comes.2)
+pub goes-on : (bytes : List ℕ) (new : Progress) (s : Step) → Comes bytes new → s ≡ step_of new → s ≡ step.More → (new ≡ Open bytes) × LeavesOpen bytes
+goes-on bytes (Open others) s comes e is = (ap Open comes.0, comes.1)
 goes-on bytes (Decided Nothing) s comes e is = absurd comes
 goes-on bytes (Decided (Refused refusal)) s comes e is = absurd (cc)
 goes-on bytes (Decided (Asks query)) s comes e is = absurd (cc)

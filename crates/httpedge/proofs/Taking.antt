@@ -34,7 +34,7 @@ pub taken : (old piece front new : List ℕ) (count : ℕ) (v : Verdict) → len
     front ≡ take count piece → new ≡ old ++ front → IsVerdict new v → Comes (old ++ piece) (progress new v)
 taken old piece front new count verdict.Open room is cut e decides =
     let all = whole old piece front new count room is cut e decides.1 in
-    (all, subst HasNoHead all decides.0, omega (arith, ap length all, decides.1))
+    (all, (subst HasNoHead all decides.0, omega (arith, ap length all, decides.1)))
 taken old piece front new count (verdict.Ask query) room is cut e decides = always old piece front new count (Asks (span_bytes new query)) cut e decides.1
 taken old piece front new count (verdict.Refused refusal) room is cut e decides = always old piece front new count (Refused refusal) cut e decides
 

@@ -21,9 +21,13 @@ progress bytes verdict.Open = Open bytes
 progress bytes (verdict.Ask query) = Decided (Asks (span_bytes bytes query))
 progress bytes (verdict.Refused refusal) = Decided (Refused refusal)
 
+-- bytes begin with no head, and a head has room for more than them
+abbrev pub LeavesOpen : List ℕ → Type 0
+LeavesOpen came = HasNoHead came × (length came < 16384)
+
 -- these bytes came: they have no head yet and may get one, or they decide for each continuation
 abbrev pub Comes : List ℕ → Progress → Type 0
-Comes came (Open bytes) = (bytes ≡ came) × HasNoHead came × (length came < 16384)
+Comes came (Open bytes) = (bytes ≡ came) × LeavesOpen came
 Comes came (Decided Nothing) = ⊥
 Comes came (Decided (Refused refusal)) = AlwaysMeans came (Refused refusal)
 Comes came (Decided (Asks query)) = AlwaysMeans came (Asks query)

@@ -3,6 +3,7 @@ pub mod Connection
 pub mod Exchange
 pub mod Head
 pub mod Meaning
+pub mod Reads
 pub mod Received
 pub mod Response
 pub mod Verdict

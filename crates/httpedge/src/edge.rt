@@ -1,7 +1,8 @@
-ghost use Rattle.std.specs.Prelude.{◌≡◌, ◌||◌, not, OnOk, IfOk, IfErr, IfSome, List, [], Result, MatchResult, true};
+ghost use Rattle.std.specs.Prelude.{◌≡◌, ◌||◌, ◌+◌, ◌≤◌, not, OnOk, IfOk, IfErr, IfSome, List, [], None, Result, MatchResult, true};
 ghost use Rattle.mapmachine.specs.declared.reply.Answer.{Answer};
 ghost use Rattle.httpedge.specs.Connection.{Open, meaning_of, query_of, is_asked};
 ghost use Rattle.httpedge.specs.Meaning.{IsMeaning};
+ghost use Rattle.httpedge.specs.Reads.{ReadsTo, ReadsToPiece, ReadsToFault};
 ghost use Rattle.httpedge.specs.Response.{response, outcome_text};
 ghost use Rattle.httpedge.specs.Exchange.{HasExchanged, HasPartlyExchanged, IsReply, said_text, is_read, written_of};
 ghost use Rattle.httpedge.specs.declared.asks.Busy.{Busy};
@@ -33,6 +34,8 @@ fn read_request<R: Source>(conn: &mut Conn, reader: &mut R) -> Result<End, TakeF
     ensures means { IfOk result (λ end. IfSome (R.left reader.old) (λ stream. IsMeaning stream (meaning_of end (query_of conn.new)))) }
     ensures asked { IfOk result (λ end. end ≡ End.Ask → is_asked conn.new ≡ true) }
     ensures flag { MatchResult result (λ _. R.take_failed reader.new ≡ R.take_failed reader.old) (λ _. R.take_failed reader.new ≡ true) }
+    ensures reads { MatchResult result (λ _. ReadsToPiece R.left R.took reader.old reader.new) (λ _. ReadsTo R.left R.took None reader.old reader.new) }
+    ensures most { R.reads reader.new ≤ R.reads reader.old + 16384 }
 {
     let mut room = [0; PIECE];
     loop {
@@ -78,8 +81,9 @@ fn outcome<A: Asks>(conn: &Conn, end: End, asks: &mut A) -> Option<Outcome>
 /// connection is new. A fault of the reader leaves the writer and whoever is asked as they were; where the writer
 /// fails, exactly the first `written` bytes of the response went out, and not all of them.
 ///
-/// It reads at most 16,384 times, since each read but the last gives a byte of the head. It takes no memory but
-/// in whoever is asked.
+/// It reads only while what came begins with no head and is less than a head may have, and not after the end or
+/// a failed read (`reads`): at most 16,384 times (`most`), since each read but the last gives a byte. It takes no
+/// memory but in whoever is asked.
 pub fn exchange<R: Source, W: Sink, A: Asks>(
     conn: &mut Conn,
     reader: &mut R,
@@ -92,6 +96,8 @@ pub fn exchange<R: Source, W: Sink, A: Asks>(
     ensures unread { IfErr result (λ fault. fault ≡ EdgeFault.Read → (writer.new ≡ writer.old) × (asks.new ≡ asks.old)) }
     ensures read_flag { MatchResult result (λ _. R.take_failed reader.new ≡ R.take_failed reader.old) (λ fault. R.take_failed reader.new ≡ (is_read fault || R.take_failed reader.old)) }
     ensures write_flag { MatchResult result (λ _. W.put_failed writer.new ≡ W.put_failed writer.old) (λ fault. W.put_failed writer.new ≡ (not (is_read fault) || W.put_failed writer.old)) }
+    ensures reads { MatchResult result (λ _. ReadsToPiece R.left R.took reader.old reader.new) (λ fault. ReadsToFault fault R.left R.took reader.old reader.new) }
+    ensures most { R.reads reader.new ≤ R.reads reader.old + 16384 }
 {
     let Ok(end) = read_request(conn, reader) else {
         return Err(EdgeFault::Read);

@@ -2,7 +2,8 @@
 //!
 //! Proved: `exchange` answers a stream (`exchanged`): what went out is what the definition says of all
 //! bytes that the reader had, however the reads cut them; where the writer fails, exactly the first
-//! bytes of it, and where the reader fails, nothing. `Conn::feed` decides where a head is whole, and only
+//! bytes of it, and where the reader fails, nothing. It reads only while what came has no head and leaves
+//! room for one (`reads`), at most 16,384 times (`most`). `Conn::feed` decides where a head is whole, and only
 //! where no continuation could change the decision (`feeds`); `Conn::end` says what the bytes mean that
 //! came. `respond` writes an outcome. A stream has one meaning (`laws`).
 //!

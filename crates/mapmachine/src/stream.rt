@@ -1,6 +1,6 @@
-ghost use Rattle.std.specs.Prelude.{◌≡◌, ◌≤◌, ◌<◌, ◌+◌, ℕ, List, Bool, Option, true, false, nat_eq, if◌then◌else◌, length, take, IfOk, IfErr, OnOk, OnErr, MatchResult};
+ghost use Rattle.std.specs.Prelude.{◌≡◌, ◌≤◌, ◌<◌, ◌+◌, ◌-◌, ◌^◌, ℕ, List, Bool, Option, None, Some, true, false, nat_eq, if◌then◌else◌, length, take, IfOk, IfErr, OnOk, OnErr, MatchResult, MatchOption};
 ghost use Rattle.std.specs.List.{flat_map};
-ghost use Rattle.std.specs.Io.KnownBytes.{Appends, Keeps, ReadConsumes};
+ghost use Rattle.std.specs.Io.KnownBytes.{Appends, Keeps, Consumes, ReadConsumes};
 
 use std::io::{Read, Write};
 use thiserror::Error;
@@ -28,14 +28,24 @@ pub trait Source {
     // The bytes that are left, where they are known.
     ghost left: { Self → Option (List ℕ) };
 
+    // What a call of `take` makes of it: the source before, what it gave, if it didn't fail, and the source after.
+    ghost took: { Self → Option (List ℕ) → Self → Type 0 };
+
+    // How many calls of `take` it has counted.
+    ghost reads: { Self → ℕ };
+
     // Whether a call of `take` has failed.
     ghost take_failed: { Self → Bool };
 
     /// Puts some bytes into the front of the room, and says how many: none only where there is no
-    /// room, or no byte is left.
+    /// room, or no byte is left. A call that fails may be left out of the count.
     fn take(&mut self, room: &mut [u8]) -> Result<usize, TakeFailed>
         ensures count { IfOk result (λ n. n ≤ length room.new) }
         ensures bytes { ReadConsumes (left self.old) (left self.new) result room.new }
+        ensures took { MatchResult result (λ n. took self.old (Some (take n room.new)) self.new) (λ _. took self.old None self.new) }
+        ensures counted { OnOk result (reads self.new ≡ reads self.old + 1) }
+        ensures least { OnErr result (reads self.old ≤ reads self.new) }
+        ensures most { OnErr result (reads self.new ≤ reads self.old + 1) }
         ensures flag { MatchResult result (λ _. take_failed self.new ≡ take_failed self.old) (λ _. take_failed self.new ≡ true) };
 }
 
@@ -123,24 +133,26 @@ pub fn put_pieces<S: Sink>(sink: &mut S, pieces: &[&[u8]]) -> Result<(), WriteFa
 }
 
 /// A reader or a writer of std, or both. It remembers whether it has failed, with one flag for
-/// reading and one for writing, how many bytes it has taken, and whether it was flushed since. A
-/// write that takes none of some bytes counts as failed.
+/// reading and one for writing, how often it was read, how many bytes it has taken, and whether it was
+/// flushed since. A write that takes none of some bytes counts as failed.
 #[derive(Drop)]
 pub struct Flagged<T> {
     inner: T,
     take_failed: bool,
     put_failed: bool,
     is_flushed: bool,
+    reads: u128,
     taken: u128,
 }
 
 impl<T> Flagged<T> {
-    /// The value with its flags unset: it has taken nothing.
+    /// The value with its flags unset: it wasn't read, and has taken nothing.
     pub fn new(inner: T) -> Self
         ensures value { result.inner ≡ inner }
         ensures take_flag { result.take_failed ≡ false }
         ensures put_flag { result.put_failed ≡ false }
         ensures flushed { result.is_flushed ≡ true }
+        ensures reads { result.reads ≡ 0 }
         ensures taken { result.taken ≡ 0 }
     {
         Flagged {
@@ -148,6 +160,7 @@ impl<T> Flagged<T> {
             take_failed: false,
             put_failed: false,
             is_flushed: true,
+            reads: 0,
             taken: 0,
         }
     }
@@ -169,6 +182,14 @@ impl<T> Flagged<T> {
         inner
     }
 
+    /// How many calls of `take` it has counted: all but those that it refused, where its count
+    /// would have passed the largest `u128`.
+    pub fn reads(&self) -> u128
+        ensures { result ≡ self.now.reads }
+    {
+        self.reads
+    }
+
     /// Whether a call of `take` has failed.
     pub fn take_failed(&self) -> bool
         ensures { result ≡ self.now.take_failed }
@@ -183,6 +204,14 @@ impl<T> Flagged<T> {
         self.put_failed
     }
 
+    // Notes that a call of `take` failed.
+    fn fail_take(&mut self) -> TakeFailed
+        ensures { self.new ≡ record self.old { take_failed = true } }
+    {
+        self.take_failed = true;
+        TakeFailed
+    }
+
     // Notes that a call of `put` or `flush` failed.
     fn fail_put(&mut self) -> PutFailed
         ensures { self.new ≡ record self.old { put_failed = true } }
@@ -195,22 +224,33 @@ impl<T> Flagged<T> {
 impl<T: Read> Source for Flagged<T> {
     ghost left = { λ s. T.remaining s.inner };
 
+    ghost took = { λ old given new. MatchOption given (new.take_failed ≡ true) (λ bytes. Consumes (T.remaining old.inner) (T.remaining new.inner) bytes × (new.reads ≡ old.reads + 1)) };
+
+    ghost reads = { λ s. s.reads };
+
     ghost take_failed = { λ s. s.take_failed };
 
+    // It fails also where its count would pass the largest `u128`, and counts every other call.
     fn take(&mut self, room: &mut [u8]) -> Result<usize, TakeFailed>
         ensures count { IfOk result (λ n. n ≤ length room.new) }
         ensures bytes { ReadConsumes (T.remaining self.old.inner) (T.remaining self.new.inner) result room.new }
+        ensures took { MatchResult result (λ n. Consumes (T.remaining self.old.inner) (T.remaining self.new.inner) (take n room.new) × (self.new.reads ≡ self.old.reads + 1)) (λ _. self.new.take_failed ≡ true) }
+        ensures counted { OnOk result (self.new.reads ≡ self.old.reads + 1) }
+        ensures least { OnErr result (self.old.reads ≤ self.new.reads) }
+        ensures most { OnErr result (self.new.reads ≤ self.old.reads + 1) }
+        ensures failed { OnErr result (self.old.reads < 2 ^ 128 - 1 → self.new.reads ≡ self.old.reads + 1) }
         ensures flag { MatchResult result (λ _. self.new.take_failed ≡ self.old.take_failed) (λ _. self.new.take_failed ≡ true) }
         ensures put_flag { self.new.put_failed ≡ self.old.put_failed }
         ensures flushed { self.new.is_flushed ≡ self.old.is_flushed }
         ensures taken { self.new.taken ≡ self.old.taken }
     {
+        if self.reads == u128::MAX {
+            return Err(self.fail_take());
+        }
+        self.reads += 1;
         match self.inner.read(room) {
             Ok(count) => Ok(count),
-            Err(_) => {
-                self.take_failed = true;
-                Err(TakeFailed)
-            }
+            Err(_) => Err(self.fail_take()),
         }
     }
 }
@@ -235,6 +275,7 @@ impl<T: Write> Sink for Flagged<T> {
         ensures none_taken { OnErr result (self.new.taken ≡ self.old.taken) }
         ensures flag { MatchResult result (λ _. self.new.put_failed ≡ self.old.put_failed) (λ _. self.new.put_failed ≡ true) }
         ensures take_flag { self.new.take_failed ≡ self.old.take_failed }
+        ensures reads { self.new.reads ≡ self.old.reads }
     {
         if self.taken > u128::MAX - bytes.len() as u128 {
             return Err(self.fail_put());
@@ -255,6 +296,7 @@ impl<T: Write> Sink for Flagged<T> {
         ensures flushed { MatchResult result (λ _. self.new.is_flushed ≡ true) (λ _. self.new.is_flushed ≡ self.old.is_flushed) }
         ensures flag { MatchResult result (λ _. self.new.put_failed ≡ self.old.put_failed) (λ _. self.new.put_failed ≡ true) }
         ensures take_flag { self.new.take_failed ≡ self.old.take_failed }
+        ensures reads { self.new.reads ≡ self.old.reads }
     {
         match self.inner.flush() {
             Ok(()) => {

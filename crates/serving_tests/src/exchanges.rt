@@ -207,11 +207,22 @@ fn written(alloc: Global, bytes: &[u8]) -> Result<String, AllocError> {
     text.replace(alloc, '\n', "~")
 }
 
+// A stream of a text, where CR is written `^` and LF `~`, and so many further bytes.
+fn stream(alloc: Global, text: &str, more: usize) -> Result<Vec<u8>, AllocError> {
+    let text = text.replace(alloc, '^', "\r")?;
+    let text = text.replace(alloc, '~', "\n")?;
+    let mut bytes = Vec::new(alloc);
+    bytes.extend_from_slice(text.as_str().as_bytes())?;
+    for _ in 0..more {
+        bytes.push(b'x')?;
+    }
+    Ok(bytes)
+}
+
 fn rows_of_refusals(alloc: Global, row: &str) -> Result<String, AllocError> {
-    let stream = row.replace(alloc, '^', "\r")?;
-    let stream = stream.replace(alloc, '~', "\n")?;
+    let stream = stream(alloc, row, 0)?;
     let mut closed = Closed { asked: 0 };
-    let done = exchanged(alloc, stream.as_str().as_bytes(), WHOLE, &mut closed)?;
+    let done = exchanged(alloc, &stream, WHOLE, &mut closed)?;
     let (asked, result) = (closed.asked, done.result);
     let held = written(alloc, &done.held)?;
     format!(in alloc;
@@ -223,6 +234,86 @@ fn rows_of_refusals(alloc: Global, row: &str) -> Result<String, AllocError> {
 #[test]
 fn streams_are_refused_without_asking_and_busy_is_told(rt: HostRuntime) -> Result<(), TableFault> {
     check_rows(rt.alloc(), REFUSALS, '|', 6, rows_of_refusals)
+}
+
+// What is told of an exchange whose reader fails after so many reads.
+fn told_of_reads(
+    alloc: Global,
+    stream: &[u8],
+    at_once: usize,
+    calls: usize,
+) -> Result<String, AllocError> {
+    let mut conn = Conn::new(alloc)?;
+    let mut reader = Flagged::new(holding_nothing(alloc, stream, at_once, calls));
+    let mut writer = Flagged::new(Vec::new(alloc));
+    let result = exchange(
+        &mut conn,
+        &mut reader,
+        &mut writer,
+        &mut Closed { asked: 0 },
+    );
+    let left = reader.inner().calls;
+    let held = writer.into_inner();
+    let status = str::from_utf8(held.get(9..12).unwrap_or(b"none")).unwrap_or("no text");
+    format!(in alloc;
+        "{} {left} {result:?} {} {status}",
+        reader.reads(),
+        reader.take_failed()
+    )
+}
+
+// How many bytes come at once in how many reads, how many bytes follow the text, and the text.
+fn reads_of(row: &str) -> Option<(usize, usize, usize, &str)> {
+    let (at_once, rest) = row.split_once(' ')?;
+    let (calls, rest) = rest.split_once(' ')?;
+    let (more, text) = rest.split_once(' ').unwrap_or((rest, ""));
+    Some((
+        at_once.parse::<usize>().ok()?,
+        calls.parse::<usize>().ok()?,
+        more.parse::<usize>().ok()?,
+        text,
+    ))
+}
+
+fn rows_of_reads(alloc: Global, row: &str) -> Result<String, AllocError> {
+    let Some((at_once, calls, more, text)) = reads_of(row) else {
+        return String::from_str(alloc, "malformed");
+    };
+    let stream = stream(alloc, text, more.min(20_000))?;
+    told_of_reads(alloc, &stream, at_once, calls)
+}
+
+// How often it was read, how many reads wouldn't have failed yet, the result, whether reading failed, and the
+// status that went out, `|`, then how many bytes come at once, after how many reads the reader fails, how many
+// bytes follow a text, and the text. CR is written `^` and LF `~`.
+const READS: &str = "\
+# a whole head in one piece: a further read would fail
+1 0 Ok(()) false 503|1000 1 0 GET /wms HTTP/1.1^~Host: x^~^~
+1 0 Ok(()) false 404|1000 1 0 GET /x HTTP/1.1^~^~
+1 0 Ok(()) false 405|1000 1 0 POST /wms HTTP/1.1^~^~
+# bytes that begin no head
+1 0 Ok(()) false 400|1000 1 0 {}~
+# bytes after the head: in its piece, and in pieces that aren't read
+1 0 Ok(()) false 404|1000 1 900 GET /x HTTP/1.1^~^~
+1 0 Ok(()) false 404|1000 1 9000 GET /x HTTP/1.1^~^~
+# 19 bytes, 7 at once
+3 0 Ok(()) false 404|7 3 0 GET /x HTTP/1.1^~^~
+3 2 Ok(()) false 404|7 5 0 GET /x HTTP/1.1^~^~
+3 0 Err(Read) true none|7 2 0 GET /x HTTP/1.1^~^~
+1 0 Err(Read) true none|7 0 0 GET /x HTTP/1.1^~^~
+# the end comes in the head, or at once
+2 0 Ok(()) false 400|1000 2 0 GET /x HTTP/1.1^~^
+1 0 Ok(()) false none|1000 1 0
+# a head that doesn't end: the 16,384th byte decides, or the end after one less
+16384 0 Ok(()) false 400|1 16384 20000 GET / HTTP/1.1^~A:
+16384 0 Ok(()) false 400|1 16384 16365 GET / HTTP/1.1^~A:
+16384 0 Err(Read) true none|1 16383 20000 GET / HTTP/1.1^~A:
+# and in pieces of at most 4,096 bytes
+4 5 Ok(()) false 400|1000000 9 20000 GET / HTTP/1.1^~A:";
+
+#[test]
+fn streams_are_read_up_to_what_decides(rt: HostRuntime) -> Result<(), TableFault> {
+    check_rows(rt.alloc(), READS, '|', 16, rows_of_reads)
 }
 
 // What an outcome is written as.

@@ -1,16 +1,17 @@
-use Rattle.std.proofs.Common.{◌≡◌, ◌<◌, ℕ, List, length}
-use Rattle.std.specs.Io.KnownBytes.{Consumes}
+use Rattle.std.proofs.Common.{◌≡◌, ◌+◌, ℕ, List, length}
+use Rattle.std.specs.List.{concat}
 use Rattle.httpedge.specs.Connection.{Open}
 use Rattle.httpedge.proofs.Reading.{missing}
+use Rattle.httpedge.proofs.Wanted.{HasGoneOn}
 use Rattle.httpedge.proofs.edge.read_request.Given as goal
 
--- what was read so far decides nothing
+-- what was read so far leaves open what the stream means
 abbrev pub invariant-loop-count : goal.invariant-loop-count
 invariant-loop-count g l = record {
-  came : List ℕ;
-  is : l.conn ≡ Open came;
-  below : length came < 16384;
-  bytes : Consumes (g.R.Source.left l.fn.reader) (g.R.Source.left l.reader) came;
+  pieces : List (List ℕ);
+  is : l.conn ≡ Open (concat pieces);
+  gone : HasGoneOn g.R.Source.left g.R.Source.took pieces l.fn.reader l.reader;
+  count : g.R.Source.reads l.reader ≡ g.R.Source.reads l.fn.reader + length pieces;
   flag : g.R.Source.take_failed l.reader ≡ g.R.Source.take_failed l.fn.reader;
 }
 
