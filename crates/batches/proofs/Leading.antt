@@ -56,7 +56,7 @@ enough (suc n) (suc m) (b ∷ bs) h k =
     step-same (reading_within n) (reading_within m) (b ∷ bs) (λ rest short. enough n m rest (omega arith) (omega arith)) (front_command (b ∷ bs)) refl
 
 -- what is read is the command at the front and what is read after it
-reading-step : (bytes : List ℕ) → 1 ≤ length bytes → reading_of bytes ≡ step (front_command bytes) reading_of
+pub reading-step : (bytes : List ℕ) → 1 ≤ length bytes → reading_of bytes ≡ step (front_command bytes) reading_of
 unfolding reading_within
 reading-step [] h = absurd (omega arith)
 reading-step (b ∷ bs) h =
