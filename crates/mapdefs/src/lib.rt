@@ -12,6 +12,7 @@
 //! *label* how it is named. An *item* is an attribute of the features.
 #![tactic(auto)]
 
+mod all_features;
 mod boxed;
 mod class;
 mod colour;
@@ -25,6 +26,7 @@ mod layer;
 mod limited;
 mod limits;
 mod map;
+mod near;
 mod picture;
 mod shared;
 mod shared_items;
@@ -32,6 +34,7 @@ mod style;
 mod symbol;
 mod text;
 
+pub use all_features::AllFeatures;
 pub use boxed::Boxed;
 pub use class::{Class, ClassFields, Rule};
 pub use colour::Rgb;
@@ -49,6 +52,7 @@ pub use limits::{
     MAX_SYMBOLS, MAX_TOLERANCE, MAX_VERTICES,
 };
 pub use map::{Map, MapFields};
+pub use near::Near;
 pub use picture::{Picture, PictureFields};
 pub use shared::Shared;
 pub use shared_items::SharedItems;

@@ -1,0 +1,4 @@
+pub mod Batch
+pub mod Command
+pub mod Fault
+pub mod Written

@@ -1,0 +1,21 @@
+//! Batches: lists of commands that change the layers of a map, all of them or none.
+//!
+//! Proved: `front_command` reads the command at the front of some bytes, or says what is wrong with it.
+//! `apply_batch` gives the map after all commands of a batch, or the first fault with the number of its command
+//! (`batch`). `laws::written_is_read` says that commands which are written one after the other are read as these, and
+//! `laws::empty_batch` that an empty batch leaves the map and is counted.
+//!
+//! Words: what a batch says, its *reading*, are its commands up to the first that can't be read, and what is wrong
+//! there. The *sequence* of a state counts the batches that were accepted.
+#![tactic(auto)]
+
+mod applying;
+mod bytes;
+mod command;
+mod fault;
+pub mod laws;
+
+pub use applying::{apply_batch, apply_command};
+pub use bytes::Bytes;
+pub use command::{Command, CommandFault, Line, front_command};
+pub use fault::{BatchError, BatchFault, BatchKind, CommandError, MAX_BATCH};

@@ -1,0 +1,135 @@
+-- The box of a feature has all that lies between its points.
+use Rattle.std.proofs.Common.{◌≡◌, List, [], ◌∷◌, fold, get_or, refl, arith, ⊎_elim, ◌⊎◌, inl, inr, if◌then◌else◌, Bool, true, false}
+use Rattle.std.proofs.lemmas.Int.{ints}
+use Rattle.std.proofs.lemmas.List.Elements.{Contains-append_cases, Contains-append_right}
+use Rattle.std.specs.List.{Contains, flat_map}
+use Rattle.std.specs.Prelude.{int_lt}
+use lib.IntN.{ℤ}
+use lib.Signed.{◌≤ℤ◌}
+use Rattle.geom.specs.World.{Area, Place, HasPlace}
+use Rattle.mapdefs.specs.declared.feature.FeatureFields.{FeatureFields}
+use Rattle.mapdefs.specs.Near.{LiesInBoxOf, points_of}
+use Rattle.layers.specs.Boxes.{box_of, greater, less, nowhere, with_parts, with_place}
+
+-- the first element, or one of the others
+pub first_or : {X : Type 0} (x y : X) (xs : List X) → Contains (x ∷ xs) y → (x ≡ y) ⊎ Contains xs y
+first_or {X} x y xs c = ⊎_elim
+    (λ (d : Contains (x ∷ []) y).
+    let z : d.0 ≡ 0 = omega (arith, d.1) in
+    let f : get_or (x ∷ []) 0 y ≡ y = rw z at d.2 in
+    inl f)
+    (λ (d : Contains xs y). inr d)
+    (Contains-append_cases (x ∷ []) xs y c)
+
+-- what is one of many lists together is one of one of them
+pub flat-contains : {X A : Type 0} (f : X → List A) (xs : List X) (a : A) → Contains (flat_map f xs) a → (x : X) × Contains xs x × Contains (f x) a
+flat-contains f [] a c = absurd (omega (arith, c.1))
+flat-contains {X} {A} f (x ∷ xs) a c = ⊎_elim
+    (λ (d : Contains (f x) a). (x, (0, omega arith, refl), d))
+    (λ (d : Contains (flat_map f xs) a). let (y, e, g) = flat-contains f xs a d in (y, Contains-append_right (x ∷ []) xs y e, g))
+    (Contains-append_cases (f x) (flat_map f xs) a c)
+
+-- the sides of one box lie no further in than those of another
+pub record IsWider (big small : Area) : Type 0 where
+  pub west : big.minx ≤ℤ small.minx
+  pub south : big.miny ≤ℤ small.miny
+  pub east : small.maxx ≤ℤ big.maxx
+  pub north : small.maxy ≤ℤ big.maxy
+
+less-both : (a b : ℤ) → (less a b ≤ℤ a) × (less a b ≤ℤ b)
+less-both a b = go (int_lt b a) refl
+  where
+    go : (t : Bool) → int_lt b a ≡ t → ((if t then b else a) ≤ℤ a) × ((if t then b else a) ≤ℤ b)
+    go true e = (omega (arith, ints, e), omega (arith, ints))
+    go false e = (omega (arith, ints), omega (arith, ints, e))
+
+greater-both : (a b : ℤ) → (a ≤ℤ greater a b) × (b ≤ℤ greater a b)
+greater-both a b = go (int_lt a b) refl
+  where
+    go : (t : Bool) → int_lt a b ≡ t → (a ≤ℤ (if t then b else a)) × (b ≤ℤ (if t then b else a))
+    go true e = (omega (arith, ints, e), omega (arith, ints))
+    go false e = (omega (arith, ints), omega (arith, ints, e))
+
+-- a box with a place more is wider, and has the place
+one-wider : (area : Area) (p : Place) → IsWider (with_place area p) area
+one-wider area p = record {
+  west = (less-both area.minx p.x).0;
+  south = (less-both area.miny p.y).0;
+  east = (greater-both area.maxx p.x).0;
+  north = (greater-both area.maxy p.y).0;
+}
+
+one-has : (area : Area) (p : Place) → HasPlace (with_place area p) p
+one-has area p = record {
+  west = (less-both area.minx p.x).1;
+  east = (greater-both area.maxx p.x).1;
+  south = (less-both area.miny p.y).1;
+  north = (greater-both area.maxy p.y).1;
+}
+
+wider-same : (a : Area) → IsWider a a
+wider-same a = record { west = omega (arith, ints); south = omega (arith, ints); east = omega (arith, ints); north = omega (arith, ints) }
+
+wider-on : (a b c : Area) → IsWider a b → IsWider b c → IsWider a c
+wider-on a b c f g = record {
+  west = omega (arith, ints, f.west, g.west);
+  south = omega (arith, ints, f.south, g.south);
+  east = omega (arith, ints, f.east, g.east);
+  north = omega (arith, ints, f.north, g.north);
+}
+
+wider-has : (a b : Area) (p : Place) → IsWider a b → HasPlace b p → HasPlace a p
+wider-has a b p f h = record {
+  west = omega (arith, ints, f.west, h.west);
+  east = omega (arith, ints, f.east, h.east);
+  south = omega (arith, ints, f.south, h.south);
+  north = omega (arith, ints, f.north, h.north);
+}
+
+-- so do many
+many-wider : (area : Area) (points : List Place) → IsWider (fold with_place area points) area
+many-wider area [] = wider-same area
+many-wider area (p ∷ points) = wider-on (fold with_place (with_place area p) points) (with_place area p) area (many-wider (with_place area p) points) (one-wider area p)
+
+many-has : (area : Area) (points : List Place) (q : Place) → Contains points q → HasPlace (fold with_place area points) q
+many-has area [] q c = absurd (omega (arith, c.1))
+many-has area (p ∷ points) q c = ⊎_elim
+    (λ (e : p ≡ q). wider-has (fold with_place (with_place area p) points) (with_place area p) q (many-wider (with_place area p) points) (rw (← e) (one-has area p)))
+    (λ (d : Contains points q). many-has (with_place area p) points q d)
+    (first_or p q points c)
+
+-- and many parts
+parts-wider : (area : Area) (parts : List (List Place)) → IsWider (with_parts area parts) area
+parts-wider area [] = wider-same area
+parts-wider area (part ∷ parts) = wider-on (with_parts (fold with_place area part) parts) (fold with_place area part) area (parts-wider (fold with_place area part) parts) (many-wider area part)
+
+parts-have : (area : Area) (parts : List (List Place)) (part : List Place) (q : Place) → Contains parts part → Contains part q → HasPlace (with_parts area parts) q
+parts-have area [] part q c d = absurd (omega (arith, c.1))
+parts-have area (one ∷ parts) part q c d = ⊎_elim
+    (λ (e : one ≡ part).
+    let d' : Contains one q = rw e d in
+    wider-has (with_parts (fold with_place area one) parts) (fold with_place area one) q (parts-wider (fold with_place area one) parts) (many-has area one q d'))
+    (λ (f : Contains parts part). parts-have (fold with_place area one) parts part q f d)
+    (first_or one part parts c)
+
+-- each point of a feature lies in its box
+point-in : (feature : FeatureFields) (q : Place) → Contains (points_of feature) q → HasPlace (box_of feature) q
+point-in feature q c = let (part, d, e) = flat-contains (λ (p : List Place). p) feature.parts q c in parts-have nowhere feature.parts part q d e
+
+-- and so does what lies between them
+pub box-has : (feature : FeatureFields) (place : Place) → LiesInBoxOf (points_of feature) place → HasPlace (box_of feature) place
+box-has feature place lies =
+    let (kw, w, hw, ew, pw) = lies.west in
+    let (ke, e, he, ee, pe) = lies.east in
+    let (ks, s, hs, es, ps) = lies.south in
+    let (kn, n, hn, en, pn) = lies.north in
+    let a = point-in feature w (kw, hw, ew) in
+    let b = point-in feature e (ke, he, ee) in
+    let c = point-in feature s (ks, hs, es) in
+    let d = point-in feature n (kn, hn, en) in
+    record {
+      west = omega (arith, ints, a.west, pw);
+      east = omega (arith, ints, b.east, pe);
+      south = omega (arith, ints, c.south, ps);
+      north = omega (arith, ints, d.north, pn);
+    }

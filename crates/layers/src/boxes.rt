@@ -1,0 +1,84 @@
+ghost use Rattle.std.specs.Prelude.{◌≡◌, ◌≤◌, ◌+◌, ◌++◌, map, fold, length, IfOk, OnOk};
+ghost use Rattle.mapdefs.specs.declared.limits.TheConstants.{MAX_FEATURES};
+ghost use Rattle.layers.specs.Boxes.{box_of, greater, less, with_place};
+
+use crate::grids::SharedGrid;
+use geom::{Micro, World, WorldBox};
+use gridindex::Grid;
+use mapdefs::{Feature, FeatureFields, Shared};
+use std::alloc::{AllocError, Global};
+
+// The lesser of two numbers.
+fn less(a: Micro, b: Micro) -> Micro
+    ensures { result ≡ less a b }
+{
+    if b < a { b } else { a }
+}
+
+// The greater of two numbers.
+fn greater(a: Micro, b: Micro) -> Micro
+    ensures { result ≡ greater a b }
+{
+    if a < b { b } else { a }
+}
+
+// The box that a box and a place lie in.
+fn with_place(area: WorldBox, place: World) -> WorldBox
+    ensures { result ≡ with_place area place }
+{
+    let (x, y) = (place.x().get(), place.y().get());
+    WorldBox::new(
+        less(area.minx(), x),
+        less(area.miny(), y),
+        greater(area.maxx(), x),
+        greater(area.maxy(), y),
+    )
+}
+
+// The box that a box and some places lie in.
+fn with_places(area: WorldBox, places: &[World]) -> WorldBox
+    ensures { result ≡ fold with_place area places.now }
+{
+    let mut grown = area;
+    for place in places {
+        grown = with_place(grown, *place);
+    }
+    grown
+}
+
+// The box of a feature's points.
+fn box_of(feature: &FeatureFields) -> WorldBox
+    ensures { result ≡ box_of feature.now }
+{
+    let (most, least) = (Micro::new(1_000_000_000), Micro::new(-1_000_000_000));
+    let mut area = WorldBox::new(most, most, least, least);
+    for part in feature.parts.as_slice() {
+        area = with_places(area, part.as_slice());
+    }
+    area
+}
+
+// Adds the boxes of some features, in order, behind others.
+fn add_boxes(boxes: &mut Vec<WorldBox>, features: &[Shared<Feature>]) -> Result<(), AllocError>
+    ensures { OnOk result (boxes.new.items ≡ boxes.old.items ++ map box_of features.now) }
+{
+    for feature in features {
+        boxes.push(box_of(feature.get().get()))?;
+    }
+    Ok(())
+}
+
+/// The grid of the boxes of some features and of others behind them.
+pub fn grid_of(
+    alloc: Global,
+    features: &[Shared<Feature>],
+    more: &[Shared<Feature>],
+) -> Result<SharedGrid, AllocError>
+    requires { length features.now + length more.now ≤ MAX_FEATURES }
+    ensures { IfOk result (λ grid. grid ≡ map box_of features.now ++ map box_of more.now) }
+{
+    let mut boxes = Vec::with_capacity(alloc, features.len() + more.len())?;
+    add_boxes(&mut boxes, features)?;
+    add_boxes(&mut boxes, more)?;
+    SharedGrid::new(alloc, Grid::build(alloc, boxes)?)
+}

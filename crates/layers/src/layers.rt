@@ -1,0 +1,192 @@
+ghost use Rattle.std.specs.Prelude.{◌≡◌, ◌<◌, length, IfOk, OnOk, IfErr, OnErr, MatchResult};
+ghost use Rattle.mapdefs.specs.Name.{index_of};
+ghost use Rattle.layers.specs.Change.{is_of_points};
+
+use crate::boxes::grid_of;
+use crate::fault::{ChangeError, Refusal};
+use crate::grids::{SharedGrid, grids_of, share_all};
+use crate::values::all_fitted;
+use csvpoints::{Table, TableFields};
+use geom::WorldBox;
+use mapdefs::{Duplicate, Kind, MAX_FEATURES, Map, Near};
+use std::alloc::{AllocError, Global};
+use std::marker::Model;
+
+/// A map whose layers may be switched, emptied and filled, with an index of the features of each.
+#[derive(Drop)]
+pub struct Layers {
+    alloc: Global,
+    served: Map,
+    grids: Vec<SharedGrid>,
+}
+
+impl Model for Layers {
+    ghost use Rattle.mapdefs.specs.contracts.expr.Expr as expr;
+    ghost use Rattle.std.specs.Coded.{codes};
+    ghost use Rattle.std.specs.Prelude.{◌≡◌, map};
+    ghost use Rattle.mapdefs.specs.declared.map.MapFields.{MapFields};
+    ghost use Rattle.layers.specs.Boxes.{boxes_of};
+
+    ghost Value = { MapFields };
+
+    ghost coded = { Prim.hlevel (codes, expr.the_row.coded) };
+
+    ghost view = { λ l. l.served };
+
+    ghost invariant = { λ l. l.grids.items ≡ map boxes_of l.served.layers };
+}
+
+// Whether the features are points.
+fn is_of_points(kind: Kind) -> bool
+    ensures { result ≡ is_of_points kind }
+{
+    matches!(kind, Kind::Point)
+}
+
+impl Layers {
+    ghost use Rattle.layers.specs.Change.{switch, clear, append, append_at, found_points, IsErrorOf, IsFoundAt};
+
+    /// The layers of this map. It keeps the allocator.
+    pub fn of(alloc: Global, map: Map) -> Result<Self, AllocError>
+        ensures { IfOk result (λ l. l ≡ map) }
+    {
+        let grids = grids_of(alloc, map.get().layers.as_slice())?;
+        Ok(Layers {
+            alloc,
+            served: map,
+            grids,
+        })
+    }
+
+    /// The map as it is now.
+    pub fn map(&self) -> &Map
+        ensures { result.now ≡ self.now }
+    {
+        &self.served
+    }
+
+    /// How many layers there are.
+    pub fn len(&self) -> usize
+        ensures { result ≡ length self.now.layers }
+    {
+        self.served.get().layers.len()
+    }
+
+    /// The index of the first layer of that name.
+    pub fn by_name(&self, name: &[u8]) -> Option<usize>
+        ensures { result ≡ index_of name.now self.now.layers }
+    {
+        self.served.find(name)
+    }
+
+    /// The index of the layer of points of that name.
+    pub fn points_named(&self, name: &[u8]) -> Result<usize, Refusal>
+        ensures value { MatchResult result (λ index. IsFoundAt (found_points name.now self.now) index self.now) (λ refusal. found_points name.now self.now ≡ Err refusal) }
+        ensures within { IfOk result (λ index. index < length self.now.layers) }
+    {
+        match self.served.find(name) {
+            Some(index) => {
+                if !is_of_points(self.served.get().layers.as_slice()[index].get().kind) {
+                    return Err(Refusal::NotPoints);
+                }
+                Ok(index)
+            }
+            None => Err(Refusal::UnknownLayer),
+        }
+    }
+
+    /// Switches a layer on or off. A refused call changes nothing.
+    pub fn switch(&mut self, name: &[u8], on: bool) -> Result<(), Refusal>
+        ensures { MatchResult result
+            (λ _. switch name.now on self.old ≡ Ok self.new)
+            (λ refusal. (switch name.now on self.old ≡ Err refusal) × (self.new ≡ self.old)) }
+    {
+        match self.served.find(name) {
+            Some(index) => {
+                self.served.switch(index, on);
+                Ok(())
+            }
+            None => Err(Refusal::UnknownLayer),
+        }
+    }
+
+    /// Takes all features out of a layer of points. It takes no memory, and a refused call changes nothing.
+    pub fn clear(&mut self, name: &[u8]) -> Result<(), Refusal>
+        ensures { MatchResult result
+            (λ _. clear name.now self.old ≡ Ok self.new)
+            (λ refusal. (clear name.now self.old ≡ Err refusal) × (self.new ≡ self.old)) }
+    {
+        match self.served.find(name) {
+            Some(index) => {
+                if !is_of_points(self.served.get().layers.as_slice()[index].get().kind) {
+                    return Err(Refusal::NotPoints);
+                }
+                self.served.clear(index);
+                self.grids[index] = SharedGrid::empty();
+                Ok(())
+            }
+            None => Err(Refusal::UnknownLayer),
+        }
+    }
+
+    /// Adds the rows of a table behind the features of a layer of points. A refused call changes
+    /// nothing: the growths come before the changes.
+    pub fn append(&mut self, name: &[u8], table: Table) -> Result<(), ChangeError>
+        ensures done { OnOk result (append name.now table self.old ≡ Ok self.new) }
+        ensures refused { IfErr result (IsErrorOf (append name.now table self.old)) }
+        ensures kept { OnErr result (self.new ≡ self.old) }
+    {
+        match self.served.find(name) {
+            Some(index) => self.append_at(index, table),
+            None => Err(ChangeError::Refused(Refusal::UnknownLayer)),
+        }
+    }
+
+    /// The same of the layer of an index.
+    pub fn append_at(&mut self, index: usize, table: Table) -> Result<(), ChangeError>
+        requires { index < length self.old.layers }
+        ensures done { OnOk result (append_at index table self.old ≡ Ok self.new) }
+        ensures refused { IfErr result (IsErrorOf (append_at index table self.old)) }
+        ensures kept { OnErr result (self.new ≡ self.old) }
+    {
+        let layer = self.served.get().layers.as_slice()[index].get();
+        if !is_of_points(layer.kind) {
+            return Err(ChangeError::Refused(Refusal::NotPoints));
+        }
+        let TableFields { columns, features } = table.into_fields();
+        if features.len() > MAX_FEATURES - layer.features.len() {
+            return Err(ChangeError::Refused(Refusal::Full));
+        }
+        let more = all_fitted(
+            self.alloc,
+            layer.items.as_slice(),
+            columns.as_slice(),
+            features.into_vec(),
+        )?;
+        let grid = grid_of(self.alloc, layer.features.as_slice(), more.as_slice())?;
+        self.served.append(self.alloc, index, more)?;
+        self.grids[index] = grid;
+        Ok(())
+    }
+
+    /// Equal layers of their own, which share the features and the grids.
+    pub fn copy(&self) -> Result<Self, AllocError>
+        ensures { IfOk result (λ l. l ≡ self.now) }
+    {
+        let served = self.served.duplicate(self.alloc)?;
+        let grids = share_all(self.alloc, &self.grids)?;
+        Ok(Layers {
+            alloc: self.alloc,
+            served,
+            grids,
+        })
+    }
+}
+
+impl Near for Layers {
+    ghost map_of = { λ l. l };
+
+    fn candidates(&self, layer: usize, window: WorldBox) -> Result<Vec<u32>, AllocError> {
+        self.grids[layer].candidates(self.alloc, window)
+    }
+}
