@@ -3,6 +3,8 @@
 #![tactic(auto)]
 
 #[cfg(test)]
+mod changed_maps;
+#[cfg(test)]
 mod expression_trees;
 #[cfg(test)]
 mod expression_truths;
