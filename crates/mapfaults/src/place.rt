@@ -109,7 +109,7 @@ impl<'a> Walker<'a> {
             (λ _. stepped (standing (inner.entry ∷ self.old.openings) self.old.drafts) token.now ≡ Ok (standing self.new.openings self.new.drafts))
             (IsStop (standing (inner.entry ∷ self.old.openings) self.old.drafts) token.now self.new.openings) }
     {
-        match read_token(&inner.context, &mut self.drafts, token, alloc) {
+        match read_token(alloc, &inner.context, &mut self.drafts, token) {
             Ok(next) => match self.openings.go_on(inner, next, token) {
                 Ok(()) => Ok(()),
                 Err(_) => Err(ParseFault::NoMemory),

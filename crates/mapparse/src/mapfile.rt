@@ -56,7 +56,7 @@ impl Mapfile {
 
     /// The map that it describes with these files, or the first fault of a file: `MissingFile` for one
     /// that isn't given, and `BadFile` for one that isn't of its kind.
-    pub fn into_map(self, files: &Files, alloc: Global) -> Result<Map, ParseFault>
+    pub fn into_map(self, alloc: Global, files: &Files) -> Result<Map, ParseFault>
         ensures map { IfOk result (λ map. map_of files.now self ≡ Ok map) }
         ensures fault { IfErr result (IsFaultOf (map_of files.now self)) }
     {
@@ -90,5 +90,5 @@ pub fn parse(alloc: Global, source: &[u8], files: &Files) -> Result<Map, ParseFa
     ensures fault { IfErr result (IsFaultOf (parsed files.now source.now)) }
 {
     let mapfile = Mapfile::read(alloc, source)?;
-    mapfile.into_map(files, alloc)
+    mapfile.into_map(alloc, files)
 }

@@ -46,7 +46,7 @@ impl Reader {
         let Some(context) = self.contexts.pop() else {
             return Err(fault_of(ParseKind::UnknownWord, token).into());
         };
-        let next = read_token(&context, &mut self.drafts, token, alloc)?;
+        let next = read_token(alloc, &context, &mut self.drafts, token)?;
         self.contexts.go_on(context, next)?;
         Ok(())
     }

@@ -164,10 +164,10 @@ fn read_pair(block: Block, token: &Token) -> Result<Move, Fault>
 /// Reads a token in its context, and notes what was read. The result is how reading goes on. After an error
 /// the drafts are of no further use.
 pub fn read_token(
+    alloc: Global,
     context: &Context,
     drafts: &mut Drafts,
     token: &Token,
-    alloc: Global,
 ) -> Result<Move, ParseFault>
     ensures { MatchResult result
         (λ next. read_token context.now drafts.old token.now ≡ Ok (next, drafts.new))

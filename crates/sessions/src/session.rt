@@ -54,7 +54,7 @@ pub fn read_map_of<F: Folder>(alloc: Global, folder: &F, source: &[u8]) -> Resul
 {
     let mapfile = Mapfile::read(alloc, source)?;
     let files = files_of(alloc, folder, &mapfile)?;
-    mapfile.into_map(&files, alloc)
+    mapfile.into_map(alloc, &files)
 }
 
 /// The map of a mapfile, or how the program ends without it. The mapfile's fault is told.
