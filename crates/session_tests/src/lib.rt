@@ -1,5 +1,5 @@
-//! Tests of what the program does for its words: of its command line, its sessions, the files that it reads
-//! and its port, by public calls alone. Each test checks a value that was worked by hand, or that no clause
+//! Tests of what the program does for its words: of its command line, its sessions, the files that it reads,
+//! its port and its host, by public calls alone. Each test checks a value that was worked by hand, or that no clause
 //! can say.
 #![tactic(auto)]
 
@@ -14,6 +14,8 @@ mod cuts;
 #[cfg(test)]
 mod endings;
 #[cfg(test)]
+mod hosts;
+#[cfg(test)]
 mod long_inputs;
 #[cfg(test)]
 mod memory;
@@ -25,3 +27,5 @@ mod ports;
 mod stops;
 #[cfg(test)]
 mod texts;
+#[cfg(test)]
+mod timed_streams;

@@ -1,10 +1,11 @@
-use mapmachine::{Flagged, Machine};
+use hosting::{HostFile, SystemHost, serve_port};
+use mapmachine::Flagged;
 use mapparse::{Files, parse};
-use sessions::{Outcome, listen};
+use sessions::{Outcome, read_all};
 use std::io::{self, Read, Write};
-use std::net::{Ipv4Addr, TcpListener, TcpStream};
-use std::str;
+use std::net::{Ipv4Addr, Shutdown, TcpListener, TcpStream};
 use std::test::Fail;
+use std::{env, fs, str};
 
 /// A head without a query, of 30 bytes.
 pub const HEAD: &str = "GET /wms HTTP/1.1\r\nHost: x\r\n\r\n";
@@ -20,27 +21,41 @@ Connection: close\r\n\
 <ServiceException code=\"MissingParameterValue\">REQUEST</ServiceException>\n\
 </ServiceExceptionReport>\n";
 
-// A writer that is told where a port is. When it is flushed it opens a connection to that port and closes it,
-// and then two on which it asks. They wait until the port answers them.
+// A writer that is told where a port is. When it is flushed it opens a connection to that port and closes it, and
+// then one for each of some texts. They wait until the port answers them.
 #[derive(Drop)]
 struct Clients<'a> {
     rt: &'a HostRuntime,
+    texts: &'a [&'a str],
     told: Vec<u8>,
     streams: Vec<TcpStream>,
 }
 
 impl Clients<'_> {
-    // Opens a connection. The address is all that stands on the line after its first word.
+    // Opens a connection. The address and its port are all that stands on the line after its first word.
     fn connected(&self) -> io::Result<TcpStream> {
         let line = str::from_utf8(&self.told).unwrap_or("");
-        let address = line.strip_prefix("listening ").unwrap_or("");
-        TcpStream::connect(self.rt, address.strip_suffix('\n').unwrap_or(""))
+        let port = line.strip_prefix("listening 127.0.0.1:").unwrap_or("");
+        match port.strip_suffix('\n').unwrap_or("").parse() {
+            Ok(port) => TcpStream::connect(self.rt, (Ipv4Addr::LOCALHOST, port)),
+            Err(_) => Err(io::Error::from(io::ErrorKind::InvalidData)),
+        }
     }
 
-    // Opens a connection, and asks on it.
-    fn ask(&mut self) -> io::Result<()> {
+    // Opens a connection, and sends the pieces of a text, which bars part. It closes its writing side, but not where the
+    // last piece is `stays`.
+    fn ask(&mut self, text: &str) -> io::Result<()> {
         let mut stream = self.connected()?;
-        stream.write_all(HEAD.as_bytes())?;
+        let (text, stays) = match text.strip_suffix("|stays") {
+            Some(text) => (text, true),
+            None => (text, false),
+        };
+        for piece in text.split('|') {
+            stream.write_all(piece.as_bytes())?;
+        }
+        if !stays {
+            stream.shutdown(Shutdown::Write)?;
+        }
         self.streams.push(stream)?;
         Ok(())
     }
@@ -54,25 +69,49 @@ impl Write for Clients<'_> {
 
     fn flush(&mut self) -> io::Result<()> {
         drop(self.connected()?);
-        self.ask()?;
-        self.ask()
+        for text in self.texts {
+            self.ask(text)?;
+        }
+        Ok(())
     }
+}
+
+// A head of 4,096 bytes. So many are read at once, and what comes after them stands unread when they are answered.
+fn long_head(rt: &HostRuntime) -> io::Result<String> {
+    let mut head = String::from_str(rt.alloc(), "GET /wms?")?;
+    for _ in 0..4_065 {
+        head.push('a')?;
+    }
+    head.push_str(" HTTP/1.1\r\nHost: x\r\n\r\n")?;
+    Ok(head)
+}
+
+// How the connections of some texts are answered: the outcome, and all that came back.
+fn answered(
+    rt: &HostRuntime,
+    texts: &[&str],
+    connections: u32,
+) -> Result<(Outcome, Vec<u8>), Fail> {
+    let alloc = rt.alloc();
+    let map = parse(alloc, b"MAP END", &Files::new(alloc))?;
+    let mut output = Flagged::new(Clients {
+        rt,
+        texts,
+        told: Vec::new(alloc),
+        streams: Vec::new(alloc),
+    });
+    let host = SystemHost::new(rt);
+    let outcome = serve_port(alloc, &host, map, 0, connections, &mut output);
+    let mut answers = Vec::new(alloc);
+    for mut stream in output.into_inner().streams {
+        stream.read_to_end(&mut answers)?;
+    }
+    Ok((outcome, answers))
 }
 
 #[test]
 fn a_port_answers_its_connections_in_turn(rt: HostRuntime) -> Result<(), Fail> {
-    let alloc = rt.alloc();
-    let mut machine = Machine::open(alloc, parse(alloc, b"MAP END", &Files::new(alloc))?);
-    let mut output = Flagged::new(Clients {
-        rt: &rt,
-        told: Vec::new(alloc),
-        streams: Vec::new(alloc),
-    });
-    let outcome = listen(&rt, &mut machine, 0, 3, &mut output);
-    let mut answers = Vec::new(alloc);
-    for mut stream in output.into_inner().streams {
-        assert_eq!(rt; stream.read_to_end(&mut answers)?, 298);
-    }
+    let (outcome, answers) = answered(&rt, &[HEAD, HEAD], 3)?;
     let is_served = matches!(outcome, Outcome::Served);
     let told = (is_served, answers.get(..298), answers.get(298..));
     assert_eq!(rt; told, (true, Some(RESPONSE), Some(RESPONSE)));
@@ -80,18 +119,57 @@ fn a_port_answers_its_connections_in_turn(rt: HostRuntime) -> Result<(), Fail> {
 }
 
 #[test]
+fn bytes_after_a_head_leave_its_answer_whole(rt: HostRuntime) -> Result<(), Fail> {
+    let alloc = rt.alloc();
+    let head = long_head(&rt)?;
+    let body = format!(in alloc; "{head}|abc")?;
+    let second = format!(in alloc; "{head}|{HEAD}")?;
+    let (_, answers) = answered(&rt, &[body.as_str(), second.as_str()], 3)?;
+    let told = (answers.get(..298), answers.get(298..));
+    assert_eq!(rt; told, (Some(RESPONSE), Some(RESPONSE)));
+    Ok(())
+}
+
+#[test]
+fn a_client_that_stays_is_left(rt: HostRuntime) -> Result<(), Fail> {
+    let stays = format!(in rt.alloc(); "{HEAD}|stays")?;
+    let (_, answers) = answered(&rt, &[stays.as_str(), HEAD], 3)?;
+    assert_eq!(rt; answers.len(), 596);
+    Ok(())
+}
+
+#[test]
 fn a_port_that_is_taken_is_told(rt: HostRuntime) -> Result<(), Fail> {
     let alloc = rt.alloc();
-    let mut machine = Machine::open(alloc, parse(alloc, b"MAP END", &Files::new(alloc))?);
+    let map = parse(alloc, b"MAP END", &Files::new(alloc))?;
     let listener = TcpListener::bind(&rt, (Ipv4Addr::LOCALHOST, 0))?;
     let port = listener.local_addr()?.port();
     let mut output = Flagged::new(Vec::new(alloc));
-    let outcome = listen(&rt, &mut machine, port, 1, &mut output);
+    let outcome = serve_port(alloc, &SystemHost::new(&rt), map, port, 1, &mut output);
     drop(listener);
     let told = (
         matches!(outcome, Outcome::SocketFailed),
         output.into_inner().len(),
     );
     assert_eq!(rt; told, (true, 0));
+    Ok(())
+}
+
+#[test]
+fn a_file_of_the_system_is_read_to_its_end(rt: HostRuntime) -> Result<(), Fail> {
+    let alloc = rt.alloc();
+    let mut bytes = Vec::new(alloc);
+    for byte in 0..200_000_u32 {
+        bytes.push((byte % 251) as u8)?;
+    }
+    let folder = env::temp_dir(&rt)?;
+    let path = folder.join(alloc, "kesmoch_a_file_of_the_system")?;
+    fs::write(&rt, path.as_path(), bytes.as_slice())?;
+    let host = SystemHost::new(&rt);
+    let path = path.to_str().unwrap_or("");
+    let found = read_all(alloc, &mut Flagged::new(HostFile::new(&host, path)));
+    let is_read = matches!(found, Ok(found) if found == bytes);
+    fs::remove_file(&rt, path)?;
+    assert!(rt; is_read);
     Ok(())
 }

@@ -1,4 +1,4 @@
-//! What the program does between its open streams and its exit status: it plays sessions, checks mapfiles,
+//! What the program does between its open streams and its outcome: it plays sessions, checks mapfiles,
 //! plays scripts on their maps, and answers connections.
 //!
 //! Proved: `serve_session` reads its input up to the end and tells by its outcome what was written: the
@@ -6,7 +6,7 @@
 //! mapfile (`tells`); `check_file` and `run_files` say the same of the files that they read.
 //! `split_session` parts a session at its first line of two percent signs. `play_script` and `summary` say
 //! how many bytes went out where the writer fails. `serve_connection` answers the stream of one
-//! connection. `listen`, which takes connections from a port, promises nothing.
+//! connection.
 //!
 //! Words: a *script* is a list of commands, each a line; its *events* are what they ask of the
 //! machine. The *transcript* is what is written of the replies.
@@ -18,7 +18,6 @@ mod files;
 mod folder;
 mod input;
 mod line;
-mod listening;
 mod outcome;
 mod parts;
 mod play;
@@ -32,7 +31,6 @@ pub use connection::serve_connection;
 pub use files::{read_map, run_files};
 pub use folder::{Folder, front_of, path_of};
 pub use input::{ReadFault, read_all};
-pub use listening::listen;
 pub use outcome::Outcome;
 pub use parts::split_session;
 pub use play::play_script;

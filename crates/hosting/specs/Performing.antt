@@ -1,0 +1,81 @@
+-- What the program does for a command on a host (docs/PROFILE.md, "The program").
+use Rattle.std.specs.Prelude.{◌≡◌, ◌⊎◌, ℕ, Bool, List, [], Option}
+use Rattle.std.specs.Io.KnownBytes.{Keeps}
+use Rattle.commandline.specs.declared.form.Command.{Command}
+use Rattle.commandline.specs.declared.form.Command.TheVariants.{Session, Check, Run, Serve}
+use Rattle.mapdefs.specs.declared.map.MapFields.{MapFields}
+use Rattle.mapmachine.specs.Machine.{State}
+use Rattle.sessions.specs.Folder.{Giving, IsFront}
+use Rattle.sessions.specs.Forms.{HasReadMap, GivesNoMap, ChecksTo, RunsTo}
+use Rattle.sessions.specs.Session.{Streams, Tells, opened}
+use Rattle.sessions.specs.declared.outcome.Outcome.{Outcome}
+use Rattle.sessions.specs.declared.outcome.Outcome.TheVariants.{Served, SocketFailed}
+use Rattle.hosting.specs.Hosts.{gives_in, TellsAddress}
+use Rattle.hosting.specs.Ports.{PortEvent, HasRun}
+
+-- the streams with another input
+abbrev pub with_input : Option (List ℕ) → Streams → Streams
+with_input input streams = record { input = input; output = streams.output; errors = streams.errors }
+
+-- what is known of ports of a type: the events at one, and its address
+pub record PortView (P : Type 0) : Type 0 where
+  pub log : P → Option (List PortEvent)
+  pub address : P → Option (List ℕ)
+
+-- how serving went on after the address of a port was told with an outcome: connections were answered about a map; or with another outcome
+-- than that it was told, it ended
+abbrev pub GoesOnAfter : {P : Type 0} → PortView P → P → ℕ → MapFields → Outcome → Outcome → Type 0
+GoesOnAfter {P} view port connections map Served outcome =
+    (closed : P) × (state : State) × HasRun connections (view.log port) (view.log closed) outcome (opened map) state
+GoesOnAfter view port connections map told outcome = outcome ≡ told
+
+-- a port was listened on, and its address told
+pub record HasListened {P : Type 0} (view : PortView P) (listens : P → Type 0) (connections : ℕ) (map : MapFields) (outcome : Outcome) (before after : Option (List ℕ)) : Type 0 where
+  pub port : P
+  pub is_asked : listens port
+  pub told : Outcome
+  pub tells : TellsAddress told (view.address port) before after
+  pub goes_on : GoesOnAfter view port connections map told outcome
+
+-- connections about a map were answered on a port, or it couldn't be listened on
+abbrev pub ListensTo : {P : Type 0} → PortView P → (P → Type 0) → ℕ → MapFields → Outcome → Option (List ℕ) → Option (List ℕ) → Type 0
+ListensTo view listens connections map outcome before after =
+    ((outcome ≡ SocketFailed) × Keeps before after) ⊎ HasListened view listens connections map outcome before after
+
+-- the map of a mapfile was served
+pub record IsMapServed {P : Type 0} (view : PortView P) (listens : P → Type 0) (gives : Giving) (connections : ℕ) (outcome : Outcome) (before after : Option (List ℕ)) (old new : Streams) : Type 0 where
+  pub map : MapFields
+  pub read : HasReadMap gives before after map
+  pub listens_to : ListensTo view listens connections map outcome old.output new.output
+  pub errors : Keeps old.errors new.errors
+
+-- what serving a mapfile tells of the streams by its outcome, with the name of the mapfile
+abbrev pub ServesTo : {P : Type 0} → PortView P → (P → Type 0) → Giving → ℕ → Outcome → List ℕ → Option (List ℕ) → Option (List ℕ) → Streams → Streams → Bool → Type 0
+ServesTo view listens gives connections outcome name before after old new failed =
+    (Keeps old.output new.output × GivesNoMap gives outcome name before after old.errors new.errors failed)
+    ⊎ IsMapServed view listens gives connections outcome before after old new
+
+-- what a host is known to have: the bytes of the file of a path, and which ports it gives for a number
+pub record HostView (P : Type 0) : Type 1 where
+  pub file : List ℕ → Option (List ℕ)
+  pub listens : ℕ → P → Type 0
+  pub ports : PortView P
+
+-- what is left of a file after so much was read of it
+abbrev pub Left : Type 0
+Left = Option (List ℕ)
+
+-- what performing a command tells of the streams by its outcome. The files that a mapfile names are those of its folder; a session's are
+-- those of the current one
+abbrev pub Performs : {P : Type 0} → HostView P → Command → Outcome → Streams → Streams → Bool → Type 0
+Performs host Session outcome old new failed = Tells (gives_in host.file []) outcome old new failed
+Performs host (Check name explains) outcome old new failed =
+    (front : List ℕ) × IsFront name.now front × (after : Left)
+    × ChecksTo (gives_in host.file front) explains outcome name.now (with_input (host.file name.now) old) (with_input after new) failed
+Performs host (Run name script) outcome old new failed =
+    (front : List ℕ) × IsFront name.now front × (after : Left) × (script_after : Left)
+    × RunsTo (gives_in host.file front) outcome name.now script.now (host.file name.now) after
+    (with_input (host.file script.now) old) (with_input script_after new) failed
+Performs host (Serve name port connections) outcome old new failed =
+    (front : List ℕ) × IsFront name.now front × (after : Left)
+    × ServesTo host.ports (host.listens port) (gives_in host.file front) connections outcome name.now (host.file name.now) after old new failed

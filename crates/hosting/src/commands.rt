@@ -1,0 +1,197 @@
+ghost use Rattle.std.specs.Prelude.{◌≡◌, ◌≢◌, ◌||◌, ℕ, List, None, IfOk, IfErr, OnOk, false, true};
+ghost use Rattle.commandline.specs.declared.form.Command.TheVariants.{Session};
+ghost use Rattle.sessions.specs.declared.outcome.Outcome.TheVariants.{Played, Checked, Served};
+ghost use Rattle.sessions.specs.Folder.{IsFront};
+ghost use Rattle.sessions.specs.Forms.{ChecksTo, GivesNoMap, HasReadMap, RunsTo, has_told};
+ghost use Rattle.sessions.specs.Session.{Streams, is_output_failed};
+ghost use Rattle.hosting.specs.Hosts.{gives_in, TellsAddress};
+ghost use Rattle.hosting.specs.Performing.{HostView, Left, ListensTo, Performs, PortView, ServesTo};
+
+use crate::files::{HostFile, HostFolder};
+use crate::host::Host;
+use crate::port::{AddressFault, Port};
+use crate::serving::answer_connections;
+use commandline::Command;
+use mapdefs::Map;
+use mapmachine::{Flagged, Machine, Sink, Source, put_pieces};
+use sessions::{Outcome, check_file, read_map, run_files, serve_session};
+use std::alloc::Global;
+
+// Says where a port is, so that whoever started the program knows when to connect.
+fn tell_address<P: Port, O: Sink>(alloc: Global, port: &P, output: &mut O) -> Outcome
+    ensures tells { TellsAddress result (P.address port.now) (O.held output.old) (O.held output.new) }
+    ensures flushed { result ≡ Served → O.is_flushed output.new ≡ true }
+    ensures flag { O.put_failed output.new ≡ (is_output_failed result || O.put_failed output.old) }
+{
+    let address = match port.address(alloc) {
+        Ok(address) => address,
+        Err(AddressFault::Unknown) => return Outcome::SocketFailed,
+        Err(AddressFault::NoMemory) => return Outcome::NoMemory,
+    };
+    match put_pieces(output, &[b"listening ", address.as_str().as_bytes(), b"\n"]) {
+        Ok(()) => match output.flush() {
+            Ok(()) => Outcome::Served,
+            Err(_) => Outcome::OutputFailed,
+        },
+        Err(_) => Outcome::OutputFailed,
+    }
+}
+
+/// Listens on a port, says on which address, and answers its connections about a map one after the other: so
+/// many, or without an end where that is 0.
+pub fn serve_port<H: Host, O: Sink>(
+    alloc: Global,
+    host: &H,
+    map: Map,
+    port: u16,
+    connections: u32,
+    output: &mut O,
+) -> Outcome
+    ensures listens { ListensTo (record { log = H.Port.log; address = H.Port.address }) (H.listens host.now port) connections map result (O.held output.old) (O.held output.new) }
+    ensures flag { O.put_failed output.new ≡ (is_output_failed result || O.put_failed output.old) }
+{
+    let Ok(mut port) = host.listen(port) else {
+        return Outcome::SocketFailed;
+    };
+    match tell_address(alloc, &port, output) {
+        Outcome::Served => {
+            let mut machine = Machine::open(alloc, map);
+            answer_connections(alloc, &mut machine, &mut port, connections)
+        }
+        failed => failed,
+    }
+}
+
+// The map of a mapfile, or how the program ends without it. A fault is told.
+fn read_host_map<H: Host, E: Sink>(
+    alloc: Global,
+    host: &H,
+    file: &str,
+    errors: &mut E,
+) -> Result<Map, Outcome>
+    ensures map { IfOk result (λ map. (front : List ℕ) × IsFront file.now front × (after : Left)
+        × HasReadMap (gives_in (H.file host.now) front) (H.file host.now file.now) after map) }
+    ensures same { OnOk result (errors.new ≡ errors.old) }
+    ensures without { IfErr result (λ outcome. (front : List ℕ) × IsFront file.now front × (after : Left)
+        × GivesNoMap (gives_in (H.file host.now) front) outcome file.now (H.file host.now file.now) after (E.held errors.old) (E.held errors.new) (E.put_failed errors.new)) }
+    ensures flushed { IfErr result (λ outcome. has_told outcome ≡ true → E.put_failed errors.new ≡ false → E.is_flushed errors.new ≡ true) }
+    ensures output { IfErr result (λ outcome. is_output_failed outcome ≡ false) }
+{
+    let folder = HostFolder::of(host, file);
+    let mut mapfile = Flagged::new(HostFile::new(host, file));
+    read_map(alloc, &folder, file, &mut mapfile, errors)
+}
+
+// Answers connections about the map of a mapfile.
+fn serve_file<H: Host, O: Sink, E: Sink>(
+    alloc: Global,
+    host: &H,
+    file: &str,
+    port: u16,
+    connections: u32,
+    output: &mut O,
+    errors: &mut E,
+) -> Outcome
+    ensures serves { (front : List ℕ) × IsFront file.now front × (after : Left)
+        × ServesTo (record { log = H.Port.log; address = H.Port.address }) (H.listens host.now port) (gives_in (H.file host.now) front) connections result file.now (H.file host.now file.now) after
+        (record { input = None; output = O.held output.old; errors = E.held errors.old })
+        (record { input = None; output = O.held output.new; errors = E.held errors.new })
+        (E.put_failed errors.new) }
+    ensures errors_flushed { has_told result ≡ true → E.put_failed errors.new ≡ false → E.is_flushed errors.new ≡ true }
+    ensures flag { O.put_failed output.new ≡ (is_output_failed result || O.put_failed output.old) }
+{
+    match read_host_map(alloc, host, file, errors) {
+        Ok(map) => serve_port(alloc, host, map, port, connections, output),
+        Err(outcome) => outcome,
+    }
+}
+
+// Checks a mapfile.
+fn check<H: Host, O: Sink, E: Sink>(
+    alloc: Global,
+    host: &H,
+    file: &str,
+    explains: bool,
+    output: &mut O,
+    errors: &mut E,
+) -> Outcome
+    ensures checks { (front : List ℕ) × IsFront file.now front × (after : Left)
+        × ChecksTo (gives_in (H.file host.now) front) explains result file.now
+        (record { input = H.file host.now file.now; output = O.held output.old; errors = E.held errors.old })
+        (record { input = after; output = O.held output.new; errors = E.held errors.new })
+        (E.put_failed errors.new) }
+    ensures flushed { result ≡ Checked → O.is_flushed output.new ≡ true }
+    ensures errors_flushed { has_told result ≡ true → E.put_failed errors.new ≡ false → E.is_flushed errors.new ≡ true }
+    ensures flag { O.put_failed output.new ≡ (is_output_failed result || O.put_failed output.old) }
+{
+    let folder = HostFolder::of(host, file);
+    let mut mapfile = Flagged::new(HostFile::new(host, file));
+    check_file(alloc, &folder, file, &mut mapfile, explains, output, errors)
+}
+
+// Plays a script on the map of a mapfile.
+fn run<H: Host, O: Sink, E: Sink>(
+    alloc: Global,
+    host: &H,
+    file: &str,
+    script: &str,
+    output: &mut O,
+    errors: &mut E,
+) -> Outcome
+    ensures runs { (front : List ℕ) × IsFront file.now front × (after : Left) × (script_after : Left)
+        × RunsTo (gives_in (H.file host.now) front) result file.now script.now (H.file host.now file.now) after
+        (record { input = H.file host.now script.now; output = O.held output.old; errors = E.held errors.old })
+        (record { input = script_after; output = O.held output.new; errors = E.held errors.new })
+        (E.put_failed errors.new) }
+    ensures flushed { result ≡ Played → O.is_flushed output.new ≡ true }
+    ensures errors_flushed { has_told result ≡ true → E.put_failed errors.new ≡ false → E.is_flushed errors.new ≡ true }
+    ensures flag { O.put_failed output.new ≡ (is_output_failed result || O.put_failed output.old) }
+{
+    let folder = HostFolder::of(host, file);
+    let mut mapfile = Flagged::new(HostFile::new(host, file));
+    let mut commands = Flagged::new(HostFile::new(host, script));
+    run_files(
+        alloc,
+        &folder,
+        file,
+        &mut mapfile,
+        script,
+        &mut commands,
+        output,
+        errors,
+    )
+}
+
+/// Does what a command asks for, with the files and the ports of a host. What a session is played from is the
+/// input; no other command reads it.
+pub fn perform<H: Host, I: Source, O: Sink, E: Sink>(
+    alloc: Global,
+    host: &H,
+    command: Command,
+    input: &mut I,
+    output: &mut O,
+    errors: &mut E,
+) -> Outcome
+    ensures performs { Performs (record { file = H.file host.now; listens = H.listens host.now; ports = record { log = H.Port.log; address = H.Port.address } }) command.entry result
+        (record { input = I.left input.old; output = O.held output.old; errors = E.held errors.old })
+        (record { input = I.left input.new; output = O.held output.new; errors = E.held errors.new })
+        (E.put_failed errors.new) }
+    ensures input_kept { command.entry ≢ Session → input.new ≡ input.old }
+    ensures flushed { result ≡ Played → O.is_flushed output.new ≡ true }
+    ensures checked { result ≡ Checked → O.is_flushed output.new ≡ true }
+    ensures errors_flushed { has_told result ≡ true → E.put_failed errors.new ≡ false → E.is_flushed errors.new ≡ true }
+    ensures flag { O.put_failed output.new ≡ (is_output_failed result || O.put_failed output.old) }
+{
+    match command {
+        Command::Session => {
+            serve_session(alloc, &HostFolder::current(host), input, output, errors)
+        }
+        Command::Check { file, explains } => check(alloc, host, file, explains, output, errors),
+        Command::Run { file, script } => run(alloc, host, file, script, output, errors),
+        Command::Serve {
+            file,
+            port,
+            connections,
+        } => serve_file(alloc, host, file, port, connections, output, errors),
+    }
+}

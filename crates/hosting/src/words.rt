@@ -1,0 +1,109 @@
+ghost use Rattle.std.specs.Prelude.{◌≡◌, map, IfOk, string_bytes, Ok};
+ghost use Rattle.std.specs.Result.{result_map_both};
+ghost use Rattle.sessions.specs.Session.{Streams};
+ghost use Rattle.hosting.specs.Answering.{Answers};
+ghost use Rattle.hosting.specs.Performing.{HostView, PortView};
+
+use crate::commands::perform;
+use crate::ending::Ending;
+use crate::host::Host;
+use commandline::{WordsFault, command};
+use mapmachine::{Sink, Source};
+use sessions::{Outcome, tell};
+use std::alloc::{AllocError, Global};
+use thiserror::Error;
+
+/// Why the words of the command line can't be read.
+#[derive(Clone, Copy, Debug, Error)]
+pub enum WordsUnread {
+    /// One of them isn't UTF-8.
+    #[error("a word is not UTF-8")]
+    NoText,
+    /// Memory was refused.
+    #[error("out of memory")]
+    NoMemory,
+}
+
+// Words as texts.
+fn texts_of<'a>(alloc: Global, words: &'a [String]) -> Result<Vec<&'a str>, AllocError>
+    ensures { IfOk result (λ texts. map (λ text. text.now) texts.items ≡ map string_bytes words.now) }
+{
+    let mut texts = Vec::new(alloc);
+    for word in words {
+        texts.push(word.as_str())?;
+    }
+    Ok(texts)
+}
+
+// Does what words ask for.
+fn answer_texts<H: Host, I: Source, O: Sink, E: Sink>(
+    alloc: Global,
+    host: &H,
+    texts: &[&str],
+    input: &mut I,
+    output: &mut O,
+    errors: &mut E,
+) -> Outcome
+    ensures { Answers (record { file = H.file host.now; listens = H.listens host.now; ports = record { log = H.Port.log; address = H.Port.address } })
+        (Ok (map (λ text. text.now) texts.entry.now)) result
+        (record { input = I.left input.old; output = O.held output.old; errors = E.held errors.old })
+        (record { input = I.left input.new; output = O.held output.new; errors = E.held errors.new })
+        (E.put_failed errors.new) }
+{
+    match command(alloc, texts) {
+        Ok(command) => perform(alloc, host, command, input, output, errors),
+        Err(WordsFault::Refused { text }) => {
+            tell(errors, &[text.as_bytes()]);
+            Outcome::WordsRefused
+        }
+        Err(WordsFault::NoMemory) => Outcome::NoMemory,
+    }
+}
+
+// Does what words ask for.
+fn answer_words<H: Host, I: Source, O: Sink, E: Sink>(
+    alloc: Global,
+    host: &H,
+    words: &[String],
+    input: &mut I,
+    output: &mut O,
+    errors: &mut E,
+) -> Outcome
+    ensures { Answers (record { file = H.file host.now; listens = H.listens host.now; ports = record { log = H.Port.log; address = H.Port.address } })
+        (Ok (map string_bytes words.now)) result
+        (record { input = I.left input.old; output = O.held output.old; errors = E.held errors.old })
+        (record { input = I.left input.new; output = O.held output.new; errors = E.held errors.new })
+        (E.put_failed errors.new) }
+{
+    match texts_of(alloc, words) {
+        Ok(texts) => answer_texts(alloc, host, &texts, input, output, errors),
+        Err(_) => Outcome::NoMemory,
+    }
+}
+
+/// Does what the words of the command line ask for, or tells what is wrong with them, and says how the program
+/// ends.
+pub fn answer<H: Host, I: Source, O: Sink, E: Sink>(
+    alloc: Global,
+    host: &H,
+    words: Result<Vec<String>, WordsUnread>,
+    input: &mut I,
+    output: &mut O,
+    errors: &mut E,
+) -> Ending
+    ensures answers { Answers (record { file = H.file host.now; listens = H.listens host.now; ports = record { log = H.Port.log; address = H.Port.address } })
+        (result_map_both (λ w. map string_bytes w.items) (λ e. e) words) result
+        (record { input = I.left input.old; output = O.held output.old; errors = E.held errors.old })
+        (record { input = I.left input.new; output = O.held output.new; errors = E.held errors.new })
+        (E.put_failed errors.new) }
+{
+    let outcome = match words {
+        Ok(words) => answer_words(alloc, host, &words, input, output, errors),
+        Err(WordsUnread::NoText) => {
+            tell(errors, &[b"error: a word is not UTF-8\n"]);
+            Outcome::WordsRefused
+        }
+        Err(WordsUnread::NoMemory) => Outcome::NoMemory,
+    };
+    Ending::with(outcome)
+}
