@@ -177,6 +177,11 @@ passed-by view old thin ring first run to rest more e is has before =
       valid = record { low = is.low; high = is.high; least = least; most = most; rows = is.rows };
     }
 
+-- the edge between two vertices is added
+pub added : (view : ViewValue) (old new : List EdgeEnds) (from to : Place) → new ≡ old ++ edge_between (device_point view from, device_point view to) ∷ [] → AddsEdge view old from to new
+added view old new from to e i j below =
+    ap (λ es. is_covered es (pixel_centre (pos i) (pos j))) e ∙ covered-one old (edge_between (device_point view from, device_point view to)) (pixel_centre (pos i) (pos j))
+
 -- rings one after another
 pub adds-ring : (h : ℕ) (old thin new : List EdgeEnds) (whole more : List EdgeEnds) → StandsFor h thin whole → Adds h thin more new → StandsFor h new (whole ++ more)
 adds-ring h old thin new whole more is adds = record {

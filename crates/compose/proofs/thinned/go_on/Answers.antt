@@ -1,11 +1,9 @@
 use Rattle.std.proofs.Common.{◌≡◌, ◌∙◌, [], ◌∷◌, ◌++◌, refl, sym, ap}
-use lib.IntN.{pos}
-use Rattle.geom.specs.Device.{pixel_centre}
 use Rattle.geom.specs.Edge.{EdgeEnds}
-use Rattle.geom.specs.EvenOdd.{edge_between, is_covered}
+use Rattle.geom.specs.EvenOdd.{edge_between}
 use Rattle.viewport.specs.View.{device_point}
 use Rattle.compose.specs.Thinned.{row_of}
-use Rattle.compose.proofs.Thinning.{covered-one, run-missed}
+use Rattle.compose.proofs.Thinning.{added, run-missed}
 use Rattle.compose.proofs.thinned.go_on.Goals as goal
 
 pub returns-then-row-run-clause-edge : goal.returns-then-row-run-clause-edge
@@ -18,6 +16,4 @@ returns-clause-edge c =
     let view = c.args.rows.now in
     let e : EdgeEnds = edge_between (device_point view c.args.run.from, device_point view c.args.to) in
     let same : c.new.result ≡ e = rw (c.new.ensures, c.device.ensures, c.device-2.ensures, c.projection-projection.ensures) refl in
-    λ i j below.
-    ap (λ es. is_covered es (pixel_centre (pos i) (pos j))) (c.in_ok-push.ensures.items ∙ ap (λ x. c.args.thin.now.items ++ x ∷ []) same)
-    ∙ covered-one c.args.thin.now.items (edge_between (device_point view c.args.run.from, device_point view c.args.to)) (pixel_centre (pos i) (pos j))
+    added view c.args.thin.now.items _ c.args.run.from c.args.to (c.in_ok-push.ensures.items ∙ ap (λ x. c.args.thin.now.items ++ x ∷ []) same)
