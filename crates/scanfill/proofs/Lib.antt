@@ -6,6 +6,7 @@ pub mod Marching
 pub mod Parity
 pub mod Quotients
 pub mod Readings
+pub mod SameRuns
 pub mod Shares
 pub mod Sizes
 pub mod Steps

@@ -28,3 +28,7 @@ is_in_spans spans i = list_any (λ span. has_column span i) spans
 -- the law: a pixel lies in one of the runs exactly where it passes
 abbrev pub AreThosePassing : Type 0
 AreThosePassing = (test : ℕ → Bool) (end : ℕ) (spans : List Span) → AreRunsFrom test 0 end spans → (i : ℕ) → i < end → is_in_spans spans i ≡ test i
+
+-- the law: a test has one list of longest runs
+abbrev pub RunsAreOne : Type 0
+RunsAreOne = (test : ℕ → Bool) (start end : ℕ) (a b : List Span) → AreRunsFrom test start end a → AreRunsFrom test start end b → a ≡ b

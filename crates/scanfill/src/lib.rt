@@ -5,8 +5,9 @@
 //! even-odd rule finds, for any rings and any view. `EdgeWalk::column` is the least column whose pixel
 //! centre the edge crosses at it or left of it (`IsColumn`), in each row that the walk comes to. What
 //! `Cover::row` and `Sweep::next` leave are the longest runs of covered pixels, rising (`AreRunsFrom`).
-//! By `laws::spans` a pixel lies in one of them exactly where it is covered. Outside of the rows that
-//! `Cover::rows` gives no pixel of the picture is covered.
+//! By `laws::spans` a pixel lies in one of them exactly where it is covered, and by
+//! `laws::one_list_of_runs` a row has one such list. Outside of the rows that `Cover::rows` gives no pixel
+//! of the picture is covered.
 //!
 //! Words: a *span* is a run of pixels in a row, its end excluded. A *cover* is a shape that covers pixels.
 //! A *walk* goes down an edge, row by row. A *flip* is a column at which the pixels of a row go in or out.

@@ -1,4 +1,5 @@
 pub mod Commands
+pub mod Digits
 pub mod Fronts
 pub mod HexLines
 pub mod Lines
@@ -8,3 +9,4 @@ pub mod Playing
 pub mod Rests
 pub mod ScriptSteps
 pub mod Serving
+pub mod WrittenScripts

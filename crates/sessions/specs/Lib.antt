@@ -1,4 +1,5 @@
 pub mod Connections
+pub mod Digits
 pub mod Folder
 pub mod Forms
 pub mod Lines
@@ -10,3 +11,4 @@ pub mod Sent
 pub mod Session
 pub mod Summary
 pub mod Transcript
+pub mod Written

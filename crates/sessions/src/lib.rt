@@ -17,6 +17,7 @@ mod connection;
 mod files;
 mod folder;
 mod input;
+pub mod laws;
 mod line;
 mod outcome;
 mod parts;

@@ -1,0 +1,23 @@
+-- Scripts as they are written from events (docs/PROFILE.md, "Sessions").
+use Rattle.std.specs.Prelude.{◌≡◌, ℕ, List, ◌++◌, false, Ok, codes}
+use Rattle.std.specs.List.{All, flat_map, list_any}
+use Rattle.mapmachine.specs.declared.reply.Event.{Event}
+use Rattle.mapmachine.specs.declared.reply.Event.TheVariants.{Query}
+use Rattle.sessions.specs.Lines.{is_line_end}
+use Rattle.sessions.specs.Script.{script_of}
+
+-- an event as its command is written: a query as its word, a space, its text and an LF
+abbrev pub command_text : Event → List ℕ
+command_text (Query text) = codes "QUERY " ++ (text ++ codes "\n")
+
+-- events as a script, one command after the other
+abbrev pub script_text : List Event → List ℕ
+script_text events = flat_map command_text events
+
+-- a script can tell of the event: the text of a query has no LF
+abbrev pub CanBeWritten : Event → Type 0
+CanBeWritten (Query text) = list_any is_line_end text ≡ false
+
+-- the law: a script that is written out from events is read as these
+abbrev pub WrittenScriptIsRead : Type 0
+WrittenScriptIsRead = (events : List Event) → All CanBeWritten events → script_of (script_text events) ≡ Ok events
