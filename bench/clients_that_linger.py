@@ -5,7 +5,7 @@ A picture of 512 by 512 pixels is asked for COUNT times each way (100 where it i
 a second write, by http.client, which writes it so, and with 8,192 bytes or a second head after the first. Each answer
 is to come whole. Then a client holds the server: it sends half a head and waits; half a head, and a byte each second;
 a head for a picture of 12 MB, of which it reads nothing. Another client asks while it does. The time is printed after
-which that one was answered: 30 seconds, and 30 to 60 where the picture isn't read. The last client neither sends more
+which that one was answered: 30 seconds, and what the picture took. The last client neither sends more
 nor leaves after its answer, which holds the server for 2 seconds.
 """
 import http.client
@@ -133,7 +133,7 @@ def main():
             holders = [
                 ("half a head", lambda: held(port, half, False), 29, 31),
                 ("a byte each second", lambda: held(port, half, True), 29, 31),
-                ("a picture that isn't read", lambda: held(port, head_of(LARGE), False), 29, 62),
+                ("a picture that isn't read", lambda: held(port, head_of(LARGE), False), 29, 35),
                 ("a client that stays", lambda: left_waiting(port), 0, 3),
             ]
             for name, hold, least, most in holders:

@@ -34,6 +34,7 @@ pub use files::{HostFile, HostFolder};
 pub use host::{Host, ListenFailed};
 pub use limits::{
     ANSWER_SECONDS, DRAIN_SECONDS, FAILURE_MILLISECONDS, HEAD_SECONDS, STILL_SECONDS, TimeLimit,
+    WRITE_SECONDS,
 };
 pub use port::{AcceptFailed, Accepted, AddressFault, Port};
 pub use serving::answer_connections;

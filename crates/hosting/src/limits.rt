@@ -16,6 +16,9 @@ pub const ANSWER_SECONDS: u64 = 600;
 /// How many seconds a client may take none of its answer.
 pub const STILL_SECONDS: u64 = 30;
 
+/// How many seconds a write waits, until it is made again or says how many bytes went.
+pub const WRITE_SECONDS: u64 = 1;
+
 /// For how many seconds in all is read what a client still sends after its answer.
 pub const DRAIN_SECONDS: u64 = 2;
 

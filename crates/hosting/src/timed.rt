@@ -1,7 +1,7 @@
 ghost use Rattle.std.specs.Prelude.{◌≡◌, true};
 
 use crate::closing::Closing;
-use crate::limits::{ANSWER_SECONDS, STILL_SECONDS, TimeLimit};
+use crate::limits::{ANSWER_SECONDS, STILL_SECONDS, TimeLimit, WRITE_SECONDS};
 use std::io::{self, ErrorKind, Read, Write};
 use std::net::{OpenStream, Shutdown};
 use std::rt::Clock;
@@ -48,13 +48,15 @@ impl<S: Read + OpenStream, C: Clock> Read for TimedReader<'_, S, C> {
     }
 }
 
-/// What a client gets. Each write waits so long as an answer may stand still, and no longer than is left of the
-/// time that an answer has in all, which begins with the first.
+/// What a client gets. An answer may stand still for a time, and has another in all, which begins with the first
+/// write. So a write waits for a second at most, and is made again while none of its bytes went.
 #[derive(Drop)]
 pub struct TimedWriter<'a, S, C> {
     stream: S,
     clock: &'a C,
     limit: Option<TimeLimit>,
+    // The time since bytes last went.
+    still: Option<TimeLimit>,
     is_shut: bool,
 }
 
@@ -65,25 +67,41 @@ impl<'a, S, C> TimedWriter<'a, S, C> {
             stream,
             clock,
             limit: None,
+            still: None,
             is_shut: false,
         }
     }
 }
 
+// How much is left of a time, which begins now if it hasn't begun.
+fn left_of<C: Clock>(
+    limit: &mut Option<TimeLimit>,
+    clock: &C,
+    seconds: u64,
+) -> io::Result<Duration> {
+    let begun = match *limit {
+        Some(begun) => begun,
+        None => TimeLimit::start(clock, seconds)?,
+    };
+    *limit = Some(begun);
+    begun.left(clock)
+}
+
 impl<S, C: Clock> TimedWriter<'_, S, C> {
-    // How long the next write may wait. The first begins the time of the answer.
+    // How long the next write may wait.
     fn next_wait(&mut self) -> io::Result<Duration> {
-        let limit = match self.limit {
-            Some(limit) => limit,
-            None => TimeLimit::start(self.clock, ANSWER_SECONDS)?,
-        };
-        self.limit = Some(limit);
-        Ok(
-            limit
-                .left(self.clock)?
-                .min(Duration::from_secs(STILL_SECONDS)),
-        )
+        let left = left_of(&mut self.limit, self.clock, ANSWER_SECONDS)?;
+        let still = left_of(&mut self.still, self.clock, STILL_SECONDS)?;
+        Ok(left.min(still).min(Duration::from_secs(WRITE_SECONDS)))
     }
+}
+
+// Whether a write failed since it had waited as long as it may, or a signal came.
+fn moved_nothing(error: &io::Error) -> bool {
+    matches!(
+        error.kind(),
+        ErrorKind::Interrupted | ErrorKind::WouldBlock | ErrorKind::TimedOut
+    )
 }
 
 impl<S: Write + OpenStream, C: Clock> Write for TimedWriter<'_, S, C> {
@@ -92,8 +110,11 @@ impl<S: Write + OpenStream, C: Clock> Write for TimedWriter<'_, S, C> {
             let wait = self.next_wait()?;
             self.stream.set_write_timeout(Some(wait))?;
             match self.stream.write(bytes) {
-                Err(error) if error.kind() == ErrorKind::Interrupted => {}
-                written => return written,
+                Err(error) if moved_nothing(&error) => {}
+                written => {
+                    self.still = None;
+                    return written;
+                }
             }
         }
         Err(io::Error::from(ErrorKind::TimedOut))

@@ -10,16 +10,17 @@ use test_tables::{TableFault, check_rows};
 // A clock that shows a number of seconds, and a stream whose calls take so many of them. It notes for how many
 // seconds the last call might wait, and whether its writing side was closed.
 #[derive(Drop)]
-struct Times {
+struct Times<'a> {
     now: Cell<u64>,
     takes: u64,
     waits: Cell<u64>,
     is_shut: Cell<bool>,
-    // Whether a signal is still to interrupt a call.
-    is_signalled: Cell<bool>,
+    calls: Cell<u32>,
+    // What becomes of the calls: `signalled` where a signal interrupts the first, `stands` where they move nothing.
+    way: &'a str,
 }
 
-impl Clock for Times {
+impl Clock for Times<'_> {
     fn monotonic(&self) -> io::Result<Duration> {
         Ok(Duration::from_secs(self.now.get()))
     }
@@ -29,15 +30,18 @@ impl Clock for Times {
     }
 }
 
-impl Times {
+impl Times<'_> {
     // Lets the time of a call pass, which moves a byte.
     fn pass(&self) -> io::Result<usize> {
         self.now.set(self.now.get().saturating_add(self.takes));
-        if self.is_signalled.get() {
-            self.is_signalled.set(false);
-            return Err(io::Error::from(io::ErrorKind::Interrupted));
+        self.calls.set(self.calls.get().saturating_add(1));
+        match self.way {
+            "signalled" if self.calls.get() == 1 => {
+                Err(io::Error::from(io::ErrorKind::Interrupted))
+            }
+            "stands" => Err(io::Error::from(io::ErrorKind::WouldBlock)),
+            _ => Ok(1),
         }
-        Ok(1)
     }
 
     // Notes for how long the next call may wait.
@@ -48,7 +52,7 @@ impl Times {
 }
 
 #[derive(Drop)]
-struct Slow<'a>(&'a Times);
+struct Slow<'a>(&'a Times<'a>);
 
 impl Read for Slow<'_> {
     fn read(&mut self, room: &mut [u8]) -> io::Result<usize> {
@@ -81,10 +85,11 @@ impl OpenStream for Slow<'_> {
     }
 }
 
-// What is told of calls up to the first that fails: for how long each might wait.
+// What is told of a reader or a writer up to its first failure: for how many seconds the calls of the stream that moved a
+// byte might wait, and how many calls there were.
 fn told_of_calls<F: FnMut() -> bool>(
     alloc: Global,
-    times: &Times,
+    times: &Times<'_>,
     mut moves: F,
 ) -> Result<String, AllocError>
     requires { F.IsAlwaysCallable moves }
@@ -97,32 +102,44 @@ fn told_of_calls<F: FnMut() -> bool>(
         let wait = format!(in alloc; "{} ", times.waits.get())?;
         told.push_str(wait.as_str())?;
     }
+    let calls = format!(in alloc; "in {}", times.calls.get())?;
+    told.push_str(calls.as_str())?;
     Ok(told)
 }
 
-// The first call of a stream comes 5 seconds after the time of its head began. Then for how long the reads and
-// the writes may wait that move a byte. The row has how many seconds each call takes, and whether a signal
-// interrupts the first.
+// What is told of a stream whose first call comes 5 seconds after the time of its head began. The row has how many
+// seconds each call takes, and what becomes of the calls.
 const WAITS: &str = "\
-25 5 =read 20
-25 15 5 =read 10
-=read 30 signalled
-5 =read 20 signalled
-30 30 30 =write 200
-30 30 20 =write 290
-30 =write 600
-30 30 =write 200 signalled";
+25 5 in 2=read 20
+25 15 5 in 3=read 10
+in 1=read 30 signalled
+5 in 2=read 20 signalled
+in 1=read 10 stands
+1 1 1 in 3=write 200
+1 1 1 in 3=write 290
+1 in 1=write 600
+1 1 1 1 1 1 1 1 1 1 in 11=write 29 signalled
+in 1=write 30 signalled
+in 30=write 1 stands
+in 3=write 10 stands";
+
+// A clock at which the time of a head began 5 seconds ago.
+fn times_of(takes: u64, way: &str) -> Times<'_> {
+    Times {
+        now: Cell::new(12),
+        takes,
+        waits: Cell::new(0),
+        is_shut: Cell::new(false),
+        calls: Cell::new(0),
+        way,
+    }
+}
 
 fn told(alloc: Global, row: &str) -> Result<String, AllocError> {
     let (call, rest) = row.split_once(' ').unwrap_or(("", ""));
-    let (takes, signal) = rest.split_once(' ').unwrap_or((rest, ""));
-    let times = Times {
-        now: Cell::new(7),
-        takes: takes.parse().unwrap_or(0),
-        waits: Cell::new(0),
-        is_shut: Cell::new(false),
-        is_signalled: Cell::new(!signal.is_empty()),
-    };
+    let (takes, way) = rest.split_once(' ').unwrap_or((rest, ""));
+    let times = times_of(takes.parse().unwrap_or(0), way);
+    times.now.set(7);
     let Ok(limit) = TimeLimit::start(&times, HEAD_SECONDS) else {
         return Err(AllocError);
     };
@@ -138,18 +155,12 @@ fn told(alloc: Global, row: &str) -> Result<String, AllocError> {
 
 #[test]
 fn calls_wait_for_what_is_left_of_a_time(rt: HostRuntime) -> Result<(), TableFault> {
-    check_rows(rt.alloc(), WAITS, '=', 8, told)
+    check_rows(rt.alloc(), WAITS, '=', 12, told)
 }
 
 #[test]
 fn the_writing_side_is_closed(rt: HostRuntime) {
-    let times = Times {
-        now: Cell::new(0),
-        takes: 0,
-        waits: Cell::new(0),
-        is_shut: Cell::new(false),
-        is_signalled: Cell::new(false),
-    };
+    let times = times_of(0, "");
     TimedWriter::new(Slow(&times), &times).shut();
     assert!(rt; times.is_shut.get());
 }
