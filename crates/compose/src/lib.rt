@@ -6,7 +6,8 @@
 //! Words: a *thing* is what is painted at once: the rings of a polygon, a line or a square in one colour,
 //! or a pixmap. The *paint list* has the things of the chosen layers in order: a layer's features, a
 //! feature's styles, the points of a feature. A *canvas* is the picture while it is painted. A *colouring*
-//! gives the pixels of a cover their colours.
+//! gives the pixels of a cover their colours. A *run* is a stretch of a ring's vertices in one row of the
+//! picture. Edges *stand for* others where they cover the same pixels of its rows.
 #![tactic(auto)]
 
 mod canvas;

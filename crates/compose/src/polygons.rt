@@ -1,6 +1,5 @@
-ghost use Rattle.std.specs.Prelude.{◌≡◌, true, List, map, IfOk, OnOk};
+ghost use Rattle.std.specs.Prelude.{◌≡◌, true, map, IfOk, OnOk};
 ghost use Rattle.std.specs.List.{flat_map};
-ghost use Rattle.geom.specs.Device.{DevicePoint};
 ghost use Rattle.geom.specs.EvenOdd.{edges};
 ghost use Rattle.strokes.specs.Line.{line_of};
 ghost use Rattle.viewport.specs.View.{device_point};
@@ -32,9 +31,8 @@ pub fn paint_polygon(
     ensures { let points = map (map (device_point scene.now.view)) rings.now in
         OnOk result (IsPainted canvas.old canvas.new (flat_map (polygon_things points) styles.now)) }
 {
-    let polygon = polygon_of(canvas, scene, rings)?;
     for style in styles {
-        fill_rings(canvas, &polygon, style)?;
+        fill_rings(canvas, scene, rings, style)?;
         paint_outline(canvas, scene, rings, style)?;
     }
     Ok(())
@@ -52,15 +50,21 @@ fn polygon_of(
     Ok(Polygon::of(thinned(canvas.alloc(), &rows, rings)?))
 }
 
-// Fills the rings for which the polygon stands by a style, where it has a colour.
-fn fill_rings(canvas: &mut Canvas, polygon: &Polygon, style: &Style) -> Result<(), AllocError>
-    ensures { OnOk result ((rings : List (List DevicePoint)) → StandsFor canvas.old.height polygon.now (edges rings) →
-        IsPainted canvas.old canvas.new (fills rings style.now.colour)) }
+// Fills the rings by a style, where it has a colour.
+fn fill_rings(
+    canvas: &mut Canvas,
+    scene: &Scene<'_>,
+    rings: &[Items<World>],
+    style: &Style,
+) -> Result<(), AllocError>
+    requires { canvas.old.height ≡ scene.now.view.height }
+    ensures { OnOk result (IsPainted canvas.old canvas.new (fills (map (map (device_point scene.now.view)) rings.now) style.now.colour)) }
 {
-    match style.get().colour {
-        Some(colour) => fill_polygon(canvas, polygon, colour),
-        None => Ok(()),
-    }
+    let Some(colour) = style.get().colour else {
+        return Ok(());
+    };
+    let polygon = polygon_of(canvas, scene, rings)?;
+    fill_polygon(canvas, &polygon, colour)
 }
 
 // Paints the outline of the rings by a style, where it has one.
