@@ -5,6 +5,7 @@ use sessions::{Outcome, read_all};
 use std::io::{self, Read, Write};
 use std::net::{Ipv4Addr, Shutdown, TcpListener, TcpStream};
 use std::test::Fail;
+use std::time::Instant;
 use std::{env, fs, str};
 
 /// A head without a query, of 30 bytes.
@@ -133,8 +134,11 @@ fn bytes_after_a_head_leave_its_answer_whole(rt: HostRuntime) -> Result<(), Fail
 #[test]
 fn a_client_that_stays_is_left(rt: HostRuntime) -> Result<(), Fail> {
     let stays = format!(in rt.alloc(); "{HEAD}|stays")?;
+    let began = Instant::now(&rt)?;
     let (_, answers) = answered(&rt, &[stays.as_str(), HEAD], 3)?;
-    assert_eq!(rt; answers.len(), 596);
+    // It is left after 2 seconds, and not when the time of its head is over.
+    let is_left = began.elapsed(&rt)?.as_secs() < 20;
+    assert_eq!(rt; (answers.len(), is_left), (596, true));
     Ok(())
 }
 
