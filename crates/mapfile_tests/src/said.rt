@@ -143,7 +143,8 @@ fn said_of(alloc: Global, map: &Map) -> Result<String, AllocError> {
     for side in sides {
         write!(text, " {}", side.millionths())?;
     }
-    write!(text, " {:?} {}\n", map.font, map.symbols.len())?;
+    let font = if map.font.is_none() { "None" } else { "a font" };
+    write!(text, " {font} {}\n", map.symbols.len())?;
     for layer in map.layers.as_slice() {
         write_layer(&mut text, layer)?;
     }
