@@ -62,7 +62,12 @@ fn draw_row(
 }
 
 // Adds the rows of a picture, and then its colours.
-fn draw_rows(drawing: &mut String, alloc: Global, pixels: &[u8], width: usize) -> Result<bool, AllocError> {
+fn draw_rows(
+    drawing: &mut String,
+    alloc: Global,
+    pixels: &[u8],
+    width: usize,
+) -> Result<bool, AllocError> {
     let mut colours = Vec::new(alloc);
     for row in pixels.chunks(width.saturating_mul(3).max(1)) {
         if !draw_row(drawing, &mut colours, row)? {

@@ -3,7 +3,7 @@ use std::alloc::{AllocError, Global};
 
 // A transcript as people read it: its pictures are drawn in letters, where that can be.
 #[derive(Drop)]
-struct Readable {
+struct ReadableTranscript {
     alloc: Global,
     text: String,
     // How many bytes of a picture are still to come.
@@ -22,10 +22,10 @@ fn picture_len(line: &str) -> Option<usize> {
     length.parse().ok()
 }
 
-impl Readable {
+impl ReadableTranscript {
     // A transcript without a line.
     fn new(alloc: Global) -> Self {
-        Readable {
+        ReadableTranscript {
             alloc,
             text: String::new(alloc),
             missing: 0,
@@ -74,10 +74,10 @@ impl Readable {
 
 /// A transcript with its pictures drawn in letters.
 pub fn readable(alloc: Global, transcript: &str) -> Result<String, AllocError> {
-    let mut readable = Readable::new(alloc);
+    let mut readable = ReadableTranscript::new(alloc);
     for line in transcript.lines() {
         readable.add(line)?;
     }
-    let Readable { text, .. } = readable;
+    let ReadableTranscript { text, .. } = readable;
     Ok(text)
 }

@@ -1,3 +1,5 @@
+ghost use Rattle.std.specs.Prelude.{◌≡◌, None};
+
 use crate::memory::{Memory, stream_of};
 use crate::ports::{HEAD, RESPONSE};
 use crate::texts::{columns, spelt};
@@ -66,7 +68,9 @@ impl<'a> Port for Letters<'a> {
         &mut self,
         accepted: Accepted<Flagged<Memory<'a>>, Flagged<Memory<'a>>>,
         fault: Option<EdgeFault>,
-    ) {
+    )
+        ensures { self.new.left.now ≡ self.old.left.now }
+    {
         let held = accepted.writer.into_inner().held;
         let count = match fault {
             None if held.as_slice() == RESPONSE => &self.counts.answered,
