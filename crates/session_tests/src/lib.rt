@@ -27,5 +27,3 @@ mod ports;
 mod stops;
 #[cfg(test)]
 mod texts;
-#[cfg(test)]
-mod timed_streams;

@@ -1,12 +1,12 @@
-use hosting::{HostFile, SystemHost, serve_port};
+use hosting::{SystemHost, serve_port};
 use mapmachine::Flagged;
 use mapparse::{Files, parse};
-use sessions::{Outcome, read_all};
+use sessions::Outcome;
 use std::io::{self, Read, Write};
 use std::net::{Ipv4Addr, Shutdown, TcpListener, TcpStream};
+use std::str;
 use std::test::Fail;
 use std::time::Instant;
-use std::{env, fs, str};
 
 /// A head without a query, of 30 bytes.
 pub const HEAD: &str = "GET /wms HTTP/1.1\r\nHost: x\r\n\r\n";
@@ -156,24 +156,5 @@ fn a_port_that_is_taken_is_told(rt: HostRuntime) -> Result<(), Fail> {
         output.into_inner().len(),
     );
     assert_eq!(rt; told, (true, 0));
-    Ok(())
-}
-
-#[test]
-fn a_file_of_the_system_is_read_to_its_end(rt: HostRuntime) -> Result<(), Fail> {
-    let alloc = rt.alloc();
-    let mut bytes = Vec::new(alloc);
-    for byte in 0..200_000_u32 {
-        bytes.push((byte % 251) as u8)?;
-    }
-    let folder = env::temp_dir(&rt)?;
-    let path = folder.join(alloc, "kesmoch_a_file_of_the_system")?;
-    fs::write(&rt, path.as_path(), bytes.as_slice())?;
-    let host = SystemHost::new(&rt);
-    let path = path.to_str().unwrap_or("");
-    let found = read_all(alloc, &mut Flagged::new(HostFile::new(&host, path)));
-    let is_read = matches!(found, Ok(found) if found == bytes);
-    fs::remove_file(&rt, path)?;
-    assert!(rt; is_read);
     Ok(())
 }
