@@ -27,3 +27,5 @@ mod ports;
 mod stops;
 #[cfg(test)]
 mod texts;
+#[cfg(test)]
+mod timed_streams;

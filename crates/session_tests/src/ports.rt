@@ -1,12 +1,12 @@
-use hosting::{SystemHost, serve_port};
+use hosting::{Host, SystemHost, serve_port};
 use mapmachine::Flagged;
 use mapparse::{Files, parse};
-use sessions::Outcome;
+use sessions::{Outcome, read_all};
 use std::io::{self, Read, Write};
 use std::net::{Ipv4Addr, Shutdown, TcpListener, TcpStream};
-use std::str;
 use std::test::Fail;
 use std::time::Instant;
+use std::{env, fs, str};
 
 /// A head without a query, of 30 bytes.
 pub const HEAD: &str = "GET /wms HTTP/1.1\r\nHost: x\r\n\r\n";
@@ -156,5 +156,29 @@ fn a_port_that_is_taken_is_told(rt: HostRuntime) -> Result<(), Fail> {
         output.into_inner().len(),
     );
     assert_eq!(rt; told, (true, 0));
+    Ok(())
+}
+
+// Whether a file of the system is read as the bytes that were written to it.
+fn is_read_whole(rt: &HostRuntime, path: &str, bytes: &[u8]) -> Result<bool, Fail> {
+    fs::write(rt, path, bytes)?;
+    let file = SystemHost::new(rt).open(path)?;
+    let found = read_all(rt.alloc(), &mut Flagged::new(file));
+    Ok(matches!(found, Ok(found) if found.as_slice() == bytes))
+}
+
+#[test]
+fn a_file_of_the_system_is_read_to_its_end(rt: HostRuntime) -> Result<(), Fail> {
+    let alloc = rt.alloc();
+    let mut bytes = Vec::new(alloc);
+    for byte in 0..200_000_u32 {
+        bytes.push((byte % 251) as u8)?;
+    }
+    let folder = env::temp_dir(&rt)?;
+    let path = folder.join(alloc, "kesmoch_a_file_of_the_system")?;
+    let path = path.to_str().unwrap_or("");
+    let is_whole = is_read_whole(&rt, path, bytes.as_slice())?;
+    fs::remove_file(&rt, path)?;
+    assert!(rt; is_whole);
     Ok(())
 }

@@ -1,0 +1,174 @@
+use hosting::{Closing, HEAD_SECONDS, TimeLimit, TimedReader, TimedWriter};
+use std::alloc::{AllocError, Global};
+use std::cell::Cell;
+use std::io::{self, Read, Write};
+use std::net::{OpenStream, Shutdown};
+use std::rt::Clock;
+use std::time::Duration;
+use test_tables::{TableFault, check_rows};
+
+// A clock that shows a number of seconds, and a stream whose calls take so many of them. It notes for how many
+// seconds the last call might wait, and whether its writing side was closed.
+#[derive(Drop)]
+struct Times<'a> {
+    now: Cell<u64>,
+    takes: u64,
+    waits: Cell<u64>,
+    is_shut: Cell<bool>,
+    calls: Cell<u32>,
+    // What becomes of the calls: `signalled` where a signal interrupts the first, `stands` where they move nothing.
+    way: &'a str,
+}
+
+impl Clock for Times<'_> {
+    fn monotonic(&self) -> io::Result<Duration> {
+        Ok(Duration::from_secs(self.now.get()))
+    }
+
+    fn since_1970(&self) -> io::Result<Duration> {
+        Ok(Duration::ZERO)
+    }
+}
+
+impl Times<'_> {
+    // Lets the time of a call pass, which moves a byte.
+    fn pass(&self) -> io::Result<usize> {
+        self.now.set(self.now.get().saturating_add(self.takes));
+        self.calls.set(self.calls.get().saturating_add(1));
+        match self.way {
+            "signalled" if self.calls.get() == 1 => {
+                Err(io::Error::from(io::ErrorKind::Interrupted))
+            }
+            "stands" => Err(io::Error::from(io::ErrorKind::WouldBlock)),
+            _ => Ok(1),
+        }
+    }
+
+    // Notes for how long the next call may wait.
+    fn note(&self, wait: Option<Duration>) -> io::Result<()> {
+        self.waits.set(wait.unwrap_or(Duration::ZERO).as_secs());
+        Ok(())
+    }
+}
+
+#[derive(Drop)]
+struct Slow<'a>(&'a Times<'a>);
+
+impl Read for Slow<'_> {
+    fn read(&mut self, room: &mut [u8]) -> io::Result<usize> {
+        Ok(self.0.pass()?.min(room.len()))
+    }
+}
+
+impl Write for Slow<'_> {
+    fn write(&mut self, bytes: &[u8]) -> io::Result<usize> {
+        Ok(self.0.pass()?.min(bytes.len()))
+    }
+
+    fn flush(&mut self) -> io::Result<()> {
+        Ok(())
+    }
+}
+
+impl OpenStream for Slow<'_> {
+    fn set_read_timeout(&self, wait: Option<Duration>) -> io::Result<()> {
+        self.0.note(wait)
+    }
+
+    fn set_write_timeout(&self, wait: Option<Duration>) -> io::Result<()> {
+        self.0.note(wait)
+    }
+
+    fn shutdown(&self, how: Shutdown) -> io::Result<()> {
+        self.0.is_shut.set(how == Shutdown::Write);
+        Ok(())
+    }
+}
+
+// What is told of a reader or a writer up to its first failure: for how many seconds the calls of the stream that moved a
+// byte might wait, and how many calls there were.
+fn told_of_calls<F: FnMut() -> bool>(
+    alloc: Global,
+    times: &Times<'_>,
+    mut moves: F,
+) -> Result<String, AllocError>
+    requires { F.IsAlwaysCallable moves }
+{
+    let mut told = String::new(alloc);
+    for _ in 0..10 {
+        if !moves() {
+            break;
+        }
+        let wait = format!(in alloc; "{} ", times.waits.get())?;
+        told.push_str(wait.as_str())?;
+    }
+    let calls = format!(in alloc; "in {}", times.calls.get())?;
+    told.push_str(calls.as_str())?;
+    Ok(told)
+}
+
+// What is told of a stream whose first call comes 5 seconds after the time of its head began. The row has how many
+// seconds each call takes, and what becomes of the calls.
+const WAITS: &str = "\
+25 5 in 2=read 20
+25 15 5 in 3=read 10
+in 1=read 30 signalled
+5 in 2=read 20 signalled
+in 1=read 10 stands
+1 1 1 in 3=write 200
+1 1 1 in 3=write 290
+1 in 1=write 600
+1 1 1 1 1 1 1 1 1 1 in 11=write 29 signalled
+in 1=write 30 signalled
+in 30=write 1 stands
+in 3=write 10 stands";
+
+// A clock at which the time of a head began 5 seconds ago.
+fn times_of(takes: u64, way: &str) -> Times<'_> {
+    Times {
+        now: Cell::new(12),
+        takes,
+        waits: Cell::new(0),
+        is_shut: Cell::new(false),
+        calls: Cell::new(0),
+        way,
+    }
+}
+
+// What is told of a reader, the time of whose head begins at 7 seconds.
+fn told_of_reads(alloc: Global, times: &Times<'_>) -> Result<String, AllocError> {
+    times.now.set(7);
+    let Ok(limit) = TimeLimit::start(times, HEAD_SECONDS) else {
+        return Err(AllocError);
+    };
+    times.now.set(12);
+    let mut reader = TimedReader::new(Slow(times), times, limit);
+    told_of_calls(alloc, times, || reader.read(&mut [0]).is_ok())
+}
+
+fn told_of_writes(alloc: Global, times: &Times<'_>) -> Result<String, AllocError> {
+    let mut writer = TimedWriter::new(Slow(times), times);
+    told_of_calls(alloc, times, || writer.write(&[0]).is_ok())
+}
+
+fn told(alloc: Global, row: &str) -> Result<String, AllocError> {
+    let (call, rest) = row.split_once(' ').unwrap_or(("", ""));
+    let (takes, way) = rest.split_once(' ').unwrap_or((rest, ""));
+    let times = times_of(takes.parse().unwrap_or(0), way);
+    match call {
+        "read" => told_of_reads(alloc, &times),
+        _ => told_of_writes(alloc, &times),
+    }
+}
+
+#[test]
+fn calls_wait_for_what_is_left_of_a_time(rt: HostRuntime) -> Result<(), TableFault> {
+    check_rows(rt.alloc(), WAITS, '=', 12, told)
+}
+
+#[test]
+fn the_writing_side_is_closed(rt: HostRuntime) {
+    let times = times_of(0, "");
+    TimedWriter::new(Slow(&times), &times).shut();
+    assert!(rt; times.is_shut.get());
+}
