@@ -36,13 +36,13 @@ cut-len p (c ∷ line) b rest none hit = go (λ others. cut-len p line b rest ot
         rw e more
 
 module _ (p : ℕ → Bool) (line : List ℕ) (b : ℕ) (rest : List ℕ) (none : list_any p line ≡ false) (hit : p b ≡ true) where
-  cut-before : before_first p (line ++ b ∷ rest) ≡ line
+  pub cut-before : before_first p (line ++ b ∷ rest) ≡ line
   cut-before = ap (λ n. take n (line ++ b ∷ rest)) (cut-len p line b rest none hit) ∙ take-append_seam line (b ∷ rest)
 
-  cut-after : after_first p (line ++ b ∷ rest) ≡ rest
+  pub cut-after : after_first p (line ++ b ∷ rest) ≡ rest
   cut-after = ap (λ n. drop (n + 1) (line ++ b ∷ rest)) (cut-len p line b rest none hit) ∙ drop-append-add line (b ∷ rest) 1
 
-  cut-there : nat_lt (position_or_len p (line ++ b ∷ rest)) (length (line ++ b ∷ rest)) ≡ true
+  pub cut-there : nat_lt (position_or_len p (line ++ b ∷ rest)) (length (line ++ b ∷ rest)) ≡ true
   cut-there =
       let short : length line < length (line ++ b ∷ rest) = omega (arith, length-append line (b ∷ rest)) in
       rw (cut-len p line b rest none hit) (grind (arith, nat_tests))
@@ -57,7 +57,7 @@ line-read line rest none plain =
 digit-plain : (b : ℕ) → is_ascii_digit b ≡ true → (is_space b ≡ false) × (is_line_end b ≡ false)
 digit-plain b d = (grind (arith, nat_tests), grind (arith, nat_tests))
 
-digits-plain : (ds : List ℕ) → all_ascii_digits ds ≡ true → (list_any is_space ds ≡ false) × (list_any is_line_end ds ≡ false)
+pub digits-plain : (ds : List ℕ) → all_ascii_digits ds ≡ true → (list_any is_space ds ≡ false) × (list_any is_line_end ds ≡ false)
 digits-plain [] h = (refl, refl)
 digits-plain (d ∷ ds) h =
     let parts = and_parts (is_ascii_digit d) (all_ascii_digits ds) h in
@@ -77,10 +77,10 @@ own = numerals_by_fold (λ ds. all_ascii_digits ds ≡ true) tells_all_ascii_dig
 
 -- a count of at most 10 digits is read back
 module _ (n : ℕ) (fits : n < 10 ^ 10) where
-  count-digits : all_ascii_digits (decimal n) ≡ true
+  pub count-digits : all_ascii_digits (decimal n) ≡ true
   count-digits = digits_decimal own n (omega arith)
 
-  count-read : count_of (decimal n) ≡ Some n
+  pub count-read : count_of (decimal n) ≡ Some n
   count-read =
       let small : n < 2 ^ 64 = omega arith in
       let some : nat_le 1 (length (decimal n)) ≡ true = grind (arith, nat_tests, decimal_nonempty n small) in

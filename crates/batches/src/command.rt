@@ -38,8 +38,8 @@ pub enum Line<'a> {
     Wants(u64, Bytes<'a>),
 }
 
-// The number of a text of 1 to 10 digits.
-fn count_of(text: &[u8]) -> Option<u64>
+/// The number of a text of 1 to 10 digits.
+pub fn count_of(text: &[u8]) -> Option<u64>
     ensures { result ≡ count_of text.now }
 {
     if text.is_empty() || text.len() > 10 {
@@ -80,8 +80,8 @@ fn word_len(bytes: &[u8]) -> usize
         .unwrap_or(bytes.len())
 }
 
-// How many bytes stand before the first LF.
-fn line_len(bytes: &[u8]) -> usize
+/// How many bytes stand before the first LF.
+pub fn line_len(bytes: &[u8]) -> usize
     ensures index { result ≡ position_or_len is_line_end bytes.now }
     ensures within { result ≤ length bytes.now }
 {

@@ -17,5 +17,5 @@ pub mod laws;
 
 pub use applying::{apply_batch, apply_command};
 pub use bytes::Bytes;
-pub use command::{Command, CommandFault, Line, front_command};
+pub use command::{Command, CommandFault, Line, count_of, front_command, line_len};
 pub use fault::{BatchError, BatchFault, BatchKind, CommandError, MAX_BATCH};

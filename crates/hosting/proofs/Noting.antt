@@ -1,6 +1,6 @@
 -- What happens at a port, call after call.
 use Rattle.std.proofs.Common.{◌≡◌, ◌≢◌, ◌⊎◌, inl, inr, ℕ, zero, suc, min, IfSome, ◌+◌, ◌-◌, ◌^◌, ◌<◌, List, [], ◌∷◌, ◌++◌, Option, None, Some, refl, sym, ap, ◌∙◌, append_assoc, append-nil, arith}
-use Rattle.mapmachine.specs.Machine.{State}
+use Rattle.batches.specs.Batch.{State}
 use Rattle.httpedge.specs.Exchange.{written_of}
 use Rattle.httpedge.specs.declared.edge.EdgeFault.{EdgeFault}
 use Rattle.httpedge.specs.declared.edge.EdgeFault.TheVariants.{Read, Write}

@@ -4,12 +4,12 @@ use Rattle.std.specs.Io.KnownBytes.{Keeps}
 use Rattle.commandline.specs.declared.form.Command.{Command}
 use Rattle.commandline.specs.declared.form.Command.TheVariants.{Session, Check, Run, Serve}
 use Rattle.mapdefs.specs.declared.map.MapFields.{MapFields}
-use Rattle.mapmachine.specs.Machine.{State}
+use Rattle.batches.specs.Batch.{State}
 use Rattle.sessions.specs.Folder.{Giving, IsFront}
 use Rattle.sessions.specs.Forms.{HasReadMap, GivesNoMap, ChecksTo, RunsTo}
 use Rattle.sessions.specs.Session.{Streams, Tells, opened}
 use Rattle.sessions.specs.declared.outcome.Outcome.{Outcome}
-use Rattle.sessions.specs.declared.outcome.Outcome.TheVariants.{Served, SocketFailed}
+use Rattle.sessions.specs.declared.outcome.Outcome.TheVariants.{Served, SocketFailed, NoMemory}
 use Rattle.hosting.specs.Hosts.{gives_in, TellsAddress}
 use Rattle.hosting.specs.Ports.{PortEvent, HasRun}
 
@@ -37,10 +37,10 @@ pub record HasListened {P : Type 0} (view : PortView P) (listens : P → Type 0)
   pub tells : TellsAddress told (view.address port) before after
   pub goes_on : GoesOnAfter view port connections map told outcome
 
--- connections about a map were answered on a port, or it couldn't be listened on
+-- connections about a map were answered on a port, or none was listened on, since it couldn't be, or since memory was refused
 abbrev pub ListensTo : {P : Type 0} → PortView P → (P → Type 0) → ℕ → MapFields → Outcome → Option (List ℕ) → Option (List ℕ) → Type 0
 ListensTo view listens connections map outcome before after =
-    ((outcome ≡ SocketFailed) × Keeps before after) ⊎ HasListened view listens connections map outcome before after
+    (((outcome ≡ SocketFailed) ⊎ (outcome ≡ NoMemory)) × Keeps before after) ⊎ HasListened view listens connections map outcome before after
 
 -- the map of a mapfile was served
 pub record IsMapServed {P : Type 0} (view : PortView P) (listens : P → Type 0) (gives : Giving) (connections : ℕ) (outcome : Outcome) (before after : Option (List ℕ)) (old new : Streams) : Type 0 where

@@ -50,14 +50,14 @@ pub fn serve_port<H: Host, O: Sink>(
     ensures listens { ListensTo (record { log = H.Port.log; address = H.Port.address }) (H.listens host.now port) connections map result (O.held output.old) (O.held output.new) }
     ensures flag { O.put_failed output.new ≡ (is_output_failed result || O.put_failed output.old) }
 {
+    let Ok(mut machine) = Machine::open(alloc, map) else {
+        return Outcome::NoMemory;
+    };
     let Ok(mut port) = host.listen(port) else {
         return Outcome::SocketFailed;
     };
     match tell_address(alloc, &port, output) {
-        Outcome::Served => {
-            let mut machine = Machine::open(alloc, map);
-            answer_connections(alloc, &mut machine, &mut port, connections)
-        }
+        Outcome::Served => answer_connections(alloc, &mut machine, &mut port, connections),
         failed => failed,
     }
 }

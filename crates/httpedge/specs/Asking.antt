@@ -1,6 +1,7 @@
 -- What a map machine says to a query (docs/PROFILE.md, "HTTP").
 use Rattle.std.specs.Prelude.{◌≡◌, ℕ, List, Result, IfOk}
-use Rattle.mapmachine.specs.Machine.{State, IsAnswer}
+use Rattle.batches.specs.Batch.{State}
+use Rattle.mapmachine.specs.Machine.{IsAnswer}
 use Rattle.mapmachine.specs.declared.reply.Answer.{Answer}
 use Rattle.httpedge.specs.declared.asks.Busy.{Busy}
 

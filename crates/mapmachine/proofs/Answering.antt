@@ -1,9 +1,10 @@
 -- An answer to what a query means is an answer to the query.
 use Rattle.std.proofs.Common.{ℕ, List, Result, Ok, Err, IfOk}
+use Rattle.batches.specs.Batch.{State}
 use Rattle.wmsquery.specs.Meaning.{IsMeaning}
 use Rattle.wmsquery.specs.declared.fault.WmsFault.{WmsFault}
 use Rattle.wmsquery.specs.declared.request.MapRequest.{MapRequest}
-use Rattle.mapmachine.specs.Machine.{State, Answers, IsAnswer}
+use Rattle.mapmachine.specs.Machine.{Answers, IsAnswer}
 use Rattle.mapmachine.specs.declared.reply.Answer.{Answer}
 
 -- where there is an answer to the meaning, it is one to the query

@@ -1,5 +1,5 @@
--- The map machine: its state, what it answers to a query, and its runs (docs/PROFILE.md, "The machine").
-use Rattle.std.specs.Prelude.{◌≡◌, ℕ, ◌-ℤ◌, unsigned_abs, List, [], ◌∷◌, Result, Ok, Err}
+-- The map machine: what it answers to a query, what a batch does to it, and its runs (docs/PROFILE.md, "The machine").
+use Rattle.std.specs.Prelude.{◌≡◌, ℕ, ◌+◌, ◌-ℤ◌, unsigned_abs, List, [], ◌∷◌, Result, Ok, Err}
 use Rattle.geom.specs.Scale.{PictureScale}
 use Rattle.mapdefs.specs.declared.map.MapFields.{MapFields}
 use Rattle.mapdefs.specs.declared.picture.PictureFields.{PictureFields}
@@ -8,19 +8,15 @@ use Rattle.wmsquery.specs.Meaning.{IsMeaning}
 use Rattle.wmsquery.specs.Report.{report}
 use Rattle.wmsquery.specs.declared.fault.WmsFault.{WmsFault}
 use Rattle.wmsquery.specs.declared.request.MapRequest.{MapRequest}
+use Rattle.batches.specs.Batch.{State, batched}
 use Rattle.symbols.specs.Netpbm.{ppm}
 use Rattle.compose.specs.Picture.{IsPictureOf}
 use Rattle.mapmachine.specs.declared.reply.Answer.{Answer}
 use Rattle.mapmachine.specs.declared.reply.Event.{Event}
-use Rattle.mapmachine.specs.declared.reply.Event.TheVariants.{Query}
+use Rattle.mapmachine.specs.declared.reply.Event.TheVariants.{Query, Batch}
 use Rattle.mapmachine.specs.declared.reply.Mime.TheVariants as mime
 use Rattle.mapmachine.specs.declared.reply.Reply.{Reply}
-use Rattle.mapmachine.specs.declared.reply.Reply.TheVariants.{Answered, NoMemory}
-
--- the state of the machine: the map, and how many changes of it were published
-pub record State : Type 0 where
-  pub map : MapFields
-  pub sequence : ℕ
+use Rattle.mapmachine.specs.declared.reply.Reply.TheVariants.{Answered, Published, Refused, NoMemory}
 
 -- the view of a request: its area, by a picture of its sides
 abbrev pub view_of : MapRequest → ViewValue
@@ -42,10 +38,14 @@ Answers map (Err fault) answer = answer ≡ record { mime = mime.Xml; body = rep
 abbrev pub IsAnswer : State → List ℕ → Answer → Type 0
 IsAnswer state query answer = (meaning : Result MapRequest WmsFault) × IsMeaning state.map query meaning × Answers state.map meaning answer
 
--- one event in a state has this reply and leads to that state: a query changes nothing, out of memory or not
+-- one event in a state has this reply and leads to that state: a query changes nothing, a batch leads to the state after
+-- it or is refused with its first fault, and out of memory nothing is changed
 abbrev pub Steps : State → Event → Reply → State → Type 0
 Steps old (Query query) (Answered answer) new = IsAnswer old query answer × (new ≡ old)
-Steps old (Query query) NoMemory new = new ≡ old
+Steps old (Batch bytes) (Published sequence) new = (batched bytes old ≡ Ok new) × (sequence ≡ new.sequence)
+Steps old (Batch bytes) (Refused fault) new = (batched bytes old ≡ Err fault) × (new ≡ old)
+Steps old event NoMemory new = new ≡ old
+Steps old event reply new = ⊥
 
 -- a run of the machine: from a state over some events, with a reply to each in their order, to a state
 abbrev pub Runs : State → List Event → List Reply → State → Type 0
@@ -53,3 +53,14 @@ Runs old [] [] new = new ≡ old
 Runs old (event ∷ events) (reply ∷ replies) new = (next : State) × Steps old event reply next × Runs next events replies new
 Runs old [] (reply ∷ replies) new = ⊥
 Runs old (event ∷ events) [] new = ⊥
+
+-- how many of some replies publish a batch
+unfoldable pub published : List Reply → ℕ
+published [] = 0
+published (Published sequence ∷ replies) = 1 + published replies
+published (reply ∷ replies) = published replies
+
+-- the law: after a run the sequence has grown by the number of the batches that were published
+abbrev pub PublishedCounts : Type 0
+PublishedCounts = (old new : State) (events : List Event) (replies : List Reply) → Runs old events replies new →
+    new.sequence ≡ old.sequence + published replies

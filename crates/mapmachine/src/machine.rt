@@ -1,9 +1,11 @@
-ghost use Rattle.std.specs.Prelude.{◌≡◌, ◌<◌, ◌-ℤ◌, unsigned_abs, All, length, Ok, Err, IfOk, OnErr};
+ghost use Rattle.std.specs.Prelude.{◌≡◌, ◌<◌, ◌-ℤ◌, unsigned_abs, All, length, Ok, Err, IfOk, IfErr, OnErr};
 ghost use Rattle.geom.specs.World.{IsExtent};
 
 use crate::reply::{Answer, Event, Mime, Reply};
+use batches::{BatchError, BatchFault, BatchKind, MAX_BATCH, apply_batch};
 use compose::picture as picture_of;
 use geom::{PictureSide, WorldBox};
+use layers::Layers;
 use mapdefs::{Items, Map};
 use scaledenom::Scale;
 use std::alloc::{AllocError, Global};
@@ -12,24 +14,24 @@ use symbols::write_ppm;
 use viewport::View;
 use wmsquery::{MapRequest, QueryError, WmsFault, read as read_query, report};
 
-/// The map machine: it holds a map, and answers queries about it.
+/// The map machine: it holds a map, changes it by batches, and answers queries about it.
 #[derive(Drop)]
 pub struct Machine {
     alloc: Global,
-    map: Map,
+    layers: Layers,
     sequence: u64,
 }
 
 impl Model for Machine {
     ghost use Rattle.mapdefs.specs.contracts.expr.Expr as expr;
     ghost use Rattle.std.specs.Coded.{codes};
-    ghost use Rattle.mapmachine.specs.Machine.{State};
+    ghost use Rattle.batches.specs.Batch.{State};
 
     ghost Value = { State };
 
     ghost coded = { Prim.hlevel (codes, expr.the_row.coded) };
 
-    ghost view = { λ m. record { map = m.map; sequence = m.sequence } };
+    ghost view = { λ m. record { map = m.layers; sequence = m.sequence } };
 }
 
 // The scale at which an area is shown by that many columns of pixels.
@@ -42,20 +44,42 @@ fn scale_of(area: WorldBox, width: PictureSide) -> Scale
 }
 
 impl Machine {
+    ghost use Rattle.batches.specs.Batch.{IsBatchErrorOf, batched};
     ghost use Rattle.mapmachine.specs.Machine.{Answers, IsAnswer, Steps, Runs};
 
-    /// The machine as it begins: with this map, and nothing published. It keeps the allocator.
-    pub fn open(alloc: Global, map: Map) -> Self
-        ensures { result ≡ record { map = map; sequence = 0 } }
+    /// The machine as it begins: with this map, and nothing published. It keeps the allocator. The one error
+    /// is that memory was refused.
+    pub fn open(alloc: Global, map: Map) -> Result<Self, AllocError>
+        ensures { IfOk result (λ m. m ≡ record { map = map; sequence = 0 }) }
     {
-        Machine {
-            alloc,
-            map,
-            sequence: 0,
-        }
+        Machine::open_at(alloc, map, 0)
     }
 
-    /// How many changes of the map were published.
+    /// The machine with this map, as after so many published batches. It keeps the allocator. The one error is
+    /// that memory was refused.
+    pub fn open_at(alloc: Global, map: Map, sequence: u64) -> Result<Self, AllocError>
+        ensures { IfOk result (λ m. m ≡ record { map = map; sequence = sequence }) }
+    {
+        Ok(Machine {
+            alloc,
+            layers: Layers::of(alloc, map)?,
+            sequence,
+        })
+    }
+
+    /// An equal machine of its own, which shares the features with this one. The one error is that memory was
+    /// refused.
+    pub fn copy(&self) -> Result<Self, AllocError>
+        ensures { IfOk result (λ m. m ≡ self.now) }
+    {
+        Ok(Machine {
+            alloc: self.alloc,
+            layers: self.layers.copy()?,
+            sequence: self.sequence,
+        })
+    }
+
+    /// How many batches were published.
     pub fn sequence(&self) -> u64
         ensures { result ≡ self.now.sequence }
     {
@@ -73,7 +97,7 @@ impl Machine {
         let scale = scale_of(request.area, request.width);
         let picture = picture_of(
             self.alloc,
-            &self.map,
+            self.layers.map(),
             view,
             scale,
             chosen,
@@ -100,11 +124,35 @@ impl Machine {
     pub fn reply(&self, query: &[u8]) -> Result<Answer, AllocError>
         ensures { IfOk result (IsAnswer self.now query.now) }
     {
-        match read_query(self.alloc, query, &self.map) {
+        match read_query(self.alloc, query, self.layers.map()) {
             Ok(request) => self.picture_answer(&request),
             Err(QueryError::Fault(fault)) => self.exception_answer(fault),
             Err(QueryError::NoMemory) => Err(AllocError),
         }
+    }
+
+    /// Publishes a batch: applies all of its commands and counts it, and gives its number. Or it gives the first
+    /// fault of the batch, or says that memory was refused; then nothing is changed.
+    ///
+    /// The commands change a copy, which shares the features with the map that it is of.
+    pub fn batch(&mut self, bytes: &[u8]) -> Result<u64, BatchError>
+        ensures published { IfOk result (λ n. (batched bytes.now self.old ≡ Ok self.new) × (n ≡ self.new.sequence)) }
+        ensures refused { IfErr result (IsBatchErrorOf (batched bytes.now self.old)) }
+        ensures kept { OnErr result (self.new ≡ self.old) }
+    {
+        if bytes.len() > MAX_BATCH {
+            let kind = BatchKind::TooLong;
+            return Err(BatchError::Fault(BatchFault { index: 0, kind }));
+        }
+        if self.sequence == u64::MAX {
+            let kind = BatchKind::SequenceEnd;
+            return Err(BatchError::Fault(BatchFault { index: 0, kind }));
+        }
+        let mut copy = self.layers.copy()?;
+        apply_batch(self.alloc, &mut copy, bytes)?;
+        self.layers = copy;
+        self.sequence += 1;
+        Ok(self.sequence)
     }
 
     /// The reply to one event.
@@ -115,6 +163,11 @@ impl Machine {
             Event::Query(query) => match self.reply(query.get()) {
                 Ok(answer) => Reply::Answered(answer),
                 Err(_) => Reply::NoMemory,
+            },
+            Event::Batch(bytes) => match self.batch(bytes.get()) {
+                Ok(sequence) => Reply::Published(sequence),
+                Err(BatchError::Fault(fault)) => Reply::Refused(fault),
+                Err(BatchError::NoMemory) => Reply::NoMemory,
             },
         }
     }

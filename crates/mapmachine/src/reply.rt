@@ -1,6 +1,6 @@
 ghost use Rattle.std.specs.Prelude.{◌≡◌};
 
-use crate::Bytes;
+use batches::{BatchFault, Bytes};
 use mapdefs::Items;
 
 /// What is asked of the machine.
@@ -8,6 +8,8 @@ use mapdefs::Items;
 pub enum Event<'a> {
     /// The query part of a request, as its bytes came.
     Query(Bytes<'a>),
+    /// A batch of commands that change the map, as its bytes came.
+    Batch(Bytes<'a>),
 }
 
 /// What the body of an answer is.
@@ -47,6 +49,10 @@ pub struct Answer {
 pub enum Reply {
     /// The query was answered.
     Answered(Answer),
+    /// The batch was published: all of its commands were applied, and it is the batch of this number.
+    Published(u64),
+    /// The batch has this first fault, and nothing was done.
+    Refused(BatchFault),
     /// Memory was refused, and nothing was done.
     NoMemory,
 }

@@ -7,7 +7,7 @@ use test_maps::map_fields;
 use test_tables::{TableFault, check_rows};
 
 // The machine of a map without layers.
-fn machine(alloc: Global) -> Machine {
+fn machine(alloc: Global) -> Result<Machine, AllocError> {
     Machine::open(alloc, Map::new(map_fields(alloc, Items::new(alloc))))
 }
 
@@ -172,7 +172,7 @@ fn told_of_cuts(alloc: Global, machine: &mut Machine, name: &str) -> Result<Stri
 }
 
 fn rows_of_cuts(alloc: Global, row: &str) -> Result<String, AllocError> {
-    told_of_cuts(alloc, &mut machine(alloc), row)
+    told_of_cuts(alloc, &mut machine(alloc)?, row)
 }
 
 // What is told, `|` and of which exchanges.

@@ -5,6 +5,8 @@
 #[cfg(test)]
 mod exchanges;
 #[cfg(test)]
+mod long_batches;
+#[cfg(test)]
 mod map_replies;
 #[cfg(test)]
 mod messages;

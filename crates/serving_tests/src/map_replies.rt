@@ -75,8 +75,8 @@ fn layer(alloc: Global, min: Option<Micro>, max: Option<Micro>) -> Result<Layer,
     Ok(Layer::new(fields))
 }
 
-// A map with these layers.
-fn map_of(alloc: Global, layers: Items<Layer>) -> Map
+/// A map with these layers.
+pub fn map_of(alloc: Global, layers: Items<Layer>) -> Map
     requires count { length layers ≤ MAX_LAYERS }
     requires symbols { All (LayerNamesSymbolsOf 0) layers }
 {
@@ -87,7 +87,7 @@ fn map_of(alloc: Global, layers: Items<Layer>) -> Map
 fn machine(alloc: Global, min: Option<Micro>, max: Option<Micro>) -> Result<Machine, AllocError> {
     let mut layers = Items::new(alloc);
     layers.push(layer(alloc, min, max)?)?;
-    Ok(Machine::open(alloc, map_of(alloc, layers)))
+    Machine::open(alloc, map_of(alloc, layers))
 }
 
 // A bound, `-` for none.

@@ -9,7 +9,7 @@ use test_tables::{TableFault, check_rows};
 /// The machine of a mapfile. Its error is out of memory, or a fault, which the tests don't expect.
 pub fn opened(alloc: Global, map: &str) -> Result<Machine, AllocError> {
     match parse(alloc, map.as_bytes(), &Files::new(alloc)) {
-        Ok(map) => Ok(Machine::open(alloc, map)),
+        Ok(map) => Machine::open(alloc, map),
         Err(_) => Err(AllocError),
     }
 }

@@ -107,7 +107,15 @@ run|$|QUERY|0 Played|fault script 1~|
 run|$|QUERY~|0 Played|fault script 1~|
 run|$|query a~|0 Played|fault script 1~|
 run|$|~|0 Played|fault script 1~|
-run|$|QUERY a~BATCH 0~QUERY b~|0 Played|fault script 2~|
+run|$|QUERY a~BATCH 0~QUERY b~|0 Played|@PUBLISHED 1~@|
+run|$|BATCH 7~OFF zz~BATCH 0~BATCH 4~CLR~BATCH 0~|0 Played|REFUSED 1 2~PUBLISHED 1~REFUSED 1 1~PUBLISHED 2~|
+run|$|QUERY a~BATCH 8~OFF zz~|0 Played|fault script 2~|
+run|$|BATCH 0000000000~BATCH 00000000000~|0 Played|fault script 2~|
+run|$|BATCH x~|0 Played|fault script 1~|
+run|$|BATCH ~|0 Played|fault script 1~|
+run|$|BATCH 0|0 Played|fault script 1~|
+run|$|BATCH 0\r~|0 Played|fault script 1~|
+run|$|BATCH +0~|0 Played|fault script 1~|
 run|$|QUERY a~QUERY b~QUERY c~ QUERY d~|0 Played|fault script 4~|
 # Mapfiles with the symbol of a file. The pixmap has its corner a column to the left of the point's pixel.
 session|<p.ppm>%%~QUERY ^~||0 Played|ANSWER image/x-portable-pixmap 59~50360a3420340a3235350affffffffffffffffffffffffffffff0a141effffff~ffffffffffffffffffffffffffffffffffffffffffffffffffffff~|
@@ -143,7 +151,7 @@ fn is_ended(alloc: Global, line: &str) -> Result<bool, AllocError> {
 
 #[test]
 fn forms_end_as_they_should(rt: HostRuntime) -> Result<(), TableFault> {
-    check_all(rt.alloc(), FORMS, 37, is_ended)
+    check_all(rt.alloc(), FORMS, 45, is_ended)
 }
 
 #[test]

@@ -74,7 +74,7 @@ fn is_reply(reply: &Reply, number: usize) -> bool {
             answer.body.len() == 215 && answer.mime == Mime::Xml
         }
         Reply::Answered(answer) => answer.body.len() == 59 && answer.mime == Mime::Pixmap,
-        Reply::NoMemory => false,
+        _ => false,
     }
 }
 

@@ -1,12 +1,4 @@
-pub mod Commands
-pub mod Digits
 pub mod Fronts
-pub mod HexLines
 pub mod Lines
-pub mod Outgoing
 pub mod Parting
-pub mod Playing
-pub mod Rests
-pub mod ScriptSteps
 pub mod Serving
-pub mod WrittenScripts

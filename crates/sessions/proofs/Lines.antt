@@ -3,15 +3,7 @@ use Rattle.std.proofs.Common.{◌≡◌, ◌∙◌, ℕ, suc, ◌+◌, ◌≤◌
 use Rattle.std.specs.Prelude.{◌⊎◌}
 use Rattle.std.specs.Option.{unwrap_or}
 use Rattle.std.specs.List.{before_first, after_first, position_or_len}
-use Rattle.sessions.specs.Lines.{is_line_end}
-
--- the index of the first that is found, or the length
-pub index-or-len : (n len : ℕ) (found : Option ℕ) → n ≤ len → found ≡ cond (ltb n len) (Some n) None → unwrap_or found len ≡ n
-index-or-len n len found within is = rw is (by (ltb n len) refl)
-  where
-    by : (b : Bool) → ltb n len ≡ b → unwrap_or (cond b (Some n) None) len ≡ n
-    by true h = refl
-    by false h = grind (arith, h)
+use Rattle.batches.specs.Command.{is_line_end}
 
 -- after a byte that is no LF the line goes on
 pub line-goes-on : (b : ℕ) (bs : List ℕ) → is_line_end b ≡ false → position_or_len is_line_end (b ∷ bs) ≡ suc (position_or_len is_line_end bs)
@@ -24,15 +16,6 @@ pub after-goes-on : (b : ℕ) (bs : List ℕ) → is_line_end b ≡ false → af
 after-goes-on b bs h =
     let more : position_or_len is_line_end (b ∷ bs) + 1 ≡ suc (position_or_len is_line_end bs + 1) = omega (arith, line-goes-on b bs h) in
     ap (λ n. drop n (b ∷ bs)) more
-
--- the line is no longer than the bytes
-pub line-within : (bytes : List ℕ) → position_or_len is_line_end bytes ≤ length bytes
-line-within [] = omega arith
-line-within (b ∷ bs) = by (line-within bs) (is_line_end b) refl
-  where
-    by : position_or_len is_line_end bs ≤ length bs → (e : Bool) → is_line_end b ≡ e → position_or_len is_line_end (b ∷ bs) ≤ suc (length bs)
-    by others true h = rw h (omega arith)
-    by others false h = omega (arith, others, line-goes-on b bs h)
 
 -- bytes are their first line and what stands after it
 pub first-line : (bytes : List ℕ) →

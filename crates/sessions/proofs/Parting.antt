@@ -4,7 +4,8 @@ use Rattle.std.specs.Prelude.{nat_eq, codes, if◌then◌else◌}
 use Rattle.std.specs.List.{before_first, after_first, position_or_len}
 use Rattle.std.specs.Cmp.Lexicographic.{pointwise, bytes_decides}
 use Rattle.std.proofs.lemmas.Bool.{cases_lt}
-use Rattle.sessions.specs.Lines.{is_line_end, AreLines}
+use Rattle.batches.specs.Command.{is_line_end}
+use Rattle.sessions.specs.Lines.{AreLines}
 use Rattle.sessions.proofs.Lines.{first-line, after-goes-on}
 use Rattle.sessions.specs.Parts.{IsFollowed, IsParted, AreParts}
 

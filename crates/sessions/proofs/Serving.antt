@@ -3,11 +3,10 @@ use Rattle.std.proofs.Common.{◌≡◌, ◌||◌, inr, ℕ, Bool, List, Option,
 use Rattle.std.specs.Io.KnownBytes.{Keeps}
 use Rattle.std.proofs.KnownBytes.{Appends-kept}
 use Rattle.mapdefs.specs.declared.map.MapFields.{MapFields}
-use Rattle.mapmachine.specs.Machine.{State}
 use Rattle.sessions.specs.Folder.{Giving, ComesTo}
 use Rattle.sessions.specs.Forms.{HasReadFile, HasReadMap, IsUnread, RunsTo, TellsUnread}
-use Rattle.sessions.specs.Sent.{IsSent}
-use Rattle.sessions.specs.Session.{Streams, HasRead, Ends, IsTold, Tells, is_file_failed, opened}
+use Rattle.scripts.specs.Sent.{IsSent}
+use Rattle.sessions.specs.Session.{Streams, HasRead, EndsOn, IsTold, Tells, is_file_failed}
 use Rattle.sessions.specs.declared.outcome.Outcome.{Outcome}
 use Rattle.sessions.specs.declared.outcome.Outcome.TheVariants.{Played, Checked, MapfileFault, FileFailed, WordsRefused, InputFailed, OutputFailed, NoMemory, Served, SocketFailed}
 
@@ -20,38 +19,39 @@ told-whole a b c line before after failed sent kept = record {
 }
 
 -- what is told of a script that was played, by the outcome
-pub served : (gives : Giving) (outcome : Outcome) (old new : Streams) (failed : Bool) (mapfile script : List ℕ) (map : MapFields) (state : State) →
-    HasRead old.input new.input mapfile script → ComesTo gives mapfile (Ok map) → Ends outcome (opened map) script state old.output new.output →
+pub served : (gives : Giving) (outcome : Outcome) (old new : Streams) (failed : Bool) (mapfile script : List ℕ) (map : MapFields) →
+    HasRead old.input new.input mapfile script → ComesTo gives mapfile (Ok map) → EndsOn map outcome script old.output new.output →
     Keeps old.errors new.errors → Tells gives outcome old new failed
-served gives Played old new failed mapfile script map state read is_map ends kept =
-    record { mapfile = mapfile; script = script; read = read; map = map; is_map = is_map; state = state; ends = ends; errors = kept }
-served gives Checked old new failed mapfile script map state read is_map ends kept = absurd ends
-served gives Served old new failed mapfile script map state read is_map ends kept = absurd ends
-served gives SocketFailed old new failed mapfile script map state read is_map ends kept = absurd ends
-served gives FileFailed old new failed mapfile script map state read is_map ends kept = absurd ends
-served gives WordsRefused old new failed mapfile script map state read is_map ends kept = absurd ends
-served gives MapfileFault old new failed mapfile script map state read is_map ends kept = absurd ends
-served gives InputFailed old new failed mapfile script map state read is_map ends kept = absurd ends
-served gives OutputFailed old new failed mapfile script map state read is_map ends kept =
-    record { mapfile = mapfile; script = script; read = read; map = map; is_map = is_map; state = state; ends = ends; errors = kept }
-served gives NoMemory old new failed mapfile script map state read is_map ends kept = absurd ends
+served gives Played old new failed mapfile script map read is_map ends kept =
+    record { mapfile = mapfile; script = script; read = read; map = map; is_map = is_map; state = ends.0; ends = ends.1; errors = kept }
+served gives Checked old new failed mapfile script map read is_map ends kept = absurd ends.1
+served gives Served old new failed mapfile script map read is_map ends kept = absurd ends.1
+served gives SocketFailed old new failed mapfile script map read is_map ends kept = absurd ends.1
+served gives FileFailed old new failed mapfile script map read is_map ends kept = absurd ends.1
+served gives WordsRefused old new failed mapfile script map read is_map ends kept = absurd ends.1
+served gives MapfileFault old new failed mapfile script map read is_map ends kept = absurd ends.1
+served gives InputFailed old new failed mapfile script map read is_map ends kept = absurd ends.1
+served gives OutputFailed old new failed mapfile script map read is_map ends kept =
+    record { mapfile = mapfile; script = script; read = read; map = map; is_map = is_map; state = ends.0; ends = ends.1; errors = kept }
+served gives NoMemory old new failed mapfile script map read is_map ends kept = record { output = ends; errors = kept }
 
 -- what is told of a script that was read after its mapfile, by the outcome
-pub ran : (gives : Giving) (outcome : Outcome) (file script : List ℕ) (before after : Option (List ℕ)) (old new : Streams) (failed : Bool) (map : MapFields) (bytes : List ℕ) (state : State) →
-    HasReadMap gives before after map → HasReadFile old.input new.input bytes → Ends outcome (opened map) bytes state old.output new.output →
+pub ran : (gives : Giving) (outcome : Outcome) (file script : List ℕ) (before after : Option (List ℕ)) (old new : Streams) (failed : Bool) (map : MapFields) (bytes : List ℕ) →
+    HasReadMap gives before after map → HasReadFile old.input new.input bytes → EndsOn map outcome bytes old.output new.output →
     Keeps old.errors new.errors → RunsTo gives outcome file script before after old new failed
-ran gives Played file script before after old new failed map bytes state read read_script ends kept =
-    record { map = map; read = read; script = bytes; read_script = read_script; state = state; ends = ends; errors = kept }
-ran gives OutputFailed file script before after old new failed map bytes state read read_script ends kept =
-    record { map = map; read = read; script = bytes; read_script = read_script; state = state; ends = ends; errors = kept }
-ran gives Checked file script before after old new failed map bytes state read read_script ends kept = absurd ends
-ran gives Served file script before after old new failed map bytes state read read_script ends kept = absurd ends
-ran gives SocketFailed file script before after old new failed map bytes state read read_script ends kept = absurd ends
-ran gives MapfileFault file script before after old new failed map bytes state read read_script ends kept = absurd ends
-ran gives FileFailed file script before after old new failed map bytes state read read_script ends kept = absurd ends
-ran gives WordsRefused file script before after old new failed map bytes state read read_script ends kept = absurd ends
-ran gives InputFailed file script before after old new failed map bytes state read read_script ends kept = absurd ends
-ran gives NoMemory file script before after old new failed map bytes state read read_script ends kept = absurd ends
+ran gives Played file script before after old new failed map bytes read read_script ends kept =
+    record { map = map; read = read; script = bytes; read_script = read_script; state = ends.0; ends = ends.1; errors = kept }
+ran gives OutputFailed file script before after old new failed map bytes read read_script ends kept =
+    record { map = map; read = read; script = bytes; read_script = read_script; state = ends.0; ends = ends.1; errors = kept }
+ran gives Checked file script before after old new failed map bytes read read_script ends kept = absurd ends.1
+ran gives Served file script before after old new failed map bytes read read_script ends kept = absurd ends.1
+ran gives SocketFailed file script before after old new failed map bytes read read_script ends kept = absurd ends.1
+ran gives MapfileFault file script before after old new failed map bytes read read_script ends kept = absurd ends.1
+ran gives FileFailed file script before after old new failed map bytes read read_script ends kept = absurd ends.1
+ran gives WordsRefused file script before after old new failed map bytes read read_script ends kept = absurd ends.1
+ran gives InputFailed file script before after old new failed map bytes read read_script ends kept = absurd ends.1
+ran gives NoMemory file script before after old new failed map bytes read read_script ends kept =
+    (ends, inr (record { map = map; read = read; unread = kept }))
 
 -- a script that was not read after its mapfile was told by its name
 pub script-told : (outcome : Outcome) (file script : List ℕ) (a b : Option (List ℕ)) (failed file_before file_after script_before script_after : Bool) (untouched : Type 0) →

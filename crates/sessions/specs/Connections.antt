@@ -1,7 +1,7 @@
 -- One connection that is answered (docs/PROFILE.md, "HTTP").
 use Rattle.std.specs.Prelude.{◌≡◌, ◌⊎◌, ℕ, ◌<◌, List, length, take, Option}
 use Rattle.std.specs.Io.KnownBytes.{Appends}
-use Rattle.mapmachine.specs.Machine.{State}
+use Rattle.batches.specs.Batch.{State}
 use Rattle.httpedge.specs.Asking.{machine_answers}
 use Rattle.httpedge.specs.Exchange.{HasExchanged, HasPartlyExchanged}
 use Rattle.httpedge.specs.Response.{busy_text}

@@ -3,13 +3,13 @@ use Rattle.std.specs.Prelude.{◌≡◌, ℕ, Bool, true, false, List, ◌++◌,
 use Rattle.std.specs.Fmt.{decimal}
 use Rattle.std.specs.Io.KnownBytes.{Keeps, Appends, Consumes, IsAtEnd}
 use Rattle.mapdefs.specs.declared.map.MapFields.{MapFields}
-use Rattle.mapmachine.specs.Machine.{State}
+use Rattle.batches.specs.Batch.{State}
 use Rattle.mapwords.specs.declared.fault.Fault.{Fault}
 use Rattle.mapwords.specs.Fault.{number_of}
 use Rattle.sessions.specs.Folder.{Giving, ComesTo}
 use Rattle.sessions.specs.Session.{Streams, IsTold, HasToldFault, Ends, opened}
 use Rattle.sessions.specs.Summary.{summary_line, HasPartlySummed}
-use Rattle.sessions.specs.Transcript.{file_fault, mapfile_fault}
+use Rattle.sessions.specs.Told.{file_fault, mapfile_fault}
 use Rattle.sessions.specs.declared.outcome.Outcome.{Outcome}
 use Rattle.sessions.specs.declared.outcome.Outcome.TheVariants.{Played, Checked, MapfileFault, FileFailed, OutputFailed, NoMemory}
 
@@ -93,7 +93,7 @@ pub record IsRun (gives : Giving) (outcome : Outcome) (before after : Option (Li
   pub ends : Ends outcome (opened map) script state old.output new.output
   pub errors : Keeps old.errors new.errors
 
--- a mapfile describes a map, but the script was not read
+-- a mapfile describes a map, but the script was not played: it was not read, or memory was refused
 pub record IsWithoutScript (gives : Giving) (outcome : Outcome) (name : List ℕ) (before after errors_before errors_after : Option (List ℕ)) (failed : Bool) : Type 0 where
   pub map : MapFields
   pub read : HasReadMap gives before after map

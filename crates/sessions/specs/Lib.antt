@@ -1,14 +1,9 @@
 pub mod Connections
-pub mod Digits
 pub mod Folder
 pub mod Forms
 pub mod Lines
 pub mod Parts
-pub mod Playing
 pub mod Reading
-pub mod Script
-pub mod Sent
 pub mod Session
 pub mod Summary
-pub mod Transcript
-pub mod Written
+pub mod Told

@@ -2,13 +2,13 @@
 use Rattle.std.specs.Prelude.{◌≡◌, ℕ, ◌≤◌, Bool, true, false, List, length, take, Option, Ok, Err, ◌⊎◌}
 use Rattle.std.specs.Io.KnownBytes.{Keeps, Appends, Consumes, IsAtEnd}
 use Rattle.mapdefs.specs.declared.map.MapFields.{MapFields}
-use Rattle.mapmachine.specs.Machine.{State}
+use Rattle.batches.specs.Batch.{State}
 use Rattle.mapwords.specs.declared.fault.Fault.{Fault}
 use Rattle.mapwords.specs.Fault.{number_of}
 use Rattle.sessions.specs.Folder.{Giving, ComesTo}
 use Rattle.sessions.specs.Parts.{AreParts}
-use Rattle.sessions.specs.Playing.{HasPlayed, HasPartlyPlayed}
-use Rattle.sessions.specs.Transcript.{mapfile_fault}
+use Rattle.scripts.specs.Playing.{HasPlayed, HasPartlyPlayed}
+use Rattle.sessions.specs.Told.{mapfile_fault}
 use Rattle.sessions.specs.declared.outcome.Outcome.{Outcome}
 use Rattle.sessions.specs.declared.outcome.Outcome.TheVariants.{Played, MapfileFault, FileFailed, InputFailed, OutputFailed, NoMemory}
 
@@ -41,6 +41,11 @@ Ends Played old script new before after = HasPlayed old script new before after
 Ends OutputFailed old script new before after =
     ((written : ℕ) × HasPartlyPlayed old script new before after written) ⊎ HasPlayed old script new before after
 Ends _ old script new before after = ⊥
+
+-- the same on the machine as it begins with a map; where memory was refused for it, the output got nothing
+abbrev pub EndsOn : MapFields → Outcome → List ℕ → Option (List ℕ) → Option (List ℕ) → Type 0
+EndsOn map NoMemory script before after = Keeps before after
+EndsOn map outcome script before after = (state : State) × Ends outcome (opened map) script state before after
 
 -- the mapfile describes a map, and playing the script on it had this outcome
 pub record IsServed (gives : Giving) (outcome : Outcome) (old new : Streams) : Type 0 where

@@ -6,10 +6,10 @@ ghost use Rattle.sessions.specs.Forms.{HasReadFile, IsUnread, HasReadMap, GivesN
 use crate::folder::Folder;
 use crate::input::{ReadFault, read_all};
 use crate::outcome::Outcome;
-use crate::session::{open_map, play_out, tell};
+use crate::session::{open_map, play_on, tell};
 use crate::summing::summary;
 use mapdefs::Map;
-use mapmachine::{Machine, Sink, Source};
+use mapmachine::{Sink, Source};
 use std::alloc::Global;
 
 /// The bytes of a file, or how the program ends without them. A file that can't be read is told by its
@@ -106,7 +106,7 @@ pub fn run_files<F: Folder, I: Source, J: Source, O: Sink, E: Sink>(
         Err(outcome) => return outcome,
     };
     match read_file(alloc, script_name, script, errors) {
-        Ok(script) => play_out(&mut Machine::open(alloc, map), &script, output),
+        Ok(script) => play_on(alloc, map, &script, output),
         Err(outcome) => outcome,
     }
 }

@@ -4,12 +4,8 @@
 //! Proved: `serve_session` reads its input up to the end and tells by its outcome what was written: the
 //! whole transcript of the map machine's replies, or exactly the first bytes of it, or the fault of the
 //! mapfile (`tells`); `check_file` and `run_files` say the same of the files that they read.
-//! `split_session` parts a session at its first line of two percent signs. `play_script` and `summary` say
-//! how many bytes went out where the writer fails. `serve_connection` answers the stream of one
-//! connection.
-//!
-//! Words: a *script* is a list of commands, each a line; its *events* are what they ask of the
-//! machine. The *transcript* is what is written of the replies.
+//! `split_session` parts a session at its first line of two percent signs. `summary` says how many bytes
+//! went out where the writer fails. `serve_connection` answers the stream of one connection.
 #![tactic(auto)]
 
 mod checking;
@@ -17,13 +13,9 @@ mod connection;
 mod files;
 mod folder;
 mod input;
-pub mod laws;
 mod line;
 mod outcome;
 mod parts;
-mod play;
-mod script;
-mod sending;
 mod session;
 mod summing;
 
@@ -34,6 +26,6 @@ pub use folder::{Folder, front_of, path_of};
 pub use input::{ReadFault, read_all};
 pub use outcome::Outcome;
 pub use parts::split_session;
-pub use play::play_script;
+pub use scripts::play_script;
 pub use session::{serve_session, tell};
 pub use summing::summary;

@@ -2,19 +2,18 @@ ghost use Rattle.std.specs.Prelude.{◌≡◌, ◌||◌, IfOk, IfErr, OnOk, Ok, 
 ghost use Rattle.std.specs.List.{flat_map};
 ghost use Rattle.sessions.specs.Folder.{ComesTo, ComesToFault};
 ghost use Rattle.sessions.specs.declared.outcome.Outcome.TheVariants.{Played, MapfileFault};
-ghost use Rattle.sessions.specs.Session.{Tells, Ends, IsTold, IsWithoutMap, is_input_failed, is_output_failed};
-ghost use Rattle.sessions.specs.Transcript.{mapfile_fault};
+ghost use Rattle.sessions.specs.Session.{Tells, Ends, EndsOn, IsTold, IsWithoutMap, is_input_failed, is_output_failed};
+ghost use Rattle.sessions.specs.Told.{mapfile_fault};
 
 use crate::folder::{Folder, files_of};
 use crate::input::{ReadFault, read_all};
 use crate::outcome::Outcome;
 use crate::parts::split_session;
-use crate::play::play_script;
-use crate::sending::send_pieces;
 use itoa::Buffer;
 use mapdefs::Map;
 use mapmachine::{Machine, Sink, Source};
 use mapparse::{Mapfile, ParseFault};
+use scripts::{play_script, send_pieces};
 use std::alloc::Global;
 
 /// Reads a session from the input up to its end, and plays it: the transcript goes to the output, or
@@ -42,7 +41,7 @@ pub fn serve_session<F: Folder, I: Source, O: Sink, E: Sink>(
     };
     let (mapfile, script) = split_session(&session);
     match open_map(alloc, folder, mapfile, errors) {
-        Ok(map) => play_out(&mut Machine::open(alloc, map), script, output),
+        Ok(map) => play_on(alloc, map, script, output),
         Err(outcome) => outcome,
     }
 }
@@ -76,6 +75,19 @@ pub fn open_map<F: Folder, E: Sink>(
             Err(Outcome::MapfileFault)
         }
         Err(ParseFault::NoMemory) => Err(Outcome::NoMemory),
+    }
+}
+
+/// Plays a script on the machine as it begins with a map, and flushes what it wrote.
+pub fn play_on<O: Sink>(alloc: Global, map: Map, script: &[u8], output: &mut O) -> Outcome
+    ensures ends { EndsOn map result script.now (O.held output.old) (O.held output.new) }
+    ensures flushed { result ≡ Played → O.is_flushed output.new ≡ true }
+    ensures flag { O.put_failed output.new ≡ (is_output_failed result || O.put_failed output.old) }
+    ensures read { is_input_failed result ≡ false }
+{
+    match Machine::open(alloc, map) {
+        Ok(mut machine) => play_out(&mut machine, script, output),
+        Err(_) => Outcome::NoMemory,
     }
 }
 

@@ -1,6 +1,7 @@
 use Rattle.std.proofs.Common.{◌≡◌, ◌≤◌, List, ◌++◌, length, drop, vec_len}
 use Rattle.std.specs.Prelude.{vec_capacity}
-use Rattle.mapmachine.specs.Machine.{State, Runs}
+use Rattle.batches.specs.Batch.{State}
+use Rattle.mapmachine.specs.Machine.{Runs}
 use Rattle.mapmachine.specs.declared.reply.Reply.{Reply}
 use Rattle.mapmachine.proofs.machine.Machine.run.Given as goal
 

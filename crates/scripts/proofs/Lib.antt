@@ -1,0 +1,8 @@
+pub mod Commands
+pub mod Digits
+pub mod HexLines
+pub mod Outgoing
+pub mod Playing
+pub mod Rests
+pub mod ScriptSteps
+pub mod WrittenScripts

@@ -1,0 +1,107 @@
+-- Playing a readable script: what was played so far, and how it ends.
+use Rattle.std.proofs.Common.{MatchOption, ◌≡◌, ℕ, List, [], ◌∷◌, ◌++◌, Option, None, Some, Result, Ok, Err, ◌-◌, refl, sym, ap, subst, append-nil, arith}
+use Rattle.std.proofs.lemmas.Grind.{flat_map-append}
+use Rattle.batches.specs.Batch.{State}
+use Rattle.mapmachine.specs.Machine.{Steps, Runs}
+use Rattle.mapmachine.specs.declared.reply.Event.{Event}
+use Rattle.mapmachine.specs.declared.reply.Reply.{Reply}
+use Rattle.scripts.specs.Script.{script_of, fault_of}
+use Rattle.scripts.specs.Sent.{IsSent, IsPartlySent, IsPartlyReplied}
+use Rattle.scripts.specs.Playing.{IsTranscript, IsSessionOf, IsPlayed, IsRefused, HasPlayed, HasStopped, HasPartlyRefused, HasStoppedIn, HasPartlyPlayed}
+use Rattle.scripts.specs.Transcript.{reply_text, transcript, script_fault}
+use Rattle.scripts.proofs.Outgoing.{sent-sent, sent-partly}
+
+-- a script without fault has events
+pub readable : (read : Result (List Event) ℕ) → fault_of read ≡ None → (events : List Event) × (read ≡ Ok events)
+readable (Ok events) e = (events, refl)
+readable (Err n) e = cc
+
+-- a run and then a step are a run
+pub run-then : (a b c : State) (events : List Event) (replies : List Reply) (event : Event) (reply : Reply) → Runs a events replies b → Steps b event reply c →
+    Runs a (events ++ event ∷ []) (replies ++ reply ∷ []) c
+run-then a b c [] [] event reply is step = (c, rw (← is) step, refl)
+run-then a b c (e ∷ events) (r ∷ replies) event reply (next, first, rest) step = (next, first, run-then next b c events replies event reply rest step)
+run-then a b c [] (r ∷ replies) event reply none step = absurd none
+run-then a b c (e ∷ events) [] event reply none step = absurd none
+
+-- a script of some events has this transcript
+pub is-transcript : (old new : State) (script : List ℕ) (events : List Event) (replies : List Reply) → script_of script ≡ Ok events → Runs old events replies new →
+    IsTranscript old script new (transcript replies)
+is-transcript old new script events replies all run =
+    let played : IsPlayed old events new (transcript replies) = record { replies = replies; run = run; written = refl } in
+    subst (λ (read : Result (List Event) ℕ). IsSessionOf old read new (transcript replies)) (sym all) played
+
+-- all of it went out
+pub has-played : (old new : State) (script : List ℕ) (events : List Event) (replies : List Reply) (a b : Option (List ℕ)) (before after : ℕ) →
+    script_of script ≡ Ok events → Runs old events replies new → IsSent a b (transcript replies) before after → HasPlayed old script new a b
+has-played old new script events replies a b before after all run sent = record {
+  text = transcript replies;
+  transcript = is-transcript old new script events replies all run;
+  bytes = sent.bytes;
+}
+
+-- the replies to some events are written as those to all but the last, and then that one
+pub one-more : (replies : List Reply) (reply : Reply) → transcript (replies ++ reply ∷ []) ≡ transcript replies ++ reply_text reply
+one-more replies reply = rw (flat_map-append reply_text replies (reply ∷ []), append-nil (reply_text reply)) refl
+
+-- the replies to the events so far went out, and then the front of one to the next event
+pub has-stopped : (old between new : State) (script : List ℕ) (done left others : List Event) (event : Event) (replies : List Reply) (a b c : Option (List ℕ))
+    (before now after : ℕ) → script_of script ≡ Ok (done ++ left) → left ≡ event ∷ others → Runs old done replies between →
+    IsSent a b (transcript replies) before now → IsPartlyReplied between event new b c now after → HasPartlyPlayed old script new a c (after - before)
+has-stopped old between new script done left others event replies a b c before now after all is run sent partly =
+    let text : transcript (replies ++ partly.reply ∷ []) ≡ transcript replies ++ reply_text partly.reply = one-more replies partly.reply in
+    let p : IsPartlySent a c (transcript (replies ++ partly.reply ∷ [])) before after =
+    rw text (sent-partly a b c (transcript replies) (reply_text partly.reply) before now after sent partly.sent) in
+    let count : after - before ≡ p.part = omega (arith, p.count) in
+    let stopped : HasStopped old (done ++ left) new a c (after - before) = record {
+      done = done;
+      event = event;
+      left = others;
+      parts = ap (λ events. done ++ events) is;
+      replies = replies;
+      reply = partly.reply;
+      run = run-then old between new done replies event partly.reply run partly.step;
+      reached = omega (arith, sent.count, partly.sent.count);
+      short = omega (arith, count, p.short);
+      bytes = rw count p.bytes;
+    } in
+    subst (λ (read : Result (List Event) ℕ). HasStoppedIn old read new a c (after - before)) (sym all) stopped
+
+-- a reply after others went out
+pub sent-reply : (a b c : Option (List ℕ)) (replies : List Reply) (reply : Reply) (before now after : ℕ) →
+    IsSent a b (transcript replies) before now → IsSent b c (reply_text reply) now after → IsSent a c (transcript (replies ++ reply ∷ [])) before after
+sent-reply a b c replies reply before now after first second =
+    rw (one-more replies reply) (sent-sent a b c (transcript replies) (reply_text reply) before now after first second)
+
+-- what is known where there was no value
+pub at-none : {X : Type 0} (o : Option X) (P : Type 0) (Q : X → Type 0) → MatchOption o P Q → ((x : X) → o ≡ Some x → ⊥) → P
+at-none None P Q m other = m
+at-none (Some x) P Q m other = absurd (other x refl)
+
+-- a fault is that of an unreadable script
+pub refused : (read : Result (List Event) ℕ) (number : ℕ) → Some number ≡ fault_of read → read ≡ Err number
+refused (Ok events) number e = cc
+refused (Err n) number e = cc
+
+-- the fault of a script is its transcript
+pub is-refused : (state : State) (script : List ℕ) (number : ℕ) → script_of script ≡ Err number → IsTranscript state script state (script_fault number)
+is-refused state script number all =
+    let nothing : IsRefused number state state (script_fault number) = record { state = refl; written = refl } in
+    subst (λ (read : Result (List Event) ℕ). IsSessionOf state read state (script_fault number)) (sym all) nothing
+
+-- only its front went out
+pub has-partly-refused : (state : State) (script : List ℕ) (number : ℕ) (a b : Option (List ℕ)) (before after : ℕ) → script_of script ≡ Err number →
+    IsPartlySent a b (script_fault number) before after → HasPartlyPlayed state script state a b (after - before)
+has-partly-refused state script number a b before after all sent =
+    let count : after - before ≡ sent.part = omega (arith, sent.count) in
+    let refused : HasPartlyRefused number state state a b (after - before) = record { state = refl; short = omega (arith, count, sent.short); bytes = rw count sent.bytes } in
+    subst (λ (read : Result (List Event) ℕ). HasStoppedIn state read state a b (after - before)) (sym all) refused
+
+-- all of it went out
+pub has-refused : (state : State) (script : List ℕ) (number : ℕ) (a b : Option (List ℕ)) (before after : ℕ) → script_of script ≡ Err number →
+    IsSent a b (script_fault number) before after → HasPlayed state script state a b
+has-refused state script number a b before after all sent = record {
+  text = script_fault number;
+  transcript = is-refused state script number all;
+  bytes = sent.bytes;
+}

@@ -1,0 +1,16 @@
+use Rattle.std.proofs.Common.{◌≡◌, ℕ, List, ◌++◌, length}
+use Rattle.scripts.specs.Sent.{IsSent}
+use Rattle.scripts.specs.Transcript.{hex_lines}
+use Rattle.scripts.proofs.sending.send_hex.Given as goal
+
+-- what was written, and the lines of what is left, are the lines of all
+abbrev pub invariant-loop-rest : goal.invariant-loop-rest
+invariant-loop-rest g l = record {
+  text : List ℕ;
+  all : text ++ hex_lines l.rest ≡ hex_lines l.bytes;
+  sent : IsSent (g.S.Sink.held l.fn.sink) (g.S.Sink.held l.sink) text (g.S.Sink.taken l.fn.sink) (g.S.Sink.taken l.sink);
+  flag : g.S.Sink.put_failed l.sink ≡ g.S.Sink.put_failed l.fn.sink;
+}
+
+abbrev pub decreases-loop-rest : goal.decreases-loop-rest
+decreases-loop-rest g l = length l.rest

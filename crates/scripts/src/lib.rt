@@ -1,0 +1,18 @@
+//! Scripts: lists of commands for the map machine, and the transcript of its replies.
+//!
+//! Proved: `play_script` plays a script on a machine and writes the whole transcript of its replies, or exactly the
+//! first bytes of it where the writer fails; of an unreadable script it writes the fault and plays nothing.
+//! `laws::written_script_is_read` says that a script which is written out from events is read as these, and
+//! `laws::digits_stand_for_body` that the lines of a picture stand for its bytes.
+//!
+//! Words: a *script* is a list of commands, a query on a line or a line and the bytes of a batch; its *events* are what
+//! they ask of the machine. The *transcript* is what is written of the replies.
+#![tactic(auto)]
+
+pub mod laws;
+mod play;
+mod script;
+mod sending;
+
+pub use play::play_script;
+pub use sending::send_pieces;
