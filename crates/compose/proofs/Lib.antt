@@ -1,4 +1,13 @@
+pub mod Candidates
 pub mod Filling
+pub mod Finding
+pub mod Margins
+pub mod NearBoxes
+pub mod NearEdges
+pub mod NearLines
+pub mod NearShapes
+pub mod NearThings
 pub mod Painting
+pub mod Sparing
 pub mod Sweeping
 pub mod Thinning

@@ -13,7 +13,9 @@
 mod canvas;
 mod colouring;
 mod latitudes;
+pub mod laws;
 mod lines;
+mod margin;
 mod paint;
 mod points;
 mod polygons;

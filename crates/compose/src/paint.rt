@@ -1,13 +1,16 @@
-ghost use Rattle.std.specs.Prelude.{◌≡◌, ◌<◌, All, IfOk, OnOk, length};
-ghost use Rattle.compose.specs.Paint.{feature_things, layer_things};
+ghost use Rattle.std.specs.Prelude.{◌≡◌, ◌<◌, ◌*◌, All, IfOk, OnOk, length};
+ghost use Rattle.std.specs.List.{flat_map};
+ghost use Rattle.compose.specs.Near.{things_at};
+ghost use Rattle.compose.specs.Paint.{chosen_things, feature_things};
 ghost use Rattle.compose.specs.Painted.{IsPainted};
 ghost use Rattle.compose.specs.Picture.{IsPictureOf};
 
 use crate::canvas::Canvas;
 use crate::lines::paint_lines;
+use crate::margin::margin_of;
 use crate::points::paint_points;
 use crate::polygons::paint_polygon;
-use mapdefs::{FeatureFields, Kind, LayerFields, Map, Picture, Rgb};
+use mapdefs::{FeatureFields, Kind, LayerFields, Map, Near, Picture, Rgb};
 use scaledenom::Scale;
 use scene::Scene;
 use std::alloc::{AllocError, Global};
@@ -17,43 +20,70 @@ use viewport::View;
 /// in that order, one that is chosen twice also twice, and whether they are switched on or not. Layers
 /// and classes that aren't visible at the scale are left out.
 ///
-/// It takes memory for the picture, and for one feature at a time: for the edges of a polygon that cross a row,
-/// again for those as its rows are swept, for the vertices of a line or an outline and what it is made of, and
-/// for a row. `AllocError` comes only where that is
-/// refused.
-pub fn picture(
+/// The features that may be seen are those that `near` finds in the view and so many pixels round it as the
+/// layer's styles paint from a point at most. The picture is the same whatever else it finds.
+///
+/// It takes memory for the picture, for what `near` finds of a layer, and for one feature at a time: for the edges of a
+/// polygon that cross a row, again for those as its rows are swept, for the vertices of a line or an outline and what it
+/// is made of, and for a row. `AllocError` comes only where that is refused.
+pub fn picture<N: Near>(
     alloc: Global,
     map: &Map,
+    near: &N,
     view: View,
     scale: Scale,
     chosen: &[usize],
     background: Rgb,
 ) -> Result<Picture, AllocError>
-    requires { All (λ index. index < length map.now.layers) chosen.now }
+    requires near { N.map_of near.now ≡ map.now }
+    requires layers { All (λ index. index < length map.now.layers) chosen.now }
     ensures { IfOk result (IsPictureOf map.now view scale chosen.now background) }
 {
     let scene = Scene::new(map, view, scale);
     let mut canvas = Canvas::new(alloc, &scene, background)?;
     for index in chosen {
-        paint_layer(&mut canvas, &scene, scene.layer(*index))?;
+        paint_layer(&mut canvas, &scene, near, *index)?;
     }
     Ok(canvas.into_picture())
 }
 
-// Paints a layer, where it shows at the scale.
-fn paint_layer(
+// Paints the layer of an index, where it shows at the scale.
+fn paint_layer<N: Near>(
     canvas: &mut Canvas,
     scene: &Scene<'_>,
-    layer: &LayerFields,
+    near: &N,
+    index: usize,
 ) -> Result<(), AllocError>
-    requires { canvas.old.height ≡ scene.now.view.height }
-    ensures { OnOk result (IsPainted canvas.old canvas.new (layer_things scene.now.view scene.now.scale scene.now.map.symbols layer.now)) }
+    requires near { N.map_of near.now ≡ scene.now.map }
+    requires index { index < length scene.now.map.layers }
+    requires width { canvas.old.width ≡ scene.now.view.width }
+    requires height { canvas.old.height ≡ scene.now.view.height }
+    requires area { length canvas.old.pixels ≡ canvas.old.width * canvas.old.height }
+    ensures { OnOk result (IsPainted canvas.old canvas.new (chosen_things scene.now.view scene.now.scale scene.now.map index)) }
 {
+    let layer = scene.layer(index);
     if !scene.shows(layer) {
         return Ok(());
     }
-    for feature in layer.features.as_slice() {
-        paint_feature(canvas, scene, layer, feature.get().get())?;
+    let margin = margin_of(scene.symbols(), layer);
+    let found = near.candidates(index, scene.window(margin))?;
+    paint_features(canvas, scene, layer, &found)
+}
+
+// Paints the features of those indices in the layer, in their order.
+fn paint_features(
+    canvas: &mut Canvas,
+    scene: &Scene<'_>,
+    layer: &LayerFields,
+    found: &[u32],
+) -> Result<(), AllocError>
+    requires indices { All (λ k. k < length layer.now.features) found.now }
+    requires height { canvas.old.height ≡ scene.now.view.height }
+    ensures { OnOk result (IsPainted canvas.old canvas.new (flat_map (things_at (feature_things scene.now.view scene.now.scale scene.now.map.symbols layer.now) layer.now.features) found.now)) }
+{
+    let features = layer.features.as_slice();
+    for index in found {
+        paint_feature(canvas, scene, layer, features[*index as usize].get().get())?;
     }
     Ok(())
 }

@@ -1,12 +1,15 @@
-ghost use Rattle.std.specs.Prelude.{◌≡◌, ◌<◌, Some, IfOk, length, map, slice_get, vec_items};
+ghost use Rattle.std.specs.Prelude.{◌≡◌, ◌<◌, ◌≤◌, Some, IfOk, length, map, slice_get, vec_items};
 ghost use Rattle.std.specs.Option.{option_copied};
 ghost use Rattle.geom.specs.Device.{pixel_of};
 ghost use Rattle.mapdefs.specs.Class.{class_of, is_visible_layer};
-ghost use Rattle.viewport.specs.View.{device_point};
+ghost use Rattle.geom.specs.Side.{IsPictureSide};
+ghost use Rattle.geom.specs.World.{IsExtent};
+ghost use Rattle.viewport.specs.View.{device_point, window};
+ghost use Rattle.viewport.specs.declared.view.TheConstants.{MAX_MARGIN};
 
 use crate::classes::first_class;
 use crate::parts::points_of_parts;
-use geom::{Device, Pixel, World};
+use geom::{Device, Pixel, World, WorldBox};
 use mapdefs::{ClassFields, FeatureFields, Items, LayerFields, Map, Symbol};
 use scaledenom::Scale;
 use std::alloc::{AllocError, Global};
@@ -58,6 +61,24 @@ impl<'a> Scene<'a> {
         ensures { slice_get self.now.map.layers index ≡ Some result.now }
     {
         self.map.get().layers.as_slice()[index].get()
+    }
+
+    /// The symbols of the map.
+    pub fn symbols(&self) -> &[Symbol]
+        ensures { result.now ≡ self.now.map.symbols }
+    {
+        self.map.get().symbols.as_slice()
+    }
+
+    /// The part of the world that the picture shows, and `margin` pixels on each side of it.
+    pub fn window(&self, margin: u16) -> WorldBox
+        requires { margin ≤ MAX_MARGIN }
+        ensures value { result ≡ window self.now.view margin }
+        ensures limits { IsExtent self.now.view.area }
+        ensures width { IsPictureSide self.now.view.width }
+        ensures height { IsPictureSide self.now.view.height }
+    {
+        self.projection.window(margin)
     }
 
     /// The symbol of an index in the map, if there is one.

@@ -28,7 +28,9 @@ impl Model for Projection {
 }
 
 impl Projection {
-    ghost use Rattle.viewport.specs.View.{device_point, sixteenths};
+    ghost use Rattle.geom.specs.Side.{IsPictureSide};
+    ghost use Rattle.viewport.specs.View.{device_point, sixteenths, window};
+    ghost use Rattle.viewport.specs.declared.view.TheConstants.{MAX_MARGIN};
 
     /// The projection of a view. It divides for the two axes, so it is made once a picture.
     pub fn new(view: View) -> Self
@@ -68,6 +70,19 @@ impl Projection {
         ensures { result ≡ self.now.height }
     {
         self.view.height()
+    }
+
+    /// The part of the world that the picture shows, and `margin` pixels on each side of it: what `View::window` gives.
+    pub fn window(&self, margin: u16) -> WorldBox
+        requires { margin ≤ MAX_MARGIN }
+        ensures value { result ≡ window self.now margin }
+        ensures limits { IsExtent self.now.area }
+        ensures width { IsPictureSide self.now.width }
+        ensures height { IsPictureSide self.now.height }
+    {
+        let _area = self.view.area();
+        let _sides = (self.view.width().pixels(), self.view.height().pixels());
+        self.view.window(margin)
     }
 
     /// Where a place lies on the picture, or off it: what `View::device` gives.

@@ -1,27 +1,27 @@
-use Rattle.std.proofs.Common.{sym, ◌∙◌, arith}
-use Rattle.compose.specs.Paint.{feature_things}
-use Rattle.compose.proofs.Painting.{painted-none, painted_next, painted_end}
+use Rattle.std.proofs.Common.{sym, ◌∙◌, ap, subst}
+use Rattle.mapdefs.specs.Near.{AreCandidatesOf}
+use Rattle.mapdefs.specs.declared.map.MapFields.{MapFields}
+use Rattle.compose.specs.Near.{margin_of}
+use Rattle.compose.proofs.Painting.{painted-none, painted-chosen}
+use Rattle.compose.proofs.Sparing.{candidates-of, on-ok, spared}
 use Rattle.compose.proofs.paint.paint_layer.Goals as goal
 
 pub returns-then-not-shows : goal.returns-then-not-shows
-returns-then-not-shows c =
+returns-then-not-shows g c =
     let hidden = sym c.shows.ensures ∙ c.if-not-shows.true in
-    rw hidden (painted-none c.args.canvas.now)
-
-pub loop-feature-init : goal.loop-feature-init
-loop-feature-init c = painted-none c.args.canvas.now
-
-pub loop-feature-preserved : goal.loop-feature-preserved
-loop-feature-preserved c =
-    let painted = rw (c.get-in-loop-feature.ensures.value, c.get.ensures) at c.in_ok-paint_feature.ensures in
-    painted_next (feature_things c.args.scene.now.view c.args.scene.now.scale c.args.scene.now.map.symbols c.args.layer.now) c.as_slice-feature-items.result.now c.loop-feature.feature-index c.feature-item.result _ c.loop-feature.canvas _
-    c.loop-feature-test.true c.feature-item.is c.loop-feature.invariant painted
+    painted-chosen c.args.scene.now.view c.args.scene.now.scale c.args.scene.now.map c.args.index c.layer-layer.result.now _ _ c.layer-layer.ensures (rw hidden (painted-none c.args.canvas.now))
 
 pub returns : goal.returns
-returns c =
+returns g c =
+    let scene = c.args.scene.now in
+    let layer = c.layer-layer.result.now in
+    let found = c.in_ok-found.found.items in
     let shown = sym c.shows.ensures ∙ c.if-not-shows.false in
-    let painted = painted_end (feature_things c.args.scene.now.view c.args.scene.now.scale c.args.scene.now.map.symbols c.args.layer.now) c.as_slice-feature-items.result.now c.loop-feature.feature-index c.args.canvas.now c.loop-feature.canvas (omega arith) c.loop-feature.invariant in
-    rw shown (rw c.as_slice-feature-items.ensures at painted)
-
-pub paint_feature-requires : goal.paint_feature-requires
-paint_feature-requires c = c.loop-feature.invariant.height ∙ c.requires
+    let margin = c.margin_of-margin.ensures.value ∙ ap (λ symbols. margin_of symbols layer) c.symbols.ensures in
+    let near = subst (λ (m : MapFields). AreCandidatesOf m c.args.index c.window.result found) c.requires.near c.in_ok-found.ensures in
+    let are = rw (c.window.ensures.value, margin) at (candidates-of scene.map c.args.index layer c.window.result found c.layer-layer.ensures near) in
+    on-ok c.paint_features.result _ _
+    (λ p. painted-chosen scene.view scene.scale scene.map c.args.index layer _ _ c.layer-layer.ensures
+    (rw shown (spared scene.view scene.scale scene.map.symbols layer found _ _ c.window.ensures.limits c.window.ensures.width c.window.ensures.height
+    c.requires.width c.requires.height c.requires.area are p)))
+    (rw c.deref.ensures.value at c.paint_features.ensures)

@@ -1,0 +1,131 @@
+-- Points all round a pixel that is painted of a feature.
+use Rattle.std.proofs.Common.{◌≡◌, ◌∙◌, ℕ, ◌<◌, ◌≤◌, max, Bool, true, false, ◌||◌, List, [], ◌∷◌, Option, None, Some, refl, sym, arith, ⊎_elim}
+use Rattle.std.proofs.Math.Nat.{le-max_left, le-max_right}
+use Rattle.std.proofs.lemmas.List.Folds.{list_any-append}
+use Rattle.std.specs.List.{Contains, flat_map, list_any, slice_get}
+use Rattle.std.specs.Option.{option_map_or}
+use Rattle.compose.specs.Paint.{Thing, class_things, covers, fills, marks, parts_of, point_things, polygon_things, stamps, strokes, style_things}
+use lib.IntN.{pos}
+use Rattle.geom.specs.Device.{DevicePoint, pixel_centre, pixel_of}
+use Rattle.geom.specs.EvenOdd.{is_inside}
+use Rattle.geom.specs.World.{Place}
+use Rattle.mapdefs.specs.Class.{admits, class_of}
+use Rattle.mapdefs.specs.declared.class.ClassFields.{ClassFields}
+use Rattle.mapdefs.specs.declared.colour.Rgb.{Rgb}
+use Rattle.mapdefs.specs.declared.feature.FeatureFields.{FeatureFields}
+use Rattle.mapdefs.specs.declared.layer.Kind.{Kind}
+use Rattle.mapdefs.specs.declared.layer.Kind.TheVariants as kind
+use Rattle.mapdefs.specs.declared.layer.LayerFields.{LayerFields}
+use Rattle.mapdefs.specs.declared.style.StyleFields.{StyleFields}
+use Rattle.mapdefs.specs.declared.symbol.Symbol.{Symbol}
+use Rattle.strokes.specs.Line.{LineValue, line_of}
+use Rattle.strokes.specs.Line as line
+use Rattle.strokes.specs.Square.{SquareValue, covers_square}
+use Rattle.symbols.specs.Stamp as stamp
+use Rattle.viewport.specs.View.{ViewValue, device_point}
+use Rattle.mapdefs.specs.Near.{points_of}
+use Rattle.compose.specs.Near.{PaintsNear, furthest, margin_of, reach_of, side_of, symbol_reach}
+use Rattle.compose.proofs.NearBoxes.{AreRound, box-in}
+use Rattle.compose.proofs.Finding.{any-flat_map, contains-flat, first_or, found-there, or_cases}
+use Rattle.compose.proofs.NearLines.{line-round}
+use Rattle.compose.proofs.NearShapes.{IsBy, by-round, fill-round, square-by, stamp-by}
+
+-- no style of the list paints further than the furthest
+pub reach-furthest : (symbols : List Symbol) (styles : List StyleFields) (style : StyleFields) → Contains styles style → reach_of symbols style ≤ furthest symbols styles
+reach-furthest symbols [] style c = absurd (omega (arith, c.1))
+reach-furthest symbols (s ∷ styles) style c = ⊎_elim
+    (λ (e : s ≡ style). rw e (le-max_left (reach_of symbols style) (furthest symbols styles)))
+    (λ (d : Contains styles style). omega (arith, reach-furthest symbols styles style d, le-max_right (reach_of symbols s) (furthest symbols styles)))
+    (first_or s style styles c)
+
+-- one thing covers what its list does
+one-thing : (t : Bool) → (t || false) ≡ true → t ≡ true
+one-thing true h = refl
+one-thing false h = cc
+
+fills-cover : (rings : List (List DevicePoint)) (colour : Option Rgb) (i j : ℕ) → list_any (λ t. covers t i j) (fills rings colour) ≡ true →
+    is_inside rings (pixel_centre (pos i) (pos j)) ≡ true
+fills-cover rings None i j h = absurd (cc)
+fills-cover rings (Some colour) i j h = one-thing (is_inside rings (pixel_centre (pos i) (pos j))) h
+
+strokes-cover : (stroke : LineValue) (colour : Option Rgb) (i j : ℕ) → list_any (λ t. covers t i j) (strokes stroke colour) ≡ true → line.covers_pixel stroke (pos i) (pos j) ≡ true
+strokes-cover stroke None i j h = absurd (cc)
+strokes-cover stroke (Some colour) i j h = one-thing (line.covers_pixel stroke (pos i) (pos j)) h
+
+marks-cover : (square : SquareValue) (colour : Option Rgb) (i j : ℕ) → list_any (λ t. covers t i j) (marks square colour) ≡ true → covers_square square (pos i) (pos j) ≡ true
+marks-cover square None i j h = absurd (cc)
+marks-cover square (Some colour) i j h = one-thing (covers_square square (pos i) (pos j)) h
+
+-- a polygon
+polygon-round : (view : ViewValue) (margin : ℕ) (feature : FeatureFields) (style : StyleFields) (i j : ℕ) → style.width ≤ margin → i < view.width → j < view.height →
+    list_any (λ t. covers t i j) (polygon_things (parts_of view feature) style) ≡ true → AreRound view margin (points_of feature)
+polygon-round view margin feature style i j wide column row h =
+    let rings : List (List DevicePoint) = parts_of view feature in
+    let first : List Thing = fills rings style.colour in
+    let second : List Thing = strokes (line_of rings true style.width) style.outline in
+    ⊎_elim
+    (λ (e : list_any (λ t. covers t i j) first ≡ true). fill-round view margin feature.parts i j column row (fills-cover rings style.colour i j e))
+    (λ (e : list_any (λ t. covers t i j) second ≡ true). line-round view margin true style.width feature.parts i j wide column row (strokes-cover (line_of rings true style.width) style.outline i j e))
+    (or_cases (list_any (λ t. covers t i j) first) (list_any (λ t. covers t i j) second) (sym (list_any-append (λ t. covers t i j) first second) ∙ h))
+
+-- a symbol at a point
+stamped-by : (view : ViewValue) (margin : ℕ) (v : DevicePoint) (i j : ℕ) (symbol : Option Symbol) → option_map_or side_of symbol 0 ≤ margin → i < view.width → j < view.height →
+    list_any (λ t. covers t i j) (option_map_or (stamps (pixel_of v)) symbol []) ≡ true → IsBy view margin v
+stamped-by view margin v i j None most column row h = absurd (cc)
+stamped-by view margin v i j (Some symbol) most column row h =
+    stamp-by view margin v symbol.pixmap i j (omega (arith, most, le-max_left symbol.pixmap.width symbol.pixmap.height)) (omega (arith, most, le-max_right symbol.pixmap.width symbol.pixmap.height)) column row
+    (one-thing (stamp.covers_pixel (record { pixmap = symbol.pixmap; pixel = pixel_of v }) (pos i) (pos j)) h)
+
+-- a point
+point-by : (view : ViewValue) (margin : ℕ) (symbols : List Symbol) (v : DevicePoint) (size : ℕ) (colour : Option Rgb) (symbol : Option ℕ) (i j : ℕ) →
+    size ≤ margin → symbol_reach symbols symbol ≤ margin → i < view.width → j < view.height →
+    list_any (λ t. covers t i j) (elim symbol [
+      | Some index ↦ option_map_or (stamps (pixel_of v)) (slice_get symbols index) []
+      | None ↦ marks (record { pixel = pixel_of v; size = size }) colour
+    ]) ≡ true → IsBy view margin v
+point-by view margin symbols v size colour None i j wide high column row h =
+    square-by view margin v size i j wide column row (marks-cover (record { pixel = pixel_of v; size = size }) colour i j h)
+point-by view margin symbols v size colour (Some index) i j wide high column row h = stamped-by view margin v i j (slice_get symbols index) high column row h
+
+-- the points of a feature, one of which is painted by a style
+points-round : (view : ViewValue) (margin : ℕ) (symbols : List Symbol) (feature : FeatureFields) (style : StyleFields) (i j : ℕ) →
+    style.size ≤ margin → symbol_reach symbols style.symbol ≤ margin → i < view.width → j < view.height →
+    list_any (λ t. covers t i j) (flat_map (λ part. flat_map (point_things view symbols style) part) feature.parts) ≡ true → AreRound view margin (points_of feature)
+points-round view margin symbols feature style i j wide high column row h =
+    let (part, among, e) = any-flat_map (λ t. covers t i j) (λ (part : List Place). flat_map (point_things view symbols style) part) feature.parts h in
+    let (q, there, f) = any-flat_map (λ t. covers t i j) (point_things view symbols style) part e in
+    by-round view margin (points_of feature) q (contains-flat (λ (part : List Place). part) feature.parts part q among there)
+    (point-by view margin symbols (device_point view q) style.size style.colour style.symbol i j wide high column row f)
+
+-- what a style paints of a feature of any kind
+style-round : (view : ViewValue) (margin : ℕ) (symbols : List Symbol) (k : Kind) (feature : FeatureFields) (style : StyleFields) (i j : ℕ) →
+    reach_of symbols style ≤ margin → i < view.width → j < view.height →
+    list_any (λ t. covers t i j) (style_things view symbols k feature style) ≡ true → AreRound view margin (points_of feature)
+style-round view margin symbols kind.Polygon feature style i j most column row h =
+    let wide : style.width ≤ margin = omega (arith, most, le-max_left (max style.width style.size) (symbol_reach symbols style.symbol), le-max_left style.width style.size) in
+    polygon-round view margin feature style i j wide column row h
+style-round view margin symbols kind.Line feature style i j most column row h =
+    let wide : style.width ≤ margin = omega (arith, most, le-max_left (max style.width style.size) (symbol_reach symbols style.symbol), le-max_left style.width style.size) in
+    line-round view margin false style.width feature.parts i j wide column row (strokes-cover (line_of (parts_of view feature) false style.width) style.colour i j h)
+style-round view margin symbols kind.Point feature style i j most column row h =
+    let wide : style.size ≤ margin = omega (arith, most, le-max_left (max style.width style.size) (symbol_reach symbols style.symbol), le-max_right style.width style.size) in
+    let high : symbol_reach symbols style.symbol ≤ margin = omega (arith, most, le-max_right (max style.width style.size) (symbol_reach symbols style.symbol)) in
+    points-round view margin symbols feature style i j wide high column row h
+
+-- what its class paints, if it has one
+classed-round : (view : ViewValue) (symbols : List Symbol) (layer : LayerFields) (feature : FeatureFields) (class : Option ClassFields) (i j : ℕ) →
+    ((c : ClassFields) → class ≡ Some c → Contains layer.classes c) → i < view.width → j < view.height →
+    list_any (λ t. covers t i j) (option_map_or (class_things view symbols layer.kind feature) class []) ≡ true → AreRound view (margin_of symbols layer) (points_of feature)
+classed-round view symbols layer feature None i j there column row h = absurd (cc)
+classed-round view symbols layer feature (Some class) i j there column row h =
+    let (style, among, e) = any-flat_map (λ t. covers t i j) (style_things view symbols layer.kind feature) class.styles h in
+    style-round view (margin_of symbols layer) symbols layer.kind feature style i j
+    (reach-furthest symbols (flat_map (λ (c : ClassFields). c.styles) layer.classes) style
+    (contains-flat (λ (c : ClassFields). c.styles) layer.classes class style (there class refl) among)) column row e
+
+-- the law
+pub paints-near : PaintsNear
+paints-near view scale symbols layer feature i j extent width height column row h =
+    box-in view (margin_of symbols layer) (points_of feature) extent width height
+    (classed-round view symbols layer feature (class_of scale layer feature) i j
+    (λ c e. found-there (admits scale layer feature) layer.classes c e) column row h)

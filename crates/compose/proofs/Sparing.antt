@@ -1,0 +1,59 @@
+-- Painting what is found of a layer paints the layer.
+use Rattle.std.proofs.Common.{◌≡◌, ◌∙◌, ℕ, ◌*◌, ◌/◌, ◌%◌, ◌<◌, Bool, true, false, List, All, length, get_or, Option, Some, None, Result, Ok, Err, OnOk, refl, sym, ap, arith}
+use Rattle.std.proofs.lemmas.Nat.{div_below}
+use Rattle.std.proofs.lemmas.Option.{slice_get-get_or}
+use Rattle.std.specs.List.{Contains, flat_map, list_any}
+use Rattle.std.specs.Prelude.{slice_get}
+use Rattle.geom.specs.Scale.{PictureScale}
+use Rattle.geom.specs.Side.{IsPictureSide}
+use Rattle.geom.specs.World.{Area, IsExtent}
+use Rattle.mapdefs.specs.Near.{AreCandidates, AreCandidatesOf}
+use Rattle.mapdefs.specs.declared.feature.FeatureFields.{FeatureFields}
+use Rattle.mapdefs.specs.declared.layer.LayerFields.{LayerFields}
+use Rattle.mapdefs.specs.declared.map.MapFields.{MapFields}
+use Rattle.mapdefs.specs.declared.picture.PictureFields.{PictureFields}
+use Rattle.mapdefs.specs.declared.symbol.Symbol.{Symbol}
+use Rattle.viewport.specs.View.{ViewValue, window}
+use Rattle.compose.specs.Near.{margin_of, things_at}
+use Rattle.compose.specs.Paint.{Thing, covers, feature_things}
+use Rattle.compose.specs.Painted.{IsPainted, colour_of}
+use Rattle.compose.proofs.Candidates.{paint-all}
+use Rattle.compose.proofs.NearThings.{paints-near}
+
+-- what follows from what holds at a success holds there
+pub on-ok : {T E : Type 0} (r : Result T E) (P Q : Type 0) → (P → Q) → OnOk r P → OnOk r Q
+on-ok (Ok x) P Q f p = f p
+on-ok (Err e) P Q f p = tt
+
+-- what an element paints is what its index does
+pub painted-at : {X : Type 0} (f : X → List Thing) (xs : List X) (k : ℕ) (x : X) (a b : PictureFields) → k < length xs → x ≡ get_or xs k x →
+    IsPainted a b (f x) → IsPainted a b (things_at f xs k)
+painted-at f xs k x a b short is p = rw (slice_get-get_or xs k x short, ← is) p
+
+-- the candidates of a layer in a map are those of the layer
+pub candidates-of : (m : MapFields) (index : ℕ) (layer : LayerFields) (w : Area) (found : List ℕ) → slice_get m.layers index ≡ Some layer →
+    AreCandidatesOf m index w found → AreCandidates layer.features w found
+candidates-of m index layer w found is are = rw is at are
+
+-- the remainder and the quotient of an index of a pixel are its column and its row
+column-below : (at w : ℕ) → 0 < w → at % w < w
+column-below at w some = omega arith
+
+-- the candidates in the window of a layer's margin paint what all its features do
+pub spared : (view : ViewValue) (scale : PictureScale) (symbols : List Symbol) (layer : LayerFields) (found : List ℕ) (a b : PictureFields) →
+    IsExtent view.area → IsPictureSide view.width → IsPictureSide view.height → a.width ≡ view.width → a.height ≡ view.height → length a.pixels ≡ a.width * a.height →
+    AreCandidates layer.features (window view (margin_of symbols layer)) found →
+    IsPainted a b (flat_map (things_at (feature_things view scale symbols layer) layer.features) found) →
+    IsPainted a b (flat_map (feature_things view scale symbols layer) layer.features)
+spared view scale symbols layer found a b extent width height wide high area are p = record {
+  width = p.width;
+  height = p.height;
+  area = p.area;
+  pixels = λ at h.
+      let some : 0 < a.width = omega (arith, wide, width.some) in
+      let column : at % a.width < view.width = omega (arith, wide, column-below at a.width some) in
+      let row : at / a.width < view.height = omega (arith, high, div_below at a.width a.height some (omega (arith, area, h))) in
+      p.pixels at h
+      ∙ paint-all (feature_things view scale symbols layer) layer.features found (colour_of a.pixels at) (at % a.width) (at / a.width) are.rising are.indices
+      (λ k feature is covered. are.each k feature is (paints-near view scale symbols layer feature (at % a.width) (at / a.width) extent width height column row covered));
+}

@@ -1,0 +1,58 @@
+-- How far a feature's paint reaches from its points (docs/PROFILE.md, "How features are painted").
+use Rattle.std.specs.Prelude.{◌≡◌, ℕ, ◌<◌, max, true, List, [], ◌∷◌, Option, None, Some, length, All, slice_get}
+use Rattle.std.specs.List.{Contains, flat_map, list_any}
+use Rattle.std.specs.List.Sorted.{IsStrictlyIncreasing}
+use Rattle.mapdefs.specs.declared.colour.Rgb.{Rgb}
+use Rattle.compose.specs.Picture.{colour_at}
+use Rattle.std.specs.Option.{option_map_or}
+use Rattle.geom.specs.Scale.{PictureScale}
+use Rattle.geom.specs.Side.{IsPictureSide}
+use Rattle.geom.specs.World.{IsExtent}
+use Rattle.mapdefs.specs.declared.class.ClassFields.{ClassFields}
+use Rattle.mapdefs.specs.declared.feature.FeatureFields.{FeatureFields}
+use Rattle.mapdefs.specs.declared.layer.LayerFields.{LayerFields}
+use Rattle.mapdefs.specs.declared.style.StyleFields.{StyleFields}
+use Rattle.mapdefs.specs.declared.symbol.Symbol.{Symbol}
+use Rattle.viewport.specs.View.{ViewValue, window}
+use Rattle.compose.specs.Paint.{Thing, covers, feature_things}
+use Rattle.mapdefs.specs.Near.{HasBoxIn}
+
+-- the greater side of a symbol's pixmap
+abbrev pub side_of : Symbol → ℕ
+side_of symbol = max symbol.pixmap.width symbol.pixmap.height
+
+-- how far a symbol paints from a point at most: the greater side of its pixmap
+abbrev pub symbol_reach : List Symbol → Option ℕ → ℕ
+symbol_reach symbols (Some index) = option_map_or side_of (slice_get symbols index) 0
+symbol_reach symbols None = 0
+
+-- how far a style paints from a point at most: its width, its size and the sides of its symbol
+abbrev pub reach_of : List Symbol → StyleFields → ℕ
+reach_of symbols style = max (max style.width style.size) (symbol_reach symbols style.symbol)
+
+-- the furthest that some styles paint, or 0 without any
+abbrev pub furthest : List Symbol → List StyleFields → ℕ
+furthest symbols [] = 0
+furthest symbols (style ∷ styles) = max (reach_of symbols style) (furthest symbols styles)
+
+-- the margin of a layer: the furthest that the styles of its classes paint
+abbrev pub margin_of : List Symbol → LayerFields → ℕ
+margin_of symbols layer = furthest symbols (flat_map (λ (class : ClassFields). class.styles) layer.classes)
+
+-- the law: where some of the things that are painted of a feature covers a pixel of the picture, its box meets the window of the layer's margin
+abbrev pub PaintsNear : Type 0
+PaintsNear = (view : ViewValue) (scale : PictureScale) (symbols : List Symbol) (layer : LayerFields) (feature : FeatureFields) (i j : ℕ) →
+    IsExtent view.area → IsPictureSide view.width → IsPictureSide view.height → i < view.width → j < view.height →
+    list_any (λ thing. covers thing i j) (feature_things view scale symbols layer feature) ≡ true →
+    HasBoxIn (window view (margin_of symbols layer)) feature
+
+-- the things of the element of an index, if there is one
+abbrev pub things_at : {X : Type 0} → (X → List Thing) → List X → ℕ → List Thing
+things_at f xs index = option_map_or f (slice_get xs index) []
+
+-- the law: painting candidates in their order is painting all, where each whose things cover a pixel of the picture is a candidate
+abbrev pub CandidatesPaintAll : Type 0
+CandidatesPaintAll = (f : FeatureFields → List Thing) (features : List FeatureFields) (found : List ℕ) (background : Rgb) (i j : ℕ) →
+    IsStrictlyIncreasing found → All (λ k. k < length features) found →
+    ((k : ℕ) (feature : FeatureFields) → slice_get features k ≡ Some feature → list_any (λ thing. covers thing i j) (f feature) ≡ true → Contains found k) →
+    colour_at background (flat_map (things_at f features) found) i j ≡ colour_at background (flat_map f features) i j

@@ -1,0 +1,65 @@
+ghost use Rattle.std.specs.Prelude.{◌≡◌, ◌≤◌, max};
+ghost use Rattle.compose.specs.Near.{furthest, margin_of, reach_of, side_of, symbol_reach};
+ghost use Rattle.mapdefs.specs.declared.limits.TheConstants.{MAX_SYMBOL_SIDE};
+
+use mapdefs::{LayerFields, Style, Symbol};
+
+// The greater side of a symbol's pixmap.
+fn side_of(symbol: &Symbol) -> u16
+    ensures value { result ≡ side_of symbol.now }
+    ensures most { result ≤ MAX_SYMBOL_SIDE }
+{
+    let pixmap = symbol.pixmap.get();
+    pixmap.width.max(pixmap.height)
+}
+
+// How far the symbol of an index paints from a point at most.
+fn reach_of_symbol(symbols: &[Symbol], index: Option<usize>) -> u16
+    ensures value { result ≡ symbol_reach symbols.now index }
+    ensures most { result ≤ MAX_SYMBOL_SIDE }
+{
+    match index {
+        Some(index) => match symbols.get(index) {
+            Some(symbol) => side_of(symbol),
+            None => 0,
+        },
+        None => 0,
+    }
+}
+
+// How far a style paints from a point at most.
+fn reach_of(symbols: &[Symbol], style: &Style) -> u16
+    ensures value { result ≡ reach_of symbols.now style.now }
+    ensures most { result ≤ 256 }
+{
+    let style = style.get();
+    u16::from(style.width)
+        .max(style.size)
+        .max(reach_of_symbol(symbols, style.symbol))
+}
+
+// The further of a reach and the furthest that some styles paint.
+fn further(most: u16, symbols: &[Symbol], styles: &[Style]) -> u16
+    requires { most ≤ 256 }
+    ensures value { result ≡ max most (furthest symbols.now styles.now) }
+    ensures most { result ≤ 256 }
+{
+    let mut found = most;
+    for style in styles {
+        found = found.max(reach_of(symbols, style));
+    }
+    found
+}
+
+/// The furthest that the styles of a layer's classes paint from a point: the greatest of their widths, their sizes and
+/// the sides of their symbols.
+pub fn margin_of(symbols: &[Symbol], layer: &LayerFields) -> u16
+    ensures value { result ≡ margin_of symbols.now layer.now }
+    ensures most { result ≤ 256 }
+{
+    let mut found = 0;
+    for class in layer.classes.as_slice() {
+        found = further(found, symbols, class.get().styles.as_slice());
+    }
+    found
+}
