@@ -98,6 +98,7 @@ impl Machine {
         let picture = picture_of(
             self.alloc,
             self.layers.map(),
+            &self.layers,
             view,
             scale,
             chosen,

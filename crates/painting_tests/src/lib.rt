@@ -5,6 +5,8 @@
 #[cfg(test)]
 mod long_rings;
 #[cfg(test)]
+mod near_features;
+#[cfg(test)]
 mod painted_maps;
 #[cfg(test)]
 mod painted_pixels;

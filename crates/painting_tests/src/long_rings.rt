@@ -3,7 +3,7 @@ ghost use Rattle.std.specs.Prelude.{◌≡◌, ◌<◌, ◌≤◌, [], length, A
 use crate::painted_maps::{feature_of, layer, map_of};
 use compose::picture;
 use geom::{Micro, PictureSide, World, WorldBox};
-use mapdefs::{Feature, Items, Map, Picture, Rgb};
+use mapdefs::{AllFeatures, Feature, Items, Map, Picture, Rgb};
 use scaledenom::Scale;
 use std::alloc::{AllocError, Global};
 use std::test::Fail;
@@ -78,7 +78,8 @@ fn is_painted(alloc: Global, map: &Map, chosen: &[usize]) -> Result<bool, AllocE
         green: 255,
         blue: 255,
     };
-    let picture = picture(alloc, map, view, scale, chosen, white)?;
+    let near = AllFeatures::of(alloc, map);
+    let picture = picture(alloc, map, &near, view, scale, chosen, white)?;
     Ok(is_dark_square(&picture))
 }
 

@@ -5,8 +5,8 @@ ghost use Rattle.mapdefs.specs.declared.limits.TheConstants.{MAX_LAYERS};
 use compose::picture;
 use geom::{Micro, NUMBER_LIMIT, PictureSide, World, WorldBox};
 use mapdefs::{
-    Class, ClassFields, Feature, FeatureFields, Items, Kind, Layer, LayerFields, MAX_VERTICES, Map,
-    Picture, Rgb, Rule, Shared, SharedItems, Style, StyleFields, Symbol, Text,
+    AllFeatures, Class, ClassFields, Feature, FeatureFields, Items, Kind, Layer, LayerFields,
+    MAX_VERTICES, Map, Picture, Rgb, Rule, Shared, SharedItems, Style, StyleFields, Symbol, Text,
 };
 use scaledenom::Scale;
 use std::alloc::{AllocError, Global};
@@ -293,8 +293,8 @@ fn layer_of_rings(alloc: Global, words: &str, rings: &str) -> Result<Layer, Allo
     layer(alloc, words, feature)
 }
 
-// A map of two layers. The first has these words and rings, the second paints the inner square dark.
-fn map_of_two(alloc: Global, words: &str, rings: &str) -> Result<Map, AllocError>
+/// A map of two layers. The first has these words and rings, the second paints the inner square dark.
+pub(crate) fn map_of_two(alloc: Global, words: &str, rings: &str) -> Result<Map, AllocError>
     ensures { IfOk result (λ map. length map.layers ≡ 2) }
 {
     let mut layers = Vec::new(alloc);
@@ -318,8 +318,8 @@ fn chosen_of(digits: &str) -> Option<&'static [usize]>
     }
 }
 
-// The rows of a picture in letters, with blanks between them.
-fn letters_of(alloc: Global, picture: &Picture) -> Result<String, AllocError> {
+/// The rows of a picture in letters, with blanks between them.
+pub(crate) fn letters_of(alloc: Global, picture: &Picture) -> Result<String, AllocError> {
     let mut text = String::new(alloc);
     for row in 0..picture.get().height.pixels() {
         if row > 0 {
@@ -359,7 +359,8 @@ fn drawn(
     let side = PictureSide::new(u16::from(degrees)).unwrap();
     let view = View::new(WorldBox::new(low, low, high, high), side, side);
     let scale = Scale::of(280_000, PictureSide::new(1).unwrap());
-    let picture = picture(alloc, map, view, scale, chosen, background)?;
+    let near = AllFeatures::of(alloc, map);
+    let picture = picture(alloc, map, &near, view, scale, chosen, background)?;
     letters_of(alloc, &picture)
 }
 

@@ -1,0 +1,89 @@
+ghost use Rattle.std.specs.Prelude.{◌≡◌, length};
+
+use crate::painted_maps::{letters_of, map_of_two};
+use compose::picture;
+use geom::{Micro, PictureSide, WorldBox};
+use mapdefs::{AllFeatures, Map, Near, Rgb};
+use scaledenom::Scale;
+use std::alloc::{AllocError, Global};
+use test_tables::{TableFault, check_rows};
+use viewport::{MAX_MARGIN, View};
+
+// Whether two boxes are the same.
+fn is_same(a: WorldBox, b: WorldBox) -> bool {
+    a.minx() == b.minx() && a.miny() == b.miny() && a.maxx() == b.maxx() && a.maxy() == b.maxy()
+}
+
+// Finds all features of a map where it is asked for one window, and is out of memory for any other.
+#[derive(Drop)]
+struct InWindow<'a> {
+    alloc: Global,
+    map: &'a Map,
+    window: WorldBox,
+}
+
+impl<'a> Near for InWindow<'a> {
+    ghost map_of = { λ n. n.map.now };
+
+    fn candidates(&self, layer: usize, window: WorldBox) -> Result<Vec<u32>, AllocError> {
+        if !is_same(window, self.window) {
+            return Err(AllocError);
+        }
+        AllFeatures::of(self.alloc, self.map).candidates(layer, window)
+    }
+}
+
+// The picture of the first layer of a map, four degrees by four in four pixels by four, where features are found in the
+// window of that margin alone.
+fn drawn_in_window(alloc: Global, map: &Map, margin: u16) -> Result<String, AllocError>
+    requires { length map.now.layers ≡ 2 }
+{
+    let four = Micro::new(4_000_000);
+    let side = PictureSide::new(4).unwrap();
+    let view = View::new(
+        WorldBox::new(Micro::new(0), Micro::new(0), four, four),
+        side,
+        side,
+    );
+    let window = view.window(margin.min(MAX_MARGIN));
+    let near = InWindow { alloc, map, window };
+    let scale = Scale::of(280_000, PictureSide::new(1).unwrap());
+    let (red, green, blue) = (255, 255, 255);
+    match picture(
+        alloc,
+        map,
+        &near,
+        view,
+        scale,
+        &[0],
+        Rgb { red, green, blue },
+    ) {
+        Ok(picture) => letters_of(alloc, &picture),
+        Err(_) => format!(in alloc; "no memory"),
+    }
+}
+
+// What is told of a row: a margin, and the words and the rings of a layer, in tenths of a degree. The margin of a
+// layer is the greatest of the widths, the sizes and the sides of the symbols of its styles.
+fn told(alloc: Global, row: &str) -> Result<String, AllocError> {
+    let (margin, layer) = row.split_once(' ').unwrap_or(("", ""));
+    let (words, rings) = layer.split_once(';').unwrap_or(("", ""));
+    let map = map_of_two(alloc, words, rings)?;
+    drawn_in_window(alloc, &map, margin.parse().unwrap_or(0))
+}
+
+const WINDOWS: &str = "\
+.... #... #... #...=3 point #--3/- none;-5,20
+no memory=2 point #--3/- none;-5,20
+no memory=4 point #--3/- none;-5,20
+###. #oo. #oo. ....=3 point #--3/o--2 none;15,25
+###. #oo. #oo. ....=7 point #--3/o-72 none;15,25
+no memory=3 point #--3/o-72 none;15,25
+.... .oo. .oo. ....=5 polygon o-5/- none;10,10 30,10 30,30 10,30
+no memory=1 polygon o-5/- none;10,10 30,10 30,30 10,30
+no memory=4096 polygon o-5/- none;10,10 30,10 30,30 10,30";
+
+#[test]
+fn features_are_looked_for_as_far_off_as_styles_paint(rt: HostRuntime) -> Result<(), TableFault> {
+    check_rows(rt.alloc(), WINDOWS, '=', 9, told)
+}
