@@ -2,6 +2,7 @@ use crate::map_replies::map_of;
 use mapdefs::{Items, Kind, Layer, Text};
 use mapmachine::{BatchError, MAX_BATCH, Machine};
 use std::alloc::{AllocError, Global};
+use std::test::Fail;
 use test_maps::layer_fields;
 use test_tables::{TableFault, check_rows};
 
@@ -44,15 +45,13 @@ fn told_of_batch(alloc: Global, sequence: u64, batch: &[u8]) -> Result<String, A
 const APPENDS: &str = "\
 published 1, then 1=0
 published 43, then 43=42 1
-published 1, then 1=0 150000
 refused 2 5, then 0=0 150000 150000
-published 8, then 8=7 150000 50000
-refused 2 5, then 7=7 150000 50001
 published 1, then 1=0 200000
+refused 2 5, then 7=7 1 200000
 refused 1 4, then 0=0 200001
 published 18446744073709551615, then 18446744073709551615=18446744073709551614
 refused 0 8, then 18446744073709551615=18446744073709551615
-refused 0 8, then 18446744073709551615=18446744073709551615 200001";
+refused 0 8, then 18446744073709551615=18446744073709551615 1";
 
 fn told_of_appends(alloc: Global, row: &str) -> Result<String, AllocError> {
     let (sequence, counts) = row.split_once(' ').unwrap_or((row, ""));
@@ -71,7 +70,7 @@ fn told_of_appends(alloc: Global, row: &str) -> Result<String, AllocError> {
 
 #[test]
 fn points_are_appended_up_to_the_most_of_a_layer(rt: HostRuntime) -> Result<(), TableFault> {
-    check_rows(rt.alloc(), APPENDS, '=', 11, told_of_appends)
+    check_rows(rt.alloc(), APPENDS, '=', 9, told_of_appends)
 }
 
 // What is told of a batch of spaces: at a sequence, how many bytes it has beyond the most.
@@ -93,6 +92,11 @@ fn a_batch_has_at_most_so_many_bytes(rt: HostRuntime) -> Result<(), TableFault> 
     check_rows(rt.alloc(), LENGTHS, '=', 3, told_of_length)
 }
 
+// Asks for what can be sent to other threads, and read from several at a time. The layers of a machine are a part of it.
+fn is_for_threads<T: Send + Sync>(_value: &T) -> bool {
+    true
+}
+
 // The sequences of a machine and of its copy, where the copy was changed, and then of both where the first was too.
 fn told_of_copy(alloc: Global) -> Result<(u64, u64, u64, u64), AllocError> {
     let mut first = machine(alloc, 5)?;
@@ -102,6 +106,12 @@ fn told_of_copy(alloc: Global) -> Result<(u64, u64, u64, u64), AllocError> {
     let _ = first.batch(b"");
     let _ = first.batch(b"CLEAR p\n");
     Ok((between.0, between.1, first.sequence(), copy.sequence()))
+}
+
+#[test]
+fn a_machine_is_for_threads(rt: HostRuntime) -> Result<(), Fail> {
+    assert!(rt; is_for_threads(&machine(rt.alloc(), 0)?));
+    Ok(())
 }
 
 #[test]
