@@ -1,4 +1,4 @@
-ghost use Rattle.std.specs.Prelude.{◌≡◌, length, Ok, IfOk, IfErr, MatchResult, All};
+ghost use Rattle.std.specs.Prelude.{◌≡◌, ◌≤◌, length, Ok, IfOk, IfErr, MatchResult, All};
 ghost use Rattle.csv.specs.Records.{fields_of};
 ghost use Rattle.csvpoints.specs.Fault.{IsFaultOf};
 ghost use Rattle.csvpoints.specs.Row.{HasColumns};
@@ -71,6 +71,7 @@ fn read_rows(
         (λ features. features_of columns limit 2 (left reader.old) ≡ Ok features)
         (IsFaultOf (features_of columns limit 2 (left reader.old))) }
     ensures points { IfOk result (All (IsPointWith columns.count)) }
+    ensures rows { IfOk result (λ features. length features ≤ limit) }
 {
     let mut features = Items::new(alloc);
     for index in 0..limit {
@@ -96,11 +97,13 @@ fn read_rows(
 /// `Limit`, for a header of more than `MAX_ITEMS` columns; `NoColumn`; `BadNumber`.
 ///
 /// `table_of` is either a table or a fault, so the two clauses say when each comes: unless memory is
-/// refused, which is `NoMemory`, the call gives the table or the fault that it is. The memory that it
-/// takes is in proportion to the table, and a text that is refused leaves none behind.
+/// refused, which is `NoMemory`, the call gives the table or the fault that it is. The clause `rows` says
+/// of the table what follows from that. The memory that it takes is in proportion to the table, and a text
+/// that is refused leaves none behind.
 pub fn read(alloc: Global, bytes: &[u8], x: &str, y: &str, limit: u32) -> Result<Table, CsvError>
     ensures table { IfOk result (λ t. table_of x.now y.now limit (records_of bytes.now) ≡ Ok t) }
     ensures fault { IfErr result (IsFaultOf (table_of x.now y.now limit (records_of bytes.now))) }
+    ensures rows { IfOk result (λ t. length t.features ≤ limit) }
 {
     let mut reader = reader_of(alloc, bytes);
     let mut row = ByteRecord::new(alloc);

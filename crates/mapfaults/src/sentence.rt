@@ -92,6 +92,9 @@ fn wrong_value(alloc: Global, inner: &Opening, token: &str) -> Result<String, Al
         Context::Keywords(Block::Map) => {
             String::from_str(alloc, "this SYMBOL names no symbol of MAP")
         }
+        Context::Keywords(Block::Layer) => {
+            String::from_str(alloc, "DATA needs a LAYER of TYPE POINT")
+        }
         Context::Keywords(_) => format!(in alloc; "{token} is no key of {name}"),
     }
 }

@@ -40,6 +40,8 @@ sound|MAP END
 2: 2 is no value of EXTENT, which takes a number up to 1000 that is greater than the second|MAP EXTENT 1 2 3~2
 2: x is no value of COLOR, which takes three counts from -1 to 255|MAP LAYER CLASS STYLE COLOR 1~x
 2: RASTER is no value of TYPE, which takes POINT, LINE or POLYGON|MAP LAYER TYPE~RASTER
+2: p.txt is no value of DATA, which takes the name of a file that ends in .csv|MAP LAYER DATA~p.txt
+2: DATA needs a LAYER of TYPE POINT|MAP LAYER NAME a TYPE LINE DATA~p.csv~END END
 2: VECTOR is no value of TYPE, which takes PIXMAP alone|MAP SYMBOL TYPE~VECTOR
 2: 257 is no value of SIZE, which takes a count from 1 to 256|MAP LAYER CLASS STYLE SIZE~257
 2: 65 is no value of TOLERANCE, which takes a count from 0 to 64|MAP LAYER TOLERANCE~65
@@ -89,7 +91,7 @@ sound|MAP END
 
 #[test]
 fn faults_are_told_in_words(rt: HostRuntime) -> Result<(), TableFault> {
-    check_rows(rt.alloc(), ROWS, '|', 62, told_row)
+    check_rows(rt.alloc(), ROWS, '|', 64, told_row)
 }
 
 // What is told of sources with a block, a vertex or an item more than a map may have.

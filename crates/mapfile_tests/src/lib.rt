@@ -9,6 +9,8 @@ mod faults;
 #[cfg(test)]
 mod keywords;
 #[cfg(test)]
+mod layer_tables;
+#[cfg(test)]
 mod limits;
 #[cfg(test)]
 mod map;

@@ -83,7 +83,7 @@ const UNKNOWN: &str = "\
 2 UnknownWord:MAP WEB|STATUS 1
 2 UnknownWord:MAP WEB|WEB 1
 2 UnknownWord:MAP LAYER|CONFIG 1
-2 UnknownWord:MAP LAYER|DATA 1
+2 UnknownWord:MAP LAYER CLASS|DATA 1
 2 UnknownWord:MAP LAYER|EMPTY 1
 2 UnknownWord:MAP LAYER|LOG 1
 2 UnknownWord:MAP LAYER|SYMBOL 1

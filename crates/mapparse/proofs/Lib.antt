@@ -1,4 +1,5 @@
 mod Padding
 mod Replaced
 mod SymbolList
+mod TableList
 mod Within

@@ -1,8 +1,7 @@
 -- The symbols of a map are made one after the other, and the last one of a name is found.
-use Rattle.std.proofs.Common.{◌≡◌, ℕ, suc, ◌+◌, List, [], ◌∷◌, ◌++◌, length, length-append, refl, ap, arith}
+use Rattle.std.proofs.Common.{◌≡◌, ℕ, suc, ◌+◌, ◌<◌, List, [], ◌∷◌, ◌++◌, length, get_or, drop, drop-cons, add-one, refl, ap}
 use Rattle.std.specs.Prelude.{Result, Ok, Err}
 use Rattle.std.proofs.lemmas.List.{append_assoc}
-use Rattle.mapdefs.specs.declared.symbol.PixmapFields.{PixmapFields}
 use Rattle.mapdefs.specs.declared.symbol.Symbol.{Symbol}
 use Rattle.mapwords.specs.declared.fault.Fault.{Fault}
 use Rattle.maptree.specs.declared.tree.SymbolTree.{SymbolTree}
@@ -17,11 +16,14 @@ module _ (files : List FileBytes) (done : List Symbol) where
   joined symbol (Ok others) = ap (λ x. Ok x) (append_assoc done (symbol ∷ []) others)
   joined symbol (Err f) = refl
 
-  pub one-more : (tree : SymbolTree) (trees : List SymbolTree) (pixmap : PixmapFields) → pixmap_in files tree.image ≡ Ok pixmap →
-      and_then (symbols_of files trees) (λ more. Ok ((done ++ record { name = tree.name; pixmap = pixmap } ∷ []) ++ more))
-      ≡ and_then (symbols_of files (tree ∷ trees)) (λ more. Ok (done ++ more))
-  one-more tree trees pixmap is = rw is (joined (record { name = tree.name; pixmap = pixmap }) (symbols_of files trees))
+  pub one-more : (trees : List SymbolTree) (i : ℕ) (tree : SymbolTree) (made : Symbol) → i < length trees → tree ≡ get_or trees i tree →
+      (pixmap_in files tree.image ≡ Ok made.pixmap) × (made.name ≡ tree.name) →
+      and_then (symbols_of files (drop (i + 1) trees)) (λ more. Ok ((done ++ made ∷ []) ++ more))
+      ≡ and_then (symbols_of files (drop i trees)) (λ more. Ok (done ++ more))
+  one-more trees i tree made below e is =
+      rw (add-one, drop-cons trees i tree below, ← e, is.0, ← is.1) (joined made (symbols_of files (drop (suc i) trees)))
 
--- and there is one symbol more, and one tree less
-pub one-longer : (done : List Symbol) (symbol : Symbol) (trees left all : ℕ) → trees ≡ suc left → length done + trees ≡ all → length (done ++ symbol ∷ []) + left ≡ all
-one-longer done symbol trees left all p q = omega (arith, length-append done (symbol ∷ []))
+  -- none is made of a tree with a fault
+  pub one-fault : (trees : List SymbolTree) (i : ℕ) (tree : SymbolTree) (f : Fault) → i < length trees → tree ≡ get_or trees i tree →
+      pixmap_in files tree.image ≡ Err f → and_then (symbols_of files (drop i trees)) (λ more. Ok (done ++ more)) ≡ Err f
+  one-fault trees i tree f below e is = rw (drop-cons trees i tree below, ← e, is) refl

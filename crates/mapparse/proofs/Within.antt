@@ -2,6 +2,7 @@
 use Rattle.std.proofs.Common.{ℕ, suc, ◌<◌, Bool, true, false, List, [], ◌∷◌, length, map, arith}
 use Rattle.std.specs.Prelude.{Option, None, Some, option_map, IfSome, if◌then◌else◌}
 use Rattle.std.specs.Option.{option_or}
+use Rattle.csvpoints.specs.declared.table.TableFields.{TableFields}
 use Rattle.mapdefs.specs.Name.{is_same_name}
 use Rattle.mapdefs.specs.declared.symbol.Symbol.{Symbol}
 use Rattle.maptree.specs.declared.tree.Named.{Named}
@@ -44,6 +45,6 @@ module _ (symbols : List Symbol) where
   class_symbols classes =
       All-map (ClassNamesSymbolsOf (length symbols)) (class_of symbols) classes (λ k class below. style_symbols _)
 
-  pub layer_symbols : (layers : List LayerTree) → All (LayerNamesSymbolsOf (length symbols)) (map (layer_of symbols) layers)
+  pub layer_symbols : (layers : List (LayerTree × Option TableFields)) → All (LayerNamesSymbolsOf (length symbols)) (map (layer_of symbols) layers)
   layer_symbols layers =
       All-map (LayerNamesSymbolsOf (length symbols)) (layer_of symbols) layers (λ k layer below. class_symbols _)

@@ -1,4 +1,7 @@
+pub mod Fault
 pub mod Files
 pub mod Mapping
 pub mod Parsed
 pub mod Symbols
+pub mod Tables
+pub mod Uses

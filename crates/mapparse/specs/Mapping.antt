@@ -1,9 +1,10 @@
--- From a mapfile as it is written to the map that it describes (docs/MAPFILE.md, "From the file to the map", "Labels" and
--- "Keys and values"). What no keyword gives yet has the value that it will have where its keyword isn't given.
-use Rattle.std.specs.Prelude.{ℕ, Bool, true, false, ◌==◌, ◌-◌, List, [], ◌++◌, length, map, take, replicate, codes, pos, neg_ℤ, Option, None, Some, unwrap_or, option_map, Result, Ok}
+-- From a mapfile as it is written to the map that it describes (docs/MAPFILE.md, "From the file to the map", "Labels",
+-- "Keys and values" and "Tables"). What no keyword gives yet has the value that it will have where its keyword isn't given.
+use Rattle.std.specs.Prelude.{ℕ, Bool, true, false, ◌==◌, ◌-◌, List, [], ◌++◌, length, map, take, replicate, codes, pos, neg_ℤ, Option, None, Some, unwrap_or, option_map, Result, Ok, Err, zip}
 use Rattle.std.specs.Option.{option_or}
 use Rattle.std.specs.List.{slice_split}
 use Rattle.geom.specs.World.{Area}
+use Rattle.csvpoints.specs.declared.table.TableFields.{TableFields}
 use Rattle.mapdefs.specs.declared.class.Rule.TheVariants.{Always}
 use Rattle.mapdefs.specs.declared.class.ClassFields.{ClassFields}
 use Rattle.mapdefs.specs.declared.feature.FeatureFields.{FeatureFields}
@@ -25,6 +26,8 @@ use Rattle.maptree.specs.declared.tree.LayerTree.{LayerTree}
 use Rattle.maptree.specs.declared.tree.MapTree.{MapTree}
 use Rattle.mapparse.specs.declared.files.FileBytes.{FileBytes}
 use Rattle.mapparse.specs.Symbols.{symbol_index, symbols_of}
+use Rattle.mapparse.specs.Tables.{column_x, column_y, tables_of, rows_of}
+use Rattle.mapparse.specs.Uses.{files_fault}
 
 -- a style has its colours, its width and its size, each one pixel where it isn't given, and the symbol that it names
 abbrev pub style_of : List Symbol → StyleTree → StyleFields
@@ -87,25 +90,30 @@ tolerance_of _ = 3
 abbrev pub either_text : Option (List ℕ) → Option (List ℕ) → Option (List ℕ)
 either_text first second = option_or first second
 
--- a layer is switched on, has its `wms_title` as its title, else its `ows_title`, else its name, and reads the columns x
--- and y of tables where no others are given
-abbrev pub layer_of : List Symbol → LayerTree → LayerFields
-layer_of symbols layer = record {
+-- the items of a layer are the columns of its table; without one they are those that it is given
+abbrev pub named_items : Option (List (List ℕ)) → Option TableFields → List (List ℕ)
+named_items given None = unwrap_or given []
+named_items given (Some table) = table.columns
+
+-- a layer is switched on, has its `wms_title` as its title, else its `ows_title`, else its name, and the rows of its table
+-- behind the features that it is given
+abbrev pub layer_of : List Symbol → LayerTree × Option TableFields → LayerFields
+layer_of symbols (layer, table) = record {
   name = layer.name;
   title = unwrap_or (either_text layer.wms_title layer.ows_title) layer.name;
   kind = layer.kind;
   on = true;
   classitem = layer.classitem;
   labelitem = layer.labelitem;
-  items = unwrap_or layer.items [];
-  csv_x = unwrap_or layer.csv_x (codes "x");
-  csv_y = unwrap_or layer.csv_y (codes "y");
+  items = named_items layer.items table;
+  csv_x = column_x layer;
+  csv_y = column_y layer;
   queryable = layer.queryable;
   tolerance = unwrap_or layer.tolerance (tolerance_of layer.kind);
   min = layer.min;
   max = layer.max;
   classes = map (class_of symbols) layer.classes;
-  features = map (feature_of (length (unwrap_or layer.items []))) layer.features;
+  features = map (feature_of (length (named_items layer.items table))) layer.features ++ rows_of table;
 }
 
 -- the whole world: 180 degrees to the west and east, and 90 to the south and north
@@ -119,16 +127,27 @@ whole_world = record {
 
 -- a map has the title of its service, `wms_title` before `ows_title` before its name, its address alike, its extent,
 -- without which it shows the whole world, its symbols and its layers, and has no font
-abbrev pub map_with : List Symbol → MapTree → MapFields
-map_with symbols tree = record {
+abbrev pub map_with : List Symbol → List (Option TableFields) → MapTree → MapFields
+map_with symbols tables tree = record {
   title = unwrap_or (either_text (either_text tree.wms_title tree.ows_title) tree.name) (codes "WMS");
   url = unwrap_or (either_text tree.wms_url tree.ows_url) (codes "http://localhost/wms?");
   extent = unwrap_or tree.extent whole_world;
   font = None;
   symbols = symbols;
-  layers = map (layer_of symbols) tree.layers;
+  layers = map (layer_of symbols) (zip tree.layers tables);
 }
 
--- the map that a mapfile describes with its files, or the first fault of a file
+-- the map that a mapfile describes, where all of its files are what it uses them as
+abbrev pub made_of : List FileBytes → MapTree → Result MapFields Fault
+made_of files tree =
+    and_then (symbols_of files tree.symbols) (λ symbols.
+    and_then (tables_of files tree.layers) (λ tables. Ok (map_with symbols tables tree)))
+
+-- where one of them isn't, the fault that comes first is told
+abbrev pub told_by : Option Fault → Result MapFields Fault → Result MapFields Fault
+told_by first (Ok m) = Ok m
+told_by first (Err fault) = Err (unwrap_or first fault)
+
+-- the map that a mapfile describes with its files, or the fault of the first used of the files that have one
 abbrev pub map_of : List FileBytes → MapTree → Result MapFields Fault
-map_of files tree = and_then (symbols_of files tree.symbols) (λ symbols. Ok (map_with symbols tree))
+map_of files tree = told_by (files_fault files tree) (made_of files tree)

@@ -6,7 +6,7 @@ use Rattle.mapwords.specs.declared.fault.Fault.{Fault}
 use Rattle.mapwords.specs.Fault.{and_then}
 use Rattle.maptree.specs.Source.{tree_of}
 use Rattle.mapparse.specs.Mapping.{map_of}
-use Rattle.mapparse.specs.Symbols.{uses_of}
+use Rattle.mapparse.specs.Uses.{uses_of}
 use Rattle.mapparse.specs.declared.files.FileBytes.{FileBytes}
 
 -- the names of the files that a source uses, or the first fault in it

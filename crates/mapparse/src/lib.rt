@@ -8,12 +8,17 @@
 //! Words: the *tree* is the whole mapfile as it is written.
 #![tactic(auto)]
 
+mod fault;
+mod features;
 mod files;
 mod mapfile;
 mod mapping;
 mod symbol;
+mod table;
 mod texts;
+mod uses;
 
+pub use fault::{FileCause, FileFault};
 pub use files::{FileBytes, Files};
 pub use mapfile::{Mapfile, parse, wanted};
 pub use maptree::{ParseFault, ParseKind};

@@ -2,9 +2,10 @@ ghost use Rattle.std.specs.Prelude.{◌≡◌, Ok, IfOk, IfErr};
 ghost use Rattle.mapwords.specs.Fault.{IsFaultOf};
 ghost use Rattle.mapparse.specs.Parsed.{parsed, wanted};
 
+use crate::fault::FileFault;
 use crate::files::Files;
 use crate::mapping::map_of;
-use crate::symbol::uses_of;
+use crate::uses::{files_fault, uses_of};
 use mapdefs::{Items, Map, Text};
 use maptree::{MapTree, ParseFault, read};
 use std::alloc::{AllocError, Global};
@@ -32,7 +33,9 @@ impl Mapfile {
     ghost use Rattle.maplex.specs.Lexed.{lexed};
     ghost use Rattle.maptree.specs.Source.{tree_of};
     ghost use Rattle.mapparse.specs.Mapping.{map_of};
-    ghost use Rattle.mapparse.specs.Symbols.{uses_of};
+    ghost use Rattle.mapparse.specs.Fault.{fault_in};
+    ghost use Rattle.mapparse.specs.Uses.{files_fault, uses_of};
+    ghost use Rattle.std.specs.Prelude.{option_map};
 
     /// Reads a mapfile in one pass, or tells its first fault with its line.
     ///
@@ -54,8 +57,15 @@ impl Mapfile {
         uses_of(&self.tree, alloc)
     }
 
+    /// The fault of the first used of the files that have one, with its cause, if one has.
+    pub fn files_fault(&self, alloc: Global, files: &Files) -> Result<Option<FileFault>, AllocError>
+        ensures { IfOk result (λ found. option_map fault_in found ≡ files_fault files.now self.now) }
+    {
+        files_fault(&self.tree, files, alloc)
+    }
+
     /// The map that it describes with these files, or the first fault of a file: `MissingFile` for one
-    /// that isn't given, and `BadFile` for one that isn't of its kind.
+    /// that isn't given, and `BadFile` for one that isn't what it is used as.
     pub fn into_map(self, alloc: Global, files: &Files) -> Result<Map, ParseFault>
         ensures map { IfOk result (λ map. map_of files.now self ≡ Ok map) }
         ensures fault { IfErr result (IsFaultOf (map_of files.now self)) }

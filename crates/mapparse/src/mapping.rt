@@ -1,28 +1,29 @@
-ghost use Rattle.std.specs.Prelude.{◌≡◌, ◌≤◌, List, [], map, take, length, unwrap_or, Ok, IfOk, IfErr, OnOk};
+ghost use Rattle.std.specs.Prelude.{◌≡◌, ◌+◌, ◌≤◌, List, map, zip, length, unwrap_or, Ok, IfOk, IfErr};
 ghost use Rattle.mapdefs.specs.declared.symbol.Symbol.{Symbol as SymbolValue};
 ghost use Rattle.mapwords.specs.Fault.{IsFaultOf};
-ghost use Rattle.std.specs.List.{slice_split};
 ghost use Rattle.geom.specs.World.{IsExtent};
-ghost use Rattle.mapdefs.specs.declared.limits.TheConstants.{MAX_FEATURES, MAX_LINE_WIDTH, MAX_SQUARE, MAX_TOLERANCE};
+ghost use Rattle.mapdefs.specs.declared.limits.TheConstants.{MAX_CLASSES, MAX_FEATURES, MAX_LINE_WIDTH, MAX_SQUARE, MAX_SYMBOLS, MAX_TOLERANCE};
 ghost use Rattle.mapdefs.specs.ClassLimits.{IsRuleWithinLimits};
 ghost use Rattle.mapdefs.specs.declared.class.Rule.TheVariants.{Always};
-ghost use Rattle.mapdefs.specs.declared.limits.TheConstants.{MAX_CLASSES, MAX_ITEMS};
-ghost use Rattle.mapparse.specs.Mapping.{is_semicolon, label_of, padded, values_of, class_of, feature_of, tolerance_of, whole_world, map_of};
+ghost use Rattle.mapparse.specs.Mapping.{label_of, class_of, layer_of, tolerance_of, whole_world, map_with, made_of, map_of};
+ghost use Rattle.mapparse.specs.Symbols.{symbols_of};
+ghost use Rattle.mapparse.specs.Tables.{tables_of, rows_of, HaveRoom};
 
+use crate::features::with_items;
 use crate::files::Files;
 use crate::symbol::{symbol_index, symbols_of};
-use crate::texts::semicolon_parts;
+use crate::table::tables_of;
+use crate::uses::files_fault;
+use csvpoints::Table;
 use geom::{Micro, WorldBox};
 use mapdefs::{
-    Class, ClassFields, Feature, FeatureFields, Items, Kind, Label, LabelFields, Layer,
-    LayerFields, MAX_CLASSES, MAX_FEATURES, MAX_ITEMS, Map, MapFields, Position, Rgb, Rule, Shared,
-    SharedItems, Style, StyleFields, Symbol, Text,
+    Class, ClassFields, Items, Kind, Label, LabelFields, Layer, LayerFields, MAX_CLASSES, Map,
+    MapFields, Position, Rgb, Rule, SharedItems, Style, StyleFields, Symbol, Text,
 };
 use maptree::{
-    Bounded, Capped, ClassRule, ClassTree, Extent, FeatureTree, LabelTree, LayerTree, MapTree,
-    ParseFault, StyleTree,
+    Bounded, Capped, ClassRule, ClassTree, Extent, LabelTree, LayerTree, MapTree, ParseFault,
+    StyleTree,
 };
-use mapwords::texts_of;
 use std::alloc::{AllocError, Global};
 
 // A tree of a block, from which a part of the map is made.
@@ -145,75 +146,6 @@ impl Build for ClassTree {
     }
 }
 
-// The values of a feature's items, as many as the layer has items.
-fn values_of(items: Option<Text>, count: usize, alloc: Global) -> Result<Items<Text>, AllocError>
-    ensures { IfOk result (λ made. made ≡ values_of count items) }
-{
-    let mut values = match &items {
-        Some(text) => first_parts(text.as_str(), count, alloc)?,
-        None => Vec::new(alloc),
-    };
-    fill_up(&mut values, count, alloc)?;
-    Ok(Items::of(values))
-}
-
-// Adds empty values up to so many.
-fn fill_up(values: &mut Vec<Text>, count: usize, alloc: Global) -> Result<(), AllocError>
-    ensures { OnOk result (values.new.items ≡ padded count values.old.items) }
-{
-    while values.len() < count {
-        values.push(Text::from_str(alloc, "")?)?;
-    }
-    Ok(())
-}
-
-// The first texts between semicolons, so many at most.
-fn first_parts(text: &str, count: usize, alloc: Global) -> Result<Vec<Text>, AllocError>
-    ensures { IfOk result (λ made. made.items ≡ take count (slice_split is_semicolon text.now)) }
-{
-    let mut parts = semicolon_parts(text, alloc)?;
-    parts.truncate(count);
-    texts_of(&parts, alloc)
-}
-
-// The feature of a layer with so many items.
-fn feature_of(tree: FeatureTree, count: usize, alloc: Global) -> Result<Feature, AllocError>
-    ensures { IfOk result (λ made. made ≡ feature_of count tree) }
-{
-    let FeatureTree { parts, text, items } = tree;
-    Ok(Feature::new(FeatureFields {
-        parts: parts.into_items(),
-        text,
-        values: values_of(items, count, alloc)?,
-    }))
-}
-
-// The same, for copies of the map to share.
-fn shared_feature(
-    tree: FeatureTree,
-    count: usize,
-    alloc: Global,
-) -> Result<Shared<Feature>, AllocError>
-    ensures { IfOk result (λ made. made ≡ feature_of count tree) }
-{
-    Shared::new(alloc, feature_of(tree, count, alloc)?)
-}
-
-// The features of a layer with so many items, in their order.
-fn features_of(
-    trees: Vec<FeatureTree>,
-    count: usize,
-    alloc: Global,
-) -> Result<SharedItems<Shared<Feature>>, AllocError>
-    ensures { IfOk result (λ made. made ≡ map (feature_of count) trees.items) }
-{
-    let mut features = Vec::with_capacity(alloc, trees.len())?;
-    for tree in trees {
-        features.push(shared_feature(tree, count, alloc)?)?;
-    }
-    SharedItems::new(alloc, Items::of(features))
-}
-
 // How far from the asked pixel a feature counts, in pixels.
 fn tolerance_of(kind: Kind) -> u16
     ensures value { result ≡ tolerance_of kind }
@@ -223,33 +155,6 @@ fn tolerance_of(kind: Kind) -> u16
         Kind::Polygon => 0,
         Kind::Point | Kind::Line => 3,
     }
-}
-
-// The names of a layer's items.
-fn items_of(items: Option<Capped<Text, MAX_ITEMS>>, alloc: Global) -> Items<Text>
-    ensures value { result ≡ unwrap_or items [] }
-    ensures limit { length result ≤ MAX_ITEMS }
-{
-    match items {
-        Some(items) => Items::of(items.into_vec()),
-        None => Items::new(alloc),
-    }
-}
-
-// The items of a layer, and its features with their values.
-fn with_items(
-    items: Option<Capped<Text, MAX_ITEMS>>,
-    features: Capped<FeatureTree, MAX_FEATURES>,
-    alloc: Global,
-) -> Result<(Items<Text>, SharedItems<Shared<Feature>>), AllocError>
-    ensures items { IfOk result (λ made. made.0 ≡ unwrap_or items []) }
-    ensures features { IfOk result (λ made. made.1 ≡ map (feature_of (length made.0)) features) }
-    ensures item_count { IfOk result (λ made. length made.0 ≤ MAX_ITEMS) }
-    ensures feature_count { IfOk result (λ made. length made.1 ≤ MAX_FEATURES) }
-{
-    let items = items_of(items, alloc);
-    let features = features_of(features.into_vec(), items.len(), alloc)?;
-    Ok((items, features))
 }
 
 // A text, or what stands for it where it isn't given.
@@ -275,55 +180,79 @@ fn classes_of(
     SharedItems::new(alloc, classes)
 }
 
-impl Build for LayerTree {
-    type Part = Layer;
+// The layer of a tree, with its table, if it has one.
+fn layer_of(
+    tree: LayerTree,
+    table: Option<Table>,
+    symbols: &[Symbol],
+    alloc: Global,
+) -> Result<Layer, AllocError>
+    requires { length tree.features + length (rows_of table) ≤ MAX_FEATURES }
+    ensures { IfOk result (λ made. made ≡ layer_of symbols.now (tree, table)) }
+{
+    let LayerTree {
+        name,
+        kind,
+        classitem,
+        labelitem,
+        queryable,
+        tolerance,
+        min,
+        max,
+        items,
+        csv_x,
+        csv_y,
+        wms_title,
+        ows_title,
+        classes,
+        features,
+        ..
+    } = tree;
+    let (items, features) = with_items(items, features, table, alloc)?;
+    let title = text_or(wms_title.or(ows_title), name.as_str(), alloc)?;
+    let csv_x = text_or(csv_x, "x", alloc)?;
+    let csv_y = text_or(csv_y, "y", alloc)?;
+    let classes = classes_of(classes, symbols, alloc)?;
+    let tolerance = count_or(tolerance, tolerance_of(kind)) as u8;
+    Ok(Layer::new(LayerFields {
+        name,
+        title,
+        kind,
+        on: true,
+        classitem,
+        labelitem,
+        items,
+        csv_x,
+        csv_y,
+        queryable,
+        tolerance,
+        min,
+        max,
+        classes,
+        features,
+    }))
+}
 
-    ghost use Rattle.mapparse.specs.Mapping.{layer_of};
-
-    ghost part = { layer_of };
-
-    fn build(self, symbols: &[Symbol], alloc: Global) -> Result<Layer, AllocError> {
-        let LayerTree {
-            name,
-            kind,
-            classitem,
-            labelitem,
-            queryable,
-            tolerance,
-            min,
-            max,
-            items,
-            csv_x,
-            csv_y,
-            wms_title,
-            ows_title,
-            classes,
-            features,
-        } = self;
-        let (items, features) = with_items(items, features, alloc)?;
-        let title = text_or(wms_title.or(ows_title), name.as_str(), alloc)?;
-        let csv_x = text_or(csv_x, "x", alloc)?;
-        let csv_y = text_or(csv_y, "y", alloc)?;
-        let classes = classes_of(classes, symbols, alloc)?;
-        let tolerance = count_or(tolerance, tolerance_of(kind)) as u8;
-        Ok(Layer::new(LayerFields {
-            name,
-            title,
-            kind,
-            on: true,
-            classitem,
-            labelitem,
-            items,
-            csv_x,
-            csv_y,
-            queryable,
-            tolerance,
-            min,
-            max,
-            classes,
-            features,
-        }))
+// The layers of a map, each with its table, if it has one.
+fn layers_of(
+    trees: Vec<LayerTree>,
+    tables: Vec<Option<Table>>,
+    symbols: &[Symbol],
+    alloc: Global,
+) -> Result<Items<Layer>, AllocError>
+    requires { HaveRoom trees.items tables.items }
+    ensures { IfOk result (λ made. made ≡ map (layer_of symbols.now) (zip trees.items tables.items)) }
+{
+    let mut layers = Vec::with_capacity(alloc, trees.len())?;
+    let mut tables = tables.into_iter();
+    for tree in trees {
+        let table = match tables.next() {
+            Some(table) => table,
+            None => None,
+        };
+        layers.push(layer_of(tree, table, symbols, alloc)?)?;
     }
+    Ok(Items::of(layers))
 }
 
 // The whole world: 180 degrees to the west and east, and 90 to the south and north.
@@ -350,10 +279,16 @@ fn area_of(extent: Option<Extent>) -> WorldBox
     }
 }
 
-/// The map that a mapfile describes, with the files that it uses. It takes the vertices over as they are.
-pub fn map_of(tree: MapTree, files: &Files, alloc: Global) -> Result<Map, ParseFault>
-    ensures map { IfOk result (λ made. map_of files.now tree ≡ Ok made) }
-    ensures fault { IfErr result (IsFaultOf (map_of files.now tree)) }
+// The map of a tree with its symbols and the tables of its layers. It takes the vertices over as they are.
+fn map_with(
+    tree: MapTree,
+    symbols: SharedItems<Symbol>,
+    tables: Items<Option<Table>>,
+    alloc: Global,
+) -> Result<Map, AllocError>
+    requires symbols { length symbols ≤ MAX_SYMBOLS }
+    requires room { HaveRoom tree.layers tables }
+    ensures { IfOk result (λ made. made ≡ map_with symbols tables tree) }
 {
     let MapTree {
         name,
@@ -362,13 +297,17 @@ pub fn map_of(tree: MapTree, files: &Files, alloc: Global) -> Result<Map, ParseF
         ows_title,
         wms_url,
         ows_url,
-        symbols,
         layers,
+        ..
     } = tree;
-    let symbols = symbols_of(symbols, files, alloc)?;
     let title = text_or(wms_title.or(ows_title).or(name), "WMS", alloc)?;
     let url = text_or(wms_url.or(ows_url), "http://localhost/wms?", alloc)?;
-    let layers = build_all(layers.into_vec(), symbols.as_slice(), alloc)?;
+    let layers = layers_of(
+        layers.into_vec(),
+        tables.into_vec(),
+        symbols.as_slice(),
+        alloc,
+    )?;
     Ok(Map::new(MapFields {
         title,
         url,
@@ -377,4 +316,47 @@ pub fn map_of(tree: MapTree, files: &Files, alloc: Global) -> Result<Map, ParseF
         symbols,
         layers,
     }))
+}
+
+// What the files of a mapfile are read as: the symbols, and the tables of the layers.
+fn read_files(
+    tree: &MapTree,
+    files: &Files,
+    alloc: Global,
+) -> Result<(SharedItems<Symbol>, Items<Option<Table>>), ParseFault>
+    ensures symbols { IfOk result (λ made. symbols_of files.now tree.now.symbols ≡ Ok made.0) }
+    ensures tables { IfOk result (λ made. tables_of files.now tree.now.layers ≡ Ok made.1) }
+    ensures limit { IfOk result (λ made. length made.0 ≤ MAX_SYMBOLS) }
+    ensures room { IfOk result (λ made. HaveRoom tree.now.layers made.1) }
+    ensures fault { IfErr result (IsFaultOf (made_of files.now tree.now)) }
+{
+    let symbols = symbols_of(tree.symbols.as_slice(), files, alloc)?;
+    let tables = tables_of(tree.layers.as_slice(), files, alloc)?;
+    Ok((symbols, tables))
+}
+
+// The fault that is told where a file has one: that of the first used of those that do.
+fn told_fault(tree: &MapTree, files: &Files, fault: ParseFault, alloc: Global) -> ParseFault
+    requires { IsFaultOf (made_of files.now tree.now) fault }
+    ensures { IsFaultOf (map_of files.now tree.now) result }
+{
+    if let ParseFault::NoMemory = fault {
+        return ParseFault::NoMemory;
+    }
+    match files_fault(tree, files, alloc) {
+        Ok(Some(first)) => first.fault().into(),
+        Ok(None) => fault,
+        Err(_) => ParseFault::NoMemory,
+    }
+}
+
+/// The map that a mapfile describes, with the files that it uses.
+pub fn map_of(tree: MapTree, files: &Files, alloc: Global) -> Result<Map, ParseFault>
+    ensures map { IfOk result (λ made. map_of files.now tree ≡ Ok made) }
+    ensures fault { IfErr result (IsFaultOf (map_of files.now tree)) }
+{
+    match read_files(&tree, files, alloc) {
+        Ok((symbols, tables)) => Ok(map_with(tree, symbols, tables, alloc)?),
+        Err(fault) => Err(told_fault(&tree, files, fault, alloc)),
+    }
 }

@@ -18,7 +18,7 @@ use Rattle.mapdefs.specs.declared.layer.Kind.{Kind}
 use Rattle.mapwords.specs.declared.colour.Component.{Component}
 use Rattle.mapwords.specs.declared.role.Block.{Block}
 use Rattle.mapwords.specs.declared.role.Block.TheVariants as block
-use Rattle.mapwords.specs.declared.role.TextKeyword.TheVariants.{MapName, LayerName, ClassItem, LabelItem, Template, CsvX, CsvY, ServiceWmsTitle, ServiceOwsTitle, ServiceWmsUrl, ServiceOwsUrl, LayerWmsTitle, LayerOwsTitle, SymbolName, SymbolImage, StyleSymbol, FeatureText, FeatureItems}
+use Rattle.mapwords.specs.declared.role.TextKeyword.TheVariants.{MapName, LayerName, ClassItem, LabelItem, Template, LayerData, CsvX, CsvY, ServiceWmsTitle, ServiceOwsTitle, ServiceWmsUrl, ServiceOwsUrl, LayerWmsTitle, LayerOwsTitle, SymbolName, SymbolImage, StyleSymbol, FeatureText, FeatureItems}
 use Rattle.mapwords.specs.declared.role.ColourKeyword.{ColourKeyword}
 use Rattle.mapwords.specs.declared.role.ColourKeyword.TheVariants.{StyleColour, StyleOutline, LabelColour, LabelOutline, ImageColour}
 use Rattle.mapwords.specs.declared.role.FlagKeyword.{FlagKeyword}
@@ -60,7 +60,7 @@ use Rattle.maptree.specs.Pass.{reads, passed}
 use Rattle.maptree.specs.Says.{Saying, Ends, Opens, Takes, Longitude, Passes, closing_fault, ends_unless, is_full, role_says, says, vertex_says, passed_says}
 use Rattle.maptree.specs.Step.{read_end, read_role, note_step, coordinate_at, pass_over, read_token}
 use Rattle.maptree.specs.Tree.{map_tree}
-use Rattle.mapwords.specs.Value.{is_value, value_step, step_in, plain_step, may_take, hex_at, kind_of, colour_step, only_text, unused_step, east_step, north_step, coordinate_in}
+use Rattle.mapwords.specs.Value.{is_value, is_table_name, value_step, step_in, plain_step, may_take, hex_at, kind_of, colour_step, only_text, unused_step, east_step, north_step, coordinate_in}
 use Rattle.maptree.proofs.OpenBlocks.{OpenBlocks, only_map, metadata-ends, drafts_of, in_block, above, after_end, Nests, Suits, Fits, fits-option, Frees, projection-frees, passed-frees, label-frees, same-room, unless_fault, same-end}
 use Rattle.maptree.proofs.Reading.{Ended, LeavesAtMost, read_after, reads-at_most, reads-enough}
 
@@ -268,6 +268,7 @@ text-stays LayerName b text p = rw p (λ line own o. refl)
 text-stays ClassItem b text p = rw p (λ line own o. refl)
 text-stays LabelItem b text p = rw p (λ line own o. refl)
 text-stays Template b text p = rw p (λ line own o. refl)
+text-stays LayerData b text p = rw p (λ line own o. refl)
 text-stays CsvX b text p = rw p (λ line own o. refl)
 text-stays CsvY b text p = rw p (λ line own o. refl)
 text-stays ServiceWmsTitle b text p = rw p (λ line own o. refl)
@@ -303,8 +304,13 @@ plain-stays expected.ConfigKey b t p = config-stays b (is_same_name t.text (code
 plain-stays (expected.Unused more) b t p = unused-stays b more
 plain-stays _ b t p = tt
 
+table-stays : (is : Bool) (t : TokenValue) → StepStays block.Layer (if is then Ok (Whole (value.Text LayerData t.text)) else refused WrongValue t)
+table-stays true t = λ line own o. refl
+table-stays false t = tt
+
 shaped-stays : (e : Expected) (b : Block) (t : TokenValue) → Suits e b → StepStays b (step_in e t)
 shaped-stays (expected.Text w) b t p = text-stays w b t.text p
+shaped-stays expected.Table b t p = rw p (table-stays (is_table_name t.text) t)
 shaped-stays expected.Rule b t p = rw p (step-or block.Class _ (fault_of BadExpression t) (rule-stays (rule_of t.shape t.text)))
 shaped-stays expected.Setting b t p = rw p (parted-stays (setting_in t.text) t)
 shaped-stays e b t p = step-or b (plain_step e t) (fault_of WrongValue t) (plain-stays e b t p)
@@ -376,6 +382,7 @@ suited (expected.Text LayerName) = (block.Layer, refl)
 suited (expected.Text ClassItem) = (block.Layer, refl)
 suited (expected.Text LabelItem) = (block.Layer, refl)
 suited (expected.Text Template) = (block.Layer, refl)
+suited (expected.Text LayerData) = (block.Layer, refl)
 suited (expected.Text CsvX) = (block.Layer, refl)
 suited (expected.Text CsvY) = (block.Layer, refl)
 suited (expected.Text ServiceWmsTitle) = (block.WebMetadata, refl)
@@ -405,6 +412,7 @@ suited (expected.South x) = (block.Map, refl)
 suited (expected.East x y) = (block.Map, refl)
 suited (expected.North x y east) = (block.Map, refl)
 suited expected.Kind = (block.Layer, refl)
+suited expected.Table = (block.Layer, refl)
 suited (expected.Colour StyleColour) = (block.Style, refl)
 suited (expected.Green StyleColour r) = (block.Style, refl)
 suited (expected.Blue StyleColour r g) = (block.Style, refl)

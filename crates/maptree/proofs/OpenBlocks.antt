@@ -9,7 +9,7 @@ use Rattle.mapdefs.specs.declared.layer.Kind.TheVariants.{Polygon}
 use Rattle.mapdefs.specs.declared.limits.TheConstants.{MAX_SYMBOLS, MAX_LAYERS, MAX_CLASSES, MAX_STYLES, MAX_FEATURES}
 use Rattle.mapwords.specs.declared.role.Block.{Block}
 use Rattle.mapwords.specs.declared.role.Block.TheVariants as block
-use Rattle.mapwords.specs.declared.role.TextKeyword.TheVariants.{MapName, LayerName, ClassItem, LabelItem, Template, CsvX, CsvY, ServiceWmsTitle, ServiceOwsTitle, ServiceWmsUrl, ServiceOwsUrl, LayerWmsTitle, LayerOwsTitle, SymbolName, SymbolImage, StyleSymbol, FeatureText, FeatureItems}
+use Rattle.mapwords.specs.declared.role.TextKeyword.TheVariants.{MapName, LayerName, ClassItem, LabelItem, Template, LayerData, CsvX, CsvY, ServiceWmsTitle, ServiceOwsTitle, ServiceWmsUrl, ServiceOwsUrl, LayerWmsTitle, LayerOwsTitle, SymbolName, SymbolImage, StyleSymbol, FeatureText, FeatureItems}
 use Rattle.mapwords.specs.declared.role.ColourKeyword.TheVariants.{StyleColour, StyleOutline, LabelColour, LabelOutline}
 use Rattle.mapwords.specs.declared.role.ScaleKeyword.TheVariants.{LayerMin, LayerMax, ClassMin, ClassMax}
 use Rattle.mapwords.specs.declared.role.Expected.{Expected}
@@ -24,6 +24,7 @@ use Rattle.mapwords.specs.declared.fault.ParseKind.TheVariants.{DuplicateName}
 use Rattle.mapwords.specs.declared.keyword.Keyword.{Keyword}
 use Rattle.mapwords.specs.declared.keyword.Keyword.TheVariants as keyword
 use Rattle.maptree.specs.declared.tree.LayerTree.{LayerTree}
+use Rattle.maptree.specs.Data.{table_fault, with_table}
 use Rattle.maptree.specs.Draft as draft
 use Rattle.maptree.specs.End.{layer_with, finished_layer, finished_symbol, ends}
 use Rattle.maptree.specs.End as end
@@ -34,7 +35,7 @@ use Rattle.mapwords.specs.Fault.{and_then}
 use Rattle.maptree.specs.Name.{is_taken}
 use Rattle.maptree.specs.Says.{layer_end_fault, closing_fault, is_full}
 use Rattle.mapwords.specs.Table.{map_role, web_role, symbol_role, layer_role, class_role, style_role, label_role, feature_role, passed_role, passed_label_role, end_role, role_of}
-use Rattle.maptree.specs.Tree.{style_tree, label_tree, class_tree, feature_tree, layer_name, layer_kind, class_item, label_item, template, layer_tolerance, layer_min, layer_max, layer_items, layer_csv_x, layer_csv_y, layer_wms_title, layer_ows_title, feature_text, feature_items, layer_tree, symbol_name, symbol_kind, symbol_image, symbol_tree, service_wms_title, service_ows_title, service_wms_url, service_ows_url, web_text, service_text, map_tree}
+use Rattle.maptree.specs.Tree.{style_tree, label_tree, class_tree, feature_tree, layer_name, layer_kind, class_item, label_item, template, layer_tolerance, layer_min, layer_max, layer_items, layer_table, layer_csv_x, layer_csv_y, layer_wms_title, layer_ows_title, feature_text, feature_items, layer_tree, symbol_name, symbol_kind, symbol_image, symbol_tree, service_wms_title, service_ows_title, service_wms_url, service_ows_url, web_text, service_text, files_used, map_tree}
 use Rattle.mapwords.specs.declared.value.Value.{Value}
 
 -- what the open blocks say so far; a block that isn't open says nothing
@@ -79,6 +80,7 @@ drafts_of o = record {
     min = last layer_min o.layer;
     max = last layer_max o.layer;
     items = last layer_items o.layer;
+    table = last layer_table o.layer;
     csv_x = last layer_csv_x o.layer;
     csv_y = last layer_csv_y o.layer;
     wms_title = layer_text layer_wms_title o;
@@ -174,6 +176,7 @@ Suits (expected.Text LayerName) b = b ≡ block.Layer
 Suits (expected.Text ClassItem) b = b ≡ block.Layer
 Suits (expected.Text LabelItem) b = b ≡ block.Layer
 Suits (expected.Text Template) b = b ≡ block.Layer
+Suits (expected.Text LayerData) b = b ≡ block.Layer
 Suits (expected.Text CsvX) b = b ≡ block.Layer
 Suits (expected.Text CsvY) b = b ≡ block.Layer
 Suits (expected.Text ServiceWmsTitle) b = b ≡ block.WebMetadata
@@ -203,6 +206,7 @@ Suits expected.Width b = b ≡ block.Style
 Suits expected.Size b = b ≡ block.Style
 Suits expected.Tolerance b = b ≡ block.Layer
 Suits expected.Kind b = b ≡ block.Layer
+Suits expected.Table b = b ≡ block.Layer
 Suits (expected.Colour StyleColour) b = b ≡ block.Style
 Suits (expected.Green StyleColour r) b = b ≡ block.Style
 Suits (expected.Blue StyleColour r g) b = b ≡ block.Style
@@ -257,6 +261,7 @@ fits-layer keyword.Name = refl
 fits-layer keyword.Kind = refl
 fits-layer keyword.ClassItem = refl
 fits-layer keyword.LabelItem = refl
+fits-layer keyword.Data = refl
 fits-layer keyword.Template = refl
 fits-layer keyword.Tolerance = refl
 fits-layer keyword.MinScaleDenom = refl
@@ -396,16 +401,17 @@ unless_fault None a = Ok a
 unless_fault (Some f) a = Err f
 
 module _ (earlier : List LayerTree) (t : TokenValue) (layer : LayerDraft) (with_layer : LayerTree → Drafts) where
-  taken-ends : (name : Named) (kind : Kind) (taken : Bool) →
-      and_then (if taken then Err (record { line = name.line; kind = DuplicateName }) else Ok (layer_with name.text kind layer)) (λ made. Ok (with_layer made))
-      ≡ unless_fault (if taken then Some (record { line = name.line; kind = DuplicateName }) else None) (with_layer (layer_with name.text kind layer))
-  taken-ends name kind true = refl
-  taken-ends name kind false = refl
+  taken-ends : (name : Named) (kind : Kind) (taken : Bool) (table : Option Fault) →
+      and_then (if taken then Err (record { line = name.line; kind = DuplicateName }) else end.unless_fault table (layer_with name.text kind layer)) (λ made. Ok (with_layer made))
+      ≡ unless_fault (if taken then Some (record { line = name.line; kind = DuplicateName }) else table) (with_layer (layer_with name.text kind layer))
+  taken-ends name kind true table = refl
+  taken-ends name kind false None = refl
+  taken-ends name kind false (Some f) = refl
 
   layer-ends : (name : Option Named) (kind : Option Kind) →
       and_then (finished_layer name kind layer earlier t) (λ made. Ok (with_layer made))
-      ≡ unless_fault (layer_end_fault name kind earlier t) (with_layer (layer_with (option_map_or (λ (n : Named). n.text) name []) (unwrap_or kind Polygon) layer))
-  layer-ends (Some name) (Some kind) = taken-ends name kind (is_taken name.text earlier)
+      ≡ unless_fault (layer_end_fault name kind layer.table earlier t) (with_layer (layer_with (option_map_or (λ (n : Named). n.text) name []) (unwrap_or kind Polygon) layer))
+  layer-ends (Some name) (Some kind) = taken-ends name kind (is_taken name.text earlier) (table_fault kind layer.table)
   layer-ends (Some name) None = refl
   layer-ends None (Some kind) = refl
   layer-ends None None = refl
@@ -445,15 +451,15 @@ metadata-ends own o =
 pub same-end : (b : Block) (up own : Entries) (o : OpenBlocks) (t : TokenValue) → ends b (drafts_of (in_block b own o)) t ≡ unless_fault (closing_fault b (above b up o) own t) (drafts_of (after_end b own o))
 same-end block.Map up own o t = unless-same (map_fault (map_tree own).symbols (map_tree own).layers) (drafts_of (in_block block.Map own o))
 same-end block.Symbol up own o t =
-    symbol-ends (λ symbol. record (drafts_of (in_block block.Map o.map o)) { map = record (map_tree o.map) { symbols = (map_tree o.map).symbols ++ symbol ∷ [] } })
+    symbol-ends (λ symbol. record (drafts_of (in_block block.Map o.map o)) { map = record (map_tree o.map) { symbols = (map_tree o.map).symbols ++ symbol ∷ []; files = files_used o.map ++ symbol.image ∷ [] } })
     t (last symbol_name own) (is_some (last symbol_kind own)) (last symbol_image own)
-    ∙ ap (λ (symbols : List SymbolTree). unless_fault (closing_fault block.Symbol o.map own t) (record (drafts_of (in_block block.Map o.map o)) { map = record (map_tree o.map) { symbols = symbols } }))
+    ∙ ap (λ (symbols : List SymbolTree). unless_fault (closing_fault block.Symbol o.map own t) (record (drafts_of (in_block block.Map o.map o)) { map = record (map_tree o.map) { symbols = symbols; files = files_used o.map ++ (symbol_tree own).image ∷ [] } }))
     (sym (map-append symbol_tree (blocks block.Symbol o.map) (own ∷ [])))
 same-end block.Layer up own o t =
     layer-ends (map_tree o.map).layers t (drafts_of (in_block block.Layer own o)).layer
-    (λ layer. record (drafts_of (in_block block.Map o.map o)) { map = record (map_tree o.map) { layers = (map_tree o.map).layers ++ layer ∷ [] } })
+    (λ layer. record (drafts_of (in_block block.Map o.map o)) { map = record (map_tree o.map) { layers = (map_tree o.map).layers ++ layer ∷ []; files = with_table layer.table (files_used o.map) } })
     (last layer_name own) (last layer_kind own)
-    ∙ ap (λ (layers : List LayerTree). unless_fault (closing_fault block.Layer o.map own t) (record (drafts_of (in_block block.Map o.map o)) { map = record (map_tree o.map) { layers = layers } }))
+    ∙ ap (λ (layers : List LayerTree). unless_fault (closing_fault block.Layer o.map own t) (record (drafts_of (in_block block.Map o.map o)) { map = record (map_tree o.map) { layers = layers; files = with_table (last layer_table own) (files_used o.map) } }))
     (sym (map-append layer_tree (blocks block.Layer o.map) (own ∷ [])))
 same-end block.Class up own o t = rw (map-append class_tree (blocks block.Class o.layer) (own ∷ [])) refl
 same-end block.Style up own o t = rw (map-append style_tree (blocks block.Style o.class) (own ∷ [])) refl

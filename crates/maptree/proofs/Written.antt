@@ -40,7 +40,7 @@ use Rattle.mapwords.specs.Keyword.{spelling, is_spelt}
 use Rattle.mapwords.specs.Given.{value_in}
 use Rattle.maptree.specs.Meaning.{block_in, alone}
 use Rattle.maptree.specs.Says.{closing_fault, is_full}
-use Rattle.maptree.specs.Written.{bare, written_value, block_text, written_out, position_text, flag_text, HasNoComma, IsValueIn, map_name, map_extent, service_wms_title, service_ows_title, service_wms_url, service_ows_url, layer_wms_title, layer_ows_title, symbol_name, symbol_kind, symbol_image, style_symbol, layer_name, class_item, label_item, template, csv_x, csv_y, layer_items, layer_min, layer_max, class_min, class_max, class_equals, class_one_of, label_priority, label_buffer, label_distance, label_position, label_partials, label_force, no_label_colour, label_colour, no_label_outline, label_outline, feature_text, feature_items, style_width, style_size, layer_tolerance, layer_kind, no_colour, style_colour, no_outline, style_outline, IsBlockIn, symbol, layer, class, feature, style, points, label, web, web_metadata, layer_metadata, MaySay, nothing, said, vertex, inside, WrittenIsRead}
+use Rattle.maptree.specs.Written.{bare, written_value, block_text, written_out, position_text, flag_text, HasNoComma, IsValueIn, map_name, map_extent, service_wms_title, service_ows_title, service_wms_url, service_ows_url, layer_wms_title, layer_ows_title, symbol_name, symbol_kind, symbol_image, style_symbol, layer_name, class_item, label_item, template, layer_data, csv_x, csv_y, layer_items, layer_min, layer_max, class_min, class_max, class_equals, class_one_of, label_priority, label_buffer, label_distance, label_position, label_partials, label_force, no_label_colour, label_colour, no_label_outline, label_outline, feature_text, feature_items, style_width, style_size, layer_tolerance, layer_kind, no_colour, style_colour, no_outline, style_outline, IsBlockIn, symbol, layer, class, feature, style, points, label, web, web_metadata, layer_metadata, MaySay, nothing, said, vertex, inside, WrittenIsRead}
 use Rattle.maptree.proofs.Blocks.{block-enough}
 use Rattle.mapwords.proofs.Colours.{counts_of}
 
@@ -174,6 +174,7 @@ module _ (tail : Tail) (k : ℕ) where
   value-read b above before v line rest (layer_kind Line) p = on b above (Said v line before) rest (omega arith)
   value-read b above before v line rest (layer_kind Polygon) p = on b above (Said v line before) rest (omega arith)
   value-read b above before v line rest (feature_text text) p = on b above (Said v line before) rest (omega arith)
+  value-read b above before v line rest (layer_data text is) p = rw is (on b above (Said v line before) rest (omega arith))
   value-read b above before v line rest (csv_x text) p = rw (csv_x-cut text) (on b above (Said v line before) rest (omega arith))
   value-read b above before v line rest (csv_y text) p = rw (csv_y-cut text) (on b above (Said v line before) rest (omega arith))
   value-read b above before v line rest (feature_items text) p = on b above (Said v line before) rest (omega arith)
@@ -322,6 +323,7 @@ value-here tail zero b above before v line rest (class_item text) p = absurd (om
 value-here tail zero b above before v line rest (label_item text) p = absurd (omega arith)
 value-here tail zero b above before v line rest (template text) p = absurd (omega arith)
 value-here tail zero b above before v line rest (feature_text text) p = absurd (omega arith)
+value-here tail zero b above before v line rest (layer_data text is) p = absurd (omega arith)
 value-here tail zero b above before v line rest (csv_x text) p = absurd (omega arith)
 value-here tail zero b above before v line rest (csv_y text) p = absurd (omega arith)
 value-here tail zero b above before v line rest (feature_items text) p = absurd (omega arith)

@@ -4,7 +4,7 @@ use Rattle.mapdefs.specs.declared.limits.TheConstants.{MAX_SYMBOLS, MAX_LAYERS, 
 use Rattle.mapwords.specs.declared.role.Block.{Block}
 use Rattle.mapwords.specs.declared.role.Block.TheVariants as block
 use Rattle.mapwords.specs.declared.role.TextKeyword.{TextKeyword}
-use Rattle.mapwords.specs.declared.role.TextKeyword.TheVariants.{MapName, LayerName, ClassItem, LabelItem, Template, CsvX, CsvY, ServiceWmsTitle, ServiceOwsTitle, ServiceWmsUrl, ServiceOwsUrl, LayerWmsTitle, LayerOwsTitle, SymbolName, SymbolImage, StyleSymbol, FeatureText, FeatureItems}
+use Rattle.mapwords.specs.declared.role.TextKeyword.TheVariants.{MapName, LayerName, ClassItem, LabelItem, Template, LayerData, CsvX, CsvY, ServiceWmsTitle, ServiceOwsTitle, ServiceWmsUrl, ServiceOwsUrl, LayerWmsTitle, LayerOwsTitle, SymbolName, SymbolImage, StyleSymbol, FeatureText, FeatureItems}
 use Rattle.mapwords.specs.declared.role.ColourKeyword.{ColourKeyword}
 use Rattle.mapwords.specs.declared.role.ColourKeyword.TheVariants.{StyleColour, StyleOutline, LabelColour, LabelOutline, ImageColour}
 use Rattle.mapwords.specs.declared.role.FlagKeyword.{FlagKeyword}
@@ -27,7 +27,7 @@ use Rattle.maptree.specs.Symbol.{symbol_named}
 
 -- a MAP of which nothing was read
 abbrev pub new_map : MapTree
-new_map = record { name = None; extent = None; wms_title = None; ows_title = None; wms_url = None; ows_url = None; symbols = []; layers = [] }
+new_map = record { name = None; extent = None; wms_title = None; ows_title = None; wms_url = None; ows_url = None; symbols = []; layers = []; files = [] }
 
 -- a SYMBOL of which nothing was read
 abbrev pub new_symbol : SymbolDraft
@@ -35,7 +35,7 @@ new_symbol = record { name = None; pixmap = false; image = None }
 
 -- a LAYER of which nothing was read
 abbrev pub new_layer : LayerDraft
-new_layer = record { name = None; kind = None; classitem = None; labelitem = None; queryable = false; tolerance = None; min = None; max = None; items = None; csv_x = None; csv_y = None; wms_title = None; ows_title = None; classes = []; features = [] }
+new_layer = record { name = None; kind = None; classitem = None; labelitem = None; queryable = false; tolerance = None; min = None; max = None; items = None; table = None; csv_x = None; csv_y = None; wms_title = None; ows_title = None; classes = []; features = [] }
 
 -- a CLASS of which nothing was read
 abbrev pub new_class : ClassTree
@@ -87,6 +87,8 @@ with_text StyleSymbol text line d = record d { style = record d.style { symbol =
 with_text ClassItem text line d = record d { layer = record d.layer { classitem = Some text } }
 with_text LabelItem text line d = record d { layer = record d.layer { labelitem = Some text } }
 with_text Template text line d = record d { layer = record d.layer { queryable = true } }
+with_text LayerData text line d =
+    record d { layer = record d.layer { table = Some (record { text = text; line = line }) } }
 with_text CsvX text line d = record d { layer = record d.layer { csv_x = Some text } }
 with_text CsvY text line d = record d { layer = record d.layer { csv_y = Some text } }
 with_text LayerWmsTitle text line d = record d { layer = record d.layer { wms_title = Some text } }

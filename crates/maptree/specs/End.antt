@@ -13,6 +13,7 @@ use Rattle.maptree.specs.declared.tree.Named.{Named}
 use Rattle.maptree.specs.declared.draft.LayerDraft.{LayerDraft}
 use Rattle.maptree.specs.declared.draft.Drafts.{Drafts}
 use Rattle.mapwords.specs.Fault.{refused, and_then}
+use Rattle.maptree.specs.Data.{table_fault, with_table}
 use Rattle.maptree.specs.Parts.{with_part}
 use Rattle.maptree.specs.Symbol.{map_fault}
 use Rattle.maptree.specs.Draft.{new_symbol, new_layer, new_class, new_style, new_label, new_feature}
@@ -29,6 +30,7 @@ layer_with name kind layer = record {
   min = layer.min;
   max = layer.max;
   items = layer.items;
+  table = layer.table;
   csv_x = layer.csv_x;
   csv_y = layer.csv_y;
   wms_title = layer.wms_title;
@@ -37,21 +39,26 @@ layer_with name kind layer = record {
   features = layer.features;
 }
 
--- a layer with its name and its kind, unless an earlier layer has the name
+-- what was read, unless there is a fault
+abbrev pub unless_fault : {A : Type 0} → Option Fault → A → Result A Fault
+unless_fault None a = Ok a
+unless_fault (Some f) a = Err f
+
+-- a layer with its name and its kind, unless an earlier layer has the name, or its table can't be of the kind
 abbrev pub named_layer : Named → Kind → LayerDraft → List LayerTree → Result LayerTree Fault
 named_layer name kind layer earlier =
     if is_taken name.text earlier then Err (record { line = name.line; kind = DuplicateName })
-    else Ok (layer_with name.text kind layer)
+    else unless_fault (table_fault kind layer.table) (layer_with name.text kind layer)
 
 -- a layer has a name and a kind
 abbrev pub finished_layer : Option Named → Option Kind → LayerDraft → List LayerTree → TokenValue → Result LayerTree Fault
 finished_layer (Some name) (Some kind) layer earlier t = named_layer name kind layer earlier
 finished_layer _ _ layer earlier t = refused MissingValue t
 
--- at the END of a LAYER the map has it
+-- at the END of a LAYER the map has it, and uses the file of its table
 abbrev pub layer_end : Drafts → TokenValue → Result Drafts Fault
 layer_end d t = and_then (finished_layer d.layer.name d.layer.kind d.layer d.map.layers t) (λ layer.
-    Ok (record d { map = record d.map { layers = d.map.layers ++ layer ∷ [] }; layer = new_layer }))
+    Ok (record d { map = record d.map { layers = d.map.layers ++ layer ∷ []; files = with_table layer.table d.map.files }; layer = new_layer }))
 
 -- at the END of a CLASS the layer has it
 abbrev pub class_end : Drafts → Drafts
@@ -85,15 +92,10 @@ abbrev pub finished_symbol : Option (List ℕ) → Bool → Option Named → Tok
 finished_symbol (Some name) true (Some image) t = Ok (record { name = name; image = image })
 finished_symbol _ _ _ t = refused MissingValue t
 
--- at the END of a SYMBOL the map has it
+-- at the END of a SYMBOL the map has it, and uses the file of its image
 abbrev pub symbol_end : Drafts → TokenValue → Result Drafts Fault
 symbol_end d t = and_then (finished_symbol d.symbol.name d.symbol.pixmap d.symbol.image t) (λ symbol.
-    Ok (record d { map = record d.map { symbols = d.map.symbols ++ symbol ∷ [] }; symbol = new_symbol }))
-
--- what was read, unless there is a fault
-abbrev pub unless_fault : Option Fault → Drafts → Result Drafts Fault
-unless_fault None d = Ok d
-unless_fault (Some f) d = Err f
+    Ok (record d { map = record d.map { symbols = d.map.symbols ++ symbol ∷ []; files = d.map.files ++ symbol.image ∷ [] }; symbol = new_symbol }))
 
 -- at the END of MAP its styles name symbols that it has
 abbrev pub map_end : Drafts → Result Drafts Fault

@@ -1,4 +1,5 @@
 pub mod Answer
+pub mod Data
 pub mod Draft
 pub mod End
 pub mod Entries

@@ -13,6 +13,7 @@ use Rattle.maptree.specs.declared.tree.Named.{Named}
 use Rattle.mapwords.specs.declared.fault.Fault.{Fault}
 use Rattle.mapwords.specs.declared.fault.ParseKind.TheVariants.{UnknownWord, WrongValue, MissingValue, Limit, DuplicateName}
 use Rattle.maptree.specs.declared.tree.LayerTree.{LayerTree}
+use Rattle.maptree.specs.Data.{table_fault}
 use Rattle.maptree.specs.Entries.{Entries, last, blocks, last_block, vertices, vertex_count}
 use Rattle.mapwords.specs.Fault.{fault_of, refused, and_then}
 use Rattle.maptree.specs.Name.{is_taken}
@@ -21,7 +22,7 @@ use Rattle.mapwords.specs.Keyword.{keyword_at, is_end}
 use Rattle.mapwords.specs.Table.{role_of}
 use Rattle.maptree.specs.Symbol.{symbol_fault, map_fault}
 use Rattle.mapwords.specs.Value.{is_value, coordinate_in}
-use Rattle.maptree.specs.Tree.{symbol_name, symbol_kind, symbol_image, layer_name, layer_kind, map_tree}
+use Rattle.maptree.specs.Tree.{symbol_name, symbol_kind, symbol_image, layer_name, layer_kind, layer_table, map_tree}
 
 -- what a token says: the block ends, an inner block opens, a keyword takes values, a vertex has this longitude, or nothing
 pub data Saying : Type 0 where
@@ -31,18 +32,19 @@ pub data Saying : Type 0 where
   Longitude : ℤ → Saying
   Passes : Saying
 
--- the END of a LAYER asks for a NAME, which none of the earlier layers has, and a TYPE
-abbrev pub layer_end_fault : Option Named → Option Kind → List LayerTree → TokenValue → Option Fault
-layer_end_fault (Some name) (Some kind) earlier t =
-    if is_taken name.text earlier then Some (record { line = name.line; kind = DuplicateName }) else None
-layer_end_fault _ _ earlier t = Some (fault_of MissingValue t)
+-- the END of a LAYER asks for a NAME, which none of the earlier layers has, and a TYPE, of which a table may be
+abbrev pub layer_end_fault : Option Named → Option Kind → Option Named → List LayerTree → TokenValue → Option Fault
+layer_end_fault (Some name) (Some kind) table earlier t =
+    if is_taken name.text earlier then Some (record { line = name.line; kind = DuplicateName }) else table_fault kind table
+layer_end_fault _ _ table earlier t = Some (fault_of MissingValue t)
 
 -- what is wrong at the END of a block, by what its parent says before it and what it says itself
 abbrev pub closing_fault : Block → Entries → Entries → TokenValue → Option Fault
 closing_fault block.Map above own t = map_fault (map_tree own).symbols (map_tree own).layers
 closing_fault block.Symbol above own t =
     symbol_fault (last symbol_name own) (is_some (last symbol_kind own)) (last symbol_image own) t
-closing_fault block.Layer above own t = layer_end_fault (last layer_name own) (last layer_kind own) (map_tree above).layers t
+closing_fault block.Layer above own t =
+    layer_end_fault (last layer_name own) (last layer_kind own) (last layer_table own) (map_tree above).layers t
 closing_fault block.Feature above own t = if length (blocks block.Points own) == 0 then Some (fault_of MissingValue t) else None
 closing_fault block.Points above own t = if length (vertices own) == 0 then Some (fault_of MissingValue t) else None
 closing_fault _ above own t = None

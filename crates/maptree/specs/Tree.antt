@@ -1,12 +1,13 @@
 -- What the entries of a block come to (docs/MAPFILE.md, "Blocks and words"): of equal keywords the last one counts, and
 -- equal blocks add up. Nothing but its own entries counts for a block.
-use Rattle.std.specs.Prelude.{ℕ, List, [], map, ℤ, Bool, true, Option, None, Some, is_some, unwrap_or, option_map}
+use Rattle.std.specs.Prelude.{ℕ, List, [], ◌∷◌, ◌++◌, map, ℤ, Bool, true, Option, None, Some, is_some, unwrap_or, option_map}
 use Rattle.std.specs.Option.{option_flatten, option_map_or}
 use Rattle.mapdefs.specs.declared.colour.Rgb.{Rgb}
 use Rattle.mapdefs.specs.declared.layer.Kind.{Kind}
 use Rattle.mapdefs.specs.declared.layer.Kind.TheVariants.{Polygon}
+use Rattle.mapwords.specs.declared.role.Block.{Block}
 use Rattle.mapwords.specs.declared.role.Block.TheVariants as block
-use Rattle.mapwords.specs.declared.role.TextKeyword.TheVariants.{MapName, LayerName, ClassItem, LabelItem, Template, CsvX, CsvY, ServiceWmsTitle, ServiceOwsTitle, ServiceWmsUrl, ServiceOwsUrl, LayerWmsTitle, LayerOwsTitle, SymbolName, SymbolImage, StyleSymbol, FeatureText, FeatureItems}
+use Rattle.mapwords.specs.declared.role.TextKeyword.TheVariants.{MapName, LayerName, ClassItem, LabelItem, Template, LayerData, CsvX, CsvY, ServiceWmsTitle, ServiceOwsTitle, ServiceWmsUrl, ServiceOwsUrl, LayerWmsTitle, LayerOwsTitle, SymbolName, SymbolImage, StyleSymbol, FeatureText, FeatureItems}
 use Rattle.mapwords.specs.declared.role.ColourKeyword.TheVariants.{StyleColour, StyleOutline, LabelColour, LabelOutline}
 use Rattle.mapwords.specs.declared.role.FlagKeyword.TheVariants.{Partials, Force}
 use Rattle.mapwords.specs.declared.role.ScaleKeyword.TheVariants.{LayerMin, LayerMax, ClassMin, ClassMax}
@@ -24,7 +25,8 @@ use Rattle.maptree.specs.declared.tree.LayerTree.{LayerTree}
 use Rattle.maptree.specs.declared.tree.SymbolTree.{SymbolTree}
 use Rattle.maptree.specs.declared.tree.MapTree.{MapTree}
 use Rattle.maptree.specs.Symbol.{symbol_named}
-use Rattle.maptree.specs.Entries.{Entries, last, blocks, last_block, last_within, vertices}
+use Rattle.maptree.specs.Data.{with_table}
+use Rattle.maptree.specs.Entries.{Entries, Nothing, Said, Vertex, Inside, last, blocks, last_block, last_within, vertices}
 
 -- the colour that COLOR gives a style, which may be none
 abbrev pub style_colour : Value → ℕ → Option (Option Rgb)
@@ -202,6 +204,11 @@ abbrev pub layer_items : Value → ℕ → Option (List (List ℕ))
 layer_items (value.Items items) line = Some items
 layer_items _ line = None
 
+-- the file of a table that a DATA gives a layer, and its line
+abbrev pub layer_table : Value → ℕ → Option Named
+layer_table (value.Text LayerData text) line = Some (record { text = text; line = line })
+layer_table _ line = None
+
 -- the column of longitudes that the CSV_X of a PROCESSING gives
 abbrev pub layer_csv_x : Value → ℕ → Option (List ℕ)
 layer_csv_x (value.Text CsvX text) line = Some text
@@ -236,6 +243,7 @@ layer_tree own = record {
   min = last layer_min own;
   max = last layer_max own;
   items = last layer_items own;
+  table = last layer_table own;
   csv_x = last layer_csv_x own;
   csv_y = last layer_csv_y own;
   wms_title = last_within block.LayerMetadata (last layer_wms_title) own;
@@ -265,6 +273,19 @@ symbol_tree own = record {
   name = unwrap_or (last symbol_name own) [];
   image = unwrap_or (last symbol_image own) (record { text = []; line = 0 });
 }
+
+-- the files that are used, with that of a block of MAP behind them: a SYMBOL uses that of its IMAGE, a LAYER that of its DATA
+abbrev pub with_file_of : Block → Entries → List Named → List Named
+with_file_of block.Symbol own files = files ++ (symbol_tree own).image ∷ []
+with_file_of block.Layer own files = with_table (last layer_table own) files
+with_file_of _ own files = files
+
+-- the files that the blocks of a MAP use, in their order
+abbrev pub files_used : Entries → List Named
+files_used Nothing = []
+files_used (Said value line before) = files_used before
+files_used (Vertex vertex before) = files_used before
+files_used (Inside b inner before) = with_file_of b inner (files_used before)
 
 -- the name that a NAME gives the map
 abbrev pub map_name : Value → ℕ → Option (List ℕ)
@@ -304,7 +325,8 @@ web_text wanted web = last_within block.WebMetadata (last wanted) web
 abbrev pub service_text : (Value → ℕ → Option (List ℕ)) → Entries → Option (List ℕ)
 service_text wanted own = last_within block.Web (web_text wanted) own
 
--- a MAP has its last NAME and its last EXTENT, the last of each key of its service's METADATA, and its SYMBOL and LAYER blocks
+-- a MAP has its last NAME and its last EXTENT, the last of each key of its service's METADATA, its SYMBOL and LAYER blocks, and
+-- the files that these use
 abbrev pub map_tree : Entries → MapTree
 map_tree own = record {
   name = last map_name own;
@@ -315,4 +337,5 @@ map_tree own = record {
   ows_url = service_text service_ows_url own;
   symbols = map symbol_tree (blocks block.Symbol own);
   layers = map layer_tree (blocks block.Layer own);
+  files = files_used own;
 }

@@ -18,7 +18,7 @@ use Rattle.maplex.specs.Token.{TokenValue}
 use Rattle.mapwords.specs.declared.role.Block.{Block}
 use Rattle.mapwords.specs.declared.role.Block.TheVariants as block
 use Rattle.mapwords.specs.declared.role.TextKeyword.{TextKeyword}
-use Rattle.mapwords.specs.declared.role.TextKeyword.TheVariants.{MapName, LayerName, ClassItem, LabelItem, Template, CsvX, CsvY, ServiceWmsTitle, ServiceOwsTitle, ServiceWmsUrl, ServiceOwsUrl, LayerWmsTitle, LayerOwsTitle, SymbolName, SymbolImage, StyleSymbol, FeatureText, FeatureItems}
+use Rattle.mapwords.specs.declared.role.TextKeyword.TheVariants.{MapName, LayerName, ClassItem, LabelItem, Template, LayerData, CsvX, CsvY, ServiceWmsTitle, ServiceOwsTitle, ServiceWmsUrl, ServiceOwsUrl, LayerWmsTitle, LayerOwsTitle, SymbolName, SymbolImage, StyleSymbol, FeatureText, FeatureItems}
 use Rattle.mapwords.specs.declared.role.ColourKeyword.{ColourKeyword}
 use Rattle.mapwords.specs.declared.role.ColourKeyword.TheVariants.{StyleColour, StyleOutline, LabelColour, LabelOutline, ImageColour}
 use Rattle.mapwords.specs.declared.role.FlagKeyword.{FlagKeyword}
@@ -29,6 +29,7 @@ use Rattle.mapwords.specs.declared.value.Value.{Value}
 use Rattle.mapwords.specs.declared.value.Value.TheVariants as value
 use Rattle.maptree.specs.Entries.{Entries, Nothing, Said, Vertex, Inside, vertex_count}
 use Rattle.maptree.specs.Meaning.{meaning}
+use Rattle.mapwords.specs.Value.{is_table_name}
 use Rattle.mapwords.specs.Rule.{is_comma}
 use Rattle.maptree.specs.Says.{closing_fault, is_full}
 
@@ -62,6 +63,7 @@ written_text LabelItem text line = bare line (codes "LABELITEM") ∷ quoted line
 written_text Template text line = bare line (codes "TEMPLATE") ∷ quoted line text ∷ []
 written_text FeatureText text line = bare line (codes "TEXT") ∷ quoted line text ∷ []
 written_text FeatureItems text line = bare line (codes "ITEMS") ∷ quoted line text ∷ []
+written_text LayerData text line = bare line (codes "DATA") ∷ quoted line text ∷ []
 written_text CsvX text line = written_setting (codes "CSV_X") text line
 written_text CsvY text line = written_setting (codes "CSV_Y") text line
 written_text ServiceWmsTitle text line = quoted line (codes "wms_title") ∷ quoted line text ∷ []
@@ -187,6 +189,7 @@ pub data IsValueIn : Block → Value → Type 0 where
   label_item : (text : List ℕ) → IsValueIn block.Layer (value.Text LabelItem text)
   template : (text : List ℕ) → IsValueIn block.Layer (value.Text Template text)
   layer_kind : (kind : Kind) → IsValueIn block.Layer (value.Kind kind)
+  layer_data : (text : List ℕ) → is_table_name text ≡ true → IsValueIn block.Layer (value.Text LayerData text)
   csv_x : (text : List ℕ) → IsValueIn block.Layer (value.Text CsvX text)
   csv_y : (text : List ℕ) → IsValueIn block.Layer (value.Text CsvY text)
   feature_text : (text : List ℕ) → IsValueIn block.Feature (value.Text FeatureText text)

@@ -5,7 +5,7 @@ ghost use Rattle.maptree.specs.Draft.{fresh, new_map, new_symbol, new_layer, new
 use crate::parts::PartsDraft;
 use crate::tree::{ClassTree, FeatureTree, LabelTree, LayerTree, MapTree, Named, StyleTree};
 use geom::Micro;
-use mapdefs::{Kind, MAX_CLASSES, MAX_FEATURES, MAX_ITEMS, Rgb, Text};
+use mapdefs::{Items, Kind, MAX_CLASSES, MAX_FEATURES, MAX_ITEMS, Rgb, Text};
 use mapwords::{
     Block, Bounded, Capped, ColourKeyword, FlagKeyword, ScaleKeyword, TextKeyword, Value,
 };
@@ -24,6 +24,7 @@ pub struct LayerDraft {
     pub min: Option<Micro>,
     pub max: Option<Micro>,
     pub items: Option<Capped<Text, MAX_ITEMS>>,
+    pub table: Option<Named>,
     pub csv_x: Option<Text>,
     pub csv_y: Option<Text>,
     pub wms_title: Option<Text>,
@@ -86,6 +87,7 @@ impl MapTree {
             ows_url: None,
             symbols: Capped::new(alloc),
             layers: Capped::new(alloc),
+            files: Items::new(alloc),
         }
     }
 }
@@ -118,6 +120,7 @@ impl LayerDraft {
             min: None,
             max: None,
             items: None,
+            table: None,
             csv_x: None,
             csv_y: None,
             wms_title: None,
@@ -241,6 +244,7 @@ impl Drafts {
             TextKeyword::ClassItem => self.layer.classitem = Some(text),
             TextKeyword::LabelItem => self.layer.labelitem = Some(text),
             TextKeyword::Template => self.layer.queryable = true,
+            TextKeyword::LayerData => self.layer.table = Some(Named { text, line }),
             TextKeyword::CsvX => self.layer.csv_x = Some(text),
             TextKeyword::CsvY => self.layer.csv_y = Some(text),
             TextKeyword::LayerWmsTitle => self.layer.wms_title = Some(text),

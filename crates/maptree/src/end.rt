@@ -1,5 +1,6 @@
 ghost use Rattle.std.specs.Prelude.{◌≡◌, ◌<◌, false, length, Ok, OnOk, MatchResult};
 ghost use Rattle.mapdefs.specs.declared.limits.TheConstants.{MAX_SYMBOLS, MAX_LAYERS, MAX_CLASSES, MAX_STYLES, MAX_FEATURES};
+ghost use Rattle.maptree.specs.Data.{table_fault, with_table};
 ghost use Rattle.maptree.specs.Draft.{is_full};
 ghost use Rattle.maptree.specs.End.{finished_layer, layer_end, finished_symbol, symbol_end, map_end, class_end, style_end, label_end, feature_end, points_end, ends};
 ghost use Rattle.mapwords.specs.Fault.{IsErrorOf};
@@ -7,7 +8,8 @@ ghost use Rattle.maptree.specs.Name.{is_taken};
 
 use crate::draft::{Drafts, FeatureDraft, LayerDraft, SymbolDraft};
 use crate::symbol::map_fault;
-use crate::tree::{ClassTree, FeatureTree, LabelTree, LayerTree, StyleTree, SymbolTree};
+use crate::tree::{ClassTree, FeatureTree, LabelTree, LayerTree, Named, StyleTree, SymbolTree};
+use mapdefs::{Duplicate, Items, Kind};
 use maplex::Token;
 use mapwords::{Block, Fault, ParseFault, ParseKind, fault_of};
 use std::alloc::{AllocError, Global};
@@ -18,6 +20,19 @@ fn is_taken(name: &str, layers: &[LayerTree]) -> bool
     ensures { result ≡ is_taken name.now layers.now }
 {
     layers.iter().any(|layer| layer.name.as_str() == name)
+}
+
+// The fault of a table in a layer of a kind that has none.
+fn table_fault(kind: Kind, table: &Option<Named>) -> Option<Fault>
+    ensures { result ≡ table_fault kind table.now }
+{
+    match (kind, table) {
+        (Kind::Line | Kind::Polygon, Some(table)) => Some(Fault {
+            line: table.line,
+            kind: ParseKind::WrongValue,
+        }),
+        _ => None,
+    }
 }
 
 // The layer of a draft at its END, after the earlier layers.
@@ -34,6 +49,7 @@ fn finished_layer(draft: LayerDraft, earlier: &[LayerTree], end: &Token) -> Resu
         min,
         max,
         items,
+        table,
         csv_x,
         csv_y,
         wms_title,
@@ -50,6 +66,9 @@ fn finished_layer(draft: LayerDraft, earlier: &[LayerTree], end: &Token) -> Resu
             kind: ParseKind::DuplicateName,
         });
     }
+    if let Some(fault) = table_fault(kind, &table) {
+        return Err(fault);
+    }
     Ok(LayerTree {
         name: name.text,
         kind,
@@ -60,6 +79,7 @@ fn finished_layer(draft: LayerDraft, earlier: &[LayerTree], end: &Token) -> Resu
         min,
         max,
         items,
+        table,
         csv_x,
         csv_y,
         wms_title,
@@ -69,7 +89,21 @@ fn finished_layer(draft: LayerDraft, earlier: &[LayerTree], end: &Token) -> Resu
     })
 }
 
-// Ends a LAYER: the map gets it.
+// Adds the file of a layer's table to those that are used, if it has one.
+fn add_table(
+    files: &mut Items<Named>,
+    table: &Option<Named>,
+    alloc: Global,
+) -> Result<(), AllocError>
+    ensures { OnOk result (files.new ≡ with_table table.now files.old) }
+{
+    match table {
+        Some(table) => files.push(table.duplicate(alloc)?),
+        None => Ok(()),
+    }
+}
+
+// Ends a LAYER: the map gets it, and uses the file of its table.
 fn end_layer(drafts: &mut Drafts, end: &Token, alloc: Global) -> Result<(), ParseFault>
     requires { length drafts.old.map.layers < MAX_LAYERS }
     ensures { MatchResult result
@@ -78,6 +112,7 @@ fn end_layer(drafts: &mut Drafts, end: &Token, alloc: Global) -> Result<(), Pars
 {
     let draft = mem::replace(&mut drafts.layer, LayerDraft::new(alloc));
     let layer = finished_layer(draft, drafts.map.layers.as_slice(), end)?;
+    add_table(&mut drafts.map.files, &layer.table, alloc)?;
     drafts.map.layers.push(layer)?;
     Ok(())
 }
@@ -97,8 +132,8 @@ fn finished_symbol(draft: SymbolDraft, end: &Token) -> Result<SymbolTree, Fault>
     }
 }
 
-// Ends a SYMBOL: the map gets it.
-fn end_symbol(drafts: &mut Drafts, end: &Token) -> Result<(), ParseFault>
+// Ends a SYMBOL: the map gets it, and uses the file of its image.
+fn end_symbol(drafts: &mut Drafts, end: &Token, alloc: Global) -> Result<(), ParseFault>
     requires { length drafts.old.map.symbols < MAX_SYMBOLS }
     ensures { MatchResult result
         (λ _. symbol_end drafts.old end.now ≡ Ok drafts.new)
@@ -106,6 +141,7 @@ fn end_symbol(drafts: &mut Drafts, end: &Token) -> Result<(), ParseFault>
 {
     let draft = mem::replace(&mut drafts.symbol, SymbolDraft::new());
     let symbol = finished_symbol(draft, end)?;
+    drafts.map.files.push(symbol.image.duplicate(alloc)?)?;
     drafts.map.symbols.push(symbol)?;
     Ok(())
 }
@@ -195,7 +231,7 @@ pub fn close(
 {
     match block {
         Block::Map => end_map(drafts)?,
-        Block::Symbol => end_symbol(drafts, end)?,
+        Block::Symbol => end_symbol(drafts, end, alloc)?,
         Block::Layer => end_layer(drafts, end, alloc)?,
         Block::Class => end_class(drafts, alloc)?,
         Block::Style => end_style(drafts)?,

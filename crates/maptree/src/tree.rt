@@ -1,16 +1,26 @@
 use crate::parts::Parts;
 use geom::Micro;
 use mapdefs::{
-    Kind, MAX_CLASSES, MAX_FEATURES, MAX_ITEMS, MAX_LAYERS, MAX_STYLES, MAX_SYMBOLS, Position, Rgb,
-    Text,
+    Duplicate, Items, Kind, MAX_CLASSES, MAX_FEATURES, MAX_ITEMS, MAX_LAYERS, MAX_STYLES,
+    MAX_SYMBOLS, Position, Rgb, Text,
 };
 use mapwords::{Bounded, Capped, ClassRule, Extent};
+use std::alloc::{AllocError, Global};
 
 /// A name, and the line of its token.
 #[derive(Drop)]
 pub struct Named {
     pub text: Text,
     pub line: u64,
+}
+
+impl Duplicate for Named {
+    fn duplicate(&self, alloc: Global) -> Result<Named, AllocError> {
+        Ok(Named {
+            text: self.text.duplicate(alloc)?,
+            line: self.line,
+        })
+    }
 }
 
 /// A MAP as it is written.
@@ -26,6 +36,8 @@ pub struct MapTree {
     pub ows_url: Option<Text>,
     pub symbols: Capped<SymbolTree, MAX_SYMBOLS>,
     pub layers: Capped<LayerTree, MAX_LAYERS>,
+    /// The files that the symbols and the layers use, in the order of these.
+    pub files: Items<Named>,
 }
 
 /// A SYMBOL as it is written.
@@ -50,6 +62,8 @@ pub struct LayerTree {
     pub max: Option<Micro>,
     /// The names of its items.
     pub items: Option<Capped<Text, MAX_ITEMS>>,
+    /// The name of the file that its table is in. Only a layer of points has one.
+    pub table: Option<Named>,
     pub csv_x: Option<Text>,
     pub csv_y: Option<Text>,
     /// The titles that its METADATA give, each the last of its key.

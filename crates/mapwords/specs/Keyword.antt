@@ -5,7 +5,7 @@ use Rattle.maplex.specs.declared.token.Shape.{Shape}
 use Rattle.maplex.specs.declared.token.Shape.TheVariants.{Word}
 use Rattle.maplex.specs.Token.{TokenValue}
 use Rattle.mapwords.specs.declared.keyword.Keyword.{Keyword}
-use Rattle.mapwords.specs.declared.keyword.Keyword.TheVariants.{Map, Layer, Name, Kind, Class, Style, Color, Feature, Points, Angle, Antialias, Buffer, ClassItem, Config, Debug, Dump, Empty, Encoding, Error, Expression, Extent, Font, FontSet, Footer, Force, Group, Header, ImageColor, ImagePath, ImageType, ImageUrl, Items, Label, LabelCache, LabelItem, LabelMaxScaleDenom, LabelMinScaleDenom, Legend, Log, MaxScaleDenom, MaxSize, MaxWidth, Metadata, MinDistance, MinFeatureSize, MinScaleDenom, MinSize, MinWidth, Offset, OutlineColor, OutlineWidth, OutputFormat, Partials, Position, Priority, Processing, Projection, QueryMap, Reference, RepeatDistance, Resolution, ScaleBar, ShapePath, Size, Status, Template, Text, Title, Tolerance, ToleranceUnits, Units, Validation, Web, Width, Symbol, Image, Transparent, AnchorPoint, End}
+use Rattle.mapwords.specs.declared.keyword.Keyword.TheVariants.{Map, Layer, Name, Kind, Class, Style, Color, Feature, Points, Angle, Antialias, Buffer, ClassItem, Config, Debug, Dump, Empty, Encoding, Error, Expression, Extent, Font, FontSet, Footer, Force, Group, Header, ImageColor, ImagePath, ImageType, ImageUrl, Items, Label, LabelCache, LabelItem, LabelMaxScaleDenom, LabelMinScaleDenom, Legend, Log, MaxScaleDenom, MaxSize, MaxWidth, Metadata, MinDistance, MinFeatureSize, MinScaleDenom, MinSize, MinWidth, Offset, OutlineColor, OutlineWidth, OutputFormat, Partials, Position, Priority, Processing, Projection, QueryMap, Reference, RepeatDistance, Resolution, ScaleBar, ShapePath, Size, Status, Template, Text, Title, Tolerance, ToleranceUnits, Units, Validation, Web, Width, Symbol, Image, Transparent, AnchorPoint, Data, End}
 
 -- how a keyword is written
 unfoldable pub spelling : Keyword → List ℕ
@@ -87,6 +87,7 @@ spelling Symbol = codes "SYMBOL"
 spelling Image = codes "IMAGE"
 spelling Transparent = codes "TRANSPARENT"
 spelling AnchorPoint = codes "ANCHORPOINT"
+spelling Data = codes "DATA"
 spelling End = codes "END"
 
 -- all keywords
@@ -99,7 +100,7 @@ keywords =
     MinDistance ∷ MinFeatureSize ∷ MinScaleDenom ∷ MinSize ∷ MinWidth ∷ Offset ∷ OutlineColor ∷ OutlineWidth ∷
     OutputFormat ∷ Partials ∷ Position ∷ Priority ∷ Processing ∷ Projection ∷ QueryMap ∷ Reference ∷ RepeatDistance
     ∷ Resolution ∷ ScaleBar ∷ ShapePath ∷ Size ∷ Status ∷ Template ∷ Text ∷ Title ∷ Tolerance ∷ ToleranceUnits ∷
-    Units ∷ Validation ∷ Web ∷ Width ∷ Symbol ∷ Image ∷ Transparent ∷ AnchorPoint ∷ End ∷ []
+    Units ∷ Validation ∷ Web ∷ Width ∷ Symbol ∷ Image ∷ Transparent ∷ AnchorPoint ∷ Data ∷ End ∷ []
 
 -- the spelling of a keyword has this length
 abbrev pub has_length : ℕ → Keyword → Bool

@@ -1,5 +1,6 @@
 -- Values, and how they are read (docs/MAPFILE.md, "Values").
-use Rattle.std.specs.Prelude.{ℕ, zero, suc, ℤ, int_lt, Bool, true, false, List, codes, if◌then◌else◌, Option, None, Some, Result, Ok}
+use Rattle.std.specs.Prelude.{ℕ, zero, suc, eqb, ℤ, int_lt, Bool, true, false, List, codes, if◌then◌else◌, Option, None, Some, Result, Ok}
+use Rattle.std.specs.List.{ends_with}
 use Rattle.std.specs.Option.{option_map, ok_or}
 use Rattle.std.specs.Str.{str_eq_ignore_ascii_case}
 use Rattle.maplex.specs.declared.token.Shape.{Shape}
@@ -11,6 +12,7 @@ use Rattle.mapdefs.specs.declared.layer.Kind.{Kind}
 use Rattle.mapdefs.specs.declared.layer.Kind.TheVariants.{Point, Line, Polygon}
 use Rattle.mapwords.specs.declared.colour.Component.{Component}
 use Rattle.mapwords.specs.declared.role.ColourKeyword.{ColourKeyword}
+use Rattle.mapwords.specs.declared.role.TextKeyword.TheVariants.{LayerData}
 use Rattle.mapwords.specs.declared.role.OnlyWord.{OnlyWord}
 use Rattle.mapwords.specs.declared.role.OnlyWord.TheVariants.{Pixels, On}
 use Rattle.mapwords.specs.declared.role.Expected.{Expected}
@@ -119,9 +121,18 @@ plain_step _ t = None
 abbrev pub rule_step : TokenValue → Result ValueStep Fault
 rule_step t = ok_or (option_map (λ rule. Whole (value.Rule rule)) (rule_of t.shape t.text)) (fault_of BadExpression t)
 
+-- a file of a table has a name that ends in .csv
+abbrev pub is_table_name : List ℕ → Bool
+is_table_name name = ends_with eqb name (codes ".csv")
+
+-- a DATA takes the name of such a file
+abbrev pub table_step : TokenValue → Result ValueStep Fault
+table_step t = if is_table_name t.text then Ok (Whole (value.Text LayerData t.text)) else refused WrongValue t
+
 -- a token as a value that a keyword expects
 abbrev pub step_in : Expected → TokenValue → Result ValueStep Fault
 step_in (expected.Text keyword) t = Ok (Whole (value.Text keyword t.text))
+step_in expected.Table t = table_step t
 step_in expected.Rule t = rule_step t
 step_in expected.Setting t = setting_step t
 step_in e t = ok_or (plain_step e t) (fault_of WrongValue t)

@@ -84,6 +84,7 @@ pub enum Keyword {
     Image,
     Transparent,
     AnchorPoint,
+    Data,
     End,
 }
 
@@ -91,13 +92,14 @@ pub enum Keyword {
 const THREE: [Keyword; 4] = [Keyword::Map, Keyword::Log, Keyword::Web, Keyword::End];
 
 // The keywords whose spelling has this length.
-const FOUR: [Keyword; 6] = [
+const FOUR: [Keyword; 7] = [
     Keyword::Name,
     Keyword::Kind,
     Keyword::Dump,
     Keyword::Font,
     Keyword::Size,
     Keyword::Text,
+    Keyword::Data,
 ];
 
 // The keywords whose spelling has this length.
@@ -208,7 +210,7 @@ const FOURTEEN: [Keyword; 3] = [
 const EIGHTEEN: [Keyword; 2] = [Keyword::LabelMaxScaleDenom, Keyword::LabelMinScaleDenom];
 
 // The spelling of each keyword, in their order.
-const SPELLINGS: [&str; 79] = [
+const SPELLINGS: [&str; 80] = [
     "MAP",
     "LAYER",
     "NAME",
@@ -287,6 +289,7 @@ const SPELLINGS: [&str; 79] = [
     "IMAGE",
     "TRANSPARENT",
     "ANCHORPOINT",
+    "DATA",
     "END",
 ];
 

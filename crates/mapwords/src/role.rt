@@ -37,6 +37,8 @@ pub enum TextKeyword {
     Template,
     FeatureText,
     FeatureItems,
+    /// The name of the file that a layer's table is in.
+    LayerData,
     /// The columns of longitude and latitude in a layer's tables.
     CsvX,
     CsvY,
@@ -96,6 +98,8 @@ pub enum Expected {
     Text(TextKeyword),
     /// The kind of a layer's features.
     Kind,
+    /// The name of the file of a layer's table.
+    Table,
     /// The kind of a symbol, which is PIXMAP.
     Pixmap,
     /// The width of a style.

@@ -85,6 +85,7 @@ fn layer_role(keyword: Keyword) -> Option<Role>
         Keyword::Kind => Some(Role::Takes(Expected::Kind)),
         Keyword::ClassItem => Some(Role::Takes(Expected::Text(TextKeyword::ClassItem))),
         Keyword::LabelItem => Some(Role::Takes(Expected::Text(TextKeyword::LabelItem))),
+        Keyword::Data => Some(Role::Takes(Expected::Table)),
         Keyword::Template => Some(Role::Takes(Expected::Text(TextKeyword::Template))),
         Keyword::Tolerance => Some(Role::Takes(Expected::Tolerance)),
         Keyword::MinScaleDenom => Some(Role::Takes(Expected::Scale(ScaleKeyword::LayerMin))),

@@ -3,7 +3,7 @@ ghost use Rattle.mapwords.specs.declared.value.ValueStep.TheVariants.{Whole, Mor
 ghost use Rattle.mapwords.specs.Fault.{IsErrorOf};
 ghost use Rattle.mapwords.specs.declared.value.Value.TheVariants as ValueTree;
 ghost use Rattle.mapwords.specs.Colour.{component_of};
-ghost use Rattle.mapwords.specs.Value.{kind_of, pixmap_step, is_value, hex_at, colour_step, only_text, only_step, unused_step, east_step, north_step, config_step, rule_step, plain_step, step_in, may_take, value_step, coordinate_in};
+ghost use Rattle.mapwords.specs.Value.{kind_of, pixmap_step, is_value, hex_at, colour_step, only_text, only_step, unused_step, east_step, north_step, config_step, is_table_name, table_step, rule_step, plain_step, step_in, may_take, value_step, coordinate_in};
 
 use crate::bounded::Bounded;
 use crate::capped::Capped;
@@ -230,7 +230,7 @@ fn plain_step(expected: Expected, token: &Token) -> Option<ValueStep>
         Expected::ConfigKey => config_step(text),
         Expected::Unused(more) => Some(unused_step(more)),
         // They are kept as texts.
-        Expected::Text(_) | Expected::Rule | Expected::Setting => None,
+        Expected::Text(_) | Expected::Table | Expected::Rule | Expected::Setting => None,
     }
 }
 
@@ -247,6 +247,26 @@ fn rule_step(token: &Token, alloc: Global) -> Result<ValueStep, ParseFault>
     }
 }
 
+// Whether a name is that of a table's file.
+fn is_table_name(name: &str) -> bool
+    ensures { result ≡ is_table_name name.now }
+{
+    name.ends_with(".csv")
+}
+
+// Reads the name of a table's file.
+fn table_step(token: &Token, alloc: Global) -> Result<ValueStep, ParseFault>
+    ensures { MatchResult result
+        (λ step. table_step token.now ≡ Ok step)
+        (IsErrorOf (table_step token.now)) }
+{
+    if !is_table_name(token.text) {
+        return Err(fault_of(ParseKind::WrongValue, token).into());
+    }
+    let name = Text::from_str(alloc, token.text)?;
+    Ok(ValueStep::Whole(Value::Text(TextKeyword::LayerData, name)))
+}
+
 // Reads a token of a value.
 fn step_in(expected: Expected, token: &Token, alloc: Global) -> Result<ValueStep, ParseFault>
     ensures { MatchResult result
@@ -258,6 +278,7 @@ fn step_in(expected: Expected, token: &Token, alloc: Global) -> Result<ValueStep
             let text = Text::from_str(alloc, token.text)?;
             Ok(ValueStep::Whole(Value::Text(keyword, text)))
         }
+        Expected::Table => table_step(token, alloc),
         Expected::Rule => rule_step(token, alloc),
         Expected::Setting => setting_step(token, alloc),
         _ => match plain_step(expected, token) {

@@ -1,4 +1,4 @@
-use crate::memory::{Memory, TwoFiles, stream_of};
+use crate::memory::{Memory, SomeFiles, stream_of};
 use crate::texts::{columns, spelt};
 use mapmachine::Flagged;
 use sessions::{Outcome, ReadFault, check_file, run_files, serve_session};
@@ -17,11 +17,11 @@ fn performed(
 ) -> Outcome {
     let (form, name) = form.split_once(' ').unwrap_or((form, "m.map"));
     match form {
-        "session" => serve_session(alloc, &TwoFiles, input, output, errors),
-        "check" => check_file(alloc, &TwoFiles, name, input, false, output, errors),
-        "explain" => check_file(alloc, &TwoFiles, name, input, true, output, errors),
+        "session" => serve_session(alloc, &SomeFiles, input, output, errors),
+        "check" => check_file(alloc, &SomeFiles, name, input, false, output, errors),
+        "explain" => check_file(alloc, &SomeFiles, name, input, true, output, errors),
         _ => run_files(
-            alloc, &TwoFiles, name, input, "s.txt", script, output, errors,
+            alloc, &SomeFiles, name, input, "s.txt", script, output, errors,
         ),
     }
 }
@@ -124,7 +124,12 @@ session|<none.ppm>%%~QUERY ^~||1 MapfileFault||fault line 4 kind 7~
 session|<P.ppm>%%~QUERY ^~||1 MapfileFault||fault line 4 kind 7~
 explain maps/m.map|MAP SYMBOL NAME s~TYPE PIXMAP~IMAGE p.ppm~END END||0 Checked|ok 0 layers 0 features~|
 explain maps/m.map|MAP SYMBOL NAME s~TYPE PIXMAP~IMAGE bad.ppm~END END||1 MapfileFault||fault line 3 kind 10~maps/m.map:3: the file that IMAGE names is no pixmap in Netpbm's P6 format of at most 256 by 256 pixels~
-explain maps/m.map|MAP SYMBOL NAME s~TYPE PIXMAP~IMAGE none.ppm~END END||1 MapfileFault||fault line 3 kind 7~maps/m.map:3: the file that IMAGE names can't be read~";
+explain maps/m.map|MAP SYMBOL NAME s~TYPE PIXMAP~IMAGE none.ppm~END END||1 MapfileFault||fault line 3 kind 7~maps/m.map:3: the file that IMAGE names can't be read~
+# Mapfiles with the table of a file. Empty lines of a table are no rows.
+explain maps/m.map|MAP LAYER NAME a TYPE POINT~DATA p.csv~END END||0 Checked|ok 1 layers 1 features~|
+explain maps/m.map|MAP LAYER NAME a TYPE POINT~DATA bad.csv~END END||1 MapfileFault||fault line 2 kind 10~maps/m.map:2: the file that DATA names is no table of points: row 3: a coordinate that can't be read, or beyond 1,000 degrees~
+explain maps/m.map|MAP LAYER NAME a TYPE POINT~DATA none.csv~END END||1 MapfileFault||fault line 2 kind 7~maps/m.map:2: the file that DATA names can't be read~
+explain maps/m.map|MAP LAYER NAME a TYPE LINE~DATA p.csv~END END||1 MapfileFault||fault line 2 kind 3~maps/m.map:2: DATA needs a LAYER of TYPE POINT~";
 
 /// Sessions. The last has a fault in the mapfile and one in the script.
 pub const SESSIONS: &str = "\
@@ -151,7 +156,7 @@ fn is_ended(alloc: Global, line: &str) -> Result<bool, AllocError> {
 
 #[test]
 fn forms_end_as_they_should(rt: HostRuntime) -> Result<(), TableFault> {
-    check_all(rt.alloc(), FORMS, 45, is_ended)
+    check_all(rt.alloc(), FORMS, 49, is_ended)
 }
 
 #[test]

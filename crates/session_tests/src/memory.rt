@@ -69,18 +69,20 @@ impl Write for Memory<'_> {
     }
 }
 
-/// A folder of two files: a pixmap of two columns and one row, in the colours 10 20 30 and 255 0 255, and
-/// one that is no pixmap.
+/// A folder of four files: a pixmap of two columns and one row, in the colours 10 20 30 and 255 0 255, one that is
+/// no pixmap, a table of one point, and one whose second row has no latitude.
 #[derive(Drop)]
-pub struct TwoFiles;
+pub struct SomeFiles;
 
-impl Folder for TwoFiles {
+impl Folder for SomeFiles {
     ghost gives = { λ _ _ _. Unit {0} };
 
     fn read(&self, alloc: Global, name: &str) -> Result<Option<Items<u8>>, AllocError> {
         let bytes = match name {
             "p.ppm" => b"P6 2 1 255\n\x0a\x14\x1e\xff\x00\xff".as_slice(),
             "bad.ppm" => b"P5".as_slice(),
+            "p.csv" => b"x,y\n1,2\n".as_slice(),
+            "bad.csv" => b"x,y\n1,2\n\n3,z\n".as_slice(),
             _ => return Ok(None),
         };
         let mut copy = Vec::new(alloc);

@@ -4,18 +4,18 @@ ghost use Rattle.sessions.specs.Session.{IsTold, is_file_failed, is_output_faile
 ghost use Rattle.sessions.specs.Forms.{ChecksTo, told_in_words, has_told};
 
 use crate::files::{read_file, sum_up};
-use crate::folder::Folder;
+use crate::folder::{Folder, files_of};
 use crate::outcome::Outcome;
 use crate::session::{read_map_of, tell, tell_mapfile_fault};
 use itoa::Buffer;
 use mapfaults::{Finding, explain};
 use mapmachine::{Sink, Source};
+use mapparse::{FileCause, FileFault, Mapfile};
 use mapwords::{ParseFault, ParseKind};
-use std::alloc::Global;
+use std::alloc::{AllocError, Global};
 
-// The words on the fault of a mapfile, whose kind is known, where they are asked for. There are none where
-// memory is refused.
-fn words_on(alloc: Global, mapfile: &[u8], kind: ParseKind, explains: bool) -> Option<String>
+// The words on the fault of a mapfile, where they are asked for. There are none where memory is refused.
+fn words_on<F: Folder>(alloc: Global, folder: &F, mapfile: &[u8], explains: bool) -> Option<String>
     ensures { explains ≡ false → result ≡ None }
 {
     if !explains {
@@ -24,17 +24,30 @@ fn words_on(alloc: Global, mapfile: &[u8], kind: ParseKind, explains: bool) -> O
     match explain(alloc, mapfile) {
         Finding::Faulty(explained) => explained.words(alloc).ok(),
         // What is written in it is right, so the fault is of a file.
-        Finding::Sound => String::from_str(alloc, words_on_file(kind)).ok(),
+        Finding::Sound => words_on_files(alloc, folder, mapfile),
         Finding::NoMemory => None,
     }
 }
 
-// The words on a fault of a file.
-fn words_on_file(kind: ParseKind) -> &'static str {
-    match kind {
-        ParseKind::MissingFile => "the file that IMAGE names can't be read",
-        _ =>
-            "the file that IMAGE names is no pixmap in Netpbm's P6 format of at most 256 by 256 pixels",
+// The words on the fault of the first used of the files that have one. They are read once more.
+fn words_on_files<F: Folder>(alloc: Global, folder: &F, mapfile: &[u8]) -> Option<String> {
+    let mapfile = Mapfile::read(alloc, mapfile).ok()?;
+    let files = files_of(alloc, folder, &mapfile).ok()?;
+    let fault = mapfile.files_fault(alloc, &files).ok()??;
+    words_on_file(alloc, fault).ok()
+}
+
+// The words on the fault of a file.
+fn words_on_file(alloc: Global, fault: FileFault) -> Result<String, AllocError> {
+    let keyword = fault.keyword.spelling();
+    match fault.cause {
+        FileCause::Missing => format!(in alloc; "the file that {keyword} names can't be read"),
+        FileCause::NoPixmap(_) => format!(in alloc;
+            "the file that {keyword} names is no pixmap in Netpbm's P6 format of at most 256 by 256 pixels"
+        ),
+        FileCause::NoTable(fault) => format!(in alloc;
+            "the file that {keyword} names is no table of points: {fault}"
+        ),
     }
 }
 
@@ -102,7 +115,7 @@ pub fn check_file<F: Folder, I: Source, O: Sink, E: Sink>(
     match read_map_of(alloc, folder, &mapfile) {
         Ok(map) => sum_up(&map, output),
         Err(ParseFault::At { line, kind }) => {
-            let words = words_on(alloc, &mapfile, kind, explains);
+            let words = words_on(alloc, folder, &mapfile, explains);
             tell_in_words(errors, name, line, kind, words.as_ref().map(String::as_str));
             Outcome::MapfileFault
         }

@@ -1,5 +1,5 @@
 ghost use Rattle.std.specs.Prelude.{◌≡◌, ℕ, List, [], ◌∷◌, ◌++◌, IfOk, OnOk};
-ghost use Rattle.mapparse.specs.Symbols.{uses_of};
+ghost use Rattle.mapparse.specs.Uses.{uses_of};
 ghost use Rattle.sessions.specs.Folder.{FilesOf, IsFront, front_before, path_of};
 
 use mapdefs::{Items, Text};

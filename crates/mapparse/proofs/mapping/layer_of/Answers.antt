@@ -1,7 +1,7 @@
 use Rattle.std.proofs.Common.{arith}
 use Rattle.std.proofs.lemmas.List.{length-map}
 use Rattle.mapparse.proofs.Within.{feature_values}
-use Rattle.mapparse.proofs.mapping.LayerTreeBuild.build.Goals as goal
+use Rattle.mapparse.proofs.mapping.layer_of.Goals as goal
 
 pub new-requires : goal.new-requires
 new-requires c = record {

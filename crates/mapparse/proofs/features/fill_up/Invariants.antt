@@ -1,6 +1,6 @@
 use Rattle.std.proofs.Common.{◌≡◌, ◌-◌, length}
 use Rattle.mapparse.specs.Mapping.{padded}
-use Rattle.mapparse.proofs.mapping.fill_up.Given as goal
+use Rattle.mapparse.proofs.features.fill_up.Given as goal
 
 -- filled up, the values are what they will be
 abbrev pub invariant-loop-alloc : goal.invariant-loop-alloc

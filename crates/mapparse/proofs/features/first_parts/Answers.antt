@@ -1,6 +1,6 @@
 use Rattle.std.proofs.Common.{◌≡◌, ◌∙◌, take, map, sym, ap, subst, IfOk}
 use Rattle.std.proofs.lemmas.List.{take-map}
-use Rattle.mapparse.proofs.mapping.first_parts.Goals as goal
+use Rattle.mapparse.proofs.features.first_parts.Goals as goal
 
 pub returns : goal.returns
 returns c =

@@ -1,6 +1,6 @@
 use Rattle.std.proofs.Common.{sym, ◌∙◌, arith}
 use Rattle.mapparse.proofs.Padding.{padded-more, padded-full}
-use Rattle.mapparse.proofs.mapping.fill_up.Goals as goal
+use Rattle.mapparse.proofs.features.fill_up.Goals as goal
 
 pub loop-alloc-preserved : goal.loop-alloc-preserved
 loop-alloc-preserved c =

@@ -1,0 +1,63 @@
+-- The tables of layers (docs/MAPFILE.md, "Tables").
+use Rattle.std.specs.Prelude.{ℕ, ◌+◌, ◌-◌, ◌≤◌, List, [], ◌∷◌, length, codes, Option, None, Some, unwrap_or, Result, Ok}
+use Rattle.std.specs.List.{AllZip}
+use Rattle.csvpoints.specs.Source.{records_of}
+use Rattle.csvpoints.specs.Table.{table_of}
+use Rattle.csvpoints.specs.declared.fault.CsvFault.{CsvFault}
+use Rattle.csvpoints.specs.declared.table.TableFields.{TableFields}
+use Rattle.mapdefs.specs.declared.feature.FeatureFields.{FeatureFields}
+use Rattle.mapdefs.specs.declared.limits.TheConstants.{MAX_FEATURES}
+use Rattle.mapwords.specs.declared.fault.Fault.{Fault}
+use Rattle.mapwords.specs.Fault.{and_then}
+use Rattle.maptree.specs.declared.tree.LayerTree.{LayerTree}
+use Rattle.maptree.specs.declared.tree.Named.{Named}
+use Rattle.mapparse.specs.declared.files.FileBytes.{FileBytes}
+use Rattle.mapparse.specs.Files.{bytes_in, read_from}
+
+-- the column of longitudes in a layer's tables is x where no other is given
+abbrev pub column_x : LayerTree → List ℕ
+column_x layer = unwrap_or layer.csv_x (codes "x")
+
+-- the column of latitudes is y
+abbrev pub column_y : LayerTree → List ℕ
+column_y layer = unwrap_or layer.csv_y (codes "y")
+
+-- so many rows a layer has room for, behind the features that the mapfile gives it
+abbrev pub room_in : LayerTree → ℕ
+room_in layer = MAX_FEATURES - length layer.features
+
+-- the table that the bytes of a file are for a layer
+abbrev pub table_for : LayerTree → List ℕ → Result TableFields CsvFault
+table_for layer bytes = table_of (column_x layer) (column_y layer) (room_in layer) (records_of bytes)
+
+-- the table in a file
+abbrev pub table_in : List FileBytes → LayerTree → Named → Result TableFields Fault
+table_in files layer file = read_from (table_for layer) file.line (bytes_in file.text files)
+
+-- the table in a file, if one is named
+abbrev pub table_named : List FileBytes → LayerTree → Option Named → Result (Option TableFields) Fault
+table_named files layer None = Ok None
+table_named files layer (Some file) = and_then (table_in files layer file) (λ table. Ok (Some table))
+
+-- the table of a layer, if it has one
+abbrev pub table_given : List FileBytes → LayerTree → Result (Option TableFields) Fault
+table_given files layer = table_named files layer layer.table
+
+-- the tables of layers, or the fault of the first that has none
+abbrev pub tables_of : List FileBytes → List LayerTree → Result (List (Option TableFields)) Fault
+tables_of files [] = Ok []
+tables_of files (layer ∷ layers) =
+    and_then (table_given files layer) (λ table. and_then (tables_of files layers) (λ tables. Ok (table ∷ tables)))
+
+-- the rows of a table, if there is one
+abbrev pub rows_of : Option TableFields → List FeatureFields
+rows_of None = []
+rows_of (Some table) = table.features
+
+-- a layer has room for the rows of its table, if it has one
+abbrev pub HasRoom : LayerTree → Option TableFields → Type 0
+HasRoom layer table = length layer.features + length (rows_of table) ≤ MAX_FEATURES
+
+-- each layer has a table, or none, and room for it
+abbrev pub HaveRoom : List LayerTree → List (Option TableFields) → Type 0
+HaveRoom layers tables = AllZip HasRoom layers tables

@@ -1,0 +1,67 @@
+-- The files that a mapfile uses, and which of their faults is told (docs/MAPFILE.md, "Files").
+use Rattle.std.specs.Prelude.{ℕ, Bool, false, ◌&&◌, ◌||◌, if◌then◌else◌, List, [], ◌∷◌, ◌++◌, map, Option, None, Some}
+use Rattle.std.specs.List.{list_any}
+use Rattle.std.specs.Result.{is_err}
+use Rattle.mapdefs.specs.Name.{is_same_name}
+use Rattle.mapwords.specs.declared.fault.Fault.{Fault}
+use Rattle.mapwords.specs.declared.fault.ParseKind.TheVariants.{MissingFile, BadFile}
+use Rattle.maptree.specs.declared.tree.LayerTree.{LayerTree}
+use Rattle.maptree.specs.declared.tree.MapTree.{MapTree}
+use Rattle.maptree.specs.declared.tree.Named.{Named}
+use Rattle.maptree.specs.declared.tree.SymbolTree.{SymbolTree}
+use Rattle.maptree.specs.Symbol.{first_fault}
+use Rattle.symbols.specs.Format.{pixmap_of}
+use Rattle.mapparse.specs.declared.files.FileBytes.{FileBytes}
+use Rattle.mapparse.specs.Files.{bytes_in}
+use Rattle.mapparse.specs.Tables.{table_for}
+
+-- one of the files has this name
+abbrev pub is_among : List Named → List ℕ → Bool
+is_among files name = list_any (λ (file : Named). is_same_name file.text name) files
+
+-- one more use of a file: only the first of its name is kept
+abbrev pub with_use : List Named → Named → List Named
+with_use firsts file = if is_among firsts file.text then firsts else firsts ++ file ∷ []
+
+-- the first uses so far, with those of further files
+abbrev pub uses_after : List Named → List Named → List Named
+uses_after firsts [] = firsts
+uses_after firsts (file ∷ files) = uses_after (with_use firsts file) files
+
+-- the first use of each file, in their order
+abbrev pub first_uses : MapTree → List Named
+first_uses tree = uses_after [] tree.files
+
+-- the names of the files that a mapfile uses, each once, in the order of their first use
+abbrev pub uses_of : MapTree → List (List ℕ)
+uses_of tree = map (λ (file : Named). file.text) (first_uses tree)
+
+-- a symbol has the file of this name as its image, but its bytes are no pixmap
+abbrev pub lacks_pixmap : List ℕ → List ℕ → SymbolTree → Bool
+lacks_pixmap name bytes symbol = is_same_name symbol.image.text name && is_err (pixmap_of bytes)
+
+-- the file of this name is the one that may be named
+abbrev pub is_named : List ℕ → Option Named → Bool
+is_named name None = false
+is_named name (Some file) = is_same_name file.text name
+
+-- a layer has its table in the file of this name, but its bytes are no table for it
+abbrev pub lacks_table : List ℕ → List ℕ → LayerTree → Bool
+lacks_table name bytes layer = is_named name layer.table && is_err (table_for layer bytes)
+
+-- some use of the file of this name can't be made of its bytes
+abbrev pub is_bad : MapTree → List ℕ → List ℕ → Bool
+is_bad tree name bytes = list_any (lacks_pixmap name bytes) tree.symbols || list_any (lacks_table name bytes) tree.layers
+
+-- the fault of a file that is first used there, by its bytes
+abbrev pub fault_by : MapTree → Named → Option (List ℕ) → Option Fault
+fault_by tree first None = Some (record { line = first.line; kind = MissingFile })
+fault_by tree first (Some bytes) = if is_bad tree first.text bytes then Some (record { line = first.line; kind = BadFile }) else None
+
+-- the fault of a file, whichever of its uses has it, is at the line of its first use
+abbrev pub file_fault : List FileBytes → MapTree → Named → Option Fault
+file_fault files tree first = fault_by tree first (bytes_in first.text files)
+
+-- the fault that is told is that of the file which is used first
+abbrev pub files_fault : List FileBytes → MapTree → Option Fault
+files_fault files tree = first_fault (file_fault files tree) (first_uses tree)

@@ -1,0 +1,147 @@
+ghost use Rattle.std.specs.Prelude.{◌≡◌, ◌+◌, ◌≤◌, [], ◌++◌, map, take, length, unwrap_or, All, IfOk, OnOk};
+ghost use Rattle.std.specs.List.{slice_split};
+ghost use Rattle.csvpoints.specs.Table.{IsPointWith};
+ghost use Rattle.mapdefs.specs.LayerLimits.{HasValues};
+ghost use Rattle.mapdefs.specs.declared.limits.TheConstants.{MAX_FEATURES, MAX_ITEMS};
+ghost use Rattle.mapparse.specs.Mapping.{is_semicolon, padded, values_of, feature_of, named_items};
+ghost use Rattle.mapparse.specs.Tables.{rows_of};
+
+use crate::texts::semicolon_parts;
+use csvpoints::{Table, TableFields};
+use mapdefs::{Feature, FeatureFields, Items, MAX_FEATURES, MAX_ITEMS, Shared, SharedItems, Text};
+use maptree::{Capped, FeatureTree};
+use mapwords::texts_of;
+use std::alloc::{AllocError, Global};
+
+// The values of a feature's items, as many as the layer has items.
+fn values_of(items: Option<Text>, count: usize, alloc: Global) -> Result<Items<Text>, AllocError>
+    ensures { IfOk result (λ made. made ≡ values_of count items) }
+{
+    let mut values = match &items {
+        Some(text) => first_parts(text.as_str(), count, alloc)?,
+        None => Vec::new(alloc),
+    };
+    fill_up(&mut values, count, alloc)?;
+    Ok(Items::of(values))
+}
+
+// Adds empty values up to so many.
+fn fill_up(values: &mut Vec<Text>, count: usize, alloc: Global) -> Result<(), AllocError>
+    ensures { OnOk result (values.new.items ≡ padded count values.old.items) }
+{
+    while values.len() < count {
+        values.push(Text::from_str(alloc, "")?)?;
+    }
+    Ok(())
+}
+
+// The first texts between semicolons, so many at most.
+fn first_parts(text: &str, count: usize, alloc: Global) -> Result<Vec<Text>, AllocError>
+    ensures { IfOk result (λ made. made.items ≡ take count (slice_split is_semicolon text.now)) }
+{
+    let mut parts = semicolon_parts(text, alloc)?;
+    parts.truncate(count);
+    texts_of(&parts, alloc)
+}
+
+// The feature of a layer with so many items.
+fn feature_of(tree: FeatureTree, count: usize, alloc: Global) -> Result<Feature, AllocError>
+    ensures { IfOk result (λ made. made ≡ feature_of count tree) }
+{
+    let FeatureTree { parts, text, items } = tree;
+    Ok(Feature::new(FeatureFields {
+        parts: parts.into_items(),
+        text,
+        values: values_of(items, count, alloc)?,
+    }))
+}
+
+// The same, for copies of the map to share.
+fn shared_feature(
+    tree: FeatureTree,
+    count: usize,
+    alloc: Global,
+) -> Result<Shared<Feature>, AllocError>
+    ensures { IfOk result (λ made. made ≡ feature_of count tree) }
+{
+    Shared::new(alloc, feature_of(tree, count, alloc)?)
+}
+
+// The features that the mapfile gives a layer with so many items, in their order.
+fn features_of(
+    trees: Vec<FeatureTree>,
+    count: usize,
+    alloc: Global,
+) -> Result<Vec<Shared<Feature>>, AllocError>
+    ensures { IfOk result (λ made. made.items ≡ map (feature_of count) trees.items) }
+{
+    let mut features = Vec::with_capacity(alloc, trees.len())?;
+    for tree in trees {
+        features.push(shared_feature(tree, count, alloc)?)?;
+    }
+    Ok(features)
+}
+
+// Adds the rows of a table, for copies of the map to share.
+fn add_rows(
+    features: &mut Vec<Shared<Feature>>,
+    rows: Vec<Feature>,
+    alloc: Global,
+) -> Result<(), AllocError>
+    ensures { OnOk result (features.new.items ≡ features.old.items ++ rows.items) }
+{
+    for row in rows {
+        features.push(Shared::new(alloc, row)?)?;
+    }
+    Ok(())
+}
+
+// The names of the items that a layer is given.
+fn given_items(items: Option<Capped<Text, MAX_ITEMS>>, alloc: Global) -> Items<Text>
+    ensures value { result ≡ unwrap_or items [] }
+    ensures limit { length result ≤ MAX_ITEMS }
+{
+    match items {
+        Some(items) => Items::of(items.into_vec()),
+        None => Items::new(alloc),
+    }
+}
+
+// The items of a layer, and the rows of its table.
+fn items_and_rows(
+    items: Option<Capped<Text, MAX_ITEMS>>,
+    table: Option<Table>,
+    alloc: Global,
+) -> (Items<Text>, Vec<Feature>)
+    ensures items { result.0 ≡ named_items items table }
+    ensures limit { length result.0 ≤ MAX_ITEMS }
+    ensures rows { result.1.items ≡ rows_of table }
+    ensures values { All (HasValues (length result.0)) result.1.items }
+{
+    match table {
+        Some(table) => {
+            let TableFields { columns, features } = table.into_fields();
+            (columns, features.into_vec())
+        }
+        None => (given_items(items, alloc), Vec::new(alloc)),
+    }
+}
+
+/// The items of a layer, and its features with their values: those that the mapfile gives it, and behind them the
+/// rows of its table.
+pub fn with_items(
+    items: Option<Capped<Text, MAX_ITEMS>>,
+    trees: Capped<FeatureTree, MAX_FEATURES>,
+    table: Option<Table>,
+    alloc: Global,
+) -> Result<(Items<Text>, SharedItems<Shared<Feature>>), AllocError>
+    ensures items { IfOk result (λ made. made.0 ≡ named_items items table) }
+    ensures features { IfOk result (λ made. made.1 ≡ map (feature_of (length made.0)) trees ++ rows_of table) }
+    ensures item_count { IfOk result (λ made. length made.0 ≤ MAX_ITEMS) }
+    ensures values { IfOk result (λ made. All (HasValues (length made.0)) made.1) }
+{
+    let (items, rows) = items_and_rows(items, table, alloc);
+    let mut features = features_of(trees.into_vec(), items.len(), alloc)?;
+    add_rows(&mut features, rows, alloc)?;
+    Ok((items, SharedItems::new(alloc, Items::of(features))?))
+}

@@ -1,0 +1,95 @@
+ghost use Rattle.std.specs.Prelude.{◌≡◌, ◌+◌, ◌≤◌, length, unwrap_or, Ok, IfOk, IfErr};
+ghost use Rattle.csvpoints.specs.Fault.{IsFaultOf as IsCsvFaultOf};
+ghost use Rattle.mapdefs.specs.declared.limits.TheConstants.{MAX_FEATURES};
+ghost use Rattle.mapwords.specs.Fault.{IsFaultOf};
+ghost use Rattle.mapparse.specs.Tables.{table_for, table_in, table_given, tables_of, rows_of, HaveRoom};
+
+use crate::files::Files;
+use csvpoints::{CsvError, Table, read};
+use mapdefs::{Items, MAX_FEATURES, Text};
+use maptree::{LayerTree, Named, ParseFault, ParseKind};
+use std::alloc::Global;
+
+// A column's name, or what stands for it where it isn't given.
+fn column<'a>(given: &'a Option<Text>, default: &'a str) -> &'a str
+    ensures { result.now ≡ unwrap_or given.now default.now }
+{
+    match given {
+        Some(name) => name.as_str(),
+        None => default,
+    }
+}
+
+/// The table that the bytes of a file are for a layer.
+pub fn table_for(layer: &LayerTree, bytes: &[u8], alloc: Global) -> Result<Table, CsvError>
+    ensures table { IfOk result (λ table. table_for layer.now bytes.now ≡ Ok table) }
+    ensures fault { IfErr result (IsCsvFaultOf (table_for layer.now bytes.now)) }
+    ensures room { IfOk result (λ table. length layer.now.features + length table.features ≤ MAX_FEATURES) }
+{
+    let room = MAX_FEATURES - layer.features.as_slice().len();
+    read(
+        alloc,
+        bytes,
+        column(&layer.csv_x, "x"),
+        column(&layer.csv_y, "y"),
+        room as u32,
+    )
+}
+
+// The table in a file.
+fn table_in(
+    files: &Files,
+    layer: &LayerTree,
+    file: &Named,
+    alloc: Global,
+) -> Result<Table, ParseFault>
+    ensures table { IfOk result (λ table. table_in files.now layer.now file.now ≡ Ok table) }
+    ensures fault { IfErr result (IsFaultOf (table_in files.now layer.now file.now)) }
+    ensures room { IfOk result (λ table. length layer.now.features + length table.features ≤ MAX_FEATURES) }
+{
+    let line = file.line;
+    let Some(bytes) = files.bytes(file.text.as_str()) else {
+        return Err(ParseFault::At {
+            line,
+            kind: ParseKind::MissingFile,
+        });
+    };
+    match table_for(layer, bytes, alloc) {
+        Ok(table) => Ok(table),
+        Err(CsvError::NoMemory) => Err(ParseFault::NoMemory),
+        Err(CsvError::Fault(_)) => Err(ParseFault::At {
+            line,
+            kind: ParseKind::BadFile,
+        }),
+    }
+}
+
+// The table of a layer, if it has one.
+fn table_given(files: &Files, layer: &LayerTree, alloc: Global) -> Result<Option<Table>, ParseFault>
+    requires { length layer.now.features ≤ MAX_FEATURES }
+    ensures table { IfOk result (λ table. table_given files.now layer.now ≡ Ok table) }
+    ensures fault { IfErr result (IsFaultOf (table_given files.now layer.now)) }
+    ensures room { IfOk result (λ table. length layer.now.features + length (rows_of table) ≤ MAX_FEATURES) }
+{
+    match &layer.table {
+        Some(file) => Ok(Some(table_in(files, layer, file, alloc)?)),
+        None => Ok(None),
+    }
+}
+
+/// The tables of layers, each of which has one or none, and room for its rows.
+pub fn tables_of(
+    layers: &[LayerTree],
+    files: &Files,
+    alloc: Global,
+) -> Result<Items<Option<Table>>, ParseFault>
+    ensures tables { IfOk result (λ made. tables_of files.now layers.now ≡ Ok made) }
+    ensures fault { IfErr result (IsFaultOf (tables_of files.now layers.now)) }
+    ensures room { IfOk result (λ made. HaveRoom layers.now made) }
+{
+    let mut tables = Items::new(alloc);
+    for layer in layers {
+        tables.push(table_given(files, layer, alloc)?)?;
+    }
+    Ok(tables)
+}

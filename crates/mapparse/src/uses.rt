@@ -1,0 +1,178 @@
+ghost use Rattle.std.specs.Prelude.{◌≡◌, is_some, option_map, IfOk, IfSome, OnOk};
+ghost use Rattle.std.specs.List.{list_any};
+ghost use Rattle.mapwords.specs.declared.fault.ParseKind.TheVariants.{BadFile};
+ghost use Rattle.mapparse.specs.Fault.{kind_of, fault_in};
+ghost use Rattle.mapparse.specs.Uses.{is_among, with_use, first_uses, uses_of, is_named, lacks_pixmap, lacks_table, is_bad, file_fault, files_fault};
+
+use crate::fault::{FileCause, FileFault};
+use crate::files::Files;
+use crate::table::table_for;
+use csvpoints::CsvError;
+use mapdefs::{Duplicate, Items, Text};
+use maptree::{LayerTree, MapTree, Named, SymbolTree};
+use mapwords::Keyword;
+use std::alloc::{AllocError, Global};
+use symbols::{PixFault, read};
+
+// Whether one of the files has the name.
+fn is_among(files: &[Named], name: &str) -> bool
+    ensures { result ≡ is_among files.now name.now }
+{
+    files.iter().any(|file| file.text.as_str() == name)
+}
+
+// Adds a use of a file, unless its name is there already.
+fn add_use(firsts: &mut Vec<Named>, file: &Named, alloc: Global) -> Result<(), AllocError>
+    ensures { OnOk result (firsts.new.items ≡ with_use firsts.old.items file.now) }
+{
+    if is_among(firsts, file.text.as_str()) {
+        return Ok(());
+    }
+    firsts.push(file.duplicate(alloc)?)?;
+    Ok(())
+}
+
+// The first use of each file, in their order.
+fn first_uses(tree: &MapTree, alloc: Global) -> Result<Vec<Named>, AllocError>
+    ensures { IfOk result (λ firsts. firsts.items ≡ first_uses tree.now) }
+{
+    let mut firsts = Vec::new(alloc);
+    for file in tree.files.as_slice() {
+        add_use(&mut firsts, file, alloc)?;
+    }
+    Ok(firsts)
+}
+
+/// The names of the files that a mapfile uses, each once, in the order of their first use.
+pub fn uses_of(tree: &MapTree, alloc: Global) -> Result<Items<Text>, AllocError>
+    ensures { IfOk result (λ names. names ≡ uses_of tree.now) }
+{
+    let firsts = first_uses(tree, alloc)?;
+    let mut names = Vec::with_capacity(alloc, firsts.len())?;
+    for file in firsts {
+        let Named { text, .. } = file;
+        names.push(text)?;
+    }
+    Ok(Items::of(names))
+}
+
+// Why the bytes of the file of this name are no pixmap, where a symbol has it as its image.
+fn pixmap_lacking(
+    name: &str,
+    bytes: &[u8],
+    symbols: &[SymbolTree],
+    alloc: Global,
+) -> Result<Option<FileCause>, AllocError>
+    ensures found { IfOk result (λ found. is_some found ≡ list_any (lacks_pixmap name.now bytes.now) symbols.now) }
+    ensures kind { IfOk result (λ found. IfSome found (λ cause. kind_of cause ≡ BadFile)) }
+{
+    for symbol in symbols {
+        if symbol.image.text.as_str() == name {
+            match read(alloc, bytes) {
+                Ok(_) => {}
+                Err(PixFault::NoMemory) => return Err(AllocError),
+                Err(fault) => return Ok(Some(FileCause::NoPixmap(fault))),
+            }
+        }
+    }
+    Ok(None)
+}
+
+// Whether the file of this name is the one that may be named.
+fn is_named(name: &str, file: &Option<Named>) -> bool
+    ensures { result ≡ is_named name.now file.now }
+{
+    match file {
+        Some(file) => file.text.as_str() == name,
+        None => false,
+    }
+}
+
+// Why the bytes of the file of this name are no table, where a layer has its table in it.
+fn table_lacking(
+    name: &str,
+    bytes: &[u8],
+    layers: &[LayerTree],
+    alloc: Global,
+) -> Result<Option<FileCause>, AllocError>
+    ensures found { IfOk result (λ found. is_some found ≡ list_any (lacks_table name.now bytes.now) layers.now) }
+    ensures kind { IfOk result (λ found. IfSome found (λ cause. kind_of cause ≡ BadFile)) }
+{
+    for layer in layers {
+        if is_named(name, &layer.table) {
+            match table_for(layer, bytes, alloc) {
+                Ok(_) => {}
+                Err(CsvError::NoMemory) => return Err(AllocError),
+                Err(CsvError::Fault(fault)) => return Ok(Some(FileCause::NoTable(fault))),
+            }
+        }
+    }
+    Ok(None)
+}
+
+// Why some use of the file of this name can't be made of its bytes.
+fn cause_in(
+    tree: &MapTree,
+    name: &str,
+    bytes: &[u8],
+    alloc: Global,
+) -> Result<Option<FileCause>, AllocError>
+    ensures found { IfOk result (λ found. is_some found ≡ is_bad tree.now name.now bytes.now) }
+    ensures kind { IfOk result (λ found. IfSome found (λ cause. kind_of cause ≡ BadFile)) }
+{
+    match pixmap_lacking(name, bytes, tree.symbols.as_slice(), alloc)? {
+        Some(cause) => Ok(Some(cause)),
+        None => table_lacking(name, bytes, tree.layers.as_slice(), alloc),
+    }
+}
+
+// The keyword that names a file there.
+fn keyword_of(file: &Named, symbols: &[SymbolTree]) -> Keyword {
+    for symbol in symbols {
+        if symbol.image.line == file.line && symbol.image.text.as_str() == file.text.as_str() {
+            return Keyword::Image;
+        }
+    }
+    Keyword::Data
+}
+
+// The fault of a file that is first used there.
+fn file_fault(
+    tree: &MapTree,
+    first: &Named,
+    files: &Files,
+    alloc: Global,
+) -> Result<Option<FileFault>, AllocError>
+    ensures { IfOk result (λ found. option_map fault_in found ≡ file_fault files.now tree.now first.now) }
+{
+    let name = first.text.as_str();
+    let cause = match files.bytes(name) {
+        Some(bytes) => cause_in(tree, name, bytes, alloc)?,
+        None => Some(FileCause::Missing),
+    };
+    match cause {
+        Some(cause) => Ok(Some(FileFault {
+            line: first.line,
+            keyword: keyword_of(first, tree.symbols.as_slice()),
+            cause,
+        })),
+        None => Ok(None),
+    }
+}
+
+/// The fault of the first used of the files that have one.
+pub fn files_fault(
+    tree: &MapTree,
+    files: &Files,
+    alloc: Global,
+) -> Result<Option<FileFault>, AllocError>
+    ensures { IfOk result (λ found. option_map fault_in found ≡ files_fault files.now tree.now) }
+{
+    let firsts = first_uses(tree, alloc)?;
+    for first in &firsts {
+        if let Some(fault) = file_fault(tree, first, files, alloc)? {
+            return Ok(Some(fault));
+        }
+    }
+    Ok(None)
+}

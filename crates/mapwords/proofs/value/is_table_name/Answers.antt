@@ -1,0 +1,6 @@
+use Rattle.std.proofs.Common.{codes}
+use Rattle.std.proofs.lemmas.Str.Pattern.{ends_text}
+use Rattle.mapwords.proofs.value.is_table_name.Goals as goal
+
+pub returns : goal.returns
+returns c = ends_text c.ends_with.result (codes ".csv") c.args.name.now c.ends_with.ensures.cases
