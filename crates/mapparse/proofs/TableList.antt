@@ -1,13 +1,14 @@
 -- The tables of layers are read one after the other, and the layers made with them.
-use Rattle.std.proofs.Common.{◌≡◌, ℕ, zero, suc, ◌+◌, ◌<◌, ◌≤◌, List, [], ◌∷◌, ◌++◌, length, get_or, take, drop, drop-cons, add-one, refl, sym, ap, subst, arith}
-use Rattle.std.specs.Prelude.{Option, Result, Ok, Err, zip}
+use Rattle.std.proofs.Common.{◌≡◌, ℕ, suc, ◌+◌, ◌<◌, ◌≤◌, List, [], ◌∷◌, ◌++◌, length, get_or, take, drop, drop-cons, add-one, refl, ap, arith}
+use Rattle.std.specs.Prelude.{Option, None, Some, Result, Ok, Err, zip}
 use Rattle.std.proofs.lemmas.List.{append_assoc, take_more}
 use Rattle.csvpoints.specs.declared.table.TableFields.{TableFields}
 use Rattle.mapwords.specs.declared.fault.Fault.{Fault}
 use Rattle.maptree.specs.declared.tree.LayerTree.{LayerTree}
 use Rattle.mapwords.specs.Fault.{and_then}
 use Rattle.mapparse.specs.declared.files.FileBytes.{FileBytes}
-use Rattle.mapparse.specs.Tables.{table_given, tables_of, HasRoom, HaveRoom}
+use Rattle.mapdefs.specs.declared.limits.TheConstants.{MAX_FEATURES}
+use Rattle.mapparse.specs.Tables.{table_given, tables_of, rows_of, HasRoom, HaveRoom}
 
 -- one table more is read
 module _ (files : List FileBytes) (done : List (Option TableFields)) where
@@ -46,3 +47,8 @@ pub zip-at_most : (layers : List LayerTree) (tables : List (Option TableFields))
 zip-at_most [] tables = omega arith
 zip-at_most (layer ∷ layers) [] = omega arith
 zip-at_most (layer ∷ layers) (table ∷ tables) = let more = zip-at_most layers tables in omega (arith, more)
+
+-- a layer has room for the rows of its table behind the features that it is given
+pub room-fits : (layer : LayerTree) (table : Option TableFields) → length layer.features ≤ MAX_FEATURES → HasRoom layer table → length layer.features + length (rows_of table) ≤ MAX_FEATURES
+room-fits layer None few room = omega (arith, few)
+room-fits layer (Some t) few room = room

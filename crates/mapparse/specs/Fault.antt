@@ -1,5 +1,4 @@
 -- Faults of files (docs/MAPFILE.md, "Files" and "Faults").
-use Rattle.std.specs.Prelude.{◌≡◌, Result, Err}
 use Rattle.mapwords.specs.declared.fault.Fault.{Fault}
 use Rattle.mapwords.specs.declared.fault.ParseKind.{ParseKind}
 use Rattle.mapwords.specs.declared.fault.ParseKind.TheVariants.{MissingFile, BadFile}

@@ -1,5 +1,5 @@
 -- The tables of layers (docs/MAPFILE.md, "Tables").
-use Rattle.std.specs.Prelude.{ℕ, ◌+◌, ◌-◌, ◌≤◌, List, [], ◌∷◌, length, codes, Option, None, Some, unwrap_or, Result, Ok}
+use Rattle.std.specs.Prelude.{ℕ, ◌+◌, ◌-◌, ◌≤◌, List, [], ◌∷◌, length, codes, Option, None, Some, IfSome, unwrap_or, Result, Ok}
 use Rattle.std.specs.List.{AllZip}
 use Rattle.csvpoints.specs.Source.{records_of}
 use Rattle.csvpoints.specs.Table.{table_of}
@@ -56,7 +56,7 @@ rows_of (Some table) = table.features
 
 -- a layer has room for the rows of its table, if it has one
 abbrev pub HasRoom : LayerTree → Option TableFields → Type 0
-HasRoom layer table = length layer.features + length (rows_of table) ≤ MAX_FEATURES
+HasRoom layer table = IfSome table (λ t. length layer.features + length t.features ≤ MAX_FEATURES)
 
 -- each layer has a table, or none, and room for it
 abbrev pub HaveRoom : List LayerTree → List (Option TableFields) → Type 0

@@ -116,7 +116,7 @@ fn items_and_rows(
     ensures items { result.0 ≡ named_items items table }
     ensures limit { length result.0 ≤ MAX_ITEMS }
     ensures rows { result.1.items ≡ rows_of table }
-    ensures values { All (HasValues (length result.0)) result.1.items }
+    ensures values { All (HasValues (length result.0)) (rows_of table) }
 {
     match table {
         Some(table) => {
@@ -138,7 +138,8 @@ pub fn with_items(
     ensures items { IfOk result (λ made. made.0 ≡ named_items items table) }
     ensures features { IfOk result (λ made. made.1 ≡ map (feature_of (length made.0)) trees ++ rows_of table) }
     ensures item_count { IfOk result (λ made. length made.0 ≤ MAX_ITEMS) }
-    ensures values { IfOk result (λ made. All (HasValues (length made.0)) made.1) }
+    ensures given { IfOk result (λ _. length trees ≤ MAX_FEATURES) }
+    ensures rows { IfOk result (λ made. All (HasValues (length made.0)) (rows_of table)) }
 {
     let (items, rows) = items_and_rows(items, table, alloc);
     let mut features = features_of(trees.into_vec(), items.len(), alloc)?;

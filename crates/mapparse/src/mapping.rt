@@ -2,12 +2,12 @@ ghost use Rattle.std.specs.Prelude.{◌≡◌, ◌+◌, ◌≤◌, List, map, zi
 ghost use Rattle.mapdefs.specs.declared.symbol.Symbol.{Symbol as SymbolValue};
 ghost use Rattle.mapwords.specs.Fault.{IsFaultOf};
 ghost use Rattle.geom.specs.World.{IsExtent};
-ghost use Rattle.mapdefs.specs.declared.limits.TheConstants.{MAX_CLASSES, MAX_FEATURES, MAX_LINE_WIDTH, MAX_SQUARE, MAX_SYMBOLS, MAX_TOLERANCE};
+ghost use Rattle.mapdefs.specs.declared.limits.TheConstants.{MAX_CLASSES, MAX_LINE_WIDTH, MAX_SQUARE, MAX_SYMBOLS, MAX_TOLERANCE};
 ghost use Rattle.mapdefs.specs.ClassLimits.{IsRuleWithinLimits};
 ghost use Rattle.mapdefs.specs.declared.class.Rule.TheVariants.{Always};
 ghost use Rattle.mapparse.specs.Mapping.{label_of, class_of, layer_of, tolerance_of, whole_world, map_with, made_of, map_of};
 ghost use Rattle.mapparse.specs.Symbols.{symbols_of};
-ghost use Rattle.mapparse.specs.Tables.{tables_of, rows_of, HaveRoom};
+ghost use Rattle.mapparse.specs.Tables.{tables_of, HasRoom, HaveRoom};
 
 use crate::features::with_items;
 use crate::files::Files;
@@ -187,7 +187,7 @@ fn layer_of(
     symbols: &[Symbol],
     alloc: Global,
 ) -> Result<Layer, AllocError>
-    requires { length tree.features + length (rows_of table) ≤ MAX_FEATURES }
+    requires { HasRoom tree table }
     ensures { IfOk result (λ made. made ≡ layer_of symbols.now (tree, table)) }
 {
     let LayerTree {

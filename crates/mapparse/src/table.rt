@@ -2,7 +2,7 @@ ghost use Rattle.std.specs.Prelude.{◌≡◌, ◌+◌, ◌≤◌, length, unwra
 ghost use Rattle.csvpoints.specs.Fault.{IsFaultOf as IsCsvFaultOf};
 ghost use Rattle.mapdefs.specs.declared.limits.TheConstants.{MAX_FEATURES};
 ghost use Rattle.mapwords.specs.Fault.{IsFaultOf};
-ghost use Rattle.mapparse.specs.Tables.{table_for, table_in, table_given, tables_of, rows_of, HaveRoom};
+ghost use Rattle.mapparse.specs.Tables.{table_for, table_in, table_given, tables_of, HasRoom, HaveRoom};
 
 use crate::files::Files;
 use csvpoints::{CsvError, Table, read};
@@ -66,10 +66,9 @@ fn table_in(
 
 // The table of a layer, if it has one.
 fn table_given(files: &Files, layer: &LayerTree, alloc: Global) -> Result<Option<Table>, ParseFault>
-    requires { length layer.now.features ≤ MAX_FEATURES }
     ensures table { IfOk result (λ table. table_given files.now layer.now ≡ Ok table) }
     ensures fault { IfErr result (IsFaultOf (table_given files.now layer.now)) }
-    ensures room { IfOk result (λ table. length layer.now.features + length (rows_of table) ≤ MAX_FEATURES) }
+    ensures room { IfOk result (HasRoom layer.now) }
 {
     match &layer.table {
         Some(file) => Ok(Some(table_in(files, layer, file, alloc)?)),

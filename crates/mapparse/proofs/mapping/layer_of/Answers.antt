@@ -1,5 +1,8 @@
-use Rattle.std.proofs.Common.{arith}
+use Rattle.std.proofs.Common.{length, length-append, arith}
 use Rattle.std.proofs.lemmas.List.{length-map}
+use Rattle.std.proofs.lemmas.List.Elements.{All-append}
+use Rattle.mapdefs.specs.LayerLimits.{HasValues}
+use Rattle.mapparse.proofs.TableList.{room-fits}
 use Rattle.mapparse.proofs.Within.{feature_values}
 use Rattle.mapparse.proofs.mapping.layer_of.Goals as goal
 
@@ -7,7 +10,7 @@ pub new-requires : goal.new-requires
 new-requires c = record {
   item_count = c.in_ok-items.ensures.item_count;
   class_count = c.in_ok-classes.ensures.limit;
-  feature_count = c.in_ok-items.ensures.feature_count;
+  feature_count = rw (c.in_ok-items.ensures.features, length-append, length-map) (room-fits c.args.tree c.args.table c.in_ok-items.ensures.given c.requires);
   tolerance = omega (arith, c.count_or-tolerance.ensures.most);
-  values = rw c.in_ok-items.ensures.features (∣ feature_values _ _ ∣₁);
+  values = rw c.in_ok-items.ensures.features (∣ All-append (HasValues (length c.in_ok-items.items)) _ _ (feature_values _ _) c.in_ok-items.ensures.rows ∣₁);
 }

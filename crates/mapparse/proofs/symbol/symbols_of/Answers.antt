@@ -1,4 +1,4 @@
-use Rattle.std.proofs.Common.{◌+◌, [], ◌∷◌, length, length-append, ◌∙◌, arith}
+use Rattle.std.proofs.Common.{[], ◌∷◌, length-append, ◌∙◌, arith}
 use Rattle.mapparse.proofs.SymbolList.{one-more}
 use Rattle.mapparse.proofs.symbol.symbols_of.Goals as goal
 
