@@ -15,7 +15,8 @@ use viewport::View;
 
 /// The picture of the chosen layers in the view. `chosen` has their indices in the map. They are painted
 /// in that order, one that is chosen twice also twice, and whether they are switched on or not. Layers
-/// and classes that aren't visible at the scale are left out.
+/// and classes that aren't visible at the scale are left out. Where nothing is painted the picture has the
+/// background, which may be nothing.
 ///
 /// It takes memory for the picture, and for one feature at a time: for the edges of a polygon that cross a row,
 /// again for those as its rows are swept, for the vertices of a line or an outline and what it is made of, and
@@ -27,7 +28,7 @@ pub fn picture(
     view: View,
     scale: Scale,
     chosen: &[usize],
-    background: Rgb,
+    background: Option<Rgb>,
 ) -> Result<Picture, AllocError>
     requires { All (λ index. index < length map.now.layers) chosen.now }
     ensures { IfOk result (IsPictureOf map.now view scale chosen.now background) }

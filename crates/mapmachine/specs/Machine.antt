@@ -1,5 +1,5 @@
 -- The map machine: its state, what it answers to a query, and its runs (docs/PROFILE.md, "The machine").
-use Rattle.std.specs.Prelude.{◌≡◌, ℕ, ◌-ℤ◌, unsigned_abs, List, [], ◌∷◌, Result, Ok, Err}
+use Rattle.std.specs.Prelude.{◌≡◌, ℕ, ◌-ℤ◌, unsigned_abs, List, [], ◌∷◌, Some, Result, Ok, Err}
 use Rattle.geom.specs.Scale.{PictureScale}
 use Rattle.mapdefs.specs.declared.map.MapFields.{MapFields}
 use Rattle.mapdefs.specs.declared.picture.PictureFields.{PictureFields}
@@ -34,7 +34,7 @@ scale_of view = record { span = unsigned_abs (view.area.maxx -ℤ view.area.minx
 abbrev pub Answers : MapFields → Result MapRequest WmsFault → Answer → Type 0
 Answers map (Ok request) answer =
     (picture : PictureFields)
-    × IsPictureOf map (view_of request) (scale_of (view_of request)) request.chosen request.background picture
+    × IsPictureOf map (view_of request) (scale_of (view_of request)) request.chosen (Some request.background) picture
     × (answer ≡ record { mime = mime.Pixmap; body = ppm picture })
 Answers map (Err fault) answer = answer ≡ record { mime = mime.Xml; body = report fault }
 

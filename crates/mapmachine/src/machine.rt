@@ -77,7 +77,7 @@ impl Machine {
             view,
             scale,
             chosen,
-            request.background,
+            Some(request.background),
         )?;
         Ok(Answer {
             mime: Mime::Pixmap,
