@@ -15,6 +15,8 @@ pub enum Event<'a> {
 pub enum Mime {
     /// A picture as Netpbm's portable pixmap.
     Pixmap,
+    /// A picture as Netpbm's portable arbitrary map.
+    ArbitraryMap,
     /// An XML document.
     Xml,
 }
@@ -28,6 +30,7 @@ impl Mime {
     {
         match self {
             Mime::Pixmap => "image/x-portable-pixmap",
+            Mime::ArbitraryMap => "image/x-portable-arbitrarymap",
             Mime::Xml => "text/xml",
         }
     }
