@@ -125,7 +125,9 @@ def may_fail(run, right):
 
 def main():
     program, tried, wrong = os.path.abspath(sys.argv[1]), 0, 0
-    session = (DEMO / "harbours.map").read_bytes() + b"%%\n" + (DEMO / "harbours.script").read_bytes()
+    script = (DEMO / "harbours.script").read_bytes()
+    transparent = script.replace(b"x-portable-pixmap", b"x-portable-arbitrarymap&TRANSPARENT=TRUE")
+    session = (DEMO / "harbours.map").read_bytes() + b"%%\n" + script + transparent
     with tempfile.TemporaryDirectory() as folder:
         shim = os.path.join(folder, "shim.so")
         path = pathlib.Path(folder) / "shim.c"

@@ -1,5 +1,5 @@
 -- Filling the rows of a polygon.
-use Rattle.std.proofs.Common.{◌≡◌, ◌∙◌, ℕ, zero, suc, ◌+◌, ◌-◌, ◌*◌, ◌/◌, ◌%◌, ◌<◌, ◌≤◌, Bool, true, false, ◌||◌, All, if◌then◌else◌, cond, List, [], ◌∷◌, ◌++◌, length, take, drop, get_or, refl, sym, ap, arith, inl, inr, ⊎_elim}
+use Rattle.std.proofs.Common.{Option, ◌≡◌, ◌∙◌, ℕ, zero, suc, ◌+◌, ◌-◌, ◌*◌, ◌/◌, ◌%◌, ◌<◌, ◌≤◌, Bool, true, false, ◌||◌, All, if◌then◌else◌, cond, List, [], ◌∷◌, ◌++◌, length, take, drop, get_or, refl, sym, ap, arith, inl, inr, ⊎_elim}
 use Rattle.std.specs.List.{list_any}
 use Rattle.std.proofs.Math.Bool.{or-false}
 use Rattle.std.proofs.lemmas.Bool.{and_left, and_parts, and_right, cases_Bool, cases_lt, false≢true, le-ltb, leb-true, lt-leb, ltb-true}
@@ -19,16 +19,16 @@ use Rattle.scanfill.specs.declared.span.Span.{Span}
 use Rattle.compose.specs.Painted.{AreFilled, AreRowsFilled, HasRowsFilled, IsFilled, colour_of}
 
 -- what a list of pixels holds where a part of it was put back
-put-before : (a k : ℕ) (xs ys : List Rgb) (at : ℕ) → a ≤ length xs → at < a → colour_of (put_mid a k xs ys) at ≡ colour_of xs at
+put-before : (a k : ℕ) (xs ys : List (Option Rgb)) (at : ℕ) → a ≤ length xs → at < a → colour_of (put_mid a k xs ys) at ≡ colour_of xs at
 put-before a k xs ys at h lt = get_or_append_left (take a xs) (ys ++ post_of a k xs) _ at (omega (arith, length-take-le a xs h)) ∙ get_or-take a xs at _ lt
 
-put-within : (a k : ℕ) (xs ys : List Rgb) (j : ℕ) → a ≤ length xs → length ys ≡ k → j < k → colour_of (put_mid a k xs ys) (a + j) ≡ colour_of ys j
+put-within : (a k : ℕ) (xs ys : List (Option Rgb)) (j : ℕ) → a ≤ length xs → length ys ≡ k → j < k → colour_of (put_mid a k xs ys) (a + j) ≡ colour_of ys j
 put-within a k xs ys j h width lt =
     let back : a + j - a ≡ j = omega arith in
     get_or-append_right (take a xs) (ys ++ post_of a k xs) a (a + j) _ (length-take-le a xs h) (omega arith)
     ∙ (ap (λ n. colour_of (ys ++ post_of a k xs) n) back ∙ get_or_append_left ys (post_of a k xs) _ j (omega (arith, width)))
 
-put-after : (a k : ℕ) (xs ys : List Rgb) (j : ℕ) → a ≤ length xs → length ys ≡ k → colour_of (put_mid a k xs ys) (a + (k + j)) ≡ colour_of xs (a + (k + j))
+put-after : (a k : ℕ) (xs ys : List (Option Rgb)) (j : ℕ) → a ≤ length xs → length ys ≡ k → colour_of (put_mid a k xs ys) (a + (k + j)) ≡ colour_of xs (a + (k + j))
 put-after a k xs ys j h width =
     let back : a + (k + j) - a ≡ k + j = omega arith in
     let further : k + j - k ≡ j = omega arith in
@@ -38,7 +38,7 @@ put-after a k xs ys j h width =
     ∙ (ap (λ n. colour_of (post_of a k xs) n) further ∙ (get_or-drop k (drop a xs) j _ ∙ get_or-drop a xs (k + j) _))))
 
 -- and it holds as many
-pub put-length : (a k : ℕ) (xs ys : List Rgb) → a + k ≤ length xs → length ys ≡ k → length (put_mid a k xs ys) ≡ length xs
+pub put-length : (a k : ℕ) (xs ys : List (Option Rgb)) → a + k ≤ length xs → length ys ≡ k → length (put_mid a k xs ys) ≡ length xs
 put-length a k xs ys h width =
     omega (
       arith,
@@ -56,7 +56,7 @@ any-next test xs i x h e =
     rw (take_more xs i x h, ← e, list_any-append test (take i xs) (x ∷ []), or-false (test x)) refl
 
 -- rows after rows
-pub filled-more : (test : ℕ → ℕ → Bool) (colour : ℕ → ℕ → Rgb) (width from at past : ℕ) (a b c : List Rgb) → from ≤ at → at ≤ past → length b ≡ length a →
+pub filled-more : (test : ℕ → ℕ → Bool) (colour : ℕ → ℕ → Option Rgb) (width from at past : ℕ) (a b c : List (Option Rgb)) → from ≤ at → at ≤ past → length b ≡ length a →
     AreRowsFilled test colour width from at a b → AreRowsFilled test colour width at past b c → AreRowsFilled test colour width from past a c
 filled-more test colour width from at past a b c first last area p q = record {
   filled = λ k h low high. ⊎_elim
@@ -69,7 +69,7 @@ filled-more test colour width from at past a b c first last area p q = record {
 }
 
 -- one row is filled by its spans
-pub filled-row : (spans : List Span) (colour : ℕ → ℕ → Rgb) (width r a k : ℕ) (pixels row : List Rgb) → 0 < width → a ≡ r * width → k ≡ width →
+pub filled-row : (spans : List Span) (colour : ℕ → ℕ → Option Rgb) (width r a k : ℕ) (pixels row : List (Option Rgb)) → 0 < width → a ≡ r * width → k ≡ width →
     a + k ≤ length pixels → length row ≡ k → ((i : ℕ) → colour_of row i ≡ (if is_in_spans spans i then colour i r else colour_of (mid_of a k pixels) i)) →
     AreRowsFilled (λ i j. is_in_spans spans i) colour width r (r + 1) pixels (put_mid a k pixels row)
 filled-row spans colour width r a k pixels row some start is within wide filled = record {
@@ -114,7 +114,7 @@ some-columns at zero height h = absurd (omega arith)
 some-columns at (suc width) height h = omega arith
 
 -- the rows that the runs of a test fill are filled by the test
-pub filled-runs : (test : ℕ → ℕ → Bool) (colour : ℕ → ℕ → Rgb) (spans runs : List Span) (j : ℕ) (a b : PictureFields) → length a.pixels ≡ a.width * a.height →
+pub filled-runs : (test : ℕ → ℕ → Bool) (colour : ℕ → ℕ → Option Rgb) (spans runs : List Span) (j : ℕ) (a b : PictureFields) → length a.pixels ≡ a.width * a.height →
     spans ≡ runs → AreRunsFrom (λ i. test i j) 0 a.width runs → HasRowsFilled (λ i k. is_in_spans spans i) colour j (j + 1) a b → HasRowsFilled test colour j (j + 1) a b
 filled-runs test colour spans runs j a b area read all f = record {
   width = f.width;
@@ -138,7 +138,7 @@ pub spans-covered : (test : ℕ → Bool) (width : ℕ) (spans runs : List Span)
 spans-covered test width spans runs read all i h = spans-inside test 0 width i runs all (rw read at h)
 
 -- a part of as many pixels as a row has
-pub part-wide : (a width k : ℕ) (pixels row : List Rgb) → k ≡ width → a + k ≤ length pixels → length row ≡ length (mid_of a k pixels) → length row ≡ width
+pub part-wide : (a width k : ℕ) (pixels row : List (Option Rgb)) → k ≡ width → a + k ≤ length pixels → length row ≡ length (mid_of a k pixels) → length row ≡ width
 part-wide a width k pixels row is within same =
     omega (arith, is, same, length-take k (drop a pixels), length-drop a pixels)
 
@@ -150,7 +150,7 @@ rows-after : (rows : Rows) (j : ℕ) → rows.to ≤ j → has_row rows j ≡ fa
 rows-after rows j h = and_right (nat_le rows.from j) (nat_lt j rows.to) (le-ltb j rows.to h)
 
 -- all rows of a cover are filled, and it covers no pixel of the others
-pub filled-rows : (test : ℕ → ℕ → Bool) (colour : ℕ → ℕ → Rgb) (width height : ℕ) (rows : Rows) (past : ℕ) (a b : List Rgb) → length a ≡ width * height → rows.to ≤ past →
+pub filled-rows : (test : ℕ → ℕ → Bool) (colour : ℕ → ℕ → Option Rgb) (width height : ℕ) (rows : Rows) (past : ℕ) (a b : List (Option Rgb)) → length a ≡ width * height → rows.to ≤ past →
     ((i j : ℕ) → i < width → j < height → has_row rows j ≡ false → test i j ≡ false) →
     AreRowsFilled test colour width rows.from past a b → AreFilled test colour width a b
 filled-rows test colour width height rows past a b area last none filled = λ k h.
@@ -166,7 +166,7 @@ filled-rows test colour width height rows past a b area last none filled = λ k 
     (cases_lt (k / width) rows.from)
 
 -- no row is filled yet
-pub rows-start : (test : ℕ → ℕ → Bool) (colour : ℕ → ℕ → Rgb) (from : ℕ) (a : PictureFields) → HasRowsFilled test colour from from a a
+pub rows-start : (test : ℕ → ℕ → Bool) (colour : ℕ → ℕ → Option Rgb) (from : ℕ) (a : PictureFields) → HasRowsFilled test colour from from a a
 rows-start test colour from a = record {
   width = refl;
   height = refl;
@@ -175,7 +175,7 @@ rows-start test colour from a = record {
 }
 
 -- a picture's rows after rows
-pub rows-more : (test : ℕ → ℕ → Bool) (colour : ℕ → ℕ → Rgb) (from at past : ℕ) (a b c : PictureFields) → from ≤ at → at ≤ past →
+pub rows-more : (test : ℕ → ℕ → Bool) (colour : ℕ → ℕ → Option Rgb) (from at past : ℕ) (a b c : PictureFields) → from ≤ at → at ≤ past →
     HasRowsFilled test colour from at a b → HasRowsFilled test colour at past b c → HasRowsFilled test colour from past a c
 rows-more test colour from at past a b c first last p q = record {
   width = q.width ∙ p.width;
@@ -185,7 +185,7 @@ rows-more test colour from at past a b c first last p q = record {
 }
 
 -- where all rows of a cover are filled the picture is
-pub rows-all : (test : ℕ → ℕ → Bool) (colour : ℕ → ℕ → Rgb) (rows : Rows) (past : ℕ) (a b : PictureFields) → length a.pixels ≡ a.width * a.height → rows.to ≤ past →
+pub rows-all : (test : ℕ → ℕ → Bool) (colour : ℕ → ℕ → Option Rgb) (rows : Rows) (past : ℕ) (a b : PictureFields) → length a.pixels ≡ a.width * a.height → rows.to ≤ past →
     ((i j : ℕ) → i < a.width → j < a.height → has_row rows j ≡ false → test i j ≡ false) → HasRowsFilled test colour rows.from past a b → IsFilled test colour a b
 rows-all test colour rows past a b area last none f = record {
   width = f.width;
@@ -195,7 +195,7 @@ rows-all test colour rows past a b area last none f = record {
 }
 
 -- where two tests agree, what one fills the other does
-pub filled-same : (s t : ℕ → ℕ → Bool) (colour : ℕ → ℕ → Rgb) (a b : PictureFields) → ((i j : ℕ) → s i j ≡ t i j) → IsFilled s colour a b → IsFilled t colour a b
+pub filled-same : (s t : ℕ → ℕ → Bool) (colour : ℕ → ℕ → Option Rgb) (a b : PictureFields) → ((i j : ℕ) → s i j ≡ t i j) → IsFilled s colour a b → IsFilled t colour a b
 filled-same s t colour a b same f = record {
   width = f.width;
   height = f.height;
@@ -204,7 +204,7 @@ filled-same s t colour a b same f = record {
 }
 
 -- nothing is filled where nothing passes
-pub filled-nothing : (colour : ℕ → ℕ → Rgb) (a : PictureFields) → IsFilled (λ i j. false) colour a a
+pub filled-nothing : (colour : ℕ → ℕ → Option Rgb) (a : PictureFields) → IsFilled (λ i j. false) colour a a
 filled-nothing colour a = record {
   width = refl;
   height = refl;
@@ -220,7 +220,7 @@ cond-either false true x y = refl
 cond-either false false x y = refl
 
 -- what passes one test is filled, and then what passes another
-pub filled-either : (s t : ℕ → ℕ → Bool) (colour : ℕ → ℕ → Rgb) (a b d : PictureFields) → IsFilled s colour a b → IsFilled t colour b d →
+pub filled-either : (s t : ℕ → ℕ → Bool) (colour : ℕ → ℕ → Option Rgb) (a b d : PictureFields) → IsFilled s colour a b → IsFilled t colour b d →
     IsFilled (λ i j. s i j || t i j) colour a d
 filled-either s t colour a b d p q = record {
   width = q.width ∙ p.width;
@@ -233,7 +233,7 @@ filled-either s t colour a b d p q = record {
 }
 
 -- a loop that fills what its elements cover: one element more
-pub filled_next : {X : Type 0} (test : X → ℕ → ℕ → Bool) (xs : List X) (i : ℕ) (x : X) (colour : ℕ → ℕ → Rgb) (a b d : PictureFields) → i < length xs → x ≡ get_or xs i x →
+pub filled_next : {X : Type 0} (test : X → ℕ → ℕ → Bool) (xs : List X) (i : ℕ) (x : X) (colour : ℕ → ℕ → Option Rgb) (a b d : PictureFields) → i < length xs → x ≡ get_or xs i x →
     IsFilled (λ k j. list_any (λ y. test y k j) (take i xs)) colour a b → IsFilled (test x) colour b d →
     IsFilled (λ k j. list_any (λ y. test y k j) (take (i + 1) xs)) colour a d
 filled_next test xs i x colour a b d h e p q = filled-same

@@ -14,7 +14,7 @@ use Rattle.mapdefs.specs.declared.layer.LayerFields.{LayerFields}
 use Rattle.mapdefs.specs.declared.map.MapFields.{MapFields}
 use Rattle.mapdefs.specs.declared.picture.PictureFields.{PictureFields}
 use Rattle.viewport.specs.View.{ViewValue}
-use Rattle.compose.specs.Paint.{Thing, black, covers, colour_in, layer_things, chosen_things, paint_list}
+use Rattle.compose.specs.Paint.{Thing, covers, colour_in, layer_things, chosen_things, paint_list}
 use Rattle.compose.specs.Painted.{IsFilled, IsPainted, colour_of}
 use Rattle.compose.specs.Picture.{colour_at, IsPictureOf}
 
@@ -29,17 +29,17 @@ map_or-cond f true x d = refl
 map_or-cond f false x d = refl
 
 -- where nothing is painted the background is seen
-pub colour_at-none : (background : Rgb) (i j : ℕ) → colour_at background [] i j ≡ background
+pub colour_at-none : (background : Option Rgb) (i j : ℕ) → colour_at background [] i j ≡ background
 unfolding colour_at
 colour_at-none background i j = refl
 
 -- one thing is seen where it covers
-pub colour_at-one : (background : Rgb) (thing : Thing) (i j : ℕ) → colour_at background (thing ∷ []) i j ≡ cond (covers thing i j) (colour_in thing i j) background
+pub colour_at-one : (background : Option Rgb) (thing : Thing) (i j : ℕ) → colour_at background (thing ∷ []) i j ≡ cond (covers thing i j) (colour_in thing i j) background
 unfolding colour_at
 colour_at-one background thing i j = map_or-cond (λ (t : Thing). colour_in t i j) (covers thing i j) thing background
 
 -- what is painted later is painted over what was painted before
-pub colour_at-append : (background : Rgb) (xs ys : List Thing) (i j : ℕ) →
+pub colour_at-append : (background : Option Rgb) (xs ys : List Thing) (i j : ℕ) →
     colour_at background (xs ++ ys) i j ≡ colour_at (colour_at background xs i j) ys i j
 unfolding colour_at
 colour_at-append background xs ys i j =
@@ -75,7 +75,7 @@ pub painted_end : {X : Type 0} (f : X → List Thing) (xs : List X) (i : ℕ) (a
 painted_end f xs i a b e p = rw (take_all i xs (omega arith)) at p
 
 -- a canvas of the background that is painted over with the paint list is the picture
-painted-canvas : (m : MapFields) (view : ViewValue) (scale : PictureScale) (chosen : List ℕ) (background : Rgb) (b : PictureFields) →
+painted-canvas : (m : MapFields) (view : ViewValue) (scale : PictureScale) (chosen : List ℕ) (background : Option Rgb) (b : PictureFields) →
     IsPainted (record { width = view.width; height = view.height; pixels = replicate (view.width * view.height) background }) b (paint_list view scale m chosen) →
     IsPictureOf m view scale chosen background b
 painted-canvas m view scale chosen background b p = record {
@@ -84,21 +84,21 @@ painted-canvas m view scale chosen background b p = record {
   area = p.area ∙ length-replicate (view.width * view.height) background ∙ rw (p.width, p.height);
   pixels = λ i j left up.
       let inside : j * view.width + i < view.width * view.height = omega (arith, mul-add-lt j view.width i view.height up left) in
-      let first : j * view.width + i < length (replicate (view.width * view.height) background) = omega (arith, length-replicate {A = Rgb}) in
+      let first : j * view.width + i < length (replicate (view.width * view.height) background) = omega (arith, length-replicate {A = Option Rgb}) in
       let last : j * view.width + i < length b.pixels = omega (arith, p.area) in
-      let colour = rw (get_or-replicate (view.width * view.height) (j * view.width + i) background black inside, mod-mul-add j view.width i left, div-mul-add j view.width i left) at (p.pixels (j * view.width + i) first) in
-      slice_get-get_or b.pixels (j * view.width + i) black last ∙ ap Some colour;
+      let colour = rw (get_or-replicate (view.width * view.height) (j * view.width + i) background None inside, mod-mul-add j view.width i left, div-mul-add j view.width i left) at (p.pixels (j * view.width + i) first) in
+      slice_get-get_or b.pixels (j * view.width + i) None last ∙ ap Some colour;
 }
 
 -- the same of any canvas that is one of the background
-pub painted-picture : (m : MapFields) (view : ViewValue) (scale : PictureScale) (chosen : List ℕ) (background : Rgb) (a b : PictureFields) →
+pub painted-picture : (m : MapFields) (view : ViewValue) (scale : PictureScale) (chosen : List ℕ) (background : Option Rgb) (a b : PictureFields) →
     a ≡ record { width = view.width; height = view.height; pixels = replicate (view.width * view.height) background } →
     IsPainted a b (paint_list view scale m chosen) → IsPictureOf m view scale chosen background b
 painted-picture m view scale chosen background a b e p =
     painted-canvas m view scale chosen background b (subst (λ (x : PictureFields). IsPainted x b (paint_list view scale m chosen)) e p)
 
 -- pixels that have their colours where a thing covers them, and else are as they were, are painted over with the thing
-pub painted-thing : (thing : Thing) (test : ℕ → ℕ → Bool) (colour : ℕ → ℕ → Rgb) (a b : PictureFields) → ((i j : ℕ) → covers thing i j ≡ test i j) →
+pub painted-thing : (thing : Thing) (test : ℕ → ℕ → Bool) (colour : ℕ → ℕ → Option Rgb) (a b : PictureFields) → ((i j : ℕ) → covers thing i j ≡ test i j) →
     ((i j : ℕ) → colour_in thing i j ≡ colour i j) → IsFilled test colour a b → IsPainted a b (thing ∷ [])
 painted-thing thing test colour a b same shown f = record {
   width = f.width;
@@ -109,7 +109,7 @@ painted-thing thing test colour a b same shown f = record {
 }
 
 -- the same where the thing covers what the test says in the rows of the picture
-pub painted-rows : (thing : Thing) (test : ℕ → ℕ → Bool) (colour : ℕ → ℕ → Rgb) (a b : PictureFields) → length a.pixels ≡ a.width * a.height →
+pub painted-rows : (thing : Thing) (test : ℕ → ℕ → Bool) (colour : ℕ → ℕ → Option Rgb) (a b : PictureFields) → length a.pixels ≡ a.width * a.height →
     ((i j : ℕ) → j < a.height → covers thing i j ≡ test i j) →
     ((i j : ℕ) → colour_in thing i j ≡ colour i j) → IsFilled test colour a b → IsPainted a b (thing ∷ [])
 painted-rows thing test colour a b area same shown f = record {

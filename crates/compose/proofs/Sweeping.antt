@@ -1,5 +1,5 @@
 -- Filling the rows of a polygon by a sweep.
-use Rattle.std.proofs.Common.{◌≡◌, ◌∙◌, ℕ, ◌+◌, ◌*◌, ◌/◌, ◌%◌, ◌<◌, ◌≤◌, min, Bool, true, false, nat_lt, List, length, refl, sym, ap, arith}
+use Rattle.std.proofs.Common.{Option, Some, ◌≡◌, ◌∙◌, ℕ, ◌+◌, ◌*◌, ◌/◌, ◌%◌, ◌<◌, ◌≤◌, min, Bool, true, false, nat_lt, List, length, refl, sym, ap, arith}
 use Rattle.std.proofs.lemmas.Bool.{ltb-false, ltb-true}
 use Rattle.std.proofs.lemmas.Nat.{div_below, mod_below}
 use lib.IntN.{pos}
@@ -19,8 +19,8 @@ abbrev pub inside_of : List EdgeEnds → ℕ → ℕ → Bool
 inside_of polygon i j = is_covered polygon (pixel_centre (pos i) (pos j))
 
 -- one colour for all pixels
-abbrev pub one_colour : Rgb → ℕ → ℕ → Rgb
-one_colour colour i j = colour
+abbrev pub one_colour : Rgb → ℕ → ℕ → Option Rgb
+one_colour colour i j = Some colour
 
 -- the row that comes next lies in the picture
 pub row-inside : (old skipped : SweepValue) (height : ℕ) → old.height ≡ height → skipped ≡ record old { row = skipped.row } → true ≡ nat_lt skipped.row skipped.height → skipped.row < height

@@ -37,20 +37,12 @@ covers (Stroke stroke colour) i j = line.covers_pixel stroke (pos i) (pos j)
 covers (Mark square colour) i j = covers_square square (pos i) (pos j)
 covers (Stamped pixmap) i j = stamp.covers_pixel pixmap (pos i) (pos j)
 
--- what stands for the colour of no pixel, where nothing asks for it
-abbrev pub black : Rgb
-black = record { red = 0; green = 0; blue = 0 }
-
--- the colour that a pixmap gives to a pixel that it covers
-abbrev pub stamp_colour : StampValue → ℕ → ℕ → Rgb
-stamp_colour pixmap i j = option_map_or (λ (colour : Rgb). colour) (pixel_at pixmap (pos i) (pos j)) black
-
--- the colour of a pixel that it covers
-abbrev pub colour_in : Thing → ℕ → ℕ → Rgb
-colour_in (Fill rings colour) i j = colour
-colour_in (Stroke stroke colour) i j = colour
-colour_in (Mark square colour) i j = colour
-colour_in (Stamped pixmap) i j = stamp_colour pixmap i j
+-- the colour that it gives to a pixel: a pixmap has one for each pixel that it covers, the others for all
+abbrev pub colour_in : Thing → ℕ → ℕ → Option Rgb
+colour_in (Fill rings colour) i j = Some colour
+colour_in (Stroke stroke colour) i j = Some colour
+colour_in (Mark square colour) i j = Some colour
+colour_in (Stamped pixmap) i j = pixel_at pixmap (pos i) (pos j)
 
 -- the parts of a feature on the picture: the rings of a polygon, or lines
 abbrev pub parts_of : ViewValue → FeatureFields → List (List DevicePoint)

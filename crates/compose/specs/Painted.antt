@@ -1,13 +1,13 @@
 -- Painting over a picture (docs/PROFILE.md, "How features are painted").
-use Rattle.std.specs.Prelude.{◌≡◌, ℕ, Bool, ◌/◌, ◌%◌, ◌<◌, ◌≤◌, if◌then◌else◌, List, length, slice_index_or}
+use Rattle.std.specs.Prelude.{◌≡◌, ℕ, Bool, ◌/◌, ◌%◌, ◌<◌, ◌≤◌, if◌then◌else◌, List, length, Option, None, slice_index_or}
 use Rattle.mapdefs.specs.declared.colour.Rgb.{Rgb}
 use Rattle.mapdefs.specs.declared.picture.PictureFields.{PictureFields}
-use Rattle.compose.specs.Paint.{Thing, black}
+use Rattle.compose.specs.Paint.{Thing}
 use Rattle.compose.specs.Picture.{colour_at}
 
--- the colour of the pixel at an index, row by row
-abbrev pub colour_of : List Rgb → ℕ → Rgb
-colour_of pixels at = slice_index_or pixels at black
+-- what the pixel at an index has, row by row: a colour, or nothing
+abbrev pub colour_of : List (Option Rgb) → ℕ → Option Rgb
+colour_of pixels at = slice_index_or pixels at None
 
 -- the new picture is the old one with the things painted over it, in order
 pub record IsPainted (old new : PictureFields) (things : List Thing) : Type 0 where
@@ -18,25 +18,25 @@ pub record IsPainted (old new : PictureFields) (things : List Thing) : Type 0 wh
       colour_of new.pixels at ≡ colour_at (colour_of old.pixels at) things (at % old.width) (at / old.width)
 
 -- the new pixels have their colours where a test passes, and else are as the old ones; test and colours are of a column and a row
-abbrev pub AreFilled : (ℕ → ℕ → Bool) → (ℕ → ℕ → Rgb) → ℕ → List Rgb → List Rgb → Type 0
+abbrev pub AreFilled : (ℕ → ℕ → Bool) → (ℕ → ℕ → Option Rgb) → ℕ → List (Option Rgb) → List (Option Rgb) → Type 0
 AreFilled test colour width old new =
     (at : ℕ) → at < length old → colour_of new at ≡ (if test (at % width) (at / width) then colour (at % width) (at / width) else colour_of old at)
 
 -- the same of the rows from one to before another: those pixels are filled, and the others are as they were
-pub record AreRowsFilled (test : ℕ → ℕ → Bool) (colour : ℕ → ℕ → Rgb) (width from past : ℕ) (old new : List Rgb) : Type 0 where
+pub record AreRowsFilled (test : ℕ → ℕ → Bool) (colour : ℕ → ℕ → Option Rgb) (width from past : ℕ) (old new : List (Option Rgb)) : Type 0 where
   pub filled : (at : ℕ) → at < length old → from ≤ at / width → at / width < past →
       colour_of new at ≡ (if test (at % width) (at / width) then colour (at % width) (at / width) else colour_of old at)
   pub before : (at : ℕ) → at < length old → at / width < from → colour_of new at ≡ colour_of old at
   pub after : (at : ℕ) → at < length old → past ≤ at / width → colour_of new at ≡ colour_of old at
 
 -- the same of a picture's rows from one to before another, and of a whole picture
-pub record HasRowsFilled (test : ℕ → ℕ → Bool) (colour : ℕ → ℕ → Rgb) (from past : ℕ) (old new : PictureFields) : Type 0 where
+pub record HasRowsFilled (test : ℕ → ℕ → Bool) (colour : ℕ → ℕ → Option Rgb) (from past : ℕ) (old new : PictureFields) : Type 0 where
   pub width : new.width ≡ old.width
   pub height : new.height ≡ old.height
   pub area : length new.pixels ≡ length old.pixels
   pub rows : AreRowsFilled test colour old.width from past old.pixels new.pixels
 
-pub record IsFilled (test : ℕ → ℕ → Bool) (colour : ℕ → ℕ → Rgb) (old new : PictureFields) : Type 0 where
+pub record IsFilled (test : ℕ → ℕ → Bool) (colour : ℕ → ℕ → Option Rgb) (old new : PictureFields) : Type 0 where
   pub width : new.width ≡ old.width
   pub height : new.height ≡ old.height
   pub area : length new.pixels ≡ length old.pixels

@@ -1,5 +1,5 @@
 -- The picture of a map (docs/PROFILE.md, "How features are painted").
-use Rattle.std.specs.Prelude.{◌≡◌, ℕ, ◌+◌, ◌*◌, ◌<◌, List, length, reverse, find, Some, slice_get}
+use Rattle.std.specs.Prelude.{◌≡◌, ℕ, ◌+◌, ◌*◌, ◌<◌, List, length, reverse, find, Option, Some, slice_get}
 use Rattle.std.specs.Option.{option_map_or}
 use Rattle.geom.specs.Scale.{PictureScale}
 use Rattle.mapdefs.specs.declared.colour.Rgb.{Rgb}
@@ -8,13 +8,13 @@ use Rattle.mapdefs.specs.declared.picture.PictureFields.{PictureFields}
 use Rattle.viewport.specs.View.{ViewValue}
 use Rattle.compose.specs.Paint.{Thing, covers, colour_in, paint_list}
 
--- the colour of a pixel: that of the last thing that covers it, else the background
-unfoldable pub colour_at : Rgb → List Thing → ℕ → ℕ → Rgb
+-- the colour of a pixel: that of the last thing that covers it, else the background, which may be nothing
+unfoldable pub colour_at : Option Rgb → List Thing → ℕ → ℕ → Option Rgb
 colour_at background things i j =
     option_map_or (λ thing. colour_in thing i j) (find (λ thing. covers thing i j) (reverse things)) background
 
 -- the picture has the view's sides, as many pixels as these say, and each pixel has its colour
-pub record IsPictureOf (m : MapFields) (view : ViewValue) (scale : PictureScale) (chosen : List ℕ) (background : Rgb) (picture : PictureFields) : Type 0 where
+pub record IsPictureOf (m : MapFields) (view : ViewValue) (scale : PictureScale) (chosen : List ℕ) (background : Option Rgb) (picture : PictureFields) : Type 0 where
   pub width : picture.width ≡ view.width
   pub height : picture.height ≡ view.height
   pub area : length picture.pixels ≡ picture.width * picture.height

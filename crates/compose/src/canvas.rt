@@ -5,7 +5,7 @@ ghost use Rattle.compose.specs.Painted.{HasRowsFilled};
 use crate::colouring::{Colouring, fill_spans};
 use crate::latitudes::RowLatitudes;
 use geom::PictureSide;
-use mapdefs::{Items, Picture, PictureFields, Rgb};
+use mapdefs::{Items, Picture, PictureFields, PixelColour, Rgb};
 use scanfill::Span;
 use scene::Scene;
 use std::alloc::{AllocError, Global};
@@ -16,7 +16,7 @@ use std::marker::Model;
 pub struct Canvas {
     width: PictureSide,
     height: PictureSide,
-    pixels: Vec<Rgb>,
+    pixels: Vec<PixelColour>,
     latitudes: RowLatitudes,
 }
 
@@ -32,9 +32,13 @@ impl Model for Canvas {
 }
 
 impl Canvas {
-    /// A canvas of the background colour, as wide and as high as the scene's picture. What is painted on it
-    /// takes its memory from the same allocator.
-    pub fn new(alloc: Global, scene: &Scene<'_>, background: Rgb) -> Result<Self, AllocError>
+    /// A canvas of the background, which may be nothing, as wide and as high as the scene's picture. What is
+    /// painted on it takes its memory from the same allocator.
+    pub fn new(
+        alloc: Global,
+        scene: &Scene<'_>,
+        background: Option<Rgb>,
+    ) -> Result<Self, AllocError>
         ensures { let view = scene.now.view in
             IfOk result (λ canvas. canvas ≡ record { width = view.width; height = view.height; pixels = replicate (view.width * view.height) background }) }
     {
@@ -42,7 +46,7 @@ impl Canvas {
         let (width, height) = (projection.width(), projection.height());
         let count = usize::from(width.pixels()) * usize::from(height.pixels());
         let latitudes = RowLatitudes::new(alloc, projection)?;
-        let pixels = vec![in alloc; background; count]?;
+        let pixels = vec![in alloc; PixelColour::new(background); count]?;
         Ok(Canvas {
             width,
             height,

@@ -1,10 +1,9 @@
-ghost use Rattle.std.specs.Prelude.{◌≡◌, ℕ, ◌≤◌, ◌<◌, Bool, true, if◌then◌else◌, length, All, pos};
+ghost use Rattle.std.specs.Prelude.{◌≡◌, ℕ, ◌≤◌, ◌<◌, Bool, true, if◌then◌else◌, length, All, pos, Option, Some};
 ghost use Rattle.mapdefs.specs.declared.colour.Rgb.{Rgb as RgbValue};
 ghost use Rattle.scanfill.specs.Runs.{has_column, is_in_spans};
-ghost use Rattle.compose.specs.Paint.{stamp_colour};
 ghost use Rattle.compose.specs.Painted.{colour_of};
 
-use mapdefs::Rgb;
+use mapdefs::{PixelColour, Rgb};
 use scanfill::Span;
 use symbols::Stamp;
 
@@ -13,10 +12,10 @@ pub trait Colouring {
     // Whether it has a colour for the pixel in a column and a row, and that colour.
     ghost has: { Self → ℕ → ℕ → Bool };
 
-    ghost colour: { Self → ℕ → ℕ → RgbValue };
+    ghost colour: { Self → ℕ → ℕ → Option RgbValue };
 
     /// Gives their colours to the pixels of a span. `row` has the pixels of the row `j`.
-    fn fill(&self, row: &mut [Rgb], j: u16, span: Span)
+    fn fill(&self, row: &mut [PixelColour], j: u16, span: Span)
         requires some { span.from ≤ span.to }
         requires within { span.to ≤ length row.old }
         requires has { (i : ℕ) → has_column span i ≡ true → has self.now i j ≡ true }
@@ -26,29 +25,29 @@ pub trait Colouring {
 impl Colouring for Rgb {
     ghost has = { λ c i j. true };
 
-    ghost colour = { λ c i j. c };
+    ghost colour = { λ c i j. Some c };
 
-    fn fill(&self, row: &mut [Rgb], _j: u16, span: Span) {
-        row[usize::from(span.from)..usize::from(span.to)].fill(*self);
+    fn fill(&self, row: &mut [PixelColour], _j: u16, span: Span) {
+        row[usize::from(span.from)..usize::from(span.to)].fill(PixelColour::new(Some(*self)));
     }
 }
 
 impl Colouring for Stamp<'_> {
-    ghost use Rattle.symbols.specs.Stamp.{covers_pixel};
+    ghost use Rattle.symbols.specs.Stamp.{covers_pixel, pixel_at};
 
     ghost has = { λ s i j. covers_pixel s (pos i) (pos j) };
 
-    ghost colour = { λ s i j. stamp_colour s i j };
+    ghost colour = { λ s i j. pixel_at s (pos i) (pos j) };
 
-    fn fill(&self, row: &mut [Rgb], j: u16, span: Span) {
+    fn fill(&self, row: &mut [PixelColour], j: u16, span: Span) {
         for i in span.from..span.to {
-            row[usize::from(i)] = self.colour(i, j);
+            row[usize::from(i)] = PixelColour::new(Some(self.colour(i, j)));
         }
     }
 }
 
 /// Gives their colours to the pixels of a row that lie in the spans.
-pub fn fill_spans<K: Colouring>(row: &mut [Rgb], j: u16, spans: &[Span], colouring: &K)
+pub fn fill_spans<K: Colouring>(row: &mut [PixelColour], j: u16, spans: &[Span], colouring: &K)
     requires within { All (λ span. (span.from ≤ span.to) × (span.to ≤ length row.old)) spans.now }
     requires has { (i : ℕ) → is_in_spans spans.now i ≡ true → K.has colouring.now i j ≡ true }
     ensures { (i : ℕ) → colour_of row.new i ≡ (if is_in_spans spans.now i then K.colour colouring.now i j else colour_of row.old i) }

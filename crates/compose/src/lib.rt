@@ -1,7 +1,8 @@
 //! From a map to its picture: what is painted, and in which order.
 //!
 //! Proved: `picture` gives the picture of the chosen layers in a view. Each pixel has the colour of
-//! the last thing of the paint list that covers it, else the background (`IsPictureOf`).
+//! the last thing of the paint list that covers it, else the background, which may be nothing
+//! (`IsPictureOf`).
 //!
 //! Words: a *thing* is what is painted at once: the rings of a polygon, a line or a square in one colour,
 //! or a pixmap. The *paint list* has the things of the chosen layers in order: a layer's features, a

@@ -1,4 +1,4 @@
-ghost use Rattle.std.specs.Prelude.{◌≡◌, false, [], ◌∷◌, map, OnOk, vec_items};
+ghost use Rattle.std.specs.Prelude.{◌≡◌, false, [], ◌∷◌, map, OnOk, Some, vec_items};
 ghost use Rattle.std.specs.List.{flat_map, list_any};
 ghost use Rattle.viewport.specs.View.{device_point};
 ghost use Rattle.compose.specs.Paint.{Stroke, line_things};
@@ -56,7 +56,7 @@ pub fn paint_line(canvas: &mut Canvas, line: &Line, colour: Rgb) -> Result<(), A
 
 // Gives the colour to the pixels that some cover covers.
 fn paint_covers<C: Cover>(canvas: &mut Canvas, covers: &[C], colour: Rgb) -> Result<(), AllocError>
-    ensures { OnOk result (IsFilled (λ i j. list_any (λ c. C.covered c i j) covers.now) (λ i j. colour) canvas.old canvas.new) }
+    ensures { OnOk result (IsFilled (λ i j. list_any (λ c. C.covered c i j) covers.now) (λ i j. Some colour) canvas.old canvas.new) }
 {
     for cover in covers {
         paint_cover(canvas, cover, &colour)?;

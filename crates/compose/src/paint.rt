@@ -18,7 +18,8 @@ use viewport::View;
 
 /// The picture of the chosen layers in the view. `chosen` has their indices in the map. They are painted
 /// in that order, one that is chosen twice also twice, and whether they are switched on or not. Layers
-/// and classes that aren't visible at the scale are left out.
+/// and classes that aren't visible at the scale are left out. Where nothing is painted the picture has the
+/// background, which may be nothing.
 ///
 /// The features that may be seen are those that `near` finds in the view and so many pixels round it as the
 /// layer's styles paint from a point at most. The picture is the same whatever else it finds.
@@ -33,7 +34,7 @@ pub fn picture<N: Near>(
     view: View,
     scale: Scale,
     chosen: &[usize],
-    background: Rgb,
+    background: Option<Rgb>,
 ) -> Result<Picture, AllocError>
     requires near { N.map_of near.now ≡ map.now }
     requires layers { All (λ index. index < length map.now.layers) chosen.now }

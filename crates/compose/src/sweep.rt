@@ -1,4 +1,4 @@
-ghost use Rattle.std.specs.Prelude.{◌≡◌, ◌≤◌, ◌<◌, ◌*◌, true, false, pos, length, IfOk, OnOk};
+ghost use Rattle.std.specs.Prelude.{◌≡◌, ◌≤◌, ◌<◌, ◌*◌, true, false, pos, length, Some, IfOk, OnOk};
 ghost use Rattle.geom.specs.Device.{pixel_centre};
 ghost use Rattle.geom.specs.EvenOdd.{is_covered};
 ghost use Rattle.compose.specs.Painted.{HasRowsFilled, IsFilled};
@@ -11,7 +11,7 @@ use std::alloc::AllocError;
 /// Gives the colour to each pixel that the polygon covers. It takes memory for the edges that cross the
 /// picture, and for a row. Where that is refused some rows may be filled already.
 pub fn fill_polygon(canvas: &mut Canvas, polygon: &Polygon, colour: Rgb) -> Result<(), AllocError>
-    ensures filled { OnOk result (IsFilled (λ i j. is_covered polygon.now (pixel_centre (pos i) (pos j))) (λ i j. colour) canvas.old canvas.new) }
+    ensures filled { OnOk result (IsFilled (λ i j. is_covered polygon.now (pixel_centre (pos i) (pos j))) (λ i j. Some colour) canvas.old canvas.new) }
     ensures area { length canvas.old.pixels ≡ canvas.old.width * canvas.old.height }
 {
     let mut sweep = polygon.sweep(canvas.width(), canvas.height(), &mut Work::new())?;
@@ -34,7 +34,7 @@ fn fill_next(
     ensures rows { OnOk result ((sweep.old.row ≤ sweep.new.row) × (sweep.new.row ≤ sweep.old.height)) }
     ensures more { IfOk result (λ more. more ≡ true → sweep.old.row < sweep.new.row) }
     ensures last { IfOk result (λ more. more ≡ false → sweep.new.row ≡ sweep.old.height) }
-    ensures filled { OnOk result (HasRowsFilled (λ i j. is_covered sweep.old.edges (pixel_centre (pos i) (pos j))) (λ i j. colour) sweep.old.row sweep.new.row canvas.old canvas.new) }
+    ensures filled { OnOk result (HasRowsFilled (λ i j. is_covered sweep.old.edges (pixel_centre (pos i) (pos j))) (λ i j. Some colour) sweep.old.row sweep.new.row canvas.old canvas.new) }
 {
     sweep.skip();
     let row = sweep.row();

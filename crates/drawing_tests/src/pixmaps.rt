@@ -1,10 +1,10 @@
 use crate::shapes::{drawn, pixel, side, sides, three};
 use geom::{PictureSide, Pixel};
-use mapdefs::{Items, Picture, PictureFields, Pixmap, Rgb};
+use mapdefs::{Items, Picture, PictureFields, PixelColour, Pixmap, Rgb};
 use scanfill::Cover;
 use std::alloc::{AllocError, Global};
 use std::test::Fail;
-use symbols::{PixFault, Stamp, read, write_ppm};
+use symbols::{PixFault, Stamp, read, write_pam, write_ppm};
 use test_tables::{TableFault, check_rows, numbers};
 
 // A pixmap as its sides and its last colour.
@@ -220,21 +220,21 @@ fn stamps_have_the_colours_of_their_pixmap(rt: HostRuntime) -> Result<(), TableF
 
 // Adds the pixels of a picture of that many pixels on each side, all of different colours as far as there are
 // so many.
-fn fill(colours: &mut Items<Rgb>, side: PictureSide) -> Result<(), AllocError> {
+fn fill(colours: &mut Items<PixelColour>, side: PictureSide) -> Result<(), AllocError> {
     for j in 0..side.pixels() {
         for i in 0..side.pixels() {
-            colours.push(Rgb {
+            colours.push(PixelColour::new(Some(Rgb {
                 red: (i % 256) as u8,
                 green: (j % 256) as u8,
                 blue: 20,
-            })?;
+            })))?;
         }
     }
     Ok(())
 }
 
 // The picture of these pixels, if they are as many as its sides say.
-fn picture(width: PictureSide, height: PictureSide, pixels: Items<Rgb>) -> Option<Picture> {
+fn picture(width: PictureSide, height: PictureSide, pixels: Items<PixelColour>) -> Option<Picture> {
     if pixels.len() != usize::from(width.pixels()) * usize::from(height.pixels()) {
         return None;
     }
@@ -271,25 +271,36 @@ fn written_pictures_are_read(rt: HostRuntime) -> Result<(), TableFault> {
     check_rows(rt.alloc(), WRITTEN, '=', 3, told_again)
 }
 
-// A picture of two pixels, written.
-fn two_written(alloc: Global) -> Result<Items<u8>, AllocError> {
+// A picture of two colours and nothing between them.
+fn three_pixels(alloc: Global) -> Result<Option<Picture>, AllocError> {
     let [first, second] = [2, 5].map(|blue| Rgb {
         red: 10,
         green: 20,
         blue,
     });
-    let pixels = Items::of(vec![in alloc; first, second]?);
-    match picture(side(2), side(1), pixels) {
-        Some(picture) => write_ppm(alloc, &picture),
-        None => Ok(Items::new(alloc)),
-    }
+    let pixels = [Some(first), None, Some(second)].map(PixelColour::new);
+    let pixels = Items::of(Vec::from_array(alloc, pixels)?);
+    Ok(picture(side(3), side(1), pixels))
 }
 
 #[test]
 fn pictures_are_written_as_pixmaps(rt: HostRuntime) -> Result<(), Fail> {
+    let picture = three_pixels(rt.alloc())?.unwrap();
     assert_eq!(rt;
-        two_written(rt.alloc())?.as_slice(),
-        b"P6\n2 1\n255\n\x0a\x14\x02\x0a\x14\x05".as_slice()
+        write_ppm(rt.alloc(), &picture)?.as_slice(),
+        b"P6\n3 1\n255\n\x0a\x14\x02\0\0\0\x0a\x14\x05".as_slice()
+    );
+    Ok(())
+}
+
+#[test]
+fn pictures_are_written_as_arbitrary_maps(rt: HostRuntime) -> Result<(), Fail> {
+    let picture = three_pixels(rt.alloc())?.unwrap();
+    assert_eq!(rt;
+        write_pam(rt.alloc(), &picture)?.as_slice(),
+        b"P7\nWIDTH 3\nHEIGHT 1\nDEPTH 4\nMAXVAL 255\nTUPLTYPE RGB_ALPHA\nENDHDR\n\
+        \x0a\x14\x02\xff\0\0\0\0\x0a\x14\x05\xff"
+            .as_slice()
     );
     Ok(())
 }

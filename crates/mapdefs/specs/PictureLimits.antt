@@ -4,7 +4,7 @@ use Rattle.mapdefs.specs.declared.picture.PictureFields.{PictureFields}
 use Rattle.mapdefs.specs.declared.symbol.PixmapFields.{PixmapFields}
 use Rattle.mapdefs.specs.declared.limits.TheConstants.{MAX_SYMBOL_SIDE}
 
--- each pixel of the picture has a colour
+-- the picture has as many pixels as its sides say
 pub record IsPictureWithinLimits (p : PictureFields) : Type 0 where
   pub area : length p.pixels ≡ p.width * p.height
 

@@ -28,6 +28,7 @@ mod limits;
 mod map;
 mod near;
 mod picture;
+mod pixel_colour;
 mod shared;
 mod shared_items;
 mod style;
@@ -54,6 +55,7 @@ pub use limits::{
 pub use map::{Map, MapFields};
 pub use near::Near;
 pub use picture::{Picture, PictureFields};
+pub use pixel_colour::PixelColour;
 pub use shared::Shared;
 pub use shared_items::SharedItems;
 pub use style::{Style, StyleFields};

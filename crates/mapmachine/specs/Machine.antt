@@ -7,9 +7,11 @@ use Rattle.viewport.specs.View.{ViewValue}
 use Rattle.wmsquery.specs.Meaning.{IsMeaning}
 use Rattle.wmsquery.specs.Report.{report}
 use Rattle.wmsquery.specs.declared.fault.WmsFault.{WmsFault}
+use Rattle.wmsquery.specs.declared.request.Format.{Format}
+use Rattle.wmsquery.specs.declared.request.Format.TheVariants as format
 use Rattle.wmsquery.specs.declared.request.MapRequest.{MapRequest}
 use Rattle.batches.specs.Batch.{State, batched}
-use Rattle.symbols.specs.Netpbm.{ppm}
+use Rattle.symbols.specs.Netpbm.{pam, ppm}
 use Rattle.compose.specs.Picture.{IsPictureOf}
 use Rattle.mapmachine.specs.declared.reply.Answer.{Answer}
 use Rattle.mapmachine.specs.declared.reply.Event.{Event}
@@ -26,12 +28,17 @@ view_of request = record { area = request.area; width = request.width; height = 
 abbrev pub scale_of : ViewValue → PictureScale
 scale_of view = record { span = unsigned_abs (view.area.maxx -ℤ view.area.minx); width = view.width }
 
--- the answer to what a query means: the bytes of the picture of a request, or the document of a fault
+-- a picture in a format
+abbrev pub written_picture : Format → PictureFields → Answer
+written_picture format.Pixmap picture = record { mime = mime.Pixmap; body = ppm picture }
+written_picture format.ArbitraryMap picture = record { mime = mime.ArbitraryMap; body = pam picture }
+
+-- the answer to what a query means: the picture of a request in its format, or the document of a fault
 abbrev pub Answers : MapFields → Result MapRequest WmsFault → Answer → Type 0
 Answers map (Ok request) answer =
     (picture : PictureFields)
     × IsPictureOf map (view_of request) (scale_of (view_of request)) request.chosen request.background picture
-    × (answer ≡ record { mime = mime.Pixmap; body = ppm picture })
+    × (answer ≡ written_picture request.format picture)
 Answers map (Err fault) answer = answer ≡ record { mime = mime.Xml; body = report fault }
 
 -- the answer to a query in a state is that to what the query means of the map

@@ -1,18 +1,19 @@
 ghost use Rattle.std.specs.Prelude.{◌≡◌, ◌<◌, ◌-ℤ◌, unsigned_abs, All, length, Ok, Err, IfOk, IfErr, OnErr};
 ghost use Rattle.geom.specs.World.{IsExtent};
+ghost use Rattle.mapmachine.specs.Machine.{written_picture};
 
 use crate::reply::{Answer, Event, Mime, Reply};
 use batches::{BatchError, BatchFault, BatchKind, MAX_BATCH, apply_batch};
 use compose::picture as picture_of;
 use geom::{PictureSide, WorldBox};
 use layers::Layers;
-use mapdefs::{Items, Map};
+use mapdefs::{Items, Map, Picture};
 use scaledenom::Scale;
 use std::alloc::{AllocError, Global};
 use std::marker::Model;
-use symbols::write_ppm;
+use symbols::{write_pam, write_ppm};
 use viewport::View;
-use wmsquery::{MapRequest, QueryError, WmsFault, read as read_query, report};
+use wmsquery::{Format, MapRequest, QueryError, WmsFault, read as read_query, report};
 
 /// The map machine: it holds a map, changes it by batches, and answers queries about it.
 #[derive(Drop)]
@@ -41,6 +42,22 @@ fn scale_of(area: WorldBox, width: PictureSide) -> Scale
 {
     let span = area.maxx().millionths() - area.minx().millionths();
     Scale::of(span as u32, width)
+}
+
+// A picture in a format.
+fn written_picture(alloc: Global, format: Format, picture: &Picture) -> Result<Answer, AllocError>
+    ensures { IfOk result (λ answer. answer ≡ written_picture format picture.now) }
+{
+    match format {
+        Format::Pixmap => Ok(Answer {
+            mime: Mime::Pixmap,
+            body: write_ppm(alloc, picture)?,
+        }),
+        Format::ArbitraryMap => Ok(Answer {
+            mime: Mime::ArbitraryMap,
+            body: write_pam(alloc, picture)?,
+        }),
+    }
 }
 
 impl Machine {
@@ -104,10 +121,7 @@ impl Machine {
             chosen,
             request.background,
         )?;
-        Ok(Answer {
-            mime: Mime::Pixmap,
-            body: write_ppm(self.alloc, &picture)?,
-        })
+        written_picture(self.alloc, request.format, &picture)
     }
 
     // The answer to a query that is refused: the document of its fault.

@@ -17,6 +17,8 @@ pub enum Event<'a> {
 pub enum Mime {
     /// A picture as Netpbm's portable pixmap.
     Pixmap,
+    /// A picture as Netpbm's portable arbitrary map.
+    ArbitraryMap,
     /// An XML document.
     Xml,
 }
@@ -30,6 +32,7 @@ impl Mime {
     {
         match self {
             Mime::Pixmap => "image/x-portable-pixmap",
+            Mime::ArbitraryMap => "image/x-portable-arbitrarymap",
             Mime::Xml => "text/xml",
         }
     }

@@ -3,7 +3,7 @@ ghost use Rattle.std.specs.Prelude.{◌≡◌, ◌<◌, ◌≤◌, [], length, A
 use crate::painted_maps::{feature_of, layer, map_of};
 use compose::picture;
 use geom::{Micro, PictureSide, World, WorldBox};
-use mapdefs::{AllFeatures, Feature, Items, Map, Picture, Rgb};
+use mapdefs::{AllFeatures, Feature, Items, Map, Picture};
 use scaledenom::Scale;
 use std::alloc::{AllocError, Global};
 use std::test::Fail;
@@ -52,12 +52,12 @@ fn first_64_times(alloc: Global) -> Result<Vec<usize>, AllocError>
     Ok(chosen)
 }
 
-// Whether exactly the columns and the rows 512 to 1,535, of 2,048, are dark.
-fn is_dark_square(picture: &Picture) -> bool {
+// Whether exactly the columns and the rows 512 to 1,535, of 2,048, have a colour.
+fn is_square(picture: &Picture) -> bool {
     for (at, pixel) in picture.get().pixels.as_slice().iter().enumerate() {
         let (column, row) = (at % 2_048, at / 2_048);
         let is_in = (512..1_536).contains(&column) && (512..1_536).contains(&row);
-        if (pixel.red == 10) != is_in {
+        if pixel.get().is_some() != is_in {
             return false;
         }
     }
@@ -73,14 +73,9 @@ fn is_painted(alloc: Global, map: &Map, chosen: &[usize]) -> Result<bool, AllocE
     let side = PictureSide::new(2_048).unwrap();
     let view = View::new(WorldBox::new(low, low, high, high), side, side);
     let scale = Scale::of(280_000, PictureSide::new(1).unwrap());
-    let white = Rgb {
-        red: 255,
-        green: 255,
-        blue: 255,
-    };
     let near = AllFeatures::of(alloc, map);
-    let picture = picture(alloc, map, &near, view, scale, chosen, white)?;
-    Ok(is_dark_square(&picture))
+    let picture = picture(alloc, map, &near, view, scale, chosen, None)?;
+    Ok(is_square(&picture))
 }
 
 // Whether the map of that ring is.

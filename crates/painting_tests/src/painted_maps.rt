@@ -25,8 +25,11 @@ fn colour_of(letter: u8) -> Option<Rgb> {
     Some(Rgb { red, green, blue })
 }
 
-// The letter of a colour, `?` of any other.
-fn letter(colour: Rgb) -> char {
+// The letter of a colour, `?` of any other and `_` where there is none.
+fn letter(colour: Option<Rgb>) -> char {
+    let Some(colour) = colour else {
+        return '_';
+    };
     match (colour.red, colour.green, colour.blue) {
         (100, 60, 20) => '#',
         (10, 20, 30) => 'o',
@@ -332,11 +335,12 @@ pub(crate) fn letters_of(alloc: Global, picture: &Picture) -> Result<String, All
     Ok(text)
 }
 
-// The colour of a background and the number of degrees and pixels on a side, from one letter or two.
-fn ground_of(letters: &str) -> Option<(Rgb, u8)> {
+// A background, of which `_` is nothing, and the number of degrees and pixels on a side, from one letter or two.
+fn ground_of(letters: &str) -> Option<(Option<Rgb>, u8)> {
     match *letters.as_bytes() {
-        [letter] => Some((colour_of(letter)?, 4)),
-        [letter, _] => Some((colour_of(letter)?, 8)),
+        [b'_'] => Some((None, 4)),
+        [letter] => Some((Some(colour_of(letter)?), 4)),
+        [letter, _] => Some((Some(colour_of(letter)?), 8)),
         _ => None,
     }
 }
@@ -348,7 +352,7 @@ fn drawn(
     alloc: Global,
     map: &Map,
     chosen: &[usize],
-    background: Rgb,
+    background: Option<Rgb>,
     degrees: u8,
 ) -> Result<String, AllocError>
     requires { All (λ index. index < length map.now.layers) chosen.now }

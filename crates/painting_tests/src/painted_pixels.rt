@@ -49,11 +49,13 @@ fn later_layers_lie_over_earlier_ones(rt: HostRuntime) -> Result<(), TableFault>
 
 const BACKGROUNDS: &str = "\
 #### #### #### ####;#;none;polygon #/- none;-
-#### #oo# #oo# ####;#;1;polygon #/- none;-";
+#### #oo# #oo# ####;#;1;polygon #/- none;-
+____ _oo_ _oo_ ____;_;1;polygon #/- none;-
+__## _o## _oo_ ____;_;1 0;polygon #/- none;20,20 40,20 40,40 20,40";
 
 #[test]
 fn background_is_seen_where_nothing_is_painted(rt: HostRuntime) -> Result<(), TableFault> {
-    check_rows(rt.alloc(), BACKGROUNDS, ';', 2, drawn_row)
+    check_rows(rt.alloc(), BACKGROUNDS, ';', 4, drawn_row)
 }
 
 // The inner square in some styles.

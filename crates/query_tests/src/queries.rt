@@ -2,11 +2,11 @@ ghost use Rattle.std.specs.Prelude.{◌≡◌, ◌≤◌, [], length, All};
 ghost use Rattle.mapdefs.specs.MapLimits.{LayerNamesSymbolsOf};
 ghost use Rattle.mapdefs.specs.declared.limits.TheConstants.{MAX_LAYERS};
 
-use mapdefs::{Items, Layer, MAX_LAYERS, Map, Text};
+use mapdefs::{Items, Layer, MAX_LAYERS, Map, Rgb, Text};
 use std::alloc::{AllocError, Global};
 use test_maps::{layer_fields, map_fields};
 use test_tables::{TableFault, check_rows};
-use wmsquery::{MAX_NAMES, MapRequest, read};
+use wmsquery::{Format, MAX_NAMES, MapRequest, read};
 
 // A query without a fault. The first pair of a name counts, so that the rows put others before it.
 const QUERY: &str =
@@ -48,6 +48,7 @@ InvalidParameterValue: HEIGHT|HEIGHT=2049&@
 InvalidParameterValue: HEIGHT|HEIGHT=-4&@
 MissingParameterValue: FORMAT|FORMAT=&@
 InvalidFormat: FORMAT|FORMAT=image/png&@
+InvalidFormat: FORMAT|FORMAT=image/x-portable-arbitrarymaps&@
 InvalidParameterValue: TRANSPARENT|TRANSPARENT=yes&@
 InvalidParameterValue: BGCOLOR|BGCOLOR=%23102030&@
 InvalidParameterValue: BGCOLOR|BGCOLOR=0x1020&@
@@ -69,7 +70,7 @@ InvalidParameterValue: TRANSPARENT|TRANSPARENT=x&BGCOLOR=x&@
 InvalidParameterValue: SERVICE|BGCOLOR=x&SERVICE=x&@
 LayerNotDefined: LAYERS|#LAYERS=x&@
 # no fault, and the request worked by hand: the layers, then west, south, east and north in millionths
-# of a degree, width, height and the background
+# of a degree, width, height and the background, and `map` where the format is that of arbitrary maps
 0, 0 0 4000000 4000000 4 4 255 255 255|SERVICE=WMS&@
 2, 0 0 4000000 4000000 4 4 255 255 255|layers=c&@&LAYERS=x
 0, 0 0 4000000 4000000 4 4 255 255 255|StYlEs=default&@&STYLES=x
@@ -78,6 +79,10 @@ LayerNotDefined: LAYERS|#LAYERS=x&@
 0, 0 0 4000000 4000000 4 4 255 255 255|TRANSPARENT=True&@&FORMAT=image/png
 0, 0 0 4000000 4000000 4 4 255 255 255|transparent=false&@&CRS=EPSG:1
 0, 0 0 4000000 4000000 4 4 10 20 30|BGCOLOR=0X0a141E&@&BGCOLOR=x
+0, 0 0 4000000 4000000 4 4 10 20 30|TRANSPARENT=TRUE&BGCOLOR=0x0A141E&@
+0, 0 0 4000000 4000000 4 4 10 20 30 map|FORMAT=image/x-portable-arbitrarymap&BGCOLOR=0x0A141E&@
+0, 0 0 4000000 4000000 4 4 10 20 30 map|TRANSPARENT=FALSE&FORMAT=image/x-portable-arbitrarymap&BGCOLOR=0x0A141E&@
+0, 0 0 4000000 4000000 4 4 nothing map|TRANSPARENT=true&FORMAT=image/x-portable-arbitrarymap&BGCOLOR=0x0A141E&@
 0, 0 0 4000000 4000000 2048 1 255 255 255|WIDTH=2048&HEIGHT=0001&@&other
 0, 0 0 4000000 4000000 4 4 255 255 255|EXCEPTIONS=x&=&&TIME=x&@&request=x
 0, 0 0 4000000 4000000 4 4 255 255 255|#@&#LAYERS=x
@@ -114,20 +119,31 @@ fn test_map(alloc: Global) -> Result<Map, AllocError> {
     Ok(map_of(alloc, layers))
 }
 
+// The background of a request, and its format where that is no pixmap.
+fn ground(alloc: Global, request: &MapRequest) -> Result<String, AllocError> {
+    let mut text = match request.background {
+        Some(Rgb { red, green, blue }) => format!(in alloc; "{red} {green} {blue}")?,
+        None => String::from_str(alloc, "nothing")?,
+    };
+    match request.format {
+        Format::Pixmap => {}
+        Format::ArbitraryMap => text.push_str(" map")?,
+    }
+    Ok(text)
+}
+
 // A request as a row tells it.
 fn shown(alloc: Global, request: &MapRequest) -> Result<String, AllocError> {
     let mut chosen = String::new(alloc);
     for index in request.chosen.as_slice() {
         chosen.push_str(format!(in alloc; "{index},")?.as_str())?;
     }
-    let (area, colour) = (request.area, request.background);
+    let area = request.area;
     let (west, south) = (area.minx().millionths(), area.miny().millionths());
     let (east, north) = (area.maxx().millionths(), area.maxy().millionths());
     let (width, height) = (request.width.pixels(), request.height.pixels());
-    let (red, green, blue) = (colour.red, colour.green, colour.blue);
-    format!(in alloc;
-        "{chosen} {west} {south} {east} {north} {width} {height} {red} {green} {blue}"
-    )
+    let ground = ground(alloc, request)?;
+    format!(in alloc; "{chosen} {west} {south} {east} {north} {width} {height} {ground}")
 }
 
 // What is told of a query: its request, or the message of what refuses it.
@@ -155,7 +171,7 @@ fn rows_of_queries(alloc: Global, row: &str) -> Result<String, AllocError> {
 
 #[test]
 fn queries_are_told_as_worked(rt: HostRuntime) -> Result<(), TableFault> {
-    check_rows(rt.alloc(), QUERIES, '|', 64, rows_of_queries)
+    check_rows(rt.alloc(), QUERIES, '|', 69, rows_of_queries)
 }
 
 // A definition cites the same constant as the code, so only a test can tell a wrong limit.

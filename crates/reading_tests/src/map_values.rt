@@ -6,8 +6,8 @@ use geom::PictureSide;
 use mapdefs::{
     Items, Layer, MAX_BUFFER, MAX_CLASSES, MAX_DISTANCE, MAX_FEATURES, MAX_GLYPH_SIDE, MAX_GLYPHS,
     MAX_ITEMS, MAX_LAYERS, MAX_LINE_WIDTH, MAX_NESTING, MAX_PRIORITY, MAX_SQUARE, MAX_STYLES,
-    MAX_SYMBOL_SIDE, MAX_SYMBOLS, MAX_TOLERANCE, MAX_VERTICES, Map, Picture, PictureFields, Rgb,
-    Text,
+    MAX_SYMBOL_SIDE, MAX_SYMBOLS, MAX_TOLERANCE, MAX_VERTICES, Map, Picture, PictureFields,
+    PixelColour, Rgb, Text,
 };
 use std::alloc::{AllocError, Global};
 use test_maps::{layer_fields, map_fields};
@@ -63,26 +63,26 @@ fn layers_are_found_by_the_first_of_their_names(rt: HostRuntime) -> Result<(), T
     check_rows(rt.alloc(), NAMES, '=', 6, found)
 }
 
-// A colour with this much red and green.
-fn colour(red: u8, green: u8) -> Rgb {
-    Rgb {
+// A pixel of a colour with this much red and green.
+fn pixel(red: u8, green: u8) -> PixelColour {
+    PixelColour::new(Some(Rgb {
         red,
         green,
         blue: 30,
-    }
+    }))
 }
 
-// The colours of the pixels of a picture of three columns and two rows, column by column.
-fn columns(alloc: Global) -> Result<[Rgb; 6], AllocError> {
+// What the pixels of a picture of three columns and two rows have, column by column.
+fn columns(alloc: Global) -> Result<[Option<Rgb>; 6], AllocError> {
     let pixels = Vec::from_array(
         alloc,
         [
-            colour(10, 20),
-            colour(11, 20),
-            colour(12, 20),
-            colour(10, 21),
-            colour(11, 21),
-            colour(12, 21),
+            pixel(10, 20),
+            pixel(11, 20),
+            pixel(12, 20),
+            pixel(10, 21),
+            PixelColour::new(None),
+            pixel(12, 21),
         ],
     )?;
     let picture = Picture::new(PictureFields {
@@ -101,12 +101,15 @@ fn columns(alloc: Global) -> Result<[Rgb; 6], AllocError> {
 }
 
 // The colours of the columns, each with its two rows.
-const PIXELS: &str = "10 20 30, 10 21 30, 11 20 30, 11 21 30, 12 20 30, 12 21 30, =";
+const PIXELS: &str = "10 20 30, 10 21 30, 11 20 30, nothing, 12 20 30, 12 21 30, =";
 
 fn told_columns(alloc: Global, _row: &str) -> Result<String, AllocError> {
     let mut told = String::new(alloc);
-    for Rgb { red, green, blue } in columns(alloc)? {
-        write!(told, "{red} {green} {blue}, ")?;
+    for pixel in columns(alloc)? {
+        match pixel {
+            Some(Rgb { red, green, blue }) => write!(told, "{red} {green} {blue}, ")?,
+            None => told.push_str("nothing, ")?,
+        }
     }
     Ok(told)
 }

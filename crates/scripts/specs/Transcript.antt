@@ -7,7 +7,7 @@ use Rattle.batches.specs.Fault.{number_of}
 use Rattle.mapmachine.specs.Mime.{mime_text}
 use Rattle.mapmachine.specs.declared.reply.Answer.{Answer}
 use Rattle.mapmachine.specs.declared.reply.Mime.{Mime}
-use Rattle.mapmachine.specs.declared.reply.Mime.TheVariants.{Pixmap, Xml}
+use Rattle.mapmachine.specs.declared.reply.Mime.TheVariants.{Pixmap, ArbitraryMap, Xml}
 use Rattle.mapmachine.specs.declared.reply.Reply.{Reply}
 use Rattle.mapmachine.specs.declared.reply.Reply.TheVariants.{Answered, Published, Refused, NoMemory}
 
@@ -28,6 +28,7 @@ hex_lines bytes = hex_within (length bytes) bytes
 -- a body as it is written: pictures in hexadecimal
 abbrev pub body_text : Mime → List ℕ → List ℕ
 body_text Pixmap body = hex_lines body
+body_text ArbitraryMap body = hex_lines body
 body_text Xml body = body
 
 -- the line before a body: its mime type, and how many bytes it has

@@ -113,19 +113,41 @@ CLASS STYLE OUTLINECOLOR 40 50 60 COLOR 10 20 30 END END FEATURE|VERSION=1.3.0&R
 MINSCALEDENOM 397569610 CLASS MAXSCALEDENOM 397569610 STYLE COLOR 40 50 60 END END CLASS MAXSCALEDENOM 397569611 STYLE COLOR 10 20 30 END END FEATURE|VERSION=1.3.0&REQUEST=GetMap&LAYERS=a&STYLES=&CRS=CRS:84&BBOX=0,0,4,4&WIDTH=4&HEIGHT=4&FORMAT=image/x-portable-pixmap|59 50360a3420340a3235350affffffffffffffffffffffffffffff0a141e0a141e ffffffffffff0a141e0a141effffffffffffffffffffffffffffff\n\
 MINSCALEDENOM 397569611 CLASS STYLE COLOR 10 20 30 END END FEATURE|VERSION=1.3.0&REQUEST=GetMap&LAYERS=a&STYLES=&CRS=CRS:84&BBOX=0,0,4,4&WIDTH=4&HEIGHT=4&FORMAT=image/x-portable-pixmap|59 50360a3420340a3235350affffffffffffffffffffffffffffffffffffffffff ffffffffffffffffffffffffffffffffffffffffffffffffffffff";
 
-// Whether a row of the table has the picture of its query.
-fn is_written(alloc: Global, row: &str) -> Result<bool, AllocError> {
+// Whether a row of a table has the picture of its query, in a format.
+fn is_written_as(alloc: Global, row: &str, mime: &str) -> Result<bool, AllocError> {
     let (layer, query, written) = columns(row);
     let map = format!(in alloc; "MAP LAYER NAME 'a' TYPE POLYGON {layer} {SQUARE} END END END")?;
     let script = format!(in alloc; "QUERY {query}\n")?;
     let lines = written.replace(alloc, " ", "\n")?;
-    let text = format!(in alloc; "ANSWER image/x-portable-pixmap {lines}\n")?;
+    let text = format!(in alloc; "ANSWER {mime} {lines}\n")?;
     is_played(alloc, map.as_str(), script.as_str(), text.as_str())
+}
+
+// Whether a row of the table has the pixmap of its query.
+fn is_written(alloc: Global, row: &str) -> Result<bool, AllocError> {
+    is_written_as(alloc, row, "image/x-portable-pixmap")
 }
 
 #[test]
 fn pictures_are_written_as_worked(rt: HostRuntime) -> Result<(), TableFault> {
     check_all(rt.alloc(), WRITTEN, 15, is_written)
+}
+
+// The layer, the query, and the arbitrary map: 65 bytes of header, and four bytes a pixel. The square is red, and
+// round it lie white, a colour, and nothing.
+const MAPS: &str = "\
+CLASS STYLE COLOR 255 0 0 END END FEATURE|VERSION=1.3.0&REQUEST=GetMap&LAYERS=a&STYLES=&CRS=CRS:84&BBOX=0,0,4,4&WIDTH=4&HEIGHT=4&FORMAT=image/x-portable-arbitrarymap|129 50370a574944544820340a48454947485420340a444550544820340a4d415856 414c203235350a5455504c54595045205247425f414c5048410a454e44484452 0affffffffffffffffffffffffffffffffffffffffff0000ffff0000ffffffff ffffffffffff0000ffff0000ffffffffffffffffffffffffffffffffffffffff ff\n\
+CLASS STYLE COLOR 255 0 0 END END FEATURE|VERSION=1.3.0&REQUEST=GetMap&LAYERS=a&STYLES=&CRS=CRS:84&BBOX=0,0,4,4&WIDTH=4&HEIGHT=4&FORMAT=image/x-portable-arbitrarymap&TRANSPARENT=FALSE&BGCOLOR=0x28323C|129 50370a574944544820340a48454947485420340a444550544820340a4d415856 414c203235350a5455504c54595045205247425f414c5048410a454e44484452 0a28323cff28323cff28323cff28323cff28323cffff0000ffff0000ff28323c ff28323cffff0000ffff0000ff28323cff28323cff28323cff28323cff28323c ff\n\
+CLASS STYLE COLOR 255 0 0 END END FEATURE|VERSION=1.3.0&REQUEST=GetMap&LAYERS=a&STYLES=&CRS=CRS:84&BBOX=0,0,4,4&WIDTH=4&HEIGHT=4&FORMAT=image/x-portable-arbitrarymap&TRANSPARENT=TRUE&BGCOLOR=0x28323C|129 50370a574944544820340a48454947485420340a444550544820340a4d415856 414c203235350a5455504c54595045205247425f414c5048410a454e44484452 0a0000000000000000000000000000000000000000ff0000ffff0000ff000000 0000000000ff0000ffff0000ff00000000000000000000000000000000000000 00";
+
+// Whether a row of the table has the arbitrary map of its query.
+fn is_map_written(alloc: Global, row: &str) -> Result<bool, AllocError> {
+    is_written_as(alloc, row, "image/x-portable-arbitrarymap")
+}
+
+#[test]
+fn maps_are_written_as_worked(rt: HostRuntime) -> Result<(), TableFault> {
+    check_all(rt.alloc(), MAPS, 3, is_map_written)
 }
 
 // Columns, rows and components of pixels beside the corners of the square, which are at 512 and 1536,
@@ -140,47 +162,95 @@ const SAMPLES: &str = "\
 1536 1535 0 ff\n\
 1000 1200 1 14";
 
+// The same of a picture with nothing round the square.
+const MAP_SAMPLES: &str = "\
+512 512 0 0a\n\
+512 512 1 14\n\
+512 512 2 1e\n\
+512 512 3 ff\n\
+511 512 2 00\n\
+512 511 3 00\n\
+1535 1535 3 ff\n\
+1536 1535 3 00\n\
+1000 1200 1 14";
+
+// How a picture is written: the first lines of its text, how many bytes stand before its pixels, how many a pixel
+// has, what its query ends in, and samples of it.
+struct Form {
+    front: &'static str,
+    header: usize,
+    depth: usize,
+    query: &'static str,
+    samples: &'static str,
+}
+
+// As a pixmap.
+const PIXMAP: Form = Form {
+    front: "ANSWER image/x-portable-pixmap 12582929\n\
+50360a3230343820323034380a3235350affffffffffffffffffffffffffffff\n",
+    header: 17,
+    depth: 3,
+    query: "FORMAT=image/x-portable-pixmap",
+    samples: SAMPLES,
+};
+
+// As an arbitrary map.
+const MAP: Form = Form {
+    front: "ANSWER image/x-portable-arbitrarymap 16777287\n\
+50370a574944544820323034380a48454947485420323034380a444550544820\n\
+340a4d415856414c203235350a5455504c54595045205247425f414c5048410a\n\
+454e444844520a00000000000000000000000000000000000000000000000000\n",
+    header: 71,
+    depth: 4,
+    query: "FORMAT=image/x-portable-arbitrarymap&TRANSPARENT=TRUE",
+    samples: MAP_SAMPLES,
+};
+
 // Whether the text of a picture of 2,048 by 2,048 pixels has the digits of a row where they stand. A
 // malformed row has no answer.
-fn has_sample(text: &str, row: &str) -> Option<bool> {
+fn has_sample(text: &str, form: &Form, row: &str) -> Option<bool> {
     let mut columns = row.split(' ');
     let column: usize = columns.next()?.parse().ok()?;
     let row: usize = columns.next()?.parse().ok()?;
     let component: usize = columns.next()?.parse().ok()?;
-    let byte = row.checked_mul(2_048)?.checked_add(column)?.checked_mul(3)?;
-    let byte = byte.checked_add(component)?.checked_add(17)?;
+    let pixel = row.checked_mul(2_048)?.checked_add(column)?;
+    let byte = pixel.checked_mul(form.depth)?.checked_add(component)?;
+    let byte = byte.checked_add(form.header)?;
     let at = (byte / 32).checked_mul(65)?.checked_add(2 * (byte % 32))?;
-    let there = text.as_bytes().get(at.checked_add(40)?..)?;
+    let line = form.front.find('\n')?.checked_add(1)?;
+    let there = text.as_bytes().get(at.checked_add(line)?..)?;
     Some(there.starts_with(columns.next()?.as_bytes()))
 }
 
-// The largest picture: how its session ended, the length of its text, whether that begins with the header,
+// The largest pictures: how the session ended, the length of the text, whether that begins with the header,
 // and how many of the samples it has. 17 bytes of header and 2,048 times 2,048 pixels are 12,582,929 bytes
-// in 393,217 lines.
-const LARGEST: &str = "0 Played 25559115 true 8=2048";
+// in 393,217 lines, 71 and four bytes a pixel are 16,777,287 in 524,291.
+const LARGEST: &str = "\
+0 Played 25559115 true 8=pixmap
+0 Played 34078911 true 9=map";
 
-// The header, and the line on which it stands.
-const LARGEST_FRONT: &str = "ANSWER image/x-portable-pixmap 12582929\n\
-50360a3230343820323034380a3235350affffffffffffffffffffffffffffff\n";
-
-// What is told of the text of a picture with so many columns and rows.
-fn told_of_picture(alloc: Global, side: &str) -> Result<String, AllocError> {
-    let query =
-        "VERSION=1.3.0&REQUEST=GetMap&LAYERS=a&STYLES=&CRS=CRS:84&BBOX=0,0,4,4&FORMAT=image/x-portable-pixmap";
-    let script = format!(in alloc; "QUERY WIDTH={side}&HEIGHT={side}&{query}\n")?;
+// What is told of the text of a picture in a form.
+fn told_of_picture(alloc: Global, form: &str) -> Result<String, AllocError> {
+    let form = match form {
+        "pixmap" => &PIXMAP,
+        _ => &MAP,
+    };
+    let query = "VERSION=1.3.0&REQUEST=GetMap&LAYERS=a&STYLES=&CRS=CRS:84&BBOX=0,0,4,4";
+    let last = form.query;
+    let script = format!(in alloc; "QUERY WIDTH=2048&HEIGHT=2048&{query}&{last}\n")?;
     let (found, _) = ended(alloc, "run", (SQUARE_MAP, script.as_str()), 1_000_000, None)?;
     let (end, text, _) = columns(found.as_str());
     let mut samples = 0_usize;
-    for row in SAMPLES.lines() {
-        if has_sample(text, row) == Some(true) {
+    for row in form.samples.lines() {
+        if has_sample(text, form, row) == Some(true) {
             samples = samples.saturating_add(1);
         }
     }
-    let is_front = text.starts_with(LARGEST_FRONT);
+    let is_front = text.starts_with(form.front);
     format!(in alloc; "{end} {} {is_front} {samples}", text.len())
 }
 
 #[test]
 fn largest_pictures_are_written_whole(rt: HostRuntime) -> Result<(), TableFault> {
-    check_rows(rt.alloc(), LARGEST, '=', 1, told_of_picture)
+    check_rows(rt.alloc(), LARGEST, '=', 2, told_of_picture)
 }

@@ -17,11 +17,11 @@ use Rattle.symbols.specs.Format.{capped, blanks_len, has_space_at, header_of, is
 use Rattle.symbols.specs.Law.{AreFilesRead}
 use Rattle.symbols.proofs.Capping.{capped-same}
 
-or-left : (t u : Bool) → (t || u) ≡ false → t ≡ false
+pub or-left : (t u : Bool) → (t || u) ≡ false → t ≡ false
 or-left true u h = h
 or-left false u h = refl
 
-or-right : (t u : Bool) → (t || u) ≡ false → u ≡ false
+pub or-right : (t u : Bool) → (t || u) ≡ false → u ≡ false
 or-right true u h = absurd (cc)
 or-right false u h = h
 

@@ -1,7 +1,8 @@
--- The bytes of a picture as a portable pixmap (Netpbm, PPM; docs/PROFILE.md, "Pictures").
-use Rattle.std.specs.Prelude.{ℕ, List, [], ◌∷◌, ◌++◌, codes}
+-- The bytes of a picture as a portable pixmap, or as a portable arbitrary map (Netpbm, PPM and PAM; docs/PROFILE.md, "Pictures").
+use Rattle.std.specs.Prelude.{ℕ, List, [], ◌∷◌, ◌++◌, Option, None, Some, codes}
 use Rattle.std.specs.List.{flat_map}
 use Rattle.std.specs.Fmt.{decimal}
+use Rattle.mapdefs.specs.PixelBytes.{rgba_bytes}
 use Rattle.mapdefs.specs.declared.colour.Rgb.{Rgb}
 use Rattle.mapdefs.specs.declared.picture.PictureFields.{PictureFields}
 
@@ -9,10 +10,28 @@ use Rattle.mapdefs.specs.declared.picture.PictureFields.{PictureFields}
 abbrev pub rgb_bytes : Rgb → List ℕ
 rgb_bytes colour = colour.red ∷ colour.green ∷ colour.blue ∷ []
 
+-- the colour that a pixel has in a portable pixmap, where each has one: nothing is written as 0 0 0
+abbrev pub pixmap_colour : Option Rgb → Rgb
+pixmap_colour None = record { red = 0; green = 0; blue = 0 }
+pixmap_colour (Some colour) = colour
+
+-- the bytes of a pixel there
+abbrev pub pixmap_bytes : Option Rgb → List ℕ
+pixmap_bytes pixel = rgb_bytes (pixmap_colour pixel)
+
 -- the magic number, width, height and greatest value, each on a line of its own but the sides on one
 abbrev pub ppm_header : ℕ → ℕ → List ℕ
 ppm_header width height = codes "P6\n" ++ (decimal width ++ (codes " " ++ (decimal height ++ codes "\n255\n")))
 
 -- the header, and then the pixels row by row from the top
 abbrev pub ppm : PictureFields → List ℕ
-ppm picture = ppm_header picture.width picture.height ++ flat_map rgb_bytes picture.pixels
+ppm picture = ppm_header picture.width picture.height ++ flat_map pixmap_bytes picture.pixels
+
+-- the magic number, and a line each for the width, the height, how many samples a pixel has, their greatest value, and what they are
+abbrev pub pam_header : ℕ → ℕ → List ℕ
+pam_header width height =
+    codes "P7\nWIDTH " ++ (decimal width ++ (codes "\nHEIGHT " ++ (decimal height ++ codes "\nDEPTH 4\nMAXVAL 255\nTUPLTYPE RGB_ALPHA\nENDHDR\n")))
+
+-- the header, and then the pixels row by row from the top, each with its alpha
+abbrev pub pam : PictureFields → List ℕ
+pam picture = pam_header picture.width picture.height ++ flat_map rgba_bytes picture.pixels

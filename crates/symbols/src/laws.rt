@@ -1,6 +1,6 @@
 //! Laws of the definitions. A law is a function without arguments whose contract states it.
 
-ghost use Rattle.symbols.specs.Law.{AreFilesRead, ArePicturesRead};
+ghost use Rattle.symbols.specs.Law.{AreFilesRead, AreMapsRead, ArePicturesRead};
 
 /// A file that is made from a header, with any white space and any comments between its numbers, and from
 /// pixels is read as these.
@@ -8,7 +8,14 @@ pub fn files()
     ensures { AreFilesRead }
 {}
 
-/// A picture of at most `MAX_SYMBOL_SIDE` pixels on each side is read as it was written.
+/// A picture of at most `MAX_SYMBOL_SIDE` pixels on each side is read as it was written as a pixmap, where
+/// pixels that have nothing are 0 0 0.
 pub fn pictures()
     ensures { ArePicturesRead }
+{}
+
+/// A picture that was written as a portable arbitrary map is the one that the map shows, by the words of that
+/// format: with nothing where it has nothing, and with its colours else.
+pub fn maps()
+    ensures { AreMapsRead }
 {}

@@ -22,8 +22,9 @@ request-is-one map pairs a b p q =
     let area = value-is-one p.area q.area in
     let width = value-is-one p.width q.width in
     let height = value-is-one p.height q.height in
+    let format = value-is-one p.format q.format in
     let background = value-is-one p.background q.background in
-    λ i. record { chosen = chosen i; area = area i; width = width i; height = height i; background = background i }
+    λ i. record { chosen = chosen i; area = area i; width = width i; height = height i; format = format i; background = background i }
 
 -- a check that fails is none that passes
 fails : (c : Check) (code : Code) → c.refusal ≡ Some code → Passes c → ⊥

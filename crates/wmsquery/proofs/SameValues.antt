@@ -13,7 +13,7 @@ use Rattle.wmsquery.specs.declared.pairs.Pair.{Pair}
 use Rattle.wmsquery.specs.declared.request.MapRequest.{MapRequest}
 use Rattle.wmsquery.specs.Pairs.{value_of, some_text, HaveSameValues}
 use Rattle.wmsquery.specs.Report.{parameter_text}
-use Rattle.wmsquery.specs.Values.{service_of, request_of, version_of, layers_of, styles_of, crs_value, area_of, side_of, format_of, transparent_of, background_of}
+use Rattle.wmsquery.specs.Values.{service_of, request_of, version_of, layers_of, styles_of, crs_value, area_of, side_of, format_of, transparent_of, background_of, background_in}
 use Rattle.wmsquery.specs.Checks.{check, checks}
 use Rattle.wmsquery.specs.Meaning.{Passes, IsFirstFault, IsMeaningOf, IsMeaningErrorOf}
 
@@ -65,7 +65,9 @@ meaning-same map a b same (Ok r) is =
         area = ap (λ (v : ValuesBy). area_of (given_by v parameter.Crs) (given_by v parameter.Bbox)) values ∙ is.1.area;
         width = ap (λ (v : ValuesBy). side_of (given_by v parameter.Width)) values ∙ is.1.width;
         height = ap (λ (v : ValuesBy). side_of (given_by v parameter.Height)) values ∙ is.1.height;
-        background = ap (λ (v : ValuesBy). background_of (given_by v parameter.Bgcolor)) values ∙ is.1.background;
+        format = ap (λ (v : ValuesBy). format_of (given_by v parameter.Format)) values ∙ is.1.format;
+        background = ap (λ (v : ValuesBy). background_in (format_of (given_by v parameter.Format)) (transparent_of (given_by v parameter.Transparent)) (background_of (given_by v parameter.Bgcolor))) values
+            ∙ is.1.background;
       },
     )
 meaning-same map a b same (Err f) is = subst (λ cs. IsFirstFault cs f) (checks-same map a b same) is

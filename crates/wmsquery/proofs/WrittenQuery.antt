@@ -1,5 +1,5 @@
 -- A query that is written out from a request means that request.
-use Rattle.std.proofs.Common.{◌≡◌, ℕ, ◌<◌, ◌≤◌, List, [], ◌∷◌, All, map, length, length-append, Some, Ok, codes, refl, sym, ap, subst, ◌∙◌, arith}
+use Rattle.std.proofs.Common.{◌≡◌, ℕ, ◌<◌, ◌≤◌, List, [], ◌∷◌, All, map, length, length-append, Bool, true, false, Option, None, Some, Ok, codes, refl, sym, ap, subst, ◌∙◌, arith}
 use Rattle.std.proofs.lemmas.List.Elements.{All-nil, All-cons, All-head, All-weaker}
 use Rattle.std.specs.Fmt.{decimal}
 use Rattle.crsaxes.specs.declared.crs.Crs.{Crs}
@@ -13,10 +13,13 @@ use Rattle.wmsquery.specs.declared.checks.Check.{Check}
 use Rattle.wmsquery.specs.declared.pairs.Pair.{Pair}
 use Rattle.wmsquery.specs.declared.request.MapRequest.{MapRequest}
 use Rattle.wmsquery.specs.Pairs.{some_text, given}
-use Rattle.wmsquery.specs.Values.{layers_of, side_of, area_of, background_of, crs_value}
+use Rattle.wmsquery.specs.Values.{layers_of, side_of, area_of, format_of, transparent_of, background_of, background_for, background_in, crs_value}
 use Rattle.wmsquery.specs.Checks.{checks, refusal_of}
 use Rattle.wmsquery.specs.Meaning.{Passes, HasValues, IsMeaningOf}
-use Rattle.wmsquery.specs.Written.{with_commas, crs_text, bbox_text, written_pairs, AreNamed, IsRequest, WrittenIsMeant}
+use Rattle.mapdefs.specs.declared.colour.Rgb.{Rgb}
+use Rattle.wmsquery.specs.declared.request.Format.{Format}
+use Rattle.wmsquery.specs.declared.request.Format.TheVariants.{Pixmap, ArbitraryMap}
+use Rattle.wmsquery.specs.Written.{with_commas, crs_text, bbox_text, format_text, transparent_text, background_text, written_pairs, AreNamed, IsBackground, IsColour, IsRequest, WrittenIsMeant}
 use Rattle.wmsquery.proofs.WrittenAreas.{IsNumberByte, written-plain, digits-plain, area-written, colour-written}
 use Rattle.wmsquery.proofs.WrittenLayers.{layers-written, same-count}
 use Rattle.wmsquery.proofs.WrittenPairs.{IsTextPair, plain_pair, pairs-written}
@@ -70,6 +73,19 @@ texts-more : {name value : List ℕ} {rest : List (List ℕ × List ℕ)} → Is
 texts-more {name} {value} {rest} n v others = record { all = All-cons IsTextPair (name, value) rest (text-pair name value n v) others.all }
 
 -- all pairs of a request are texts
+-- so are the name of a format and what says of a background
+format-is-text : (format : Format) → IsText (format_text format)
+format-is-text Pixmap = tested-text _ refl
+format-is-text ArbitraryMap = tested-text _ refl
+
+transparent-is-text : (background : Option Rgb) → IsText (transparent_text background)
+transparent-is-text None = tested-text _ refl
+transparent-is-text (Some colour) = tested-text _ refl
+
+background-is-text : (background : Option Rgb) → IsText (background_text background)
+background-is-text None = hex-text (255 ∷ 255 ∷ 255 ∷ [])
+background-is-text (Some colour) = hex-text (colour.red ∷ colour.green ∷ colour.blue ∷ [])
+
 all-texts : (map : MapFields) (crs : Crs) (names : List (List ℕ)) (r : MapRequest) → IsRequest r → AreNamed map r.chosen names →
     AreTexts (written_pairs crs names r)
 all-texts map crs names r is are =
@@ -81,9 +97,10 @@ all-texts map crs names r is are =
     (texts-more (tested-text _ refl) (bbox-is-text crs r.area is.area)
     (texts-more (tested-text _ refl) (side-text r.width is.width)
     (texts-more (tested-text _ refl) (side-text r.height is.height)
-    (texts-more (tested-text _ refl) (tested-text _ refl)
-    (texts-more (tested-text _ refl) (hex-text (r.background.red ∷ r.background.green ∷ r.background.blue ∷ []))
-    texts-none)))))))))
+    (texts-more (tested-text _ refl) (format-is-text r.format)
+    (texts-more (tested-text _ refl) (transparent-is-text r.background)
+    (texts-more (tested-text _ refl) (background-is-text r.background)
+    texts-none))))))))))
 
 -- ---- the values
 
@@ -118,6 +135,52 @@ crs-some Epsg4326 = refl
 crs-written : (crs : Crs) → crs_value (Some (crs_text crs)) ≡ Ok crs
 crs-written Crs84 = refl
 crs-written Epsg4326 = refl
+
+-- so is the name of a format
+format-some : (format : Format) → some_text (format_text format) ≡ Some (format_text format)
+format-some Pixmap = refl
+format-some ArbitraryMap = refl
+
+format-written : (format : Format) → format_of (Some (format_text format)) ≡ Ok format
+format-written Pixmap = refl
+format-written ArbitraryMap = refl
+
+-- and what says of a background
+transparent-some : (background : Option Rgb) → some_text (transparent_text background) ≡ Some (transparent_text background)
+transparent-some None = refl
+transparent-some (Some colour) = refl
+
+background-some : (background : Option Rgb) → some_text (background_text background) ≡ Some (background_text background)
+background-some None = refl
+background-some (Some colour) = refl
+
+-- whether the picture is transparent
+abbrev is_none : Option Rgb → Bool
+is_none None = true
+is_none (Some colour) = false
+
+transparent-written : (background : Option Rgb) → transparent_of (Some (transparent_text background)) ≡ Ok (is_none background)
+transparent-written None = refl
+transparent-written (Some colour) = refl
+
+-- the colour that is written
+abbrev written_colour : Option Rgb → Rgb
+written_colour None = record { red = 255; green = 255; blue = 255 }
+written_colour (Some colour) = colour
+
+white-is-colour : IsColour (record { red = 255; green = 255; blue = 255 })
+white-is-colour = record { red = omega arith; green = omega arith; blue = omega arith }
+
+background-written : (format : Format) (background : Option Rgb) → IsBackground format background → background_of (Some (background_text background)) ≡ Ok (written_colour background)
+background-written format None is = colour-written (record { red = 255; green = 255; blue = 255 }) white-is-colour
+background-written format (Some colour) is = colour-written colour is
+
+-- the three mean the background
+background-meant : (format : Format) (background : Option Rgb) → IsBackground format background → background_for format (is_none background) (written_colour background) ≡ background
+background-meant ArbitraryMap None is = refl
+background-meant Pixmap None is = absurd is
+background-meant ArbitraryMap (Some colour) is = refl
+background-meant Pixmap (Some colour) is = refl
 
 -- all of some checks pass
 record AllPass (cs : List Check) : Type 0 where
@@ -163,9 +226,26 @@ module _ (map : MapFields) (crs : Crs) (names : List (List ℕ)) (r : MapRequest
   height-is =
       ap side_of (some-given (decimal r.height) (numeral r.height (omega (arith, is.height.most))).some) ∙ side-written r.height is.height
 
+  -- FORMAT is given
+  format-is : format_of (given (codes "FORMAT") (pairs_for crs names r)) ≡ Ok r.format
+  format-is = ap format_of (format-some r.format) ∙ format-written r.format
+
+  -- TRANSPARENT is given
+  transparent-is : transparent_of (given (codes "TRANSPARENT") (pairs_for crs names r)) ≡ Ok (is_none r.background)
+  transparent-is = ap transparent_of (transparent-some r.background) ∙ transparent-written r.background
+
   -- BGCOLOR is given
-  background-is : background_of (given (codes "BGCOLOR") (pairs_for crs names r)) ≡ Ok r.background
-  background-is = colour-written r.background is.background
+  background-is : background_of (given (codes "BGCOLOR") (pairs_for crs names r)) ≡ Ok (written_colour r.background)
+  background-is = ap background_of (background-some r.background) ∙ background-written r.format r.background is.background
+
+  meant : background_in (format_of (given (codes "FORMAT") (pairs_for crs names r))) (transparent_of (given (codes "TRANSPARENT") (pairs_for crs names r)))
+      (background_of (given (codes "BGCOLOR") (pairs_for crs names r)))
+      ≡ Ok r.background
+  meant =
+      ap (λ f. background_in f (transparent_of (given (codes "TRANSPARENT") (pairs_for crs names r))) (background_of (given (codes "BGCOLOR") (pairs_for crs names r)))) format-is
+      ∙ ap (λ t. background_in (Ok r.format) t (background_of (given (codes "BGCOLOR") (pairs_for crs names r)))) transparent-is
+      ∙ ap (λ c. background_in (Ok r.format) (Ok (is_none r.background)) c) background-is
+      ∙ ap Ok (background-meant r.format r.background is.background)
 
   -- all checks pass
   all-pass : AllPass (checks map (pairs_for crs names r))
@@ -179,14 +259,14 @@ module _ (map : MapFields) (crs : Crs) (names : List (List ℕ)) (r : MapRequest
       (pass-more (ap refusal_of area-is)
       (pass-more (ap refusal_of width-is)
       (pass-more (ap refusal_of height-is)
-      (pass-more refl
-      (pass-more refl
+      (pass-more (ap refusal_of format-is)
+      (pass-more (ap refusal_of transparent-is)
       (pass-more (ap refusal_of background-is)
       pass-none)))))))))))
 
   -- and the values are those of the request
   values-are : HasValues map (pairs_for crs names r) r
-  values-are = record { chosen = layers-are; area = area-is; width = width-is; height = height-is; background = background-is }
+  values-are = record { chosen = layers-are; area = area-is; width = width-is; height = height-is; format = format-is; background = meant }
 
 -- a query that is written out means its request
 pub written-is-meant : WrittenIsMeant

@@ -33,6 +33,8 @@ values_of map pairs = record {
   area = area_of (given (codes "CRS") pairs) (given (codes "BBOX") pairs);
   width = side_of (given (codes "WIDTH") pairs);
   height = side_of (given (codes "HEIGHT") pairs);
+  format = format_of (given (codes "FORMAT") pairs);
+  transparent = transparent_of (given (codes "TRANSPARENT") pairs);
   background = background_of (given (codes "BGCOLOR") pairs);
 }
 
@@ -42,6 +44,8 @@ pub record AreAccepted (values : Values) : Type 0 where
   pub area : refusal_of values.area ≡ None
   pub width : refusal_of values.width ≡ None
   pub height : refusal_of values.height ≡ None
+  pub format : refusal_of values.format ≡ None
+  pub transparent : refusal_of values.transparent ≡ None
   pub background : refusal_of values.background ≡ None
 
 -- the checks of GetMap, in the order in which their faults are told

@@ -9,7 +9,7 @@ use Rattle.wmsquery.specs.declared.fault.WmsFault.{WmsFault}
 use Rattle.wmsquery.specs.declared.pairs.Pair.{Pair}
 use Rattle.wmsquery.specs.declared.request.MapRequest.{MapRequest}
 use Rattle.wmsquery.specs.Pairs.{pairs_of, given, parameters, HaveSameValue}
-use Rattle.wmsquery.specs.Values.{layers_of, area_of, side_of, background_of}
+use Rattle.wmsquery.specs.Values.{layers_of, area_of, side_of, format_of, transparent_of, background_of, background_in}
 use Rattle.wmsquery.specs.Checks.{checks}
 
 -- a check passes
@@ -32,7 +32,10 @@ pub record HasValues (map : MapFields) (pairs : List Pair) (r : MapRequest) : Ty
   pub area : area_of (given (codes "CRS") pairs) (given (codes "BBOX") pairs) ≡ Ok r.area
   pub width : side_of (given (codes "WIDTH") pairs) ≡ Ok r.width
   pub height : side_of (given (codes "HEIGHT") pairs) ≡ Ok r.height
-  pub background : background_of (given (codes "BGCOLOR") pairs) ≡ Ok r.background
+  pub format : format_of (given (codes "FORMAT") pairs) ≡ Ok r.format
+  pub background :
+      background_in (format_of (given (codes "FORMAT") pairs)) (transparent_of (given (codes "TRANSPARENT") pairs)) (background_of (given (codes "BGCOLOR") pairs))
+      ≡ Ok r.background
 
 -- pairs mean a request where all checks pass, and else the fault of the first that fails
 abbrev pub IsMeaningOf : MapFields → List Pair → Result MapRequest WmsFault → Type 0

@@ -18,6 +18,8 @@ use Rattle.crsaxes.specs.declared.crs.Crs.{Crs}
 use Rattle.wmsquery.specs.declared.fault.Code.{Code}
 use Rattle.wmsquery.specs.declared.fault.Code.TheVariants as code
 use Rattle.wmsquery.specs.declared.lists.TheConstants.{MAX_NAMES}
+use Rattle.wmsquery.specs.declared.request.Format.{Format}
+use Rattle.wmsquery.specs.declared.request.Format.TheVariants.{Pixmap, ArbitraryMap}
 
 -- going on with a value, where it isn't refused
 abbrev pub and_then : {X Y : Type 0} → Result X Code → (X → Result Y Code) → Result Y Code
@@ -107,9 +109,15 @@ side_of value =
     and_then (required value) (λ text. ok_or
     (if list_all is_ascii_digit text then option_and_then side_within (count_of text) else None) code.InvalidParameterValue)
 
--- FORMAT is that of portable pixmaps
-abbrev pub format_of : Option (List ℕ) → Result (List ℕ) Code
-format_of value = and_then (required value) (fixed (codes "image/x-portable-pixmap") code.InvalidFormat)
+-- the format of a name: portable pixmaps, or portable arbitrary maps
+abbrev pub format_named : List ℕ → Result Format Code
+format_named name =
+    if is_same_name name (codes "image/x-portable-pixmap") then Ok Pixmap
+    else (if is_same_name name (codes "image/x-portable-arbitrarymap") then Ok ArbitraryMap else Err code.InvalidFormat)
+
+-- FORMAT is the name of a format
+abbrev pub format_of : Option (List ℕ) → Result Format Code
+format_of value = and_then (required value) format_named
 
 -- TRANSPARENT is TRUE or FALSE without case, FALSE where it is missing
 abbrev pub transparent_of : Option (List ℕ) → Result Bool Code
@@ -133,3 +141,14 @@ colour_of _ = None
 abbrev pub background_of : Option (List ℕ) → Result Rgb Code
 background_of None = Ok (record { red = 255; green = 255; blue = 255 })
 background_of (Some value) = ok_or (colour_of value) code.InvalidParameterValue
+
+-- where nothing is painted there is nothing, if the format can show that and TRANSPARENT asks for it, else the colour of BGCOLOR
+abbrev pub background_for : Format → Bool → Rgb → Option Rgb
+background_for ArbitraryMap true colour = None
+background_for ArbitraryMap false colour = Some colour
+background_for Pixmap transparent colour = Some colour
+
+-- the same of what FORMAT, TRANSPARENT and BGCOLOR mean
+abbrev pub background_in : Result Format Code → Result Bool Code → Result Rgb Code → Result (Option Rgb) Code
+background_in format transparent colour =
+    and_then format (λ f. and_then transparent (λ t. and_then colour (λ c. Ok (background_for f t c))))

@@ -1,5 +1,5 @@
 -- Queries that are written out from a request (OGC 06-042, 7.3; URL Standard, application/x-www-form-urlencoded).
-use Rattle.std.specs.Prelude.{◌≡◌, ◌≢◌, ℕ, ◌≤◌, ◌<◌, true, List, [], ◌∷◌, ◌++◌, All, length, Ok, codes, IsUtf8}
+use Rattle.std.specs.Prelude.{◌≡◌, ◌≢◌, ℕ, ◌≤◌, ◌<◌, true, List, [], ◌∷◌, ◌++◌, All, length, Option, None, Some, Ok, codes, IsUtf8}
 use Rattle.std.specs.Fmt.{decimal}
 use Rattle.std.specs.List.{join_with_byte}
 use Rattle.form_urlencoded.specs.Form.{extend_pairs}
@@ -13,6 +13,8 @@ use Rattle.mapdefs.specs.declared.colour.Rgb.{Rgb}
 use Rattle.mapdefs.specs.declared.layer.LayerFields.{LayerFields}
 use Rattle.mapdefs.specs.declared.map.MapFields.{MapFields}
 use Rattle.wmsquery.specs.declared.lists.TheConstants.{MAX_NAMES}
+use Rattle.wmsquery.specs.declared.request.Format.{Format}
+use Rattle.wmsquery.specs.declared.request.Format.TheVariants.{Pixmap, ArbitraryMap}
 use Rattle.wmsquery.specs.declared.request.MapRequest.{MapRequest}
 use Rattle.wmsquery.specs.Meaning.{IsMeaning}
 
@@ -34,6 +36,21 @@ bbox_text Epsg4326 area = with_commas (written area.miny ∷ written area.minx �
 abbrev pub colour_text : Rgb → List ℕ
 colour_text colour = codes "0x" ++ encode_lower (colour.red ∷ colour.green ∷ colour.blue ∷ [])
 
+-- the name of a format
+abbrev pub format_text : Format → List ℕ
+format_text Pixmap = codes "image/x-portable-pixmap"
+format_text ArbitraryMap = codes "image/x-portable-arbitrarymap"
+
+-- the picture is transparent where it has no background
+abbrev pub transparent_text : Option Rgb → List ℕ
+transparent_text None = codes "TRUE"
+transparent_text (Some colour) = codes "FALSE"
+
+-- the colour of a background; where there is none, any does
+abbrev pub background_text : Option Rgb → List ℕ
+background_text None = colour_text (record { red = 255; green = 255; blue = 255 })
+background_text (Some colour) = colour_text colour
+
 -- the parameters of a request for the layers of some names, in a system
 abbrev pub written_pairs : Crs → List (List ℕ) → MapRequest → List (List ℕ × List ℕ)
 written_pairs crs names request =
@@ -45,8 +62,9 @@ written_pairs crs names request =
     ∷ (codes "BBOX", bbox_text crs request.area)
     ∷ (codes "WIDTH", decimal request.width)
     ∷ (codes "HEIGHT", decimal request.height)
-    ∷ (codes "FORMAT", codes "image/x-portable-pixmap")
-    ∷ (codes "BGCOLOR", colour_text request.background)
+    ∷ (codes "FORMAT", format_text request.format)
+    ∷ (codes "TRANSPARENT", transparent_text request.background)
+    ∷ (codes "BGCOLOR", background_text request.background)
     ∷ []
 
 -- the query of these parameters, escaped as forms are
@@ -81,14 +99,20 @@ pub record IsColour (colour : Rgb) : Type 0 where
   pub green : colour.green < 256
   pub blue : colour.blue < 256
 
--- a request of 1 to `MAX_NAMES` layers, an extent of the world, and sides that a picture may have
+-- a background is a colour, or in an arbitrary map nothing
+abbrev pub IsBackground : Format → Option Rgb → Type 0
+IsBackground format (Some colour) = IsColour colour
+IsBackground ArbitraryMap None = Unit {0}
+IsBackground Pixmap None = ⊥
+
+-- a request of 1 to `MAX_NAMES` layers, an extent of the world, sides that a picture may have, and a background of its format
 pub record IsRequest (request : MapRequest) : Type 0 where
   pub some : 1 ≤ length request.chosen
   pub most : length request.chosen ≤ MAX_NAMES
   pub area : IsExtent request.area
   pub width : IsPictureSide request.width
   pub height : IsPictureSide request.height
-  pub background : IsColour request.background
+  pub background : IsBackground request.format request.background
 
 -- the law that a query that is written out from a request means that request, in each system
 abbrev pub WrittenIsMeant : Type 0

@@ -7,6 +7,7 @@ ghost use Rattle.wmsquery.specs.Meaning.{Passes, IsFirstFault};
 use crate::fault::{Code, Parameter, WmsFault};
 use crate::lists::{layer_count, layers, styles};
 use crate::pairs::{Pair, given, value_of};
+use crate::request::Format;
 use crate::values::{area, background, crs, format, request, service, side, transparent, version};
 use geom::{PictureSide, WorldBox};
 use mapdefs::{Items, Map, Rgb};
@@ -34,6 +35,10 @@ pub struct Values {
     pub width: Result<PictureSide, Code>,
     /// The side that HEIGHT means.
     pub height: Result<PictureSide, Code>,
+    /// The format that FORMAT means.
+    pub format: Result<Format, Code>,
+    /// What TRANSPARENT means.
+    pub transparent: Result<bool, Code>,
     /// The colour that BGCOLOR means.
     pub background: Result<Rgb, Code>,
 }
@@ -52,6 +57,8 @@ pub fn evaluate(alloc: Global, map: &Map, pairs: &[Pair]) -> Result<Values, Allo
         area: area(given(pairs, "CRS"), given(pairs, "BBOX")),
         width: side(given(pairs, "WIDTH")),
         height: side(given(pairs, "HEIGHT")),
+        format: format(given(pairs, "FORMAT")),
+        transparent: transparent(given(pairs, "TRANSPARENT")),
         background: background(given(pairs, "BGCOLOR")),
     })
 }
@@ -92,11 +99,8 @@ pub fn checks(pairs: &[Pair], values: &Values) -> [Check; 12]
         Check::of(Parameter::Bbox, &values.area),
         Check::of(Parameter::Width, &values.width),
         Check::of(Parameter::Height, &values.height),
-        Check::new(Parameter::Format, format(given(pairs, "FORMAT"))),
-        Check::new(
-            Parameter::Transparent,
-            transparent(given(pairs, "TRANSPARENT")),
-        ),
+        Check::of(Parameter::Format, &values.format),
+        Check::of(Parameter::Transparent, &values.transparent),
         Check::of(Parameter::Bgcolor, &values.background),
     ]
 }

@@ -27,4 +27,4 @@ pub use exception::report;
 pub use fault::{Code, Parameter, WmsFault};
 pub use lists::MAX_NAMES;
 pub use query::read;
-pub use request::MapRequest;
+pub use request::{Format, MapRequest};

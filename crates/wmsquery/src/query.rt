@@ -1,6 +1,7 @@
 ghost use Rattle.std.specs.Prelude.{◌≡◌, ◌<◌, All, None, Ok, length, IfOk, IfErr};
 ghost use Rattle.geom.specs.World.{IsExtent};
 ghost use Rattle.wmsquery.specs.Checks.{AreAccepted, refusal_of};
+ghost use Rattle.wmsquery.specs.Values.{background_in};
 ghost use Rattle.wmsquery.specs.Meaning.{IsMeaning, IsMeaningOf, IsMeaningError, IsMeaningErrorOf};
 
 use crate::checks::{Values, checks, evaluate, first_fault};
@@ -8,6 +9,7 @@ use crate::error::QueryError;
 use crate::fault::Code;
 use crate::pairs::{Pair, first_pairs};
 use crate::request::MapRequest;
+use crate::values::background_for;
 use mapdefs::Map;
 use std::alloc::Global;
 
@@ -29,7 +31,8 @@ fn request_of(values: Values) -> MapRequest
     ensures area { values.area ≡ Ok result.area }
     ensures width { values.width ≡ Ok result.width }
     ensures height { values.height ≡ Ok result.height }
-    ensures background { values.background ≡ Ok result.background }
+    ensures format { values.format ≡ Ok result.format }
+    ensures background { background_in values.format values.transparent values.background ≡ Ok result.background }
 {
     let Values {
         layers,
@@ -37,14 +40,18 @@ fn request_of(values: Values) -> MapRequest
         area,
         width,
         height,
+        format,
+        transparent,
         background,
     } = values;
+    let format = accepted(format);
     MapRequest {
         chosen: accepted(layers),
         area: accepted(area),
         width: accepted(width),
         height: accepted(height),
-        background: accepted(background),
+        format,
+        background: background_for(format, accepted(transparent), accepted(background)),
     }
 }
 

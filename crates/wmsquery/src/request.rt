@@ -1,6 +1,15 @@
 use geom::{PictureSide, WorldBox};
 use mapdefs::{Items, Rgb};
 
+/// The format of a picture.
+#[derive(Clone, Copy)]
+pub enum Format {
+    /// Netpbm's portable pixmap, in which each pixel has a colour.
+    Pixmap,
+    /// Netpbm's portable arbitrary map, in which a pixel may have nothing.
+    ArbitraryMap,
+}
+
 /// A request for a picture.
 #[derive(Drop)]
 pub struct MapRequest {
@@ -12,6 +21,8 @@ pub struct MapRequest {
     pub width: PictureSide,
     /// The height of the picture.
     pub height: PictureSide,
-    /// The colour of the picture where nothing is painted.
-    pub background: Rgb,
+    /// The format of the picture.
+    pub format: Format,
+    /// The colour of the picture where nothing is painted, or nothing.
+    pub background: Option<Rgb>,
 }

@@ -4,9 +4,10 @@ ghost use Rattle.std.specs.List.{list_all};
 ghost use Rattle.std.specs.Option.{option_copied};
 ghost use Rattle.geom.specs.World.{IsExtent};
 ghost use Rattle.wmsquery.specs.Checks.{refusal_of};
-ghost use Rattle.wmsquery.specs.Values.{fixed, service_of, request_of, version_of, crs_value, area_of, side_within, side_of, format_of, transparent_of, colour_of, background_of};
+ghost use Rattle.wmsquery.specs.Values.{fixed, service_of, request_of, version_of, crs_value, area_of, side_within, side_of, format_of, transparent_of, colour_of, background_of, background_for};
 
 use crate::fault::Code;
+use crate::request::Format;
 use crsaxes::{bbox, crs_of};
 use geom::{Micro, PictureSide, WorldBox};
 use hex::FromHex;
@@ -113,27 +114,35 @@ pub fn side(value: Option<&str>) -> Result<PictureSide, Code>
     side_within(number).ok_or(Code::InvalidParameterValue)
 }
 
-/// The refusal of FORMAT.
-pub fn format(value: Option<&str>) -> Option<Code>
-    ensures { result ≡ refusal_of (format_of (option_copied value.entry)) }
+/// The format that FORMAT means.
+pub fn format(value: Option<&str>) -> Result<Format, Code>
+    ensures { result ≡ format_of (option_copied value.entry) }
 {
-    match value {
-        Some(value) => fixed("image/x-portable-pixmap", Code::InvalidFormat, value),
-        None => Some(Code::MissingParameterValue),
+    let Some(name) = value else {
+        return Err(Code::MissingParameterValue);
+    };
+    if name == "image/x-portable-pixmap" {
+        Ok(Format::Pixmap)
+    } else if name == "image/x-portable-arbitrarymap" {
+        Ok(Format::ArbitraryMap)
+    } else {
+        Err(Code::InvalidFormat)
     }
 }
 
-/// The refusal of TRANSPARENT.
-pub fn transparent(value: Option<&str>) -> Option<Code>
-    ensures { result ≡ refusal_of (transparent_of (option_copied value.entry)) }
+/// Whether TRANSPARENT is TRUE.
+pub fn transparent(value: Option<&str>) -> Result<bool, Code>
+    ensures { result ≡ transparent_of (option_copied value.entry) }
 {
     let Some(value) = value else {
-        return None;
+        return Ok(false);
     };
-    if value.eq_ignore_ascii_case("TRUE") || value.eq_ignore_ascii_case("FALSE") {
-        None
+    if value.eq_ignore_ascii_case("TRUE") {
+        Ok(true)
+    } else if value.eq_ignore_ascii_case("FALSE") {
+        Ok(false)
     } else {
-        Some(Code::InvalidParameterValue)
+        Err(Code::InvalidParameterValue)
     }
 }
 
@@ -159,5 +168,16 @@ pub fn background(value: Option<&str>) -> Result<Rgb, Code>
             green: 255,
             blue: 255,
         }),
+    }
+}
+
+/// What a picture of a format has where nothing is painted: nothing where the format can show that and it is
+/// asked for, else the colour.
+pub fn background_for(format: Format, transparent: bool, colour: Rgb) -> Option<Rgb>
+    ensures { result ≡ background_for format transparent colour }
+{
+    match format {
+        Format::ArbitraryMap if transparent => None,
+        Format::ArbitraryMap | Format::Pixmap => Some(colour),
     }
 }

@@ -19,6 +19,6 @@ returns c =
     let rings = map (map (device_point c.args.scene.now.view)) c.args.rings.now in
     on_ok_weaker c.fill_polygon.result
     (λ filled. rw is
-    (painted-rows (Fill rings c.in-Some.colour) (λ (i j : ℕ). is_covered c.in_ok-polygon.polygon (pixel_centre (pos i) (pos j))) (λ i j. c.in-Some.colour)
+    (painted-rows (Fill rings c.in-Some.colour) (λ (i j : ℕ). is_covered c.in_ok-polygon.polygon (pixel_centre (pos i) (pos j))) (λ i j. Some c.in-Some.colour)
     c.args.canvas.now c.fill_polygon.new.canvas c.fill_polygon.ensures.area (λ i j below. sym (c.in_ok-polygon.ensures.same i j (omega (arith, c.requires)))) (λ i j. refl) filled))
     c.fill_polygon.ensures.filled

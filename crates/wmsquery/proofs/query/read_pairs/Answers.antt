@@ -18,5 +18,5 @@ returns-in-None-clause-request c =
     let e = c.checks-checks.ensures c.args.map.now c.in_ok-values.ensures.value in
     let r = c.request_of.ensures in (
       subst (All Passes) e c.in-None.ensures,
-      has-values c.args.map.now c.args.pairs.now _ _ c.in_ok-values.ensures.value r.layers r.area r.width r.height r.background,
+      has-values c.args.map.now c.args.pairs.now _ _ c.in_ok-values.ensures.value r.layers r.area r.width r.height r.format r.background,
     )

@@ -1,0 +1,8 @@
+use Rattle.std.proofs.Common.{◌≡◌, ◌++◌, drop}
+use Rattle.std.specs.List.{flat_map}
+use Rattle.symbols.specs.Netpbm.{pixmap_bytes}
+use Rattle.symbols.proofs.netpbm.add_blocks.Given as goal
+
+abbrev pub invariant-loop-block : goal.invariant-loop-block
+invariant-loop-block l =
+    l.bytes.items ++ flat_map (flat_map pixmap_bytes) (drop l.block-index l.blocks) ≡ l.fn.bytes.items ++ flat_map (flat_map pixmap_bytes) l.blocks

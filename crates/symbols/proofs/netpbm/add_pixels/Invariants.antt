@@ -1,7 +1,0 @@
-use Rattle.std.proofs.Common.{◌≡◌, ◌++◌, drop}
-use Rattle.std.specs.List.{flat_map}
-use Rattle.symbols.specs.Netpbm.{rgb_bytes}
-use Rattle.symbols.proofs.netpbm.add_pixels.Given as goal
-
-abbrev pub invariant-loop-pixel : goal.invariant-loop-pixel
-invariant-loop-pixel l = l.bytes.items ++ flat_map rgb_bytes (drop l.pixel-index l.pixels) ≡ l.fn.bytes.items ++ flat_map rgb_bytes l.pixels

@@ -1,0 +1,7 @@
+use Rattle.std.proofs.Common.{◌≡◌, ◌++◌, drop}
+use Rattle.std.specs.List.{flat_map}
+use Rattle.symbols.specs.Netpbm.{pixmap_bytes}
+use Rattle.symbols.proofs.netpbm.add_rest.Given as goal
+
+abbrev pub invariant-loop-pixel : goal.invariant-loop-pixel
+invariant-loop-pixel l = l.bytes.items ++ flat_map pixmap_bytes (drop l.pixel-index l.pixels) ≡ l.fn.bytes.items ++ flat_map pixmap_bytes l.pixels
