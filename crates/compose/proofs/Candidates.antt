@@ -15,13 +15,13 @@ use Rattle.compose.specs.Near.{CandidatesPaintAll, things_at}
 use Rattle.compose.proofs.Finding.{first_or, here, there}
 
 -- things of which none covers the pixel leave its colour
-pub quiet : (background : Rgb) (things : List Thing) (i j : ℕ) → list_any (λ t. covers t i j) things ≡ false → colour_at background things i j ≡ background
+pub quiet : (background : Option Rgb) (things : List Thing) (i j : ℕ) → list_any (λ t. covers t i j) things ≡ false → colour_at background things i j ≡ background
 quiet background [] i j h = colour_at-none background i j
 quiet background (t ∷ things) i j h =
     let both = or_parts (covers t i j) (list_any (λ t. covers t i j) things) h in
     let one : colour_at background (t ∷ []) i j ≡ background = colour_at-one background t i j ∙ ap (λ (b : Bool). cond b (colour_in t i j) background) both.0 in
     colour_at-append background (t ∷ []) things i j
-    ∙ (ap (λ (c : Rgb). colour_at c things i j) one ∙ quiet background things i j both.1)
+    ∙ (ap (λ (c : Option Rgb). colour_at c things i j) one ∙ quiet background things i j both.1)
 
 -- indices from one on
 at-start : (h : ℕ → List Thing) (things : List Thing) (from : ℕ) → h (from + 0) ≡ things → h from ≡ things
@@ -60,13 +60,13 @@ abbrev HasEach : (ℕ → Bool) → ℕ → ℕ → List ℕ → Type 0
 HasEach test from past found = (k : ℕ) → from ≤ k → k < past → test k ≡ true → Contains found k
 
 -- an element whose index isn't there
-skipped : (h : ℕ → List Thing) (i j from past : ℕ) (found : List ℕ) (first rest : List Thing) (background : Rgb) → h from ≡ first → (Contains found from → ⊥) →
+skipped : (h : ℕ → List Thing) (i j from past : ℕ) (found : List ℕ) (first rest : List Thing) (background : Option Rgb) → h from ≡ first → (Contains found from → ⊥) →
     AreFrom from past found → HasEach (λ k. list_any (λ t. covers t i j) (h k)) from past found → from < past →
     (AreFrom (from + 1) past found → HasEach (λ k. list_any (λ t. covers t i j) (h k)) (from + 1) past found → colour_at background (flat_map h found) i j ≡ colour_at background rest i j) →
     colour_at background (flat_map h found) i j ≡ colour_at background (first ++ rest) i j
 skipped h i j from past found first rest background begins none within each short others =
     others later left
-    ∙ sym (colour_at-append background first rest i j ∙ ap (λ (c : Rgb). colour_at c rest i j) (ap (λ (ts : List Thing). colour_at background ts i j) (sym begins) ∙ quiet background (h from) i j (uncovered (list_any (λ t. covers t i j) (h from)) refl)))
+    ∙ sym (colour_at-append background first rest i j ∙ ap (λ (c : Option Rgb). colour_at c rest i j) (ap (λ (ts : List Thing). colour_at background ts i j) (sym begins) ∙ quiet background (h from) i j (uncovered (list_any (λ t. covers t i j) (h from)) refl)))
   where
     uncovered : (t : Bool) → list_any (λ t. covers t i j) (h from) ≡ t → t ≡ false
     uncovered true e = absurd (none (each from (omega arith) short e))
@@ -82,7 +82,7 @@ skipped h i j from past found first rest background begins none within each shor
     left k low high e = each k (omega (arith, low)) high e
 
 -- an element whose index is the first
-painted : (h : ℕ → List Thing) (i j from past : ℕ) (ys : List ℕ) (first rest : List Thing) (background : Rgb) → h from ≡ first → IsStrictlySortedBy nat_cmp (from ∷ ys) →
+painted : (h : ℕ → List Thing) (i j from past : ℕ) (ys : List ℕ) (first rest : List Thing) (background : Option Rgb) → h from ≡ first → IsStrictlySortedBy nat_cmp (from ∷ ys) →
     AreFrom from past (from ∷ ys) → HasEach (λ k. list_any (λ t. covers t i j) (h k)) from past (from ∷ ys) →
     (AreFrom (from + 1) past ys → HasEach (λ k. list_any (λ t. covers t i j) (h k)) (from + 1) past ys →
     colour_at (colour_at background first i j) (flat_map h ys) i j ≡ colour_at (colour_at background first i j) rest i j) →
@@ -102,7 +102,7 @@ painted h i j from past ys first rest background begins rising within each other
         (first_or from k ys (each k (omega (arith, low)) high e))
 
 -- from an index on: what each index gives is what the elements give
-from-on : (f : FeatureFields → List Thing) (h : ℕ → List Thing) (i j : ℕ) (xs : List FeatureFields) (from past : ℕ) (found : List ℕ) (background : Rgb) →
+from-on : (f : FeatureFields → List Thing) (h : ℕ → List Thing) (i j : ℕ) (xs : List FeatureFields) (from past : ℕ) (found : List ℕ) (background : Option Rgb) →
     past ≡ from + length xs → ((k : ℕ) (x : FeatureFields) → slice_get xs k ≡ Some x → h (from + k) ≡ f x) → IsStrictlySortedBy nat_cmp found → AreFrom from past found →
     HasEach (λ k. list_any (λ t. covers t i j) (h k)) from past found →
     colour_at background (flat_map h found) i j ≡ colour_at background (flat_map f xs) i j

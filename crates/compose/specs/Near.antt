@@ -52,7 +52,7 @@ things_at f xs index = option_map_or f (slice_get xs index) []
 
 -- the law: painting candidates in their order is painting all, where each whose things cover a pixel of the picture is a candidate
 abbrev pub CandidatesPaintAll : Type 0
-CandidatesPaintAll = (f : FeatureFields → List Thing) (features : List FeatureFields) (found : List ℕ) (background : Rgb) (i j : ℕ) →
+CandidatesPaintAll = (f : FeatureFields → List Thing) (features : List FeatureFields) (found : List ℕ) (background : Option Rgb) (i j : ℕ) →
     IsStrictlyIncreasing found → All (λ k. k < length features) found →
     ((k : ℕ) (feature : FeatureFields) → slice_get features k ≡ Some feature → list_any (λ thing. covers thing i j) (f feature) ≡ true → Contains found k) →
     colour_at background (flat_map (things_at f features) found) i j ≡ colour_at background (flat_map f features) i j

@@ -3,7 +3,7 @@ ghost use Rattle.std.specs.Prelude.{◌≡◌, length};
 use crate::painted_maps::{letters_of, map_of_two};
 use compose::picture;
 use geom::{Micro, PictureSide, WorldBox};
-use mapdefs::{AllFeatures, Map, Near, Rgb};
+use mapdefs::{AllFeatures, Map, Near};
 use scaledenom::Scale;
 use std::alloc::{AllocError, Global};
 use test_tables::{TableFault, check_rows};
@@ -48,16 +48,7 @@ fn drawn_in_window(alloc: Global, map: &Map, margin: u16) -> Result<String, Allo
     let window = view.window(margin.min(MAX_MARGIN));
     let near = InWindow { alloc, map, window };
     let scale = Scale::of(280_000, PictureSide::new(1).unwrap());
-    let (red, green, blue) = (255, 255, 255);
-    match picture(
-        alloc,
-        map,
-        &near,
-        view,
-        scale,
-        &[0],
-        Rgb { red, green, blue },
-    ) {
+    match picture(alloc, map, &near, view, scale, &[0], None) {
         Ok(picture) => letters_of(alloc, &picture),
         Err(_) => format!(in alloc; "no memory"),
     }
@@ -73,13 +64,13 @@ fn told(alloc: Global, row: &str) -> Result<String, AllocError> {
 }
 
 const WINDOWS: &str = "\
-.... #... #... #...=3 point #--3/- none;-5,20
+____ #___ #___ #___=3 point #--3/- none;-5,20
 no memory=2 point #--3/- none;-5,20
 no memory=4 point #--3/- none;-5,20
-###. #oo. #oo. ....=3 point #--3/o--2 none;15,25
-###. #oo. #oo. ....=7 point #--3/o-72 none;15,25
+###_ #oo_ #oo_ ____=3 point #--3/o--2 none;15,25
+###_ #oo_ #oo_ ____=7 point #--3/o-72 none;15,25
 no memory=3 point #--3/o-72 none;15,25
-.... .oo. .oo. ....=5 polygon o-5/- none;10,10 30,10 30,30 10,30
+____ _oo_ _oo_ ____=5 polygon o-5/- none;10,10 30,10 30,30 10,30
 no memory=1 polygon o-5/- none;10,10 30,10 30,30 10,30
 no memory=4096 polygon o-5/- none;10,10 30,10 30,30 10,30";
 
