@@ -1,11 +1,13 @@
-//! Tests of the placement of labels, by its public calls alone: each test checks a value that was worked by
-//! hand, or compares with a plain program that reads the rule literally.
+//! Tests of the placement of labels and of their ink, by public calls alone: each test checks a value that was
+//! worked by hand, or compares with a plain program that reads the rule literally.
 #![tactic(auto)]
 
 #[cfg(test)]
 mod entries;
 #[cfg(test)]
 mod fonts;
+#[cfg(test)]
+mod inked_texts;
 #[cfg(test)]
 mod plain_program;
 #[cfg(test)]
