@@ -20,8 +20,8 @@ fn find(glyphs: &[Glyph], encoding: u32) -> Option<&Glyph>
     }
 }
 
-// The glyph that a character has in a font: its own, else that of the question mark.
-fn glyph_of(glyphs: &[Glyph], character: u32) -> Option<&Glyph>
+/// The glyph that a character has in a font, by the glyphs of that: its own, else that of the question mark.
+pub fn glyph_of(glyphs: &[Glyph], character: u32) -> Option<&Glyph>
     requires { IsRising glyphs.now }
     ensures { MatchOption result (glyph_of glyphs.now character ≡ None) (λ g. glyph_of glyphs.now character ≡ Some g.now) }
 {
@@ -42,8 +42,8 @@ fn advance_of(glyphs: &[Glyph], character: u32) -> u8
     }
 }
 
-// The first character of a text, and the text after it.
-fn split_char(text: &str) -> Option<(u32, &str)>
+/// The first character of a text, and the text after it.
+pub fn split_char(text: &str) -> Option<(u32, &str)>
     ensures chars { MatchOption result (chars text.now ≡ []) (λ p. chars text.now ≡ p.0 ∷ chars p.1.now) }
     ensures shorter { IfSome result (λ p. length p.1.now < length text.now) }
     ensures utf8 { IfSome result (λ p. IsUtf8 p.1.now) }
@@ -128,6 +128,20 @@ fn bottom_of(top: i64, font: BitmapBox, bounds: BitmapBox) -> i64
     ensures range { IsBelow (2 ^ 46) result }
 {
     last_row(top, font.height) + i64::from(font.yoff) - i64::from(bounds.yoff)
+}
+
+/// The leftmost column and the first row of a glyph's box, in a text with its upper left pixel at a pixel
+/// and this box of its font, where the pen has advanced so far.
+pub fn corner_of(font: BitmapBox, at: Pixel, pen: u32, bounds: BitmapBox) -> (i64, i64)
+    requires { pen ≤ 2 ^ 16 }
+    ensures left { result.0 ≡ left_of at.i pen bounds }
+    ensures top { result.1 ≡ first_row (bottom_of at.j font bounds) bounds.height }
+    ensures columns { IsBelow (2 ^ 47) result.0 }
+    ensures rows { IsBelow (2 ^ 47) result.1 }
+{
+    let left = left_of(at.i(), pen, bounds);
+    let bottom = bottom_of(at.j(), font, bounds);
+    (left, first_row(bottom, bounds.height))
 }
 
 // How far a column or a row is past another one, if it is not before it.

@@ -1,0 +1,115 @@
+use crate::entries::side;
+use crate::fonts::font_of;
+use bdffont::is_short;
+use geom::{PictureSide, Pixel};
+use labelink::{GlyphPlace, text_glyphs};
+use mapdefs::Font;
+use scanfill::{Cover, Spans};
+use std::alloc::{AllocError, Global};
+use test_tables::{TableFault, check_rows, numbers};
+
+// The glyphs of a short text.
+fn glyphs_of<'a>(
+    alloc: Global,
+    font: &'a Font,
+    text: &str,
+    at: Pixel,
+) -> Result<Vec<GlyphPlace<'a>>, AllocError> {
+    if is_short(text) {
+        text_glyphs(alloc, font, text, at)
+    } else {
+        Err(AllocError)
+    }
+}
+
+// The pixel of a column and a row. That of a row is within the limits.
+fn pixel([i, j]: [i64; 2]) -> Pixel {
+    Pixel::new(i.clamp(-100, 100), j.clamp(-100, 100))
+}
+
+// Whether a glyph covers a pixel, by its rows, or nothing where it says something else of the pixel by itself.
+fn is_covered(
+    glyph: &GlyphPlace<'_>,
+    spans: &mut Spans,
+    width: PictureSide,
+    i: u16,
+    j: u16,
+) -> Result<Option<bool>, AllocError> {
+    let (i, j) = (i.min(2_047), j.min(2_047));
+    glyph.row(j, width, spans)?;
+    let is_in = spans
+        .as_slice()
+        .iter()
+        .any(|span| span.from <= i && i < span.to);
+    if is_in == glyph.covers(i, j) {
+        Ok(Some(is_in))
+    } else {
+        Ok(None)
+    }
+}
+
+// The mark of a pixel: `#` where one of the glyphs covers it, `.` where none does, and `?` where one of them
+// says two things of it.
+fn mark(
+    glyphs: &[GlyphPlace<'_>],
+    spans: &mut Spans,
+    width: PictureSide,
+    i: u16,
+    j: u16,
+) -> Result<char, AllocError> {
+    let mut mark = '.';
+    for glyph in glyphs {
+        match is_covered(glyph, spans, width, i, j)? {
+            Some(true) => mark = '#',
+            Some(false) => {}
+            None => return Ok('?'),
+        }
+    }
+    Ok(mark)
+}
+
+// Draws 8 columns of 5 rows, each row with a `/` after it.
+fn draw(out: &mut String, alloc: Global, glyphs: &[GlyphPlace<'_>]) -> Result<(), AllocError> {
+    let width = side(8);
+    let mut spans = Spans::new(alloc);
+    for j in 0..5_u16 {
+        for i in 0..8_u16 {
+            out.push(mark(glyphs, &mut spans, width, i, j)?)?;
+        }
+        out.push('/')?;
+    }
+    Ok(())
+}
+
+// What is drawn of a row: the name of a font, a text, and the column and the row of its upper left pixel.
+fn drawn(alloc: Global, row: &str) -> Result<String, AllocError> {
+    let (name, row) = row.split_once('|').ok_or(AllocError)?;
+    let (text, at) = row.split_once('|').ok_or(AllocError)?;
+    let font = font_of(alloc, name)?;
+    let at = pixel(numbers::<2>(at, ' ').ok_or(AllocError)?);
+    let glyphs = glyphs_of(alloc, &font, text, at)?;
+    let mut picture = String::new(alloc);
+    draw(&mut picture, alloc, &glyphs)?;
+    Ok(picture)
+}
+
+const TEXTS: &str = "\
+......../.##.##../.#..#.../......../......../=tiny|AA|1 1
+# off the picture on each side
+......../......../......../#......./......../=tiny|A|-1 3
+......../......../......../......../.......#/=tiny|A|7 4
+#......./......../......../......../......../=tiny|A|0 -1
+......../......../......../......../......../=tiny|A|8 0
+......../......../......../......../......../=tiny|A|0 5
+# a character without a glyph has no ink, and doesn't end the text
+..##..../..#...../......../......../......../=tiny|BA|2 0
+..##.##./..#..#../......../......../......../=tiny|ABA|2 0
+......../......../......../......../......../=tiny||2 0
+# glyphs stand by their advances and offsets
+......../......../......../.#.#..../......../=uneven|AB|1 0
+......../......../......../.#....#./......../=uneven|BA|1 0";
+
+#[test]
+fn texts_have_worked_glyphs(rt: HostRuntime) -> Result<(), TableFault> {
+    check_rows(rt.alloc(), TEXTS, '=', 11, drawn)
+}

@@ -1,0 +1,14 @@
+//! Tests of the placement of labels and of their ink, by public calls alone: each test checks a value that was
+//! worked by hand, or compares with a plain program that reads the rule literally.
+#![tactic(auto)]
+
+#[cfg(test)]
+mod entries;
+#[cfg(test)]
+mod fonts;
+#[cfg(test)]
+mod inked_texts;
+#[cfg(test)]
+mod plain_program;
+#[cfg(test)]
+mod worked_labels;

@@ -1,0 +1,211 @@
+use crate::entries::{Entry, label_of, placed_of, plain_label, side};
+use crate::fonts::font_of;
+use labelcache::Placed;
+use mapdefs::{LabelFields, Position, Rgb};
+use std::alloc::{AllocError, Global};
+use test_tables::{TableFault, check_rows};
+
+// The position of its word in a mapfile.
+fn position_of(word: &str) -> Position {
+    match word {
+        "UL" => Position::UpperLeft,
+        "UC" => Position::UpperCentre,
+        "UR" => Position::UpperRight,
+        "CL" => Position::CentreLeft,
+        "CR" => Position::CentreRight,
+        "LL" => Position::LowerLeft,
+        "LC" => Position::LowerCentre,
+        "LR" => Position::LowerRight,
+        "AUTO" => Position::Automatic,
+        _ => Position::Centre,
+    }
+}
+
+// Sets what a word says: `F` for FORCE, `P` for PARTIALS, `o` for an outline, `n` for no colour, a priority as
+// `p2`, a buffer as `b3`, a distance as `d5`, and else a position.
+fn set(label: &mut LabelFields, word: &str) {
+    if word == "F" {
+        label.force = true;
+    } else if word == "P" {
+        label.partials = true;
+    } else if word == "o" {
+        label.outline = label.colour;
+    } else if word == "n" {
+        label.colour = None;
+    } else if let Some(priority) = word.strip_prefix('p') {
+        label.priority = priority.parse::<u8>().unwrap_or(0);
+    } else if let Some(buffer) = word.strip_prefix('b') {
+        label.buffer = buffer.parse::<u8>().unwrap_or(0);
+    } else if let Some(distance) = word.strip_prefix('d') {
+        label.mindistance = distance.parse::<u16>().unwrap_or(0);
+    } else {
+        label.position = position_of(word);
+    }
+}
+
+// The text of a row's word.
+fn text_of(word: &str) -> Option<&'static str> {
+    match word {
+        "A" => Some("A"),
+        "AA" => Some("AA"),
+        "AB" => Some("AB"),
+        "B" => Some("B"),
+        _ => None,
+    }
+}
+
+// A candidate as its text, the column and the row of its anchor, and words of its label.
+fn entry(row: &str) -> Option<Entry> {
+    let mut words = row.split(' ');
+    let text = text_of(words.next()?)?;
+    let i = words.next()?.parse::<i64>().ok()?;
+    let j = words.next()?.parse::<i64>().ok()?;
+    let mut fields = plain_label();
+    for word in words {
+        set(&mut fields, word);
+    }
+    Some(Entry {
+        text,
+        i,
+        j,
+        label: label_of(fields),
+    })
+}
+
+// The candidates that `;` parts. A malformed one ends a test as one for which memory is refused.
+fn entries(alloc: Global, list: &str) -> Result<Vec<Entry>, AllocError> {
+    let mut entries = Vec::new(alloc);
+    for row in list.split(';') {
+        let entry = entry(row).ok_or(AllocError)?;
+        entries.push(entry)?;
+    }
+    Ok(entries)
+}
+
+// The labels of a row: the name of a font, the sides of a square picture, and the candidates.
+fn placed(alloc: Global, row: &str) -> Result<Vec<Placed>, AllocError> {
+    let (page, list) = row.split_once('|').ok_or(AllocError)?;
+    let (name, pixels) = page.split_once(' ').ok_or(AllocError)?;
+    let side = side(pixels.parse::<i64>().unwrap_or(0));
+    let font = font_of(alloc, name)?;
+    let entries = entries(alloc, list)?;
+    placed_of(alloc, side, side, &font, &entries)
+}
+
+// Adds where a label stands, as its number, the upper left pixel of its text, and its box.
+fn tell(out: &mut String, label: &Placed) -> Result<(), AllocError> {
+    let (at, taken) = (label.at, label.taken);
+    write!(out, "{}@{},{}", label.number, at.i(), at.j())?;
+    write!(
+        out,
+        ":{},{}-{},{} ",
+        taken.left(),
+        taken.top(),
+        taken.right(),
+        taken.bottom()
+    )
+}
+
+// What is told of all labels of a row, in their order.
+fn told(alloc: Global, row: &str) -> Result<String, AllocError> {
+    let labels = placed(alloc, row)?;
+    let mut text = String::new(alloc);
+    for label in labels.as_slice() {
+        tell(&mut text, label)?;
+    }
+    Ok(text)
+}
+
+// Texts of `tiny` are 3 pixels wide for each A, without any width for a B, and 2 high; of `uneven` 2 for each A,
+// 5 for each B, and 5 high; of `flat` 3 for each A, and without height.
+const PLACED: &str = "\
+# the higher number stands at the first position, and the other at the second
+1@5,2:5,2-8,4 0@1,2:1,2-4,4 =tiny 10|A 4 4 AUTO;A 4 4 AUTO
+# a higher priority goes first, whatever the numbers
+1@3,3:3,3-6,5 =tiny 10|A 4 4 p2;A 4 4 p3;A 4 4 p2
+0@3,3:3,3-6,5 2@3,6:3,6-6,8 1@3,0:3,0-6,2 =tiny 10|A 4 4 p10;A 4 1;A 4 7 p9
+# with FORCE labels stand over others, and keep later ones away
+1@3,3:3,3-6,5 0@3,3:3,3-6,5 =tiny 10|A 4 4 F;A 4 4 F
+1@3,3:3,3-6,5 0@3,3:3,3-6,5 =tiny 10|A 4 4 F;A 4 4
+1@3,3:3,3-6,5 =tiny 10|A 4 4;A 4 4 F
+# without PARTIALS the whole box lies in the picture, with FORCE too
+=tiny 10|A 0 4 F
+0@-1,3:-1,3-2,5 =tiny 10|A 0 4 F P
+0@0,0:0,0-3,2 =tiny 3|A 1 1
+=tiny 2|A 1 1
+0@0,0:0,0-3,2 =tiny 2|A 1 1 P
+# boxes that share pixels off the picture alone collide
+1@-3,3:-3,3-0,5 =tiny 10|A 0 4 CL P;A 0 4 CL P
+1@-2,-2:-2,-2-1,0 0@-5,-2:-5,-2--2,0 =tiny 10|A -4 -1 P;A -1 -1 P
+# equal texts keep the distance of the candidate that is tried
+1@5,3:5,3-8,5 0@1,3:1,3-4,5 =tiny 10|A 2 4 d4;A 6 4 d4
+1@5,3:5,3-8,5 =tiny 10|A 2 4 d5;A 6 4 d5
+1@5,6:5,6-8,8 0@1,3:1,3-4,5 =tiny 10|A 2 4 d5;A 6 7
+1@5,6:5,6-8,8 =tiny 10|A 2 4 d6;A 6 7
+1@5,3:5,3-8,5 0@1,3:1,3-4,5 =tiny 10|A 2 4;A 6 4 d9
+1@5,3:5,3-8,5 =tiny 10|A 2 4 d9;A 6 4
+1@5,3:5,3-8,5 0@1,3:1,3-4,5 =tiny 10|A 2 4 d9 F;A 6 4
+# other texts don't
+1@4,3:4,3-10,5 0@1,3:1,3-4,5 =tiny 10|A 2 4 d9;AA 7 4 d9
+# the buffer and an outline widen the box on all four sides
+0@3,3:1,1-8,7 =tiny 10|A 4 4 b2
+0@3,3:2,2-7,6 =tiny 10|A 4 4 o
+0@3,3:0,0-9,8 =tiny 10|A 4 4 b2 o
+=tiny 10|A 4 4 b3 o
+0@3,3:0,0-9,8 =tiny 10|A 4 4 b3
+1@3,3:2,2-7,6 =tiny 10|A 4 6;A 4 4 o
+1@3,3:3,3-6,5 0@3,5:3,5-6,7 =tiny 10|A 4 6;A 4 4
+# a label without a colour takes its room
+1@3,3:3,3-6,5 =tiny 10|A 4 4;A 4 4 n
+# the sides of texts, and boxes without a pixel
+0@1,3:1,3-7,5 =tiny 10|AA 4 4
+1@4,3:4,3-4,5 0@3,3:3,3-6,5 =tiny 10|A 4 4;B 4 4
+1@4,3:3,2-5,6 =tiny 10|A 4 4;B 4 4 b1
+1@3,4:3,4-6,4 0@3,4:3,4-6,4 =flat 10|A 4 4;A 4 4
+1@3,4:3,4-6,4 =flat 10|A 4 4 d1;A 4 4
+# odd sides are halved downwards
+0@13,15:13,15-20,20 =uneven 40|AB 20 20 UL
+0@17,15:17,15-24,20 =uneven 40|AB 20 20 UC
+0@21,15:21,15-28,20 =uneven 40|AB 20 20 UR
+0@13,18:13,18-20,23 =uneven 40|AB 20 20 CL
+0@17,18:17,18-24,23 =uneven 40|AB 20 20 CC
+0@21,18:21,18-28,23 =uneven 40|AB 20 20 CR
+0@13,21:13,21-20,26 =uneven 40|AB 20 20 LL
+0@17,21:17,21-24,26 =uneven 40|AB 20 20 LC
+0@21,21:21,21-28,26 =uneven 40|AB 20 20 LR";
+
+#[test]
+fn labels_stand_at_worked_places(rt: HostRuntime) -> Result<(), TableFault> {
+    check_rows(rt.alloc(), PLACED, '=', 43, told)
+}
+
+// What is told of the first candidate of a row: the upper left pixel of its text, or `-`.
+fn told_first(alloc: Global, row: &str) -> Result<String, AllocError> {
+    let labels = placed(alloc, row)?;
+    for label in labels.as_slice() {
+        if label.number == 0 {
+            let at = label.at;
+            return format!(in alloc; "{},{}", at.i(), at.j());
+        }
+    }
+    format!(in alloc; "-")
+}
+
+// Each row keeps the text from one position more: by a label that overlaps none that are tried later.
+const AUTOMATIC: &str = "\
+15,12=tiny 30|A 14 14 AUTO
+11,12=tiny 30|A 14 14 AUTO;A 18 12 F
+15,15=tiny 30|A 14 14 AUTO;A 18 12 F;A 10 12 F
+11,15=tiny 30|A 14 14 AUTO;A 18 12 F;A 10 12 F;A 18 17 F
+15,13=tiny 30|A 14 14 AUTO;A 18 12 F;A 10 12 F;A 18 17 F;A 10 17 F
+11,13=tiny 30|A 14 14 AUTO;A 18 12 F;A 10 12 F;A 18 17 F;A 10 17 F;A 18 15 F
+13,12=tiny 30|A 14 14 AUTO;A 18 12 F;A 10 12 F;A 18 17 F;A 10 17 F;A 18 15 F;A 10 15 F
+13,15=tiny 30|A 14 14 AUTO;A 18 12 F;A 10 12 F;A 18 17 F;A 10 17 F;A 18 15 F;A 10 15 F;A 14 12 F
+-=tiny 30|A 14 14 AUTO;A 18 12 F;A 10 12 F;A 18 17 F;A 10 17 F;A 18 15 F;A 10 15 F;A 14 12 F;A 14 17 F
+# a label that says where it stands is tried there alone
+-=tiny 30|A 14 14 UR;A 18 12 F";
+
+#[test]
+fn automatic_labels_take_the_first_free_position(rt: HostRuntime) -> Result<(), TableFault> {
+    check_rows(rt.alloc(), AUTOMATIC, '=', 10, told_first)
+}

@@ -1,0 +1,82 @@
+ghost use Rattle.std.specs.Prelude.{◌≡◌, [], ◌∷◌, ◌++◌, IfOk, OnOk, OnErr};
+ghost use Rattle.labelcache.specs.Placement.{IsPlacement, setting};
+
+use crate::candidate::Candidate;
+use crate::order::place_priority;
+use crate::page::Page;
+use crate::placing::Placing;
+use geom::{PictureSide, Pixel, PxBox};
+use mapdefs::{Font, MAX_PRIORITY};
+use std::alloc::{AllocError, Global};
+use std::marker::Model;
+
+/// A label that is placed: the number of its candidate, the upper left pixel of its text, and the box that
+/// it takes.
+#[derive(Clone, Copy)]
+pub struct Placed {
+    pub number: usize,
+    pub at: Pixel,
+    pub taken: PxBox,
+}
+
+/// The candidates of a picture, by their numbers: how many were added before each.
+#[derive(Drop)]
+pub struct Cache<'a> {
+    candidates: Vec<Candidate<'a>>,
+}
+
+impl<'a> Model for Cache<'a> {
+    ghost use Rattle.std.specs.Prelude.{List};
+    ghost use Rattle.labelcache.specs.Candidate.{AreWithinPriorities, CandidateValue};
+
+    ghost Value = { List CandidateValue };
+
+    ghost view = { λ c. c.candidates.items };
+
+    ghost invariant = { λ c. AreWithinPriorities c.candidates.items };
+}
+
+impl<'a> Cache<'a> {
+    /// No candidates. It takes no memory.
+    pub fn new(alloc: Global) -> Self
+        ensures { result ≡ [] }
+    {
+        Cache {
+            candidates: Vec::new(alloc),
+        }
+    }
+
+    /// Adds a candidate. Where memory is refused nothing changes.
+    pub fn add(&mut self, candidate: Candidate<'a>) -> Result<(), AllocError>
+        ensures ok { OnOk result (self.new ≡ self.old ++ candidate.entry ∷ []) }
+        ensures err { OnErr result (self.new ≡ self.old) }
+    {
+        self.candidates.push(candidate)?;
+        Ok(())
+    }
+}
+
+impl Cache<'_> {
+    /// The placement of the candidates on a picture of that width and height, with the font.
+    ///
+    /// It takes memory for the labels, and for what tests ask of them.
+    pub fn place(
+        &self,
+        alloc: Global,
+        width: PictureSide,
+        height: PictureSide,
+        font: &Font,
+    ) -> Result<Vec<Placed>, AllocError>
+        ensures { IfOk result (λ labels. IsPlacement (setting (record { width = width; height = height; font = font.now }) self.now) labels.items) }
+    {
+        let page = Page::new(width, height, font);
+        let candidates = self.candidates.as_slice();
+        let mut placing = Placing::new(alloc, width, height)?;
+        let mut priority = MAX_PRIORITY;
+        while priority > 0 {
+            place_priority(&mut placing, &page, candidates, priority)?;
+            priority -= 1;
+        }
+        Ok(placing.into_labels())
+    }
+}

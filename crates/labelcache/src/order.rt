@@ -1,0 +1,54 @@
+ghost use Rattle.std.specs.Prelude.{◌≡◌, ◌+◌, ◌≤◌, ◌<◌, length, OnOk};
+ghost use Rattle.labelcache.specs.Placement.{setting};
+ghost use Rattle.labelcache.specs.Placing.{IsPlacedTo};
+
+use crate::candidate::Candidate;
+use crate::page::Page;
+use crate::placing::Placing;
+use crate::trial::try_candidate;
+use std::alloc::AllocError;
+
+/// How far the order of trial has come: a number of a priority.
+#[derive(Clone, Copy)]
+pub struct Turn {
+    pub priority: u8,
+    pub number: usize,
+}
+
+// Tries the candidate of a number, if it has the priority.
+fn place_number<'a>(
+    placing: &mut Placing<'a>,
+    page: &Page<'_>,
+    candidates: &[Candidate<'a>],
+    turn: Turn,
+) -> Result<(), AllocError>
+    requires number { turn.number < length candidates.now }
+    requires placed { IsPlacedTo (setting page.now candidates.now) turn.priority (turn.number + 1) placing.old }
+    ensures { OnOk result (IsPlacedTo (setting page.now candidates.now) turn.priority turn.number placing.new) }
+{
+    let candidate = &candidates[turn.number];
+    if candidate.label().priority != turn.priority {
+        return Ok(());
+    }
+    try_candidate(placing, page, turn.number, candidate)?;
+    Ok(())
+}
+
+/// Tries the candidates of a priority, by falling numbers.
+pub fn place_priority<'a>(
+    placing: &mut Placing<'a>,
+    page: &Page<'_>,
+    candidates: &[Candidate<'a>],
+    priority: u8,
+) -> Result<(), AllocError>
+    requires { IsPlacedTo (setting page.now candidates.now) priority (length candidates.now) placing.old }
+    ensures { OnOk result (IsPlacedTo (setting page.now candidates.now) priority 0 placing.new) }
+{
+    let mut number = candidates.len();
+    while number > 0 {
+        number -= 1;
+        let turn = Turn { priority, number };
+        place_number(placing, page, candidates, turn)?;
+    }
+    Ok(())
+}

@@ -1,0 +1,135 @@
+ghost use Rattle.std.specs.Prelude.{◌≡◌, ◌↔◌, false, map, All, IsTrue, IfSome, IfNone, OnOk};
+ghost use Rattle.geom.specs.PxBox.{IsInside};
+ghost use Rattle.labelcache.specs.LabelBox.{place_at, positions, size_of, taken_at};
+ghost use Rattle.labelcache.specs.Placement.{IsClear};
+ghost use Rattle.labelcache.specs.Placing.{HasNoFree, HasNoPlace, IsFar, IsFirstFree, IsFirstPlace, IsFree, Tries};
+
+use crate::cache::Placed;
+use crate::candidate::Candidate;
+use crate::label_box::{AUTOMATIC, TextSize, place_at, size_of, taken_at};
+use crate::page::Page;
+use crate::placing::Placing;
+use geom::{Pixel, PxBox};
+use mapdefs::{LabelFields, Position};
+use std::alloc::AllocError;
+
+/// Where a text stands, and the box that it takes there.
+#[derive(Clone, Copy)]
+pub struct Spot {
+    pub at: Pixel,
+    pub taken: PxBox,
+}
+
+// The spot of a candidate, whose text has that size, at a position.
+fn spot_at(page: &Page<'_>, candidate: &Candidate<'_>, size: TextSize, position: Position) -> Spot
+    requires { size ≡ size_of page.now.font candidate.now.text }
+    ensures at { result.at ≡ place_at candidate.now.anchor (size_of page.now.font candidate.now.text) position }
+    ensures taken { result.taken ≡ taken_at page.now.font candidate.now result.at }
+{
+    let at = place_at(candidate.anchor(), size, position);
+    let taken = taken_at(at, size, candidate.label());
+    Spot { at, taken }
+}
+
+// Whether a box lies in the picture, or need not.
+fn is_shown(page: &Page<'_>, label: &LabelFields, taken: PxBox) -> bool
+    ensures { IsTrue result ↔ (label.now.partials ≡ false → IsInside taken page.now.width page.now.height) }
+{
+    label.partials || taken.inside(page.width(), page.height())
+}
+
+// Whether it is clear of the labels so far, or need not.
+fn is_clear(placing: &Placing<'_>, label: &LabelFields, taken: PxBox) -> bool
+    ensures { IsTrue result ↔ (label.now.force ≡ false → All (IsClear taken) placing.now.labels) }
+{
+    label.force || placing.is_clear(taken)
+}
+
+// Whether a label may take a box on the picture, against the labels so far.
+fn is_free(placing: &Placing<'_>, page: &Page<'_>, label: &LabelFields, taken: PxBox) -> bool
+    ensures { IsTrue result ↔ IsFree page.now label.now placing.now.labels taken }
+{
+    is_shown(page, label, taken) && is_clear(placing, label, taken)
+}
+
+// The first of some positions where a candidate's text is free.
+fn first_free(
+    placing: &Placing<'_>,
+    page: &Page<'_>,
+    candidate: &Candidate<'_>,
+    positions: &[Position],
+) -> Option<Spot>
+    ensures some { IfSome result (λ spot. IsFirstFree page.now placing.now.labels candidate.now (map (place_at candidate.now.anchor (size_of page.now.font candidate.now.text)) positions.now) spot.at spot.taken) }
+    ensures none { IfNone result (HasNoFree page.now placing.now.labels candidate.now (map (place_at candidate.now.anchor (size_of page.now.font candidate.now.text)) positions.now)) }
+{
+    let size = size_of(page.font(), candidate);
+    let label = candidate.label();
+    for position in positions {
+        let spot = spot_at(page, candidate, size, *position);
+        let taken = spot.taken;
+        if is_free(placing, page, label, taken) {
+            return Some(spot);
+        }
+    }
+    None
+}
+
+// The first of the positions that one stands for where a candidate's text is free.
+fn first_position(
+    placing: &Placing<'_>,
+    page: &Page<'_>,
+    candidate: &Candidate<'_>,
+    position: Position,
+) -> Option<Spot>
+    ensures some { IfSome result (λ spot. IsFirstFree page.now placing.now.labels candidate.now (map (place_at candidate.now.anchor (size_of page.now.font candidate.now.text)) (positions position)) spot.at spot.taken) }
+    ensures none { IfNone result (HasNoFree page.now placing.now.labels candidate.now (map (place_at candidate.now.anchor (size_of page.now.font candidate.now.text)) (positions position))) }
+{
+    match position {
+        Position::Automatic => first_free(placing, page, candidate, &AUTOMATIC),
+        position => first_free(placing, page, candidate, &[position]),
+    }
+}
+
+// Whether a candidate keeps its distance to the labels so far, or need not.
+fn is_far(placing: &Placing<'_>, candidate: &Candidate<'_>) -> bool
+    ensures { IsTrue result ↔ (candidate.now.label.force ≡ false → IsFar candidate.now placing.now.candidates) }
+{
+    candidate.label().force || placing.is_far(candidate)
+}
+
+// The first of a candidate's places where it fits, with the box that it takes there. Its distance doesn't
+// depend on the place, so it is tested once.
+fn first_place(placing: &Placing<'_>, page: &Page<'_>, candidate: &Candidate<'_>) -> Option<Spot>
+    ensures some { IfSome result (λ spot. IsFirstPlace page.now placing.now candidate.now spot.at spot.taken) }
+    ensures none { IfNone result (HasNoPlace page.now placing.now candidate.now) }
+{
+    if !is_far(placing, candidate) {
+        return None;
+    }
+    match first_position(placing, page, candidate, candidate.label().position) {
+        Some(spot) => Some(spot),
+        None => None,
+    }
+}
+
+/// Tries the candidate of that number against the labels so far: adds its label, if it has a place.
+pub fn try_candidate<'a>(
+    placing: &mut Placing<'a>,
+    page: &Page<'_>,
+    number: usize,
+    candidate: &Candidate<'a>,
+) -> Result<(), AllocError>
+    ensures { OnOk result (Tries page.now number candidate.now placing.old placing.new) }
+{
+    match first_place(placing, page, candidate) {
+        Some(spot) => {
+            let label = Placed {
+                number,
+                at: spot.at,
+                taken: spot.taken,
+            };
+            placing.add(label, candidate.copy())
+        }
+        None => Ok(()),
+    }
+}

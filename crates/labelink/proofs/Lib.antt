@@ -1,0 +1,3 @@
+pub mod Boxed
+pub mod Inked
+pub mod Laying
