@@ -283,21 +283,23 @@ fn three_pixels(alloc: Global) -> Result<Option<Picture>, AllocError> {
     Ok(picture(side(3), side(1), pixels))
 }
 
-#[test]
-fn pictures_are_written_as_pixmaps(rt: HostRuntime) -> Result<(), Fail> {
-    let picture = three_pixels(rt.alloc())?.unwrap();
-    assert_eq!(rt;
-        write_ppm(rt.alloc(), &picture)?.as_slice(),
-        b"P6\n3 1\n255\n\x0a\x14\x02\0\0\0\x0a\x14\x05".as_slice()
-    );
-    Ok(())
+// The bytes of that picture as a pixmap and as an arbitrary map, none where it isn't one.
+fn both_written(alloc: Global) -> Result<(Items<u8>, Items<u8>), AllocError> {
+    match three_pixels(alloc)? {
+        Some(picture) => Ok((write_ppm(alloc, &picture)?, write_pam(alloc, &picture)?)),
+        None => Ok((Items::new(alloc), Items::new(alloc))),
+    }
 }
 
 #[test]
-fn pictures_are_written_as_arbitrary_maps(rt: HostRuntime) -> Result<(), Fail> {
-    let picture = three_pixels(rt.alloc())?.unwrap();
+fn pictures_are_written_in_both_formats(rt: HostRuntime) -> Result<(), Fail> {
+    let (pixmap, arbitrary_map) = both_written(rt.alloc())?;
     assert_eq!(rt;
-        write_pam(rt.alloc(), &picture)?.as_slice(),
+        pixmap.as_slice(),
+        b"P6\n3 1\n255\n\x0a\x14\x02\0\0\0\x0a\x14\x05".as_slice()
+    );
+    assert_eq!(rt;
+        arbitrary_map.as_slice(),
         b"P7\nWIDTH 3\nHEIGHT 1\nDEPTH 4\nMAXVAL 255\nTUPLTYPE RGB_ALPHA\nENDHDR\n\
         \x0a\x14\x02\xff\0\0\0\0\x0a\x14\x05\xff"
             .as_slice()

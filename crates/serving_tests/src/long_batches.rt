@@ -2,7 +2,6 @@ use crate::map_replies::map_of;
 use mapdefs::{Items, Kind, Layer, Text};
 use mapmachine::{BatchError, MAX_BATCH, Machine};
 use std::alloc::{AllocError, Global};
-use std::test::Fail;
 use test_maps::layer_fields;
 use test_tables::{TableFault, check_rows};
 
@@ -92,11 +91,6 @@ fn a_batch_has_at_most_so_many_bytes(rt: HostRuntime) -> Result<(), TableFault> 
     check_rows(rt.alloc(), LENGTHS, '=', 3, told_of_length)
 }
 
-// Asks for what can be sent to other threads, and read from several at a time. The layers of a machine are a part of it.
-fn is_for_threads<T: Send + Sync>(_value: &T) -> bool {
-    true
-}
-
 // The sequences of a machine and of its copy, where the copy was changed, and then of both where the first was too.
 fn told_of_copy(alloc: Global) -> Result<(u64, u64, u64, u64), AllocError> {
     let mut first = machine(alloc, 5)?;
@@ -106,12 +100,6 @@ fn told_of_copy(alloc: Global) -> Result<(u64, u64, u64, u64), AllocError> {
     let _ = first.batch(b"");
     let _ = first.batch(b"CLEAR p\n");
     Ok((between.0, between.1, first.sequence(), copy.sequence()))
-}
-
-#[test]
-fn a_machine_is_for_threads(rt: HostRuntime) -> Result<(), Fail> {
-    assert!(rt; is_for_threads(&machine(rt.alloc(), 0)?));
-    Ok(())
 }
 
 #[test]

@@ -4,7 +4,7 @@ use Rattle.std.specs.Io.KnownBytes.{Keeps}
 use Rattle.std.proofs.KnownBytes.{Appends-kept}
 use Rattle.mapdefs.specs.declared.map.MapFields.{MapFields}
 use Rattle.sessions.specs.Folder.{Giving, ComesTo}
-use Rattle.sessions.specs.Forms.{HasReadFile, HasReadMap, IsUnread, RunsTo, TellsUnread}
+use Rattle.sessions.specs.Forms.{ChecksTo, HasReadFile, HasReadMap, IsUnread, RunsTo, SumsUp, TellsUnread}
 use Rattle.scripts.specs.Sent.{IsSent}
 use Rattle.sessions.specs.Session.{Streams, HasRead, EndsOn, IsTold, Tells, is_file_failed}
 use Rattle.sessions.specs.declared.outcome.Outcome.{Outcome}
@@ -52,6 +52,20 @@ ran gives WordsRefused file script before after old new failed map bytes read re
 ran gives InputFailed file script before after old new failed map bytes read read_script ends kept = absurd ends.1
 ran gives NoMemory file script before after old new failed map bytes read read_script ends kept =
     (ends, inr (record { map = map; read = read; unread = kept }))
+
+-- what is told of a map whose line was written, by the outcome
+pub checked : (gives : Giving) (explains : Bool) (outcome : Outcome) (name : List ℕ) (old new : Streams) (failed : Bool) (map : MapFields) →
+    HasReadMap gives old.input new.input map → SumsUp outcome map old.output new.output → Keeps old.errors new.errors → ChecksTo gives explains outcome name old new failed
+checked gives explains Checked name old new failed map read sums kept = record { map = map; read = read; sums = sums; errors = kept }
+checked gives explains OutputFailed name old new failed map read sums kept = record { map = map; read = read; sums = sums; errors = kept }
+checked gives explains Played name old new failed map read sums kept = absurd sums
+checked gives explains Served name old new failed map read sums kept = absurd sums
+checked gives explains MapfileFault name old new failed map read sums kept = absurd sums
+checked gives explains FileFailed name old new failed map read sums kept = absurd sums
+checked gives explains WordsRefused name old new failed map read sums kept = absurd sums
+checked gives explains InputFailed name old new failed map read sums kept = absurd sums
+checked gives explains SocketFailed name old new failed map read sums kept = absurd sums
+checked gives explains NoMemory name old new failed map read sums kept = absurd sums
 
 -- a script that was not read after its mapfile was told by its name
 pub script-told : (outcome : Outcome) (file script : List ℕ) (a b : Option (List ℕ)) (failed file_before file_after script_before script_after : Bool) (untouched : Type 0) →
