@@ -138,17 +138,17 @@ fn times_of(takes: u64, way: &str) -> Times<'_> {
 // What is told of a reader, the time of whose head begins at 7 seconds.
 fn told_of_reads(alloc: Global, times: &Times<'_>) -> Result<String, AllocError> {
     times.now.set(7);
-    let Ok(limit) = TimeLimit::start(times, HEAD_SECONDS) else {
+    let Ok(limit) = TimeLimit::start(&*times, HEAD_SECONDS) else {
         return Err(AllocError);
     };
     times.now.set(12);
-    let mut reader = TimedReader::new(Slow(times), times, limit);
-    told_of_calls(alloc, times, || reader.read(&mut [0]).is_ok())
+    let mut reader = TimedReader::new(Slow(&*times), &*times, limit);
+    told_of_calls(alloc, &*times, || reader.read(&mut [0]).is_ok())
 }
 
 fn told_of_writes(alloc: Global, times: &Times<'_>) -> Result<String, AllocError> {
-    let mut writer = TimedWriter::new(Slow(times), times);
-    told_of_calls(alloc, times, || writer.write(&[0]).is_ok())
+    let mut writer = TimedWriter::new(Slow(&*times), &*times);
+    told_of_calls(alloc, &*times, || writer.write(&[0]).is_ok())
 }
 
 fn told(alloc: Global, row: &str) -> Result<String, AllocError> {
