@@ -6,6 +6,7 @@ pub mod Digits
 pub mod Integers
 pub mod Lines
 pub mod Numerals
+pub mod OneText
 pub mod Products
 pub mod Quotients
 pub mod Readings

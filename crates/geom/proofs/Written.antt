@@ -86,7 +86,7 @@ point-after [] rest h = refl
 point-after (d ∷ ds) rest h = rw (digit-not d 46 (digits-cons d ds h).0 (omega arith)) (omega (arith, point-after ds rest (digits-cons d ds h).1))
 
 -- the decimal number of digits, a point and digits
-parts-read : (whole decimals : List ℕ) → list_all is_ascii_digit whole ≡ true → list_all is_ascii_digit decimals ≡ true → 1 ≤ length whole →
+pub parts-read : (whole decimals : List ℕ) → list_all is_ascii_digit whole ≡ true → list_all is_ascii_digit decimals ≡ true → 1 ≤ length whole →
     decimal_of (whole ++ 46 ∷ decimals) ≡ Some (record { whole = whole; decimals = decimals; exponent = pos 0 })
 parts-read whole decimals front back some =
     let text : List ℕ = whole ++ 46 ∷ decimals in
@@ -115,7 +115,7 @@ no-sign [] rest h some = absurd (omega arith)
 no-sign (d ∷ ds) rest h some = rw (digit-not d 45 (digits-cons d ds h).0 (omega arith), digit-not d 43 (digits-cons d ds h).0 (omega arith)) (refl, refl)
 
 -- six digits after the point make the number of millionths of all digits
-six-millionths : (whole decimals : List ℕ) (n : ℕ) → length decimals ≡ 6 → number_of (whole ++ decimals) ≡ n →
+pub six-millionths : (whole decimals : List ℕ) (n : ℕ) → length decimals ≡ 6 → number_of (whole ++ decimals) ≡ n →
     millionths_of (record { whole = whole; decimals = decimals; exponent = pos 0 }) ≡ n
 six-millionths whole decimals n six number =
     rw (number, six) (nearest-is (1000000 * (n * 10 ^ 0)) (10 ^ (6 + 0)) n (omega arith) (omega arith) (omega arith))

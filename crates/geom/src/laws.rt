@@ -2,7 +2,7 @@
 
 ghost use Rattle.geom.specs.Decimal.{NearestIsNearest};
 ghost use Rattle.geom.specs.Laws.{CrossingsLieOnTheLine, CrossingsStayLeft, RingsBeginAnywhere, RingsGoEitherWay, SharedEdgesCancel, TogetherIsInOne, TurnedEdgesCrossAlike};
-ghost use Rattle.geom.specs.Written.{WrittenIsRead};
+ghost use Rattle.geom.specs.Written.{OneText, WrittenIsRead};
 
 /// The rounding of decimal numbers gives the nearest whole number, and of two equally near ones the
 /// greater: of sizes that is the one away from zero.
@@ -14,6 +14,12 @@ pub fn nearest()
 /// digits, is read as that number.
 pub fn written()
     ensures { WrittenIsRead }
+{}
+
+/// Of the texts with a sign only below 0, no needless zero before the point and six digits behind it, the
+/// one that is written is the only one that is read as the number.
+pub fn one_text()
+    ensures { OneText }
 {}
 
 /// An edge crosses the same points at them or left of them whichever way it goes.

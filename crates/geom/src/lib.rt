@@ -2,6 +2,7 @@
 //!
 //! Proved: `Micro::read` reads the number that a decimal text means, by its clause `value`, and
 //! `laws::nearest` states that this is the nearest number of millionths. `Device::pixel` rounds down,
+//! `Micro::write` writes the one text of its form that means the number (`laws::one_text`),
 //! and `Edge::crosses_at_or_left` decides the crossings that the even-odd rule counts. Seven laws say what
 //! that rule means for edges that are turned, for rings and for two polygons (`specs/Laws.antt`).
 //! `PxBox::meets` and `WorldBox::meets` say whether two boxes share a pixel, and a place.
@@ -21,6 +22,7 @@ mod micro;
 mod pxbox;
 mod side;
 mod world;
+mod writing;
 
 pub use coordinate::Coordinate;
 pub use device::{Device, Pixel};

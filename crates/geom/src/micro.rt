@@ -1,8 +1,10 @@
-ghost use Rattle.std.specs.Prelude.{◌≡◌, ◌^◌, ◌<◌, IfOk};
+ghost use Rattle.std.specs.Prelude.{◌≡◌, ◌^◌, ◌<◌, ◌++◌, IfOk, OnOk};
 ghost use Rattle.geom.specs.Decimal.{limited};
 ghost use Rattle.geom.specs.Range.{IsWithin};
 
 use crate::decimal::{nearest, read_decimal, split_sign, with_sign};
+use crate::writing::write_size;
+use std::alloc::AllocError;
 use std::marker::Model;
 use thiserror::Error;
 
@@ -54,6 +56,7 @@ fn limited(limit: u64, is_negative: bool, size: u64) -> Result<Micro, NumberFaul
 impl Micro {
     ghost use Rattle.geom.specs.Decimal.{reading, whole_of};
     ghost use Rattle.geom.specs.Number.{count_of};
+    ghost use Rattle.geom.specs.Written.{written};
 
     /// That many millionths.
     pub const fn new(millionths: i64) -> Self
@@ -85,6 +88,18 @@ impl Micro {
             Some(size) => limited(limit, is_negative, size),
             None => Err(NumberFault::NotANumber),
         }
+    }
+
+    /// Adds the number as a text: a minus below 0, its whole part, a point and six digits. Of the texts of
+    /// that form without a needless zero before the point it is the only one that means the number
+    /// (`laws::one_text`). Where memory is refused, some front of the text may stand at the end of `out`.
+    pub fn write(self, out: &mut Vec<u8>) -> Result<(), AllocError>
+        ensures { OnOk result (out.new.items ≡ out.old.items ++ written self) }
+    {
+        if self.millionths < 0 {
+            out.push(b'-')?;
+        }
+        write_size(out, self.millionths.unsigned_abs())
     }
 
     /// The nearest whole number, a half away from zero.
