@@ -15,7 +15,6 @@ pub fn wanted(expected: Expected) -> &'static str {
         Expected::Flag(_) => "TRUE or FALSE",
         Expected::Scale(_) => "a number from -1000000000000 to 1000000000000",
         Expected::Rule => "a text, a list or an expression",
-        Expected::ConfigKey => "a key other than LABELFONT",
         Expected::West | Expected::South(_) => "a number from -1000 to 1000",
         Expected::East(..) => "a number up to 1000 that is greater than the first",
         Expected::North(..) => "a number up to 1000 that is greater than the second",

@@ -60,7 +60,7 @@ sound|MAP END
 2: x is no longitude in POINTS: a number from -1000 to 1000|MAP LAYER FEATURE POINTS 1 2~x
 2: 1001 is no latitude in POINTS: a number from -1000 to 1000|MAP LAYER FEATURE POINTS 1 2 3~1001
 2: (a) is no key of METADATA|MAP WEB METADATA a b~(a)
-1: LABELFONT is no value of CONFIG, which takes a key other than LABELFONT|MAP CONFIG LABELFONT
+1: (f) is no value of CONFIG, which takes a word or a quoted text|MAP CONFIG LABELFONT (f)
 2: the mapfile ends inside LAYER of line 2, which has no END|MAP~LAYER NAME a
 3: the mapfile ends inside LAYER of line 2, which has no END|MAP~LAYER~NAME
 7: the mapfile ends inside LABEL of line 5, which has no END|MAP~LAYER CLASS~style end~STYLE END~LABEL~COLOR 1 2~

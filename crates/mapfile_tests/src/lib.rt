@@ -7,6 +7,8 @@ mod explained;
 #[cfg(test)]
 mod faults;
 #[cfg(test)]
+mod fonts;
+#[cfg(test)]
 mod keywords;
 #[cfg(test)]
 mod layer_tables;

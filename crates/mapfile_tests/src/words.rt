@@ -27,7 +27,9 @@ const READ: &str = "\
 2 WrongValue:MAP EXTENT|1000.000001
 2 WrongValue:MAP EXTENT 0 -1000 1|1000.000001
 2 MissingValue:MAP EXTENT 1 2 3|END
-2 WrongValue:MAP CONFIG|LABELFONT f
+2 WrongValue:MAP CONFIG LABELFONT|(f)
+2 MissingValue:MAP CONFIG LABELFONT|END
+2 WrongValue:MAP CONFIG|(LABELFONT) f
 2 WrongValue:MAP CONFIG a|(b)
 2 MissingValue:MAP CONFIG a|END
 # Faults of keys and values.
@@ -59,5 +61,5 @@ const READ: &str = "\
 
 #[test]
 fn words_of_webs_and_labels_are_read(rt: HostRuntime) -> Result<(), TableFault> {
-    check_rows(rt.alloc(), READ, ':', 50, told_row)
+    check_rows(rt.alloc(), READ, ':', 52, told_row)
 }

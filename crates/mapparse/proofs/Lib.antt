@@ -1,5 +1,7 @@
+mod FontIs
 mod Padding
 mod Replaced
 mod SymbolList
 mod TableList
+mod UsesInTurn
 mod Within

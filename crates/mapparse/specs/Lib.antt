@@ -1,5 +1,6 @@
 pub mod Fault
 pub mod Files
+pub mod Fonts
 pub mod Mapping
 pub mod Parsed
 pub mod Symbols

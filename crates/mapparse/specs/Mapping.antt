@@ -24,6 +24,8 @@ use Rattle.maptree.specs.declared.tree.LabelTree.{LabelTree}
 use Rattle.maptree.specs.declared.tree.FeatureTree.{FeatureTree}
 use Rattle.maptree.specs.declared.tree.LayerTree.{LayerTree}
 use Rattle.maptree.specs.declared.tree.MapTree.{MapTree}
+use Rattle.mapdefs.specs.declared.font.FontFields.{FontFields}
+use Rattle.mapparse.specs.Fonts.{font_given}
 use Rattle.mapparse.specs.declared.files.FileBytes.{FileBytes}
 use Rattle.mapparse.specs.Symbols.{symbol_index, symbols_of}
 use Rattle.mapparse.specs.Tables.{column_x, column_y, tables_of, rows_of}
@@ -126,13 +128,13 @@ whole_world = record {
 }
 
 -- a map has the title of its service, `wms_title` before `ows_title` before its name, its address alike, its extent,
--- without which it shows the whole world, its symbols and its layers, and has no font
-abbrev pub map_with : List Symbol → List (Option TableFields) → MapTree → MapFields
-map_with symbols tables tree = record {
+-- without which it shows the whole world, its font, its symbols and its layers
+abbrev pub map_with : List Symbol → List (Option TableFields) → Option FontFields → MapTree → MapFields
+map_with symbols tables font tree = record {
   title = unwrap_or (either_text (either_text tree.wms_title tree.ows_title) tree.name) (codes "WMS");
   url = unwrap_or (either_text tree.wms_url tree.ows_url) (codes "http://localhost/wms?");
   extent = unwrap_or tree.extent whole_world;
-  font = None;
+  font = font;
   symbols = symbols;
   layers = map (layer_of symbols) (zip tree.layers tables);
 }
@@ -141,7 +143,8 @@ map_with symbols tables tree = record {
 abbrev pub made_of : List FileBytes → MapTree → Result MapFields Fault
 made_of files tree =
     and_then (symbols_of files tree.symbols) (λ symbols.
-    and_then (tables_of files tree.layers) (λ tables. Ok (map_with symbols tables tree)))
+    and_then (tables_of files tree.layers) (λ tables.
+    and_then (font_given files tree.font) (λ font. Ok (map_with symbols tables font tree))))
 
 -- where one of them isn't, the fault that comes first is told
 abbrev pub told_by : Option Fault → Result MapFields Fault → Result MapFields Fault

@@ -1,10 +1,11 @@
 -- The files that a mapfile uses, and which of their faults is told (docs/MAPFILE.md, "Files").
-use Rattle.std.specs.Prelude.{ℕ, Bool, false, ◌&&◌, ◌||◌, if◌then◌else◌, List, [], ◌∷◌, ◌++◌, map, Option, None, Some}
+use Rattle.std.specs.Prelude.{ℕ, Bool, false, ◌&&◌, ◌||◌, if◌then◌else◌, List, [], ◌∷◌, ◌++◌, map, take, drop, Option, None, Some}
 use Rattle.std.specs.List.{list_any}
 use Rattle.std.specs.Result.{is_err}
 use Rattle.mapdefs.specs.Name.{is_same_name}
 use Rattle.mapwords.specs.declared.fault.Fault.{Fault}
 use Rattle.mapwords.specs.declared.fault.ParseKind.TheVariants.{MissingFile, BadFile}
+use Rattle.maptree.specs.declared.tree.FontTree.{FontTree}
 use Rattle.maptree.specs.declared.tree.LayerTree.{LayerTree}
 use Rattle.maptree.specs.declared.tree.MapTree.{MapTree}
 use Rattle.maptree.specs.declared.tree.Named.{Named}
@@ -13,6 +14,7 @@ use Rattle.maptree.specs.Symbol.{first_fault}
 use Rattle.symbols.specs.Format.{pixmap_of}
 use Rattle.mapparse.specs.declared.files.FileBytes.{FileBytes}
 use Rattle.mapparse.specs.Files.{bytes_in}
+use Rattle.mapparse.specs.Fonts.{font_of}
 use Rattle.mapparse.specs.Tables.{table_for}
 
 -- one of the files has this name
@@ -28,9 +30,14 @@ abbrev pub uses_after : List Named → List Named → List Named
 uses_after firsts [] = firsts
 uses_after firsts (file ∷ files) = uses_after (with_use firsts file) files
 
+-- files, with that of a font behind those that are used before it
+abbrev pub with_font : Option FontTree → List Named → List Named
+with_font None files = files
+with_font (Some font) files = take font.before files ++ font.file ∷ drop font.before files
+
 -- the first use of each file, in their order
 abbrev pub first_uses : MapTree → List Named
-first_uses tree = uses_after [] tree.files
+first_uses tree = uses_after [] (with_font tree.font tree.files)
 
 -- the names of the files that a mapfile uses, each once, in the order of their first use
 abbrev pub uses_of : MapTree → List (List ℕ)
@@ -49,9 +56,15 @@ is_named name (Some file) = is_same_name file.text name
 abbrev pub lacks_table : List ℕ → List ℕ → LayerTree → Bool
 lacks_table name bytes layer = is_named name layer.table && is_err (table_for layer bytes)
 
+-- the map has its font in the file of this name, but its bytes are no font
+abbrev pub lacks_font : List ℕ → List ℕ → Option FontTree → Bool
+lacks_font name bytes None = false
+lacks_font name bytes (Some font) = is_same_name font.file.text name && is_err (font_of bytes)
+
 -- some use of the file of this name can't be made of its bytes
 abbrev pub is_bad : MapTree → List ℕ → List ℕ → Bool
-is_bad tree name bytes = list_any (lacks_pixmap name bytes) tree.symbols || list_any (lacks_table name bytes) tree.layers
+is_bad tree name bytes =
+    list_any (lacks_pixmap name bytes) tree.symbols || list_any (lacks_table name bytes) tree.layers || lacks_font name bytes tree.font
 
 -- the fault of a file that is first used there, by its bytes
 abbrev pub fault_by : MapTree → Named → Option (List ℕ) → Option Fault

@@ -1,6 +1,7 @@
 ghost use Rattle.std.specs.Prelude.{◌≡◌};
 ghost use Rattle.mapparse.specs.Fault.{kind_of, fault_in};
 
+use bdffont::FontFault;
 use csvpoints::CsvFault;
 use mapwords::{Fault, Keyword, ParseKind};
 use symbols::PixFault;
@@ -14,6 +15,8 @@ pub enum FileCause {
     NoPixmap(PixFault),
     /// It is no table of points, as a layer needs it.
     NoTable(CsvFault),
+    /// It is no font, as the labels need it.
+    NoFont(FontFault),
 }
 
 impl FileCause {
@@ -23,7 +26,9 @@ impl FileCause {
     {
         match self {
             FileCause::Missing => ParseKind::MissingFile,
-            FileCause::NoPixmap(_) | FileCause::NoTable(_) => ParseKind::BadFile,
+            FileCause::NoPixmap(_) | FileCause::NoTable(_) | FileCause::NoFont(_) => {
+                ParseKind::BadFile
+            }
         }
     }
 }
@@ -33,7 +38,7 @@ impl FileCause {
 pub struct FileFault {
     /// The line of the file's first use, counted from 1.
     pub line: u64,
-    /// The keyword that names the file there: IMAGE or DATA.
+    /// The keyword that names the file there: IMAGE, DATA or CONFIG.
     pub keyword: Keyword,
     /// Why it isn't what it is used as.
     pub cause: FileCause,

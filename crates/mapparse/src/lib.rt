@@ -11,6 +11,7 @@
 mod fault;
 mod features;
 mod files;
+mod font;
 mod mapfile;
 mod mapping;
 mod symbol;

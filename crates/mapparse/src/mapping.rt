@@ -6,19 +6,21 @@ ghost use Rattle.mapdefs.specs.declared.limits.TheConstants.{MAX_CLASSES, MAX_LI
 ghost use Rattle.mapdefs.specs.ClassLimits.{IsRuleWithinLimits};
 ghost use Rattle.mapdefs.specs.declared.class.Rule.TheVariants.{Always};
 ghost use Rattle.mapparse.specs.Mapping.{label_of, class_of, layer_of, tolerance_of, whole_world, map_with, made_of, map_of};
+ghost use Rattle.mapparse.specs.Fonts.{font_given};
 ghost use Rattle.mapparse.specs.Symbols.{symbols_of};
 ghost use Rattle.mapparse.specs.Tables.{tables_of, HasRoom, HaveRoom};
 
 use crate::features::with_items;
 use crate::files::Files;
+use crate::font::font_given;
 use crate::symbol::{symbol_index, symbols_of};
 use crate::table::tables_of;
 use crate::uses::files_fault;
 use csvpoints::Table;
 use geom::{Micro, WorldBox};
 use mapdefs::{
-    Class, ClassFields, Items, Kind, Label, LabelFields, Layer, LayerFields, MAX_CLASSES, Map,
-    MapFields, Position, Rgb, Rule, SharedItems, Style, StyleFields, Symbol, Text,
+    Class, ClassFields, Font, Items, Kind, Label, LabelFields, Layer, LayerFields, MAX_CLASSES,
+    Map, MapFields, Position, Rgb, Rule, Shared, SharedItems, Style, StyleFields, Symbol, Text,
 };
 use maptree::{
     Bounded, Capped, ClassRule, ClassTree, Extent, LabelTree, LayerTree, MapTree, ParseFault,
@@ -279,17 +281,25 @@ fn area_of(extent: Option<Extent>) -> WorldBox
     }
 }
 
-// The map of a tree with its symbols and the tables of its layers. It takes the vertices over as they are.
-fn map_with(
-    tree: MapTree,
+// What the files of a mapfile are read as: the pixmaps of its symbols, the tables of its layers, and its font.
+#[derive(Drop)]
+struct FileParts {
     symbols: SharedItems<Symbol>,
     tables: Items<Option<Table>>,
-    alloc: Global,
-) -> Result<Map, AllocError>
-    requires symbols { length symbols ≤ MAX_SYMBOLS }
-    requires room { HaveRoom tree.layers tables }
-    ensures { IfOk result (λ made. made ≡ map_with symbols tables tree) }
+    font: Option<Shared<Font>>,
+}
+
+// The map of a tree with what its files are read as. It takes the vertices over as they are.
+fn map_with(tree: MapTree, parts: FileParts, alloc: Global) -> Result<Map, AllocError>
+    requires symbols { length parts.symbols ≤ MAX_SYMBOLS }
+    requires room { HaveRoom tree.layers parts.tables }
+    ensures { IfOk result (λ made. made ≡ map_with parts.symbols parts.tables parts.font tree) }
 {
+    let FileParts {
+        symbols,
+        tables,
+        font,
+    } = parts;
     let MapTree {
         name,
         extent,
@@ -312,27 +322,26 @@ fn map_with(
         title,
         url,
         extent: area_of(extent),
-        font: None,
+        font,
         symbols,
         layers,
     }))
 }
 
-// What the files of a mapfile are read as: the symbols, and the tables of the layers.
-fn read_files(
-    tree: &MapTree,
-    files: &Files,
-    alloc: Global,
-) -> Result<(SharedItems<Symbol>, Items<Option<Table>>), ParseFault>
-    ensures symbols { IfOk result (λ made. symbols_of files.now tree.now.symbols ≡ Ok made.0) }
-    ensures tables { IfOk result (λ made. tables_of files.now tree.now.layers ≡ Ok made.1) }
-    ensures limit { IfOk result (λ made. length made.0 ≤ MAX_SYMBOLS) }
-    ensures room { IfOk result (λ made. HaveRoom tree.now.layers made.1) }
+// Reads the files of a mapfile.
+fn read_files(tree: &MapTree, files: &Files, alloc: Global) -> Result<FileParts, ParseFault>
+    ensures symbols { IfOk result (λ made. symbols_of files.now tree.now.symbols ≡ Ok made.symbols) }
+    ensures tables { IfOk result (λ made. tables_of files.now tree.now.layers ≡ Ok made.tables) }
+    ensures font { IfOk result (λ made. font_given files.now tree.now.font ≡ Ok made.font) }
+    ensures limit { IfOk result (λ made. length made.symbols ≤ MAX_SYMBOLS) }
+    ensures room { IfOk result (λ made. HaveRoom tree.now.layers made.tables) }
     ensures fault { IfErr result (IsFaultOf (made_of files.now tree.now)) }
 {
-    let symbols = symbols_of(tree.symbols.as_slice(), files, alloc)?;
-    let tables = tables_of(tree.layers.as_slice(), files, alloc)?;
-    Ok((symbols, tables))
+    Ok(FileParts {
+        symbols: symbols_of(tree.symbols.as_slice(), files, alloc)?,
+        tables: tables_of(tree.layers.as_slice(), files, alloc)?,
+        font: font_given(&tree.font, files, alloc)?,
+    })
 }
 
 // The fault that is told where a file has one: that of the first used of those that do.
@@ -356,7 +365,7 @@ pub fn map_of(tree: MapTree, files: &Files, alloc: Global) -> Result<Map, ParseF
     ensures fault { IfErr result (IsFaultOf (map_of files.now tree)) }
 {
     match read_files(&tree, files, alloc) {
-        Ok((symbols, tables)) => Ok(map_with(tree, symbols, tables, alloc)?),
+        Ok(parts) => Ok(map_with(tree, parts, alloc)?),
         Err(fault) => Err(told_fault(&tree, files, fault, alloc)),
     }
 }

@@ -1,15 +1,17 @@
-ghost use Rattle.std.specs.Prelude.{◌≡◌, is_some, option_map, IfOk, IfSome, OnOk};
+ghost use Rattle.std.specs.Prelude.{◌≡◌, [], Some, take, drop, is_some, option_map, IfOk, IfSome, OnOk};
 ghost use Rattle.std.specs.List.{list_any};
 ghost use Rattle.mapwords.specs.declared.fault.ParseKind.TheVariants.{BadFile};
 ghost use Rattle.mapparse.specs.Fault.{kind_of, fault_in};
-ghost use Rattle.mapparse.specs.Uses.{is_among, with_use, first_uses, uses_of, is_named, lacks_pixmap, lacks_table, is_bad, file_fault, files_fault};
+ghost use Rattle.mapparse.specs.Uses.{is_among, with_use, uses_after, with_font, first_uses, uses_of, is_named, lacks_pixmap, lacks_table, lacks_font, is_bad, file_fault, files_fault};
 
 use crate::fault::{FileCause, FileFault};
 use crate::files::Files;
+use crate::font::font_of;
 use crate::table::table_for;
+use bdffont::FontError;
 use csvpoints::CsvError;
 use mapdefs::{Duplicate, Items, Text};
-use maptree::{LayerTree, MapTree, Named, SymbolTree};
+use maptree::{FontTree, LayerTree, MapTree, Named, SymbolTree};
 use mapwords::Keyword;
 use std::alloc::{AllocError, Global};
 use symbols::{PixFault, read};
@@ -32,15 +34,58 @@ fn add_use(firsts: &mut Vec<Named>, file: &Named, alloc: Global) -> Result<(), A
     Ok(())
 }
 
+// Adds the uses of files, in their order.
+fn add_uses(firsts: &mut Vec<Named>, files: &[Named], alloc: Global) -> Result<(), AllocError>
+    ensures { OnOk result (firsts.new.items ≡ uses_after firsts.old.items files.now) }
+{
+    for file in files {
+        add_use(firsts, file, alloc)?;
+    }
+    Ok(())
+}
+
+// Files up to so many, and those after them.
+fn parted(files: &[Named], count: usize) -> (&[Named], &[Named])
+    ensures before { result.0.now ≡ take count files.now }
+    ensures after { result.1.now ≡ drop count files.now }
+{
+    if count < files.len() {
+        files.split_at(count)
+    } else {
+        (files, &[])
+    }
+}
+
+// The first uses of files, among which that of a font is.
+fn uses_with_font(font: &FontTree, files: &[Named], alloc: Global) -> Result<Vec<Named>, AllocError>
+    ensures { IfOk result (λ firsts. firsts.items ≡ uses_after [] (with_font (Some font.now) files.now)) }
+{
+    let (before, after) = parted(files, font.before);
+    let mut firsts = Vec::new(alloc);
+    add_uses(&mut firsts, before, alloc)?;
+    add_use(&mut firsts, &font.file, alloc)?;
+    add_uses(&mut firsts, after, alloc)?;
+    Ok(firsts)
+}
+
+// The first uses of files, where there is no font.
+fn uses_without_font(files: &[Named], alloc: Global) -> Result<Vec<Named>, AllocError>
+    ensures { IfOk result (λ firsts. firsts.items ≡ uses_after [] files.now) }
+{
+    let mut firsts = Vec::new(alloc);
+    add_uses(&mut firsts, files, alloc)?;
+    Ok(firsts)
+}
+
 // The first use of each file, in their order.
 fn first_uses(tree: &MapTree, alloc: Global) -> Result<Vec<Named>, AllocError>
     ensures { IfOk result (λ firsts. firsts.items ≡ first_uses tree.now) }
 {
-    let mut firsts = Vec::new(alloc);
-    for file in tree.files.as_slice() {
-        add_use(&mut firsts, file, alloc)?;
+    let files = tree.files.as_slice();
+    match &tree.font {
+        Some(font) => uses_with_font(font, files, alloc),
+        None => uses_without_font(files, alloc),
     }
-    Ok(firsts)
 }
 
 /// The names of the files that a mapfile uses, each once, in the order of their first use.
@@ -110,6 +155,26 @@ fn table_lacking(
     Ok(None)
 }
 
+// Why the bytes of the file of this name are no font, where the map has its font in it.
+fn font_lacking(
+    name: &str,
+    bytes: &[u8],
+    font: &Option<FontTree>,
+    alloc: Global,
+) -> Result<Option<FileCause>, AllocError>
+    ensures found { IfOk result (λ found. is_some found ≡ lacks_font name.now bytes.now font.now) }
+    ensures kind { IfOk result (λ found. IfSome found (λ cause. kind_of cause ≡ BadFile)) }
+{
+    match font {
+        Some(font) if font.file.text.as_str() == name => match font_of(bytes, alloc) {
+            Ok(_) => Ok(None),
+            Err(FontError::NoMemory) => Err(AllocError),
+            Err(FontError::Fault(fault)) => Ok(Some(FileCause::NoFont(fault))),
+        },
+        _ => Ok(None),
+    }
+}
+
 // Why some use of the file of this name can't be made of its bytes.
 fn cause_in(
     tree: &MapTree,
@@ -120,20 +185,31 @@ fn cause_in(
     ensures found { IfOk result (λ found. is_some found ≡ is_bad tree.now name.now bytes.now) }
     ensures kind { IfOk result (λ found. IfSome found (λ cause. kind_of cause ≡ BadFile)) }
 {
-    match pixmap_lacking(name, bytes, tree.symbols.as_slice(), alloc)? {
-        Some(cause) => Ok(Some(cause)),
-        None => table_lacking(name, bytes, tree.layers.as_slice(), alloc),
+    if let Some(cause) = pixmap_lacking(name, bytes, tree.symbols.as_slice(), alloc)? {
+        return Ok(Some(cause));
     }
+    if let Some(cause) = table_lacking(name, bytes, tree.layers.as_slice(), alloc)? {
+        return Ok(Some(cause));
+    }
+    font_lacking(name, bytes, &tree.font, alloc)
+}
+
+// Whether two names of files are the same one, on the same line.
+fn is_same_use(a: &Named, b: &Named) -> bool {
+    a.line == b.line && a.text.as_str() == b.text.as_str()
 }
 
 // The keyword that names a file there.
-fn keyword_of(file: &Named, symbols: &[SymbolTree]) -> Keyword {
-    for symbol in symbols {
-        if symbol.image.line == file.line && symbol.image.text.as_str() == file.text.as_str() {
+fn keyword_of(file: &Named, tree: &MapTree) -> Keyword {
+    for symbol in tree.symbols.as_slice() {
+        if is_same_use(&symbol.image, file) {
             return Keyword::Image;
         }
     }
-    Keyword::Data
+    match &tree.font {
+        Some(font) if is_same_use(&font.file, file) => Keyword::Config,
+        _ => Keyword::Data,
+    }
 }
 
 // The fault of a file that is first used there.
@@ -153,7 +229,7 @@ fn file_fault(
     match cause {
         Some(cause) => Ok(Some(FileFault {
             line: first.line,
-            keyword: keyword_of(first, tree.symbols.as_slice()),
+            keyword: keyword_of(first, tree),
             cause,
         })),
         None => Ok(None),

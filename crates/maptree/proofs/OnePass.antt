@@ -18,7 +18,7 @@ use Rattle.mapdefs.specs.declared.layer.Kind.{Kind}
 use Rattle.mapwords.specs.declared.colour.Component.{Component}
 use Rattle.mapwords.specs.declared.role.Block.{Block}
 use Rattle.mapwords.specs.declared.role.Block.TheVariants as block
-use Rattle.mapwords.specs.declared.role.TextKeyword.TheVariants.{MapName, LayerName, ClassItem, LabelItem, Template, LayerData, CsvX, CsvY, ServiceWmsTitle, ServiceOwsTitle, ServiceWmsUrl, ServiceOwsUrl, LayerWmsTitle, LayerOwsTitle, SymbolName, SymbolImage, StyleSymbol, FeatureText, FeatureItems}
+use Rattle.mapwords.specs.declared.role.TextKeyword.TheVariants.{MapName, LayerName, ClassItem, LabelItem, Template, LayerData, CsvX, CsvY, ServiceWmsTitle, ServiceOwsTitle, ServiceWmsUrl, ServiceOwsUrl, LayerWmsTitle, LayerOwsTitle, SymbolName, SymbolImage, StyleSymbol, FeatureText, FeatureItems, LabelFont}
 use Rattle.mapwords.specs.declared.role.ColourKeyword.{ColourKeyword}
 use Rattle.mapwords.specs.declared.role.ColourKeyword.TheVariants.{StyleColour, StyleOutline, LabelColour, LabelOutline, ImageColour}
 use Rattle.mapwords.specs.declared.role.FlagKeyword.{FlagKeyword}
@@ -221,10 +221,10 @@ north-stays : (x y east : ℤ) (north : Option ℤ) → StaysIn block.Map (north
 north-stays x y east None = tt
 north-stays x y east (Some z) = area-stays (extent_of x y east z)
 
--- a CONFIG has no effect
-config-stays : (b : Block) (is : Bool) → StaysIn b (if is then None else Some (More (expected.Unused 0)))
-config-stays b true = tt
-config-stays b false = tt
+-- a CONFIG names the file of a font, or has no effect
+config-stays : (is : Bool) → StaysIn block.Map (Some (if is then More (expected.Text LabelFont) else More (expected.Unused 0)))
+config-stays true = refl
+config-stays false = tt
 
 -- a setting
 names-stays : (names : List (List ℕ)) (t : TokenValue) → StepStays block.Layer (names_step names t)
@@ -261,6 +261,7 @@ unused-stays b (suc fewer) = tt
 
 text-stays : (w : _) (b : Block) (text : List ℕ) → Suits (expected.Text w) b → StaysIn b (Some (Whole (value.Text w text)))
 text-stays MapName b text p = rw p (λ line own o. refl)
+text-stays LabelFont b text p = rw p (λ line own o. refl)
 text-stays SymbolName b text p = rw p (λ line own o. refl)
 text-stays SymbolImage b text p = rw p (λ line own o. refl)
 text-stays StyleSymbol b text p = rw p (λ line own o. refl)
@@ -300,7 +301,7 @@ plain-stays (expected.South x) b t p = rw p (south-stays x (coordinate_of t.text
 plain-stays (expected.East x y) b t p = rw p (east-stays x y (coordinate_of t.text))
 plain-stays (expected.North x y east) b t p = rw p (north-stays x y east (coordinate_of t.text))
 plain-stays (expected.Only word) b t p = only-stays b (str_eq_ignore_ascii_case t.text (only_text word))
-plain-stays expected.ConfigKey b t p = config-stays b (is_same_name t.text (codes "LABELFONT"))
+plain-stays expected.ConfigKey b t p = rw p (config-stays (is_same_name t.text (codes "LABELFONT")))
 plain-stays (expected.Unused more) b t p = unused-stays b more
 plain-stays _ b t p = tt
 
@@ -374,6 +375,8 @@ layer-suits key = of (is_same_name key (codes "wms_title")) (is_same_name key (c
 -- a block of the keyword of a value
 suited : (e : Expected) → (b : Block) × Suits e b
 suited (expected.Text MapName) = (block.Map, refl)
+suited (expected.Text LabelFont) = (block.Map, refl)
+suited expected.ConfigKey = (block.Map, refl)
 suited (expected.Text SymbolName) = (block.Symbol, refl)
 suited (expected.Text SymbolImage) = (block.Symbol, refl)
 suited (expected.Text StyleSymbol) = (block.Style, refl)

@@ -9,7 +9,7 @@ use Rattle.mapdefs.specs.declared.layer.Kind.TheVariants.{Polygon}
 use Rattle.mapdefs.specs.declared.limits.TheConstants.{MAX_SYMBOLS, MAX_LAYERS, MAX_CLASSES, MAX_STYLES, MAX_FEATURES}
 use Rattle.mapwords.specs.declared.role.Block.{Block}
 use Rattle.mapwords.specs.declared.role.Block.TheVariants as block
-use Rattle.mapwords.specs.declared.role.TextKeyword.TheVariants.{MapName, LayerName, ClassItem, LabelItem, Template, LayerData, CsvX, CsvY, ServiceWmsTitle, ServiceOwsTitle, ServiceWmsUrl, ServiceOwsUrl, LayerWmsTitle, LayerOwsTitle, SymbolName, SymbolImage, StyleSymbol, FeatureText, FeatureItems}
+use Rattle.mapwords.specs.declared.role.TextKeyword.TheVariants.{MapName, LayerName, ClassItem, LabelItem, Template, LayerData, CsvX, CsvY, ServiceWmsTitle, ServiceOwsTitle, ServiceWmsUrl, ServiceOwsUrl, LayerWmsTitle, LayerOwsTitle, SymbolName, SymbolImage, StyleSymbol, FeatureText, FeatureItems, LabelFont}
 use Rattle.mapwords.specs.declared.role.ColourKeyword.TheVariants.{StyleColour, StyleOutline, LabelColour, LabelOutline}
 use Rattle.mapwords.specs.declared.role.ScaleKeyword.TheVariants.{LayerMin, LayerMax, ClassMin, ClassMax}
 use Rattle.mapwords.specs.declared.role.Expected.{Expected}
@@ -168,6 +168,8 @@ pub record Nests (c b : Block) : Type 0 where
 -- the keyword of a value is one of the block; a value without effect may stand in each
 abbrev pub Suits : Expected → Block → Type 0
 Suits (expected.Text MapName) b = b ≡ block.Map
+Suits (expected.Text LabelFont) b = b ≡ block.Map
+Suits expected.ConfigKey b = b ≡ block.Map
 Suits (expected.Text SymbolName) b = b ≡ block.Symbol
 Suits (expected.Text SymbolImage) b = b ≡ block.Symbol
 Suits (expected.Text StyleSymbol) b = b ≡ block.Style
@@ -234,6 +236,7 @@ nests p q r = record { opened = p; parent = q; ended = r }
 fits-map : (k : Keyword) → Fits block.Map (map_role k)
 fits-map keyword.Name = refl
 fits-map keyword.Extent = refl
+fits-map keyword.Config = refl
 fits-map keyword.Web = nests (λ own o. refl) (λ own o. refl) (λ inner own o. refl)
 fits-map keyword.Symbol = nests (λ own o. refl) (λ own o. refl) (λ inner own o. refl)
 fits-map keyword.Layer = nests (λ own o. refl) (λ own o. refl) (λ inner own o. refl)

@@ -40,7 +40,7 @@ use Rattle.mapwords.specs.Keyword.{spelling, is_spelt}
 use Rattle.mapwords.specs.Given.{value_in}
 use Rattle.maptree.specs.Meaning.{block_in, alone}
 use Rattle.maptree.specs.Says.{closing_fault, is_full}
-use Rattle.maptree.specs.Written.{bare, written_value, block_text, written_out, position_text, flag_text, HasNoComma, IsValueIn, map_name, map_extent, service_wms_title, service_ows_title, service_wms_url, service_ows_url, layer_wms_title, layer_ows_title, symbol_name, symbol_kind, symbol_image, style_symbol, layer_name, class_item, label_item, template, layer_data, csv_x, csv_y, layer_items, layer_min, layer_max, class_min, class_max, class_equals, class_one_of, label_priority, label_buffer, label_distance, label_position, label_partials, label_force, no_label_colour, label_colour, no_label_outline, label_outline, feature_text, feature_items, style_width, style_size, layer_tolerance, layer_kind, no_colour, style_colour, no_outline, style_outline, IsBlockIn, symbol, layer, class, feature, style, points, label, web, web_metadata, layer_metadata, MaySay, nothing, said, vertex, inside, WrittenIsRead}
+use Rattle.maptree.specs.Written.{bare, written_value, block_text, written_out, position_text, flag_text, HasNoComma, IsValueIn, map_name, label_font, map_extent, service_wms_title, service_ows_title, service_wms_url, service_ows_url, layer_wms_title, layer_ows_title, symbol_name, symbol_kind, symbol_image, style_symbol, layer_name, class_item, label_item, template, layer_data, csv_x, csv_y, layer_items, layer_min, layer_max, class_min, class_max, class_equals, class_one_of, label_priority, label_buffer, label_distance, label_position, label_partials, label_force, no_label_colour, label_colour, no_label_outline, label_outline, feature_text, feature_items, style_width, style_size, layer_tolerance, layer_kind, no_colour, style_colour, no_outline, style_outline, IsBlockIn, symbol, layer, class, feature, style, points, label, web, web_metadata, layer_metadata, MaySay, nothing, said, vertex, inside, WrittenIsRead}
 use Rattle.maptree.proofs.Blocks.{block-enough}
 use Rattle.mapwords.proofs.Colours.{counts_of}
 
@@ -162,6 +162,7 @@ module _ (tail : Tail) (k : ℕ) where
       block_in tail (suc k) b above before (written_value v line ++ rest) ≡ block_in tail (suc k) b above (Said v line before) rest
   unfolding block_in value_in spelling nearest
   value-read b above before v line rest (map_name text) p = on b above (Said v line before) rest (omega arith)
+  value-read b above before v line rest (label_font text) p = on b above (Said v line before) rest (omega arith)
   value-read b above before v line rest (symbol_name text) p = on b above (Said v line before) rest (omega arith)
   value-read b above before v line rest symbol_kind p = on b above (Said v line before) rest (omega arith)
   value-read b above before v line rest (symbol_image text) p = on b above (Said v line before) rest (omega arith)
@@ -314,6 +315,7 @@ value-here : (tail : Tail) (n : ℕ) (b : Block) (above before : Entries) (v : V
     block_in tail n b above before (written_value v line ++ rest) ≡ block_in tail n b above (Said v line before) rest
 value-here tail (suc k) b above before v line rest is p = value-read tail k b above before v line rest is p
 value-here tail zero b above before v line rest (map_name text) p = absurd (omega arith)
+value-here tail zero b above before v line rest (label_font text) p = absurd (omega arith)
 value-here tail zero b above before v line rest (symbol_name text) p = absurd (omega arith)
 value-here tail zero b above before v line rest symbol_kind p = absurd (omega arith)
 value-here tail zero b above before v line rest (symbol_image text) p = absurd (omega arith)

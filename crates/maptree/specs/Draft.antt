@@ -4,7 +4,7 @@ use Rattle.mapdefs.specs.declared.limits.TheConstants.{MAX_SYMBOLS, MAX_LAYERS, 
 use Rattle.mapwords.specs.declared.role.Block.{Block}
 use Rattle.mapwords.specs.declared.role.Block.TheVariants as block
 use Rattle.mapwords.specs.declared.role.TextKeyword.{TextKeyword}
-use Rattle.mapwords.specs.declared.role.TextKeyword.TheVariants.{MapName, LayerName, ClassItem, LabelItem, Template, LayerData, CsvX, CsvY, ServiceWmsTitle, ServiceOwsTitle, ServiceWmsUrl, ServiceOwsUrl, LayerWmsTitle, LayerOwsTitle, SymbolName, SymbolImage, StyleSymbol, FeatureText, FeatureItems}
+use Rattle.mapwords.specs.declared.role.TextKeyword.TheVariants.{MapName, LayerName, ClassItem, LabelItem, Template, LayerData, CsvX, CsvY, ServiceWmsTitle, ServiceOwsTitle, ServiceWmsUrl, ServiceOwsUrl, LayerWmsTitle, LayerOwsTitle, SymbolName, SymbolImage, StyleSymbol, FeatureText, FeatureItems, LabelFont}
 use Rattle.mapwords.specs.declared.role.ColourKeyword.{ColourKeyword}
 use Rattle.mapwords.specs.declared.role.ColourKeyword.TheVariants.{StyleColour, StyleOutline, LabelColour, LabelOutline, ImageColour}
 use Rattle.mapwords.specs.declared.role.FlagKeyword.{FlagKeyword}
@@ -27,7 +27,7 @@ use Rattle.maptree.specs.Symbol.{symbol_named}
 
 -- a MAP of which nothing was read
 abbrev pub new_map : MapTree
-new_map = record { name = None; extent = None; wms_title = None; ows_title = None; wms_url = None; ows_url = None; symbols = []; layers = []; files = [] }
+new_map = record { name = None; extent = None; font = None; wms_title = None; ows_title = None; wms_url = None; ows_url = None; symbols = []; layers = []; files = [] }
 
 -- a SYMBOL of which nothing was read
 abbrev pub new_symbol : SymbolDraft
@@ -93,6 +93,8 @@ with_text CsvX text line d = record d { layer = record d.layer { csv_x = Some te
 with_text CsvY text line d = record d { layer = record d.layer { csv_y = Some text } }
 with_text LayerWmsTitle text line d = record d { layer = record d.layer { wms_title = Some text } }
 with_text LayerOwsTitle text line d = record d { layer = record d.layer { ows_title = Some text } }
+with_text LabelFont text line d =
+    record d { map = record d.map { font = Some (record { file = record { text = text; line = line }; before = length d.map.files }) } }
 with_text keyword text line d = with_other_text keyword text d
 
 -- a bound on the scale is noted

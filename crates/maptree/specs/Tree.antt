@@ -1,13 +1,13 @@
 -- What the entries of a block come to (docs/MAPFILE.md, "Blocks and words"): of equal keywords the last one counts, and
 -- equal blocks add up. Nothing but its own entries counts for a block.
-use Rattle.std.specs.Prelude.{ℕ, List, [], ◌∷◌, ◌++◌, map, ℤ, Bool, true, Option, None, Some, is_some, unwrap_or, option_map}
-use Rattle.std.specs.Option.{option_flatten, option_map_or}
+use Rattle.std.specs.Prelude.{ℕ, List, [], ◌∷◌, ◌++◌, length, map, ℤ, Bool, true, Option, None, Some, is_some, unwrap_or, option_map}
+use Rattle.std.specs.Option.{option_flatten, option_map_or, option_or}
 use Rattle.mapdefs.specs.declared.colour.Rgb.{Rgb}
 use Rattle.mapdefs.specs.declared.layer.Kind.{Kind}
 use Rattle.mapdefs.specs.declared.layer.Kind.TheVariants.{Polygon}
 use Rattle.mapwords.specs.declared.role.Block.{Block}
 use Rattle.mapwords.specs.declared.role.Block.TheVariants as block
-use Rattle.mapwords.specs.declared.role.TextKeyword.TheVariants.{MapName, LayerName, ClassItem, LabelItem, Template, LayerData, CsvX, CsvY, ServiceWmsTitle, ServiceOwsTitle, ServiceWmsUrl, ServiceOwsUrl, LayerWmsTitle, LayerOwsTitle, SymbolName, SymbolImage, StyleSymbol, FeatureText, FeatureItems}
+use Rattle.mapwords.specs.declared.role.TextKeyword.TheVariants.{MapName, LayerName, ClassItem, LabelItem, Template, LayerData, CsvX, CsvY, ServiceWmsTitle, ServiceOwsTitle, ServiceWmsUrl, ServiceOwsUrl, LayerWmsTitle, LayerOwsTitle, SymbolName, SymbolImage, StyleSymbol, FeatureText, FeatureItems, LabelFont}
 use Rattle.mapwords.specs.declared.role.ColourKeyword.TheVariants.{StyleColour, StyleOutline, LabelColour, LabelOutline}
 use Rattle.mapwords.specs.declared.role.FlagKeyword.TheVariants.{Partials, Force}
 use Rattle.mapwords.specs.declared.role.ScaleKeyword.TheVariants.{LayerMin, LayerMax, ClassMin, ClassMax}
@@ -23,6 +23,7 @@ use Rattle.maptree.specs.declared.tree.LabelTree.{LabelTree}
 use Rattle.maptree.specs.declared.tree.FeatureTree.{FeatureTree}
 use Rattle.maptree.specs.declared.tree.LayerTree.{LayerTree}
 use Rattle.maptree.specs.declared.tree.SymbolTree.{SymbolTree}
+use Rattle.maptree.specs.declared.tree.FontTree.{FontTree}
 use Rattle.maptree.specs.declared.tree.MapTree.{MapTree}
 use Rattle.maptree.specs.Symbol.{symbol_named}
 use Rattle.maptree.specs.Data.{with_table}
@@ -287,6 +288,22 @@ files_used (Said value line before) = files_used before
 files_used (Vertex vertex before) = files_used before
 files_used (Inside b inner before) = with_file_of b inner (files_used before)
 
+-- the file that a CONFIG of the key LABELFONT gives the map, and its line
+abbrev pub label_font : Value → ℕ → Option Named
+label_font (value.Text LabelFont text) line = Some (record { text = text; line = line })
+label_font _ line = None
+
+-- a font, and the files that are used before it
+abbrev pub font_after : List Named → Named → FontTree
+font_after files file = record { file = file; before = length files }
+
+-- the font of the last of them, behind the files that the blocks before it use
+abbrev pub font_named : Entries → Option FontTree
+font_named Nothing = None
+font_named (Said value line before) = option_or (option_map (font_after (files_used before)) (label_font value line)) (font_named before)
+font_named (Vertex vertex before) = font_named before
+font_named (Inside b inner before) = font_named before
+
 -- the name that a NAME gives the map
 abbrev pub map_name : Value → ℕ → Option (List ℕ)
 map_name (value.Text MapName text) line = Some text
@@ -325,12 +342,13 @@ web_text wanted web = last_within block.WebMetadata (last wanted) web
 abbrev pub service_text : (Value → ℕ → Option (List ℕ)) → Entries → Option (List ℕ)
 service_text wanted own = last_within block.Web (web_text wanted) own
 
--- a MAP has its last NAME and its last EXTENT, the last of each key of its service's METADATA, its SYMBOL and LAYER blocks, and
+-- a MAP has its last NAME, its last EXTENT and its last font, the last of each key of its service's METADATA, its SYMBOL and LAYER blocks, and
 -- the files that these use
 abbrev pub map_tree : Entries → MapTree
 map_tree own = record {
   name = last map_name own;
   extent = last map_extent own;
+  font = font_named own;
   wms_title = service_text service_wms_title own;
   ows_title = service_text service_ows_title own;
   wms_url = service_text service_wms_url own;

@@ -18,7 +18,7 @@ use Rattle.maplex.specs.Token.{TokenValue}
 use Rattle.mapwords.specs.declared.role.Block.{Block}
 use Rattle.mapwords.specs.declared.role.Block.TheVariants as block
 use Rattle.mapwords.specs.declared.role.TextKeyword.{TextKeyword}
-use Rattle.mapwords.specs.declared.role.TextKeyword.TheVariants.{MapName, LayerName, ClassItem, LabelItem, Template, LayerData, CsvX, CsvY, ServiceWmsTitle, ServiceOwsTitle, ServiceWmsUrl, ServiceOwsUrl, LayerWmsTitle, LayerOwsTitle, SymbolName, SymbolImage, StyleSymbol, FeatureText, FeatureItems}
+use Rattle.mapwords.specs.declared.role.TextKeyword.TheVariants.{MapName, LayerName, ClassItem, LabelItem, Template, LayerData, CsvX, CsvY, ServiceWmsTitle, ServiceOwsTitle, ServiceWmsUrl, ServiceOwsUrl, LayerWmsTitle, LayerOwsTitle, SymbolName, SymbolImage, StyleSymbol, FeatureText, FeatureItems, LabelFont}
 use Rattle.mapwords.specs.declared.role.ColourKeyword.{ColourKeyword}
 use Rattle.mapwords.specs.declared.role.ColourKeyword.TheVariants.{StyleColour, StyleOutline, LabelColour, LabelOutline, ImageColour}
 use Rattle.mapwords.specs.declared.role.FlagKeyword.{FlagKeyword}
@@ -73,6 +73,7 @@ written_text ServiceOwsUrl text line = quoted line (codes "ows_onlineresource") 
 written_text SymbolName text line = bare line (codes "NAME") ∷ quoted line text ∷ []
 written_text SymbolImage text line = bare line (codes "IMAGE") ∷ quoted line text ∷ []
 written_text StyleSymbol text line = bare line (codes "SYMBOL") ∷ quoted line text ∷ []
+written_text LabelFont text line = bare line (codes "CONFIG") ∷ quoted line (codes "LABELFONT") ∷ quoted line text ∷ []
 written_text LayerWmsTitle text line = quoted line (codes "wms_title") ∷ quoted line text ∷ []
 written_text LayerOwsTitle text line = quoted line (codes "ows_title") ∷ quoted line text ∷ []
 
@@ -180,6 +181,7 @@ HasNoComma name = All (λ byte. is_comma byte ≡ false) name
 -- the values that a block may be given; the expressions of classes have a grammar and a law of their own
 pub data IsValueIn : Block → Value → Type 0 where
   map_name : (text : List ℕ) → IsValueIn block.Map (value.Text MapName text)
+  label_font : (text : List ℕ) → IsValueIn block.Map (value.Text LabelFont text)
   symbol_name : (text : List ℕ) → IsValueIn block.Symbol (value.Text SymbolName text)
   symbol_kind : IsValueIn block.Symbol value.Pixmap
   symbol_image : (text : List ℕ) → IsValueIn block.Symbol (value.Text SymbolImage text)

@@ -3,7 +3,9 @@ ghost use Rattle.maptree.specs.Symbol.{symbol_named};
 ghost use Rattle.maptree.specs.Draft.{fresh, new_map, new_symbol, new_layer, new_class, new_style, new_label, new_feature, with_other_text, with_text, with_scale, with_colour, with_flag, with_value, is_full};
 
 use crate::parts::PartsDraft;
-use crate::tree::{ClassTree, FeatureTree, LabelTree, LayerTree, MapTree, Named, StyleTree};
+use crate::tree::{
+    ClassTree, FeatureTree, FontTree, LabelTree, LayerTree, MapTree, Named, StyleTree,
+};
 use geom::Micro;
 use mapdefs::{Items, Kind, MAX_CLASSES, MAX_FEATURES, MAX_ITEMS, Rgb, Text};
 use mapwords::{
@@ -81,6 +83,7 @@ impl MapTree {
         MapTree {
             name: None,
             extent: None,
+            font: None,
             wms_title: None,
             ows_title: None,
             wms_url: None,
@@ -249,6 +252,10 @@ impl Drafts {
             TextKeyword::CsvY => self.layer.csv_y = Some(text),
             TextKeyword::LayerWmsTitle => self.layer.wms_title = Some(text),
             TextKeyword::LayerOwsTitle => self.layer.ows_title = Some(text),
+            TextKeyword::LabelFont => self.map.font = Some(FontTree {
+                file: Named { text, line },
+                before: self.map.files.len(),
+            }),
             _ => self.set_other_text(keyword, text),
         }
     }

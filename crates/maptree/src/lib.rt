@@ -38,5 +38,5 @@ pub use mapwords::{Bounded, Capped, ClassRule, Extent, ParseFault, ParseKind};
 pub use parts::Parts;
 pub use step::read_token;
 pub use tree::{
-    ClassTree, FeatureTree, LabelTree, LayerTree, MapTree, Named, StyleTree, SymbolTree,
+    ClassTree, FeatureTree, FontTree, LabelTree, LayerTree, MapTree, Named, StyleTree, SymbolTree,
 };

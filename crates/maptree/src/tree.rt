@@ -23,12 +23,23 @@ impl Duplicate for Named {
     }
 }
 
+/// The font that a MAP names.
+#[derive(Drop)]
+pub struct FontTree {
+    /// The name of the file that it is in.
+    pub file: Named,
+    /// How many files the symbols and layers before it use.
+    pub before: usize,
+}
+
 /// A MAP as it is written.
 #[derive(Drop)]
 pub struct MapTree {
     /// Its last NAME.
     pub name: Option<Text>,
     pub extent: Option<Extent>,
+    /// The font of the labels, which the last of its CONFIGs with that key names.
+    pub font: Option<FontTree>,
     /// The titles and addresses that the METADATA of its WEB blocks give, each the last of its key.
     pub wms_title: Option<Text>,
     pub ows_title: Option<Text>,

@@ -12,7 +12,7 @@ use Rattle.mapdefs.specs.declared.layer.Kind.{Kind}
 use Rattle.mapdefs.specs.declared.layer.Kind.TheVariants.{Point, Line, Polygon}
 use Rattle.mapwords.specs.declared.colour.Component.{Component}
 use Rattle.mapwords.specs.declared.role.ColourKeyword.{ColourKeyword}
-use Rattle.mapwords.specs.declared.role.TextKeyword.TheVariants.{LayerData}
+use Rattle.mapwords.specs.declared.role.TextKeyword.TheVariants.{LabelFont, LayerData}
 use Rattle.mapwords.specs.declared.role.OnlyWord.{OnlyWord}
 use Rattle.mapwords.specs.declared.role.OnlyWord.TheVariants.{Pixels, On}
 use Rattle.mapwords.specs.declared.role.Expected.{Expected}
@@ -88,9 +88,9 @@ abbrev pub north_step : ℤ → ℤ → ℤ → Option ℤ → Option ValueStep
 north_step minx miny maxx None = None
 north_step minx miny maxx (Some maxy) = option_map (λ area. Whole (value.Extent area)) (extent_of minx miny maxx maxy)
 
--- a CONFIG has a key and a value; the key of the labels' font is refused, since there are no fonts yet
-abbrev pub config_step : List ℕ → Option ValueStep
-config_step key = if is_same_name key (codes "LABELFONT") then None else Some (More (expected.Unused 0))
+-- a CONFIG has a key and a value: that of LABELFONT names the file of the labels' font, another has no effect
+abbrev pub config_step : List ℕ → ValueStep
+config_step key = if is_same_name key (codes "LABELFONT") then More (expected.Text LabelFont) else More (expected.Unused 0)
 
 -- a token as a value of which nothing is kept but numbers, if it is such a value
 abbrev pub plain_step : Expected → TokenValue → Option ValueStep
@@ -113,7 +113,7 @@ plain_step (expected.South x) t = option_map (λ y. More (expected.East x y)) (c
 plain_step (expected.East x y) t = east_step x y (coordinate_of t.text)
 plain_step (expected.North x y east) t = north_step x y east (coordinate_of t.text)
 plain_step (expected.Only word) t = only_step word t.text
-plain_step expected.ConfigKey t = config_step t.text
+plain_step expected.ConfigKey t = Some (config_step t.text)
 plain_step (expected.Unused more) t = Some (unused_step more)
 plain_step _ t = None
 

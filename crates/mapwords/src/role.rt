@@ -55,6 +55,8 @@ pub enum TextKeyword {
     SymbolImage,
     /// The name of the symbol that a style draws points with.
     StyleSymbol,
+    /// The name of the file that the font of the labels is in.
+    LabelFont,
 }
 
 /// The keywords that take a colour.

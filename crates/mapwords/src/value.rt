@@ -180,14 +180,14 @@ fn north_step(minx: i64, miny: i64, maxx: i64, north: Option<Coordinate>) -> Opt
     extent_step(Extent::of(minx, miny, maxx, maxy))
 }
 
-// Reads the key of a CONFIG. There are no fonts yet, so that none may be named.
-fn config_step(key: &str) -> Option<ValueStep>
+// Reads the key of a CONFIG. That of the labels' font is followed by the name of its file.
+fn config_step(key: &str) -> ValueStep
     ensures { result ≡ config_step key.now }
 {
     if key == "LABELFONT" {
-        None
+        ValueStep::More(Expected::Text(TextKeyword::LabelFont))
     } else {
-        Some(ValueStep::More(Expected::Unused(0)))
+        ValueStep::More(Expected::Unused(0))
     }
 }
 
@@ -227,7 +227,7 @@ fn plain_step(expected: Expected, token: &Token) -> Option<ValueStep>
         Expected::East(x, y) => east_step(x, y, Coordinate::read(text)),
         Expected::North(x, y, east) => north_step(x, y, east, Coordinate::read(text)),
         Expected::Only(word) => only_step(word, text),
-        Expected::ConfigKey => config_step(text),
+        Expected::ConfigKey => Some(config_step(text)),
         Expected::Unused(more) => Some(unused_step(more)),
         // They are kept as texts.
         Expected::Text(_) | Expected::Table | Expected::Rule | Expected::Setting => None,

@@ -1,1 +1,2 @@
+pub mod Mime
 pub mod Operation

@@ -48,6 +48,9 @@ fn words_on_file(alloc: Global, fault: FileFault) -> Result<String, AllocError> 
         FileCause::NoTable(fault) => format!(in alloc;
             "the file that {keyword} names is no table of points: {fault}"
         ),
+        FileCause::NoFont(fault) => format!(in alloc;
+            "the file that {keyword} names is no font: {fault}"
+        ),
     }
 }
 

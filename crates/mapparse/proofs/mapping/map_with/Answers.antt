@@ -9,5 +9,5 @@ new-requires c = record {
   extent = c.area_of.ensures.limits;
   symbol_count = c.requires.symbols;
   layer_count = rw (c.in_ok-layers.ensures, length-map) (omega (arith, zip-at_most c.into_vec.result.items c.into_vec-2.result.items, c.into_vec.ensures.limit));
-  symbols = rw (c.in_ok-layers.ensures, c.as_slice.ensures) (∣ layer_symbols c.args.symbols _ ∣₁);
+  symbols = rw (c.in_ok-layers.ensures, c.as_slice.ensures) (∣ layer_symbols c.args.parts.symbols _ ∣₁);
 }

@@ -1,0 +1,5 @@
+pub mod Document
+pub mod Element
+pub mod Layer
+pub mod Markup
+pub mod World
