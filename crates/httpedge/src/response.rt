@@ -1,10 +1,10 @@
-ghost use Rattle.std.specs.Prelude.{◌≡◌, ◌<◌, ◌+◌, ◌++◌, length, take, OnOk, IfErr, MatchResult, true, codes};
-ghost use Rattle.std.specs.Io.KnownBytes.{Appends};
+ghost use Rattle.std.specs.Prelude.{◌≡◌, OnOk, OnErr, IfErr, MatchResult, true, codes};
+ghost use Rattle.streams.specs.Sent.{IsSent, IsCut, IsCutSomewhere};
 ghost use Rattle.httpedge.specs.Response.{refusal_text, busy_text, body_text, answer_text, response};
 
 use crate::{Outcome, Refusal};
 use itoa::Buffer;
-use mapmachine::{Answer, Sink, WriteFault, put_all, put_pieces};
+use mapmachine::{Answer, PutFailed, Sink, WriteFault, put_all, put_pieces};
 
 // The response of a refusal.
 #[tactic(auto, unfolding(crate::specs::Response::refusal_text))]
@@ -39,10 +39,9 @@ fn send_body<'a, W: Sink>(
     count: &'a [u8],
     body: &'a [u8],
     writer: &mut W,
-) -> Result<(), WriteFault>
-    ensures ok { OnOk result (Appends (W.held writer.old) (W.held writer.new) (body_text mime.now count.now body.now)) }
-    ensures part { IfErr result (λ e. Appends (W.held writer.old) (W.held writer.new) (take e.written (body_text mime.now count.now body.now))) }
-    ensures short { IfErr result (λ e. e.written < length (body_text mime.now count.now body.now)) }
+) -> Result<(), PutFailed>
+    ensures sent { OnOk result (IsSent W.held W.taken writer.old (body_text mime.now count.now body.now) writer.new) }
+    ensures cut { OnErr result (IsCutSomewhere W.held W.taken writer.old (body_text mime.now count.now body.now) writer.new) }
     ensures flag { MatchResult result (λ _. W.put_failed writer.new ≡ W.put_failed writer.old) (λ _. W.put_failed writer.new ≡ true) }
 {
     put_pieces(
@@ -59,10 +58,9 @@ fn send_body<'a, W: Sink>(
 }
 
 // Writes an answer.
-fn send_answer<W: Sink>(answer: &Answer, writer: &mut W) -> Result<(), WriteFault>
-    ensures ok { OnOk result (Appends (W.held writer.old) (W.held writer.new) (answer_text answer.now)) }
-    ensures part { IfErr result (λ e. Appends (W.held writer.old) (W.held writer.new) (take e.written (answer_text answer.now))) }
-    ensures short { IfErr result (λ e. e.written < length (answer_text answer.now)) }
+fn send_answer<W: Sink>(answer: &Answer, writer: &mut W) -> Result<(), PutFailed>
+    ensures sent { OnOk result (IsSent W.held W.taken writer.old (answer_text answer.now) writer.new) }
+    ensures cut { OnErr result (IsCutSomewhere W.held W.taken writer.old (answer_text answer.now) writer.new) }
     ensures flag { MatchResult result (λ _. W.put_failed writer.new ≡ W.put_failed writer.old) (λ _. W.put_failed writer.new ≡ true) }
 {
     let mut digits = Buffer::new();
@@ -71,19 +69,31 @@ fn send_answer<W: Sink>(answer: &Answer, writer: &mut W) -> Result<(), WriteFaul
     send_body(mime, count, answer.body.as_slice(), writer)
 }
 
-/// Writes an outcome. The error is that the writer failed: exactly the first `written` bytes of the
-/// response went out, and not all of them.
-///
-/// It takes no memory.
-pub fn respond<W: Sink>(outcome: &Outcome, writer: &mut W) -> Result<(), WriteFault>
-    ensures ok { OnOk result (Appends (W.held writer.old) (W.held writer.new) (response outcome.now)) }
-    ensures part { IfErr result (λ e. Appends (W.held writer.old) (W.held writer.new) (take e.written (response outcome.now))) }
-    ensures short { IfErr result (λ e. e.written < length (response outcome.now)) }
+// Writes an outcome.
+fn send<W: Sink>(outcome: &Outcome, writer: &mut W) -> Result<(), PutFailed>
+    ensures sent { OnOk result (IsSent W.held W.taken writer.old (response outcome.now) writer.new) }
+    ensures cut { OnErr result (IsCutSomewhere W.held W.taken writer.old (response outcome.now) writer.new) }
     ensures flag { MatchResult result (λ _. W.put_failed writer.new ≡ W.put_failed writer.old) (λ _. W.put_failed writer.new ≡ true) }
 {
     match outcome {
         Outcome::Answered(answer) => send_answer(answer, writer),
         Outcome::Refused(refusal) => put_all(writer, refusal_text(*refusal)),
         Outcome::Busy => put_all(writer, busy_text()),
+    }
+}
+
+/// Writes an outcome. The error is that the writer failed: exactly the first `written` bytes of the
+/// response went out, and not all of them.
+///
+/// It takes no memory.
+pub fn respond<W: Sink>(outcome: &Outcome, writer: &mut W) -> Result<(), WriteFault>
+    ensures sent { OnOk result (IsSent W.held W.taken writer.old (response outcome.now) writer.new) }
+    ensures cut { IfErr result (λ fault. IsCut W.held W.taken writer.old (response outcome.now) fault.written writer.new) }
+    ensures flag { MatchResult result (λ _. W.put_failed writer.new ≡ W.put_failed writer.old) (λ _. W.put_failed writer.new ≡ true) }
+{
+    let before = writer.taken();
+    match send(outcome, writer) {
+        Ok(()) => Ok(()),
+        Err(_) => Err(WriteFault::since(writer, before)),
     }
 }

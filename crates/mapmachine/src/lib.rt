@@ -4,20 +4,19 @@
 //! answered query the picture that it asks for or the document of its first fault, a batch that is
 //! published leads to the state after all its commands, and a reply that refuses a batch or is out of
 //! memory leaves the state. `reply`, `batch` and `step` are single events of it. `laws::published_counts`
-//! says that the sequence grows by the number of published batches. `put_all` and `put_pieces` say of
-//! each sink what went out, also where it failed.
+//! says that the sequence grows by the number of published batches.
 //!
 //! Words: the *state* is the map and a *sequence*, which counts published batches. An *event* is what
 //! comes in, a *reply* what goes out. The reply to a query is an *answer*: a mime type and a body.
-//! Bytes are taken from a *source* and put into a *sink*.
+//!
+//! The streams of `streams` are named here too, for those who read events and write replies.
 #![tactic(auto)]
 
 pub mod laws;
 mod machine;
 mod reply;
-mod stream;
 
 pub use batches::{BatchError, BatchFault, BatchKind, Bytes, MAX_BATCH};
 pub use machine::Machine;
 pub use reply::{Answer, Event, Mime, Reply};
-pub use stream::{Flagged, PutFailed, Sink, Source, TakeFailed, WriteFault, put_all, put_pieces};
+pub use streams::{Flagged, PutFailed, Sink, Source, TakeFailed, WriteFault, put_all, put_pieces};

@@ -1,7 +1,6 @@
 pub mod Commands
 pub mod Digits
 pub mod HexLines
-pub mod Outgoing
 pub mod Playing
 pub mod Rests
 pub mod ScriptSteps

@@ -6,10 +6,11 @@ use Rattle.mapmachine.specs.Machine.{Steps, Runs}
 use Rattle.mapmachine.specs.declared.reply.Event.{Event}
 use Rattle.mapmachine.specs.declared.reply.Reply.{Reply}
 use Rattle.scripts.specs.Script.{script_of, fault_of}
-use Rattle.scripts.specs.Sent.{IsSent, IsPartlySent, IsPartlyReplied}
+use Rattle.streams.specs.Sent.{IsSent, IsCut, IsCutSomewhere}
+use Rattle.streams.proofs.Sending.{sent-sent, sent-cut}
+use Rattle.scripts.specs.Sent.{IsPartlyReplied}
 use Rattle.scripts.specs.Playing.{IsTranscript, IsSessionOf, IsPlayed, IsRefused, HasPlayed, HasStopped, HasPartlyRefused, HasStoppedIn, HasPartlyPlayed}
 use Rattle.scripts.specs.Transcript.{reply_text, transcript, script_fault}
-use Rattle.scripts.proofs.Outgoing.{sent-sent, sent-partly}
 
 -- a script without fault has events
 pub readable : (read : Result (List Event) ℕ) → fault_of read ≡ None → (events : List Event) × (read ≡ Ok events)
@@ -32,9 +33,9 @@ is-transcript old new script events replies all run =
     subst (λ (read : Result (List Event) ℕ). IsSessionOf old read new (transcript replies)) (sym all) played
 
 -- all of it went out
-pub has-played : (old new : State) (script : List ℕ) (events : List Event) (replies : List Reply) (a b : Option (List ℕ)) (before after : ℕ) →
-    script_of script ≡ Ok events → Runs old events replies new → IsSent a b (transcript replies) before after → HasPlayed old script new a b
-has-played old new script events replies a b before after all run sent = record {
+pub has-played : {S : Type 0} (held : S → Option (List ℕ)) (taken : S → ℕ) (old new : State) (script : List ℕ) (events : List Event) (replies : List Reply) (a b : S) →
+    script_of script ≡ Ok events → Runs old events replies new → IsSent held taken a (transcript replies) b → HasPlayed old script new (held a) (held b)
+has-played held taken old new script events replies a b all run sent = record {
   text = transcript replies;
   transcript = is-transcript old new script events replies all run;
   bytes = sent.bytes;
@@ -45,15 +46,15 @@ pub one-more : (replies : List Reply) (reply : Reply) → transcript (replies ++
 one-more replies reply = rw (flat_map-append reply_text replies (reply ∷ []), append-nil (reply_text reply)) refl
 
 -- the replies to the events so far went out, and then the front of one to the next event
-pub has-stopped : (old between new : State) (script : List ℕ) (done left others : List Event) (event : Event) (replies : List Reply) (a b c : Option (List ℕ))
-    (before now after : ℕ) → script_of script ≡ Ok (done ++ left) → left ≡ event ∷ others → Runs old done replies between →
-    IsSent a b (transcript replies) before now → IsPartlyReplied between event new b c now after → HasPartlyPlayed old script new a c (after - before)
-has-stopped old between new script done left others event replies a b c before now after all is run sent partly =
+pub has-stopped : {S : Type 0} (held : S → Option (List ℕ)) (taken : S → ℕ) (old between new : State) (script : List ℕ) (done left others : List Event) (event : Event) (replies : List Reply) (a b c : S) →
+    script_of script ≡ Ok (done ++ left) → left ≡ event ∷ others → Runs old done replies between →
+    IsSent held taken a (transcript replies) b → IsPartlyReplied between event new held taken b c → HasPartlyPlayed old script new (held a) (held c) (taken c - taken a)
+has-stopped held taken old between new script done left others event replies a b c all is run sent partly =
     let text : transcript (replies ++ partly.reply ∷ []) ≡ transcript replies ++ reply_text partly.reply = one-more replies partly.reply in
-    let p : IsPartlySent a c (transcript (replies ++ partly.reply ∷ [])) before after =
-    rw text (sent-partly a b c (transcript replies) (reply_text partly.reply) before now after sent partly.sent) in
-    let count : after - before ≡ p.part = omega (arith, p.count) in
-    let stopped : HasStopped old (done ++ left) new a c (after - before) = record {
+    let (part, p) : IsCutSomewhere held taken a (transcript (replies ++ partly.reply ∷ [])) c =
+    rw text (sent-cut held taken a b c (transcript replies) (reply_text partly.reply) sent partly.cut) in
+    let count : taken c - taken a ≡ part = omega (arith, p.count) in
+    let stopped : HasStopped old (done ++ left) new (held a) (held c) (taken c - taken a) = record {
       done = done;
       event = event;
       left = others;
@@ -61,17 +62,17 @@ has-stopped old between new script done left others event replies a b c before n
       replies = replies;
       reply = partly.reply;
       run = run-then old between new done replies event partly.reply run partly.step;
-      reached = omega (arith, sent.count, partly.sent.count);
+      reached = omega (arith, sent.count, partly.cut.1.count);
       short = omega (arith, count, p.short);
       bytes = rw count p.bytes;
     } in
-    subst (λ (read : Result (List Event) ℕ). HasStoppedIn old read new a c (after - before)) (sym all) stopped
+    subst (λ (read : Result (List Event) ℕ). HasStoppedIn old read new (held a) (held c) (taken c - taken a)) (sym all) stopped
 
 -- a reply after others went out
-pub sent-reply : (a b c : Option (List ℕ)) (replies : List Reply) (reply : Reply) (before now after : ℕ) →
-    IsSent a b (transcript replies) before now → IsSent b c (reply_text reply) now after → IsSent a c (transcript (replies ++ reply ∷ [])) before after
-sent-reply a b c replies reply before now after first second =
-    rw (one-more replies reply) (sent-sent a b c (transcript replies) (reply_text reply) before now after first second)
+pub sent-reply : {S : Type 0} (held : S → Option (List ℕ)) (taken : S → ℕ) (a b c : S) (replies : List Reply) (reply : Reply) →
+    IsSent held taken a (transcript replies) b → IsSent held taken b (reply_text reply) c → IsSent held taken a (transcript (replies ++ reply ∷ [])) c
+sent-reply held taken a b c replies reply first second =
+    rw (one-more replies reply) (sent-sent held taken a b c (transcript replies) (reply_text reply) first second)
 
 -- what is known where there was no value
 pub at-none : {X : Type 0} (o : Option X) (P : Type 0) (Q : X → Type 0) → MatchOption o P Q → ((x : X) → o ≡ Some x → ⊥) → P
@@ -90,17 +91,17 @@ is-refused state script number all =
     subst (λ (read : Result (List Event) ℕ). IsSessionOf state read state (script_fault number)) (sym all) nothing
 
 -- only its front went out
-pub has-partly-refused : (state : State) (script : List ℕ) (number : ℕ) (a b : Option (List ℕ)) (before after : ℕ) → script_of script ≡ Err number →
-    IsPartlySent a b (script_fault number) before after → HasPartlyPlayed state script state a b (after - before)
-has-partly-refused state script number a b before after all sent =
-    let count : after - before ≡ sent.part = omega (arith, sent.count) in
-    let refused : HasPartlyRefused number state state a b (after - before) = record { state = refl; short = omega (arith, count, sent.short); bytes = rw count sent.bytes } in
-    subst (λ (read : Result (List Event) ℕ). HasStoppedIn state read state a b (after - before)) (sym all) refused
+pub has-partly-refused : {S : Type 0} (held : S → Option (List ℕ)) (taken : S → ℕ) (state : State) (script : List ℕ) (number : ℕ) (a b : S) → script_of script ≡ Err number →
+    IsCutSomewhere held taken a (script_fault number) b → HasPartlyPlayed state script state (held a) (held b) (taken b - taken a)
+has-partly-refused held taken state script number a b all (part, cut) =
+    let count : taken b - taken a ≡ part = omega (arith, cut.count) in
+    let refused : HasPartlyRefused number state state (held a) (held b) (taken b - taken a) = record { state = refl; short = omega (arith, count, cut.short); bytes = rw count cut.bytes } in
+    subst (λ (read : Result (List Event) ℕ). HasStoppedIn state read state (held a) (held b) (taken b - taken a)) (sym all) refused
 
 -- all of it went out
-pub has-refused : (state : State) (script : List ℕ) (number : ℕ) (a b : Option (List ℕ)) (before after : ℕ) → script_of script ≡ Err number →
-    IsSent a b (script_fault number) before after → HasPlayed state script state a b
-has-refused state script number a b before after all sent = record {
+pub has-refused : {S : Type 0} (held : S → Option (List ℕ)) (taken : S → ℕ) (state : State) (script : List ℕ) (number : ℕ) (a b : S) → script_of script ≡ Err number →
+    IsSent held taken a (script_fault number) b → HasPlayed state script state (held a) (held b)
+has-refused held taken state script number a b all sent = record {
   text = script_fault number;
   transcript = is-refused state script number all;
   bytes = sent.bytes;

@@ -15,4 +15,3 @@ mod script;
 mod sending;
 
 pub use play::play_script;
-pub use sending::send_pieces;

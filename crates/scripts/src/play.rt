@@ -25,9 +25,7 @@ pub fn play_script<S: Sink>(
     let before = sink.taken();
     match play_commands(machine, script, sink) {
         Ok(()) => Ok(()),
-        Err(_) => Err(WriteFault {
-            written: sink.taken() - before,
-        }),
+        Err(_) => Err(WriteFault::since(sink, before)),
     }
 }
 
@@ -50,8 +48,8 @@ fn play_commands<S: Sink>(
 
 // Writes the machine's reply to an event.
 fn play_event<S: Sink>(machine: &mut Machine, event: &Event, sink: &mut S) -> Result<(), PutFailed>
-    ensures ok { OnOk result (IsReplied machine.old event.now machine.new (S.held sink.old) (S.held sink.new) (S.taken sink.old) (S.taken sink.new)) }
-    ensures part { OnErr result (IsPartlyReplied machine.old event.now machine.new (S.held sink.old) (S.held sink.new) (S.taken sink.old) (S.taken sink.new)) }
+    ensures ok { OnOk result (IsReplied machine.old event.now machine.new S.held S.taken sink.old sink.new) }
+    ensures part { OnErr result (IsPartlyReplied machine.old event.now machine.new S.held S.taken sink.old sink.new) }
     ensures flag { MatchResult result (λ _. S.put_failed sink.new ≡ S.put_failed sink.old) (λ _. S.put_failed sink.new ≡ true) }
 {
     let reply = machine.step(event);

@@ -1,7 +1,6 @@
 ghost use Rattle.std.specs.Prelude.{◌≡◌, ◌+◌, ◌*◌, ◌≤◌, ◌++◌, length, take, codes, OnOk, OnErr, MatchResult, true};
 ghost use Rattle.scripts.specs.declared.sending.TheConstants.{LINE};
-ghost use Rattle.std.specs.List.{flat_map};
-ghost use Rattle.scripts.specs.Sent.{IsSent, IsPartlySent};
+ghost use Rattle.streams.specs.Sent.{IsSent, IsCutSomewhere};
 ghost use Rattle.scripts.specs.Transcript.{hex_line, hex_lines, body_text, answer_line, reply_text, script_fault};
 
 use itoa::Buffer;
@@ -9,30 +8,6 @@ use mapmachine::{Answer, BatchFault, Mime, PutFailed, Reply, Sink, put_all, put_
 
 // The most bytes of a picture that are written on one line.
 const LINE: usize = 32;
-
-// Writes some bytes.
-fn send<S: Sink>(sink: &mut S, bytes: &[u8]) -> Result<(), PutFailed>
-    ensures ok { OnOk result (IsSent (S.held sink.old) (S.held sink.new) bytes.now (S.taken sink.old) (S.taken sink.new)) }
-    ensures part { OnErr result (IsPartlySent (S.held sink.old) (S.held sink.new) bytes.now (S.taken sink.old) (S.taken sink.new)) }
-    ensures flag { MatchResult result (λ _. S.put_failed sink.new ≡ S.put_failed sink.old) (λ _. S.put_failed sink.new ≡ true) }
-{
-    match put_all(sink, bytes) {
-        Ok(()) => Ok(()),
-        Err(_) => Err(PutFailed),
-    }
-}
-
-/// Writes some pieces of text, one after the other.
-pub fn send_pieces<S: Sink>(sink: &mut S, pieces: &[&[u8]]) -> Result<(), PutFailed>
-    ensures ok { OnOk result (IsSent (S.held sink.old) (S.held sink.new) (flat_map (λ piece. piece.now) pieces.now) (S.taken sink.old) (S.taken sink.new)) }
-    ensures part { OnErr result (IsPartlySent (S.held sink.old) (S.held sink.new) (flat_map (λ piece. piece.now) pieces.now) (S.taken sink.old) (S.taken sink.new)) }
-    ensures flag { MatchResult result (λ _. S.put_failed sink.new ≡ S.put_failed sink.old) (λ _. S.put_failed sink.new ≡ true) }
-{
-    match put_pieces(sink, pieces) {
-        Ok(()) => Ok(()),
-        Err(_) => Err(PutFailed),
-    }
-}
 
 // Puts a line of hexadecimal into the front of the room, and says how many bytes it has.
 fn fill_hex_line(bytes: &[u8], room: &mut [u8]) -> usize
@@ -50,31 +25,31 @@ fn fill_hex_line(bytes: &[u8], room: &mut [u8]) -> usize
 // Writes a line of hexadecimal.
 fn send_hex_line<S: Sink>(sink: &mut S, bytes: &[u8]) -> Result<(), PutFailed>
     requires short { length bytes.now ≤ LINE }
-    ensures ok { OnOk result (IsSent (S.held sink.old) (S.held sink.new) (hex_line bytes.now) (S.taken sink.old) (S.taken sink.new)) }
-    ensures part { OnErr result (IsPartlySent (S.held sink.old) (S.held sink.new) (hex_line bytes.now) (S.taken sink.old) (S.taken sink.new)) }
+    ensures sent { OnOk result (IsSent S.held S.taken sink.old (hex_line bytes.now) sink.new) }
+    ensures cut { OnErr result (IsCutSomewhere S.held S.taken sink.old (hex_line bytes.now) sink.new) }
     ensures flag { MatchResult result (λ _. S.put_failed sink.new ≡ S.put_failed sink.old) (λ _. S.put_failed sink.new ≡ true) }
 {
     let mut line = [0; 2 * LINE + 1];
     let count = fill_hex_line(bytes, &mut line);
-    send(sink, &line[..count])
+    put_all(sink, &line[..count])
 }
 
 // Writes the line before the body of an answer.
 fn send_answer_line<S: Sink>(sink: &mut S, answer: &Answer) -> Result<(), PutFailed>
-    ensures ok { OnOk result (IsSent (S.held sink.old) (S.held sink.new) (answer_line answer.now) (S.taken sink.old) (S.taken sink.new)) }
-    ensures part { OnErr result (IsPartlySent (S.held sink.old) (S.held sink.new) (answer_line answer.now) (S.taken sink.old) (S.taken sink.new)) }
+    ensures sent { OnOk result (IsSent S.held S.taken sink.old (answer_line answer.now) sink.new) }
+    ensures cut { OnErr result (IsCutSomewhere S.held S.taken sink.old (answer_line answer.now) sink.new) }
     ensures flag { MatchResult result (λ _. S.put_failed sink.new ≡ S.put_failed sink.old) (λ _. S.put_failed sink.new ≡ true) }
 {
     let mut digits = Buffer::new();
     let count = digits.format(answer.body.len() as u64).as_bytes();
     let mime = answer.mime.text().as_bytes();
-    send_pieces(sink, &[b"ANSWER ", mime, b" ", count, b"\n"])
+    put_pieces(sink, &[b"ANSWER ", mime, b" ", count, b"\n"])
 }
 
 // Writes bytes in hexadecimal, 32 a line.
 fn send_hex<S: Sink>(sink: &mut S, bytes: &[u8]) -> Result<(), PutFailed>
-    ensures ok { OnOk result (IsSent (S.held sink.old) (S.held sink.new) (hex_lines bytes.now) (S.taken sink.old) (S.taken sink.new)) }
-    ensures part { OnErr result (IsPartlySent (S.held sink.old) (S.held sink.new) (hex_lines bytes.now) (S.taken sink.old) (S.taken sink.new)) }
+    ensures sent { OnOk result (IsSent S.held S.taken sink.old (hex_lines bytes.now) sink.new) }
+    ensures cut { OnErr result (IsCutSomewhere S.held S.taken sink.old (hex_lines bytes.now) sink.new) }
     ensures flag { MatchResult result (λ _. S.put_failed sink.new ≡ S.put_failed sink.old) (λ _. S.put_failed sink.new ≡ true) }
 {
     let mut rest = bytes;
@@ -88,20 +63,20 @@ fn send_hex<S: Sink>(sink: &mut S, bytes: &[u8]) -> Result<(), PutFailed>
 
 // Writes the body of an answer.
 fn send_body<S: Sink>(sink: &mut S, mime: Mime, body: &[u8]) -> Result<(), PutFailed>
-    ensures ok { OnOk result (IsSent (S.held sink.old) (S.held sink.new) (body_text mime body.now) (S.taken sink.old) (S.taken sink.new)) }
-    ensures part { OnErr result (IsPartlySent (S.held sink.old) (S.held sink.new) (body_text mime body.now) (S.taken sink.old) (S.taken sink.new)) }
+    ensures sent { OnOk result (IsSent S.held S.taken sink.old (body_text mime body.now) sink.new) }
+    ensures cut { OnErr result (IsCutSomewhere S.held S.taken sink.old (body_text mime body.now) sink.new) }
     ensures flag { MatchResult result (λ _. S.put_failed sink.new ≡ S.put_failed sink.old) (λ _. S.put_failed sink.new ≡ true) }
 {
     match mime {
         Mime::Pixmap | Mime::ArbitraryMap => send_hex(sink, body),
-        Mime::Xml => send(sink, body),
+        Mime::Xml => put_all(sink, body),
     }
 }
 
 // Writes an answer.
 fn send_answer<S: Sink>(sink: &mut S, answer: &Answer) -> Result<(), PutFailed>
-    ensures ok { OnOk result (IsSent (S.held sink.old) (S.held sink.new) (reply_text (Reply.Answered answer.now)) (S.taken sink.old) (S.taken sink.new)) }
-    ensures part { OnErr result (IsPartlySent (S.held sink.old) (S.held sink.new) (reply_text (Reply.Answered answer.now)) (S.taken sink.old) (S.taken sink.new)) }
+    ensures sent { OnOk result (IsSent S.held S.taken sink.old (reply_text (Reply.Answered answer.now)) sink.new) }
+    ensures cut { OnErr result (IsCutSomewhere S.held S.taken sink.old (reply_text (Reply.Answered answer.now)) sink.new) }
     ensures flag { MatchResult result (λ _. S.put_failed sink.new ≡ S.put_failed sink.old) (λ _. S.put_failed sink.new ≡ true) }
 {
     send_answer_line(sink, answer)?;
@@ -110,48 +85,48 @@ fn send_answer<S: Sink>(sink: &mut S, answer: &Answer) -> Result<(), PutFailed>
 
 // Writes that a batch was published, with its number.
 fn send_published<S: Sink>(sink: &mut S, sequence: u64) -> Result<(), PutFailed>
-    ensures ok { OnOk result (IsSent (S.held sink.old) (S.held sink.new) (reply_text (Reply.Published sequence)) (S.taken sink.old) (S.taken sink.new)) }
-    ensures part { OnErr result (IsPartlySent (S.held sink.old) (S.held sink.new) (reply_text (Reply.Published sequence)) (S.taken sink.old) (S.taken sink.new)) }
+    ensures sent { OnOk result (IsSent S.held S.taken sink.old (reply_text (Reply.Published sequence)) sink.new) }
+    ensures cut { OnErr result (IsCutSomewhere S.held S.taken sink.old (reply_text (Reply.Published sequence)) sink.new) }
     ensures flag { MatchResult result (λ _. S.put_failed sink.new ≡ S.put_failed sink.old) (λ _. S.put_failed sink.new ≡ true) }
 {
     let mut digits = Buffer::new();
     let number = digits.format(sequence).as_bytes();
-    send_pieces(sink, &[b"PUBLISHED ", number, b"\n"])
+    put_pieces(sink, &[b"PUBLISHED ", number, b"\n"])
 }
 
 // Writes the fault of a batch: the number of its command and that of its kind.
 fn send_refused<S: Sink>(sink: &mut S, fault: BatchFault) -> Result<(), PutFailed>
-    ensures ok { OnOk result (IsSent (S.held sink.old) (S.held sink.new) (reply_text (Reply.Refused fault)) (S.taken sink.old) (S.taken sink.new)) }
-    ensures part { OnErr result (IsPartlySent (S.held sink.old) (S.held sink.new) (reply_text (Reply.Refused fault)) (S.taken sink.old) (S.taken sink.new)) }
+    ensures sent { OnOk result (IsSent S.held S.taken sink.old (reply_text (Reply.Refused fault)) sink.new) }
+    ensures cut { OnErr result (IsCutSomewhere S.held S.taken sink.old (reply_text (Reply.Refused fault)) sink.new) }
     ensures flag { MatchResult result (λ _. S.put_failed sink.new ≡ S.put_failed sink.old) (λ _. S.put_failed sink.new ≡ true) }
 {
     let (mut index_digits, mut kind_digits) = (Buffer::new(), Buffer::new());
     let index = index_digits.format(fault.index).as_bytes();
     let kind = kind_digits.format(fault.kind.number()).as_bytes();
-    send_pieces(sink, &[b"REFUSED ", index, b" ", kind, b"\n"])
+    put_pieces(sink, &[b"REFUSED ", index, b" ", kind, b"\n"])
 }
 
 /// Writes a reply.
 pub fn send_reply<S: Sink>(sink: &mut S, reply: &Reply) -> Result<(), PutFailed>
-    ensures ok { OnOk result (IsSent (S.held sink.old) (S.held sink.new) (reply_text reply.now) (S.taken sink.old) (S.taken sink.new)) }
-    ensures part { OnErr result (IsPartlySent (S.held sink.old) (S.held sink.new) (reply_text reply.now) (S.taken sink.old) (S.taken sink.new)) }
+    ensures sent { OnOk result (IsSent S.held S.taken sink.old (reply_text reply.now) sink.new) }
+    ensures cut { OnErr result (IsCutSomewhere S.held S.taken sink.old (reply_text reply.now) sink.new) }
     ensures flag { MatchResult result (λ _. S.put_failed sink.new ≡ S.put_failed sink.old) (λ _. S.put_failed sink.new ≡ true) }
 {
     match reply {
         Reply::Answered(answer) => send_answer(sink, answer),
         Reply::Published(sequence) => send_published(sink, *sequence),
         Reply::Refused(fault) => send_refused(sink, *fault),
-        Reply::NoMemory => send(sink, b"NOMEMORY\n"),
+        Reply::NoMemory => put_all(sink, b"NOMEMORY\n"),
     }
 }
 
 /// Writes the fault of a script whose command of that number is unreadable.
 pub fn send_script_fault<S: Sink>(sink: &mut S, number: u64) -> Result<(), PutFailed>
-    ensures ok { OnOk result (IsSent (S.held sink.old) (S.held sink.new) (script_fault number) (S.taken sink.old) (S.taken sink.new)) }
-    ensures part { OnErr result (IsPartlySent (S.held sink.old) (S.held sink.new) (script_fault number) (S.taken sink.old) (S.taken sink.new)) }
+    ensures sent { OnOk result (IsSent S.held S.taken sink.old (script_fault number) sink.new) }
+    ensures cut { OnErr result (IsCutSomewhere S.held S.taken sink.old (script_fault number) sink.new) }
     ensures flag { MatchResult result (λ _. S.put_failed sink.new ≡ S.put_failed sink.old) (λ _. S.put_failed sink.new ≡ true) }
 {
     let mut digits = Buffer::new();
     let number = digits.format(number).as_bytes();
-    send_pieces(sink, &[b"fault script ", number, b"\n"])
+    put_pieces(sink, &[b"fault script ", number, b"\n"])
 }

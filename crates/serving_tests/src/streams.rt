@@ -1,5 +1,5 @@
 use crate::narrow::{Narrow, holding_nothing};
-use mapmachine::{Flagged, Sink, Source, WriteFault, put_all, put_pieces};
+use mapmachine::{Flagged, Sink, Source, put_all, put_pieces};
 use std::alloc::{AllocError, Global};
 use test_tables::{TableFault, check_rows};
 
@@ -28,18 +28,18 @@ fn flags(stream: &Flagged<Narrow<'_>>) -> (bool, bool) {
 const PUTS: &str = "\
 Ok(()) (false, false) 100000 100000 true|100000 200000 1 fails
 Ok(()) (false, false) 100000 100000 true|100000 70000 2 fails
-Err(WriteFault { written: 70000 }) (true, false) 70000 70000 true|100000 70000 1 fails
-Err(WriteFault { written: 0 }) (true, false) 0 0 true|100000 70000 0 fails
+Err(PutFailed) (true, false) 70000 70000 true|100000 70000 1 fails
+Err(PutFailed) (true, false) 0 0 true|100000 70000 0 fails
 Ok(()) (false, false) 101 101 true|101 7 15 fails
-Err(WriteFault { written: 98 }) (true, false) 98 98 true|101 7 14 fails
-Err(WriteFault { written: 2 }) (true, false) 2 2 true|3 1 2 fails
+Err(PutFailed) (true, false) 98 98 true|101 7 14 fails
+Err(PutFailed) (true, false) 2 2 true|3 1 2 fails
 Ok(()) (false, false) 100000 100000 true|100000 200000 1 stalls
 Ok(()) (false, false) 100000 100000 true|100000 70000 2 stalls
-Err(WriteFault { written: 70000 }) (true, false) 70000 70000 true|100000 70000 1 stalls
-Err(WriteFault { written: 0 }) (true, false) 0 0 true|100000 70000 0 stalls
+Err(PutFailed) (true, false) 70000 70000 true|100000 70000 1 stalls
+Err(PutFailed) (true, false) 0 0 true|100000 70000 0 stalls
 Ok(()) (false, false) 101 101 true|101 7 15 stalls
-Err(WriteFault { written: 98 }) (true, false) 98 98 true|101 7 14 stalls
-Err(WriteFault { written: 2 }) (true, false) 2 2 true|3 1 2 stalls
+Err(PutFailed) (true, false) 98 98 true|101 7 14 stalls
+Err(PutFailed) (true, false) 2 2 true|3 1 2 stalls
 # nothing is asked for no bytes
 Ok(()) (false, false) 0 0 true|0 5 0 fails
 Ok(()) (false, false) 0 0 true|0 5 0 stalls";
@@ -83,16 +83,14 @@ fn sinks_take_all_or_say_where_they_failed(rt: HostRuntime) -> Result<(), TableF
 // The outcome, the flag of writing, how many bytes of three pieces went out, and those that the writer holds,
 // `|`, then how many calls of 3 bytes at once it takes, and whether it fails then or takes no bytes.
 const PIECES: &str = "\
-Err(WriteFault { written: 0 }) true 0 |0 fails
-Err(WriteFault { written: 2 }) true 2 ab|1 fails
-Err(WriteFault { written: 5 }) true 5 abcde|2 fails
-Err(WriteFault { written: 7 }) true 7 abcdefg|3 fails
-Ok(()) false 8 abcdefgh|4 fails
-Err(WriteFault { written: 0 }) true 0 |0 stalls
-Err(WriteFault { written: 2 }) true 2 ab|1 stalls
-Err(WriteFault { written: 5 }) true 5 abcde|2 stalls
-Err(WriteFault { written: 7 }) true 7 abcdefg|3 stalls
-Ok(()) false 8 abcdefgh|4 stalls";
+Err(PutFailed) true 0 |0 fails
+Err(PutFailed) true 3 abc|1 fails
+Err(PutFailed) true 6 abcdef|2 fails
+Ok(()) false 8 abcdefgh|3 fails
+Err(PutFailed) true 0 |0 stalls
+Err(PutFailed) true 3 abc|1 stalls
+Err(PutFailed) true 6 abcdef|2 stalls
+Ok(()) false 8 abcdefgh|3 stalls";
 
 const THREE_PIECES: [&[u8]; 4] = [b"ab", b"", b"cdefg", b"h"];
 
@@ -110,7 +108,7 @@ fn rows_of_pieces(alloc: Global, row: &str) -> Result<String, AllocError> {
 
 #[test]
 fn pieces_go_out_up_to_a_failure(rt: HostRuntime) -> Result<(), TableFault> {
-    check_rows(rt.alloc(), PIECES, '|', 10, rows_of_pieces)
+    check_rows(rt.alloc(), PIECES, '|', 8, rows_of_pieces)
 }
 
 // What no room is given, then of each of four calls the place in the bytes, what it gives, whether those

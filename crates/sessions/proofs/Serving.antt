@@ -5,16 +5,16 @@ use Rattle.std.proofs.KnownBytes.{Appends-kept}
 use Rattle.mapdefs.specs.declared.map.MapFields.{MapFields}
 use Rattle.sessions.specs.Folder.{Giving, ComesTo}
 use Rattle.sessions.specs.Forms.{ChecksTo, HasReadFile, HasReadMap, IsUnread, RunsTo, SumsUp, TellsUnread}
-use Rattle.scripts.specs.Sent.{IsSent}
+use Rattle.streams.specs.Sent.{IsSent}
 use Rattle.sessions.specs.Session.{Streams, HasRead, EndsOn, IsTold, Tells, is_file_failed}
 use Rattle.sessions.specs.declared.outcome.Outcome.{Outcome}
 use Rattle.sessions.specs.declared.outcome.Outcome.TheVariants.{Played, Checked, MapfileFault, FileFailed, WordsRefused, InputFailed, OutputFailed, NoMemory, Served, SocketFailed}
 
 -- a line that went out whole and was flushed was told
-pub told-whole : (a b c : Option (List ℕ)) (line : List ℕ) (before after : ℕ) (failed : Bool) → IsSent a b line before after → Keeps b c → IsTold a c line failed
-told-whole a b c line before after failed sent kept = record {
+pub told-whole : {S : Type 0} (held : S → Option (List ℕ)) (taken : S → ℕ) (a b : S) (c : Option (List ℕ)) (line : List ℕ) (failed : Bool) → IsSent held taken a line b → Keeps (held b) c → IsTold (held a) c line failed
+told-whole held taken a b c line failed sent kept = record {
   count = length line;
-  bytes = rw (take_all (length line) line (omega arith)) (Appends-kept a b c line sent.bytes kept);
+  bytes = rw (take_all (length line) line (omega arith)) (Appends-kept (held a) (held b) c line sent.bytes kept);
   all = λ _. omega arith;
 }
 

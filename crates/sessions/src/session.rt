@@ -11,9 +11,9 @@ use crate::outcome::Outcome;
 use crate::parts::split_session;
 use itoa::Buffer;
 use mapdefs::Map;
-use mapmachine::{Machine, Sink, Source};
+use mapmachine::{Machine, Sink, Source, put_pieces};
 use mapparse::{Mapfile, ParseFault};
-use scripts::{play_script, send_pieces};
+use scripts::play_script;
 use std::alloc::Global;
 
 /// Reads a session from the input up to its end, and plays it: the transcript goes to the output, or
@@ -124,7 +124,7 @@ pub fn tell<E: Sink>(errors: &mut E, pieces: &[&[u8]])
     ensures flushed { E.put_failed errors.new ≡ false → E.is_flushed errors.new ≡ true }
 {
     // Where it can't be written, the outcome still tells.
-    match send_pieces(errors, pieces) {
+    match put_pieces(errors, pieces) {
         Ok(()) => {
             let _ = errors.flush();
         }

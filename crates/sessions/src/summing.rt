@@ -1,7 +1,7 @@
 ghost use Rattle.std.specs.Prelude.{◌≡◌, ◌≤◌, length, OnOk, IfErr, MatchResult, true};
-ghost use Rattle.std.specs.Io.KnownBytes.{Appends};
 ghost use Rattle.mapdefs.specs.declared.limits.TheConstants.{MAX_LAYERS};
-ghost use Rattle.sessions.specs.Summary.{feature_count, summary_line, HasPartlySummed};
+ghost use Rattle.streams.specs.Sent.{IsSent, IsCut};
+ghost use Rattle.sessions.specs.Summary.{feature_count, summary_line};
 
 use itoa::Buffer;
 use mapdefs::{Layer, Map};
@@ -24,22 +24,24 @@ fn feature_count(layers: &[Layer]) -> u64
 ///
 /// It takes no memory.
 pub fn summary<S: Sink>(map: &Map, sink: &mut S) -> Result<(), WriteFault>
-    ensures written { OnOk result (Appends (S.held sink.old) (S.held sink.new) (summary_line map.now)) }
-    ensures part { IfErr result (λ e. HasPartlySummed map.now (S.held sink.old) (S.held sink.new) e.written) }
+    ensures sent { OnOk result (IsSent S.held S.taken sink.old (summary_line map.now) sink.new) }
+    ensures cut { IfErr result (λ fault. IsCut S.held S.taken sink.old (summary_line map.now) fault.written sink.new) }
     ensures flag { MatchResult result (λ _. S.put_failed sink.new ≡ S.put_failed sink.old) (λ _. S.put_failed sink.new ≡ true) }
 {
     let layers = map.get().layers.as_slice();
     let (mut layer_digits, mut feature_digits) = (Buffer::new(), Buffer::new());
     let layer_count = layer_digits.format(layers.len() as u64).as_bytes();
     let feature_count = feature_digits.format(feature_count(layers)).as_bytes();
-    put_pieces(
-        sink,
-        &[
-            b"ok ",
-            layer_count,
-            b" layers ",
-            feature_count,
-            b" features\n",
-        ],
-    )
+    let before = sink.taken();
+    let line: [&[u8]; 5] = [
+        b"ok ",
+        layer_count,
+        b" layers ",
+        feature_count,
+        b" features\n",
+    ];
+    match put_pieces(sink, &line) {
+        Ok(()) => Ok(()),
+        Err(_) => Err(WriteFault::since(sink, before)),
+    }
 }

@@ -2,10 +2,10 @@ use Rattle.std.proofs.Common.{append-nil}
 use Rattle.httpedge.specs.Response.{body_text}
 use Rattle.httpedge.proofs.response.send_body.Goals as goal
 
-pub returns-clause-ok : goal.returns-clause-ok
+pub returns-clause-sent : goal.returns-clause-sent
 unfolding body_text
-returns-clause-ok g c = rw (append-nil c.args.body.now) at c.put_pieces.ensures.ok
+returns-clause-sent g c = rw (append-nil c.args.body.now) at c.put_pieces.ensures.sent
 
-pub returns-clause-part : goal.returns-clause-part
+pub returns-clause-cut : goal.returns-clause-cut
 unfolding body_text
-returns-clause-part g c = rw (append-nil c.args.body.now) at c.put_pieces.ensures.part
+returns-clause-cut g c = rw (append-nil c.args.body.now) at c.put_pieces.ensures.cut

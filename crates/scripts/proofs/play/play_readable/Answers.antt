@@ -1,5 +1,5 @@
 use Rattle.std.proofs.Common.{◌∙◌, ◌+◌, ◌++◌, [], ◌∷◌, refl, append_assoc, append-nil, arith}
-use Rattle.scripts.proofs.Outgoing.{on-err, nothing-sent}
+use Rattle.streams.proofs.Sending.{on-err, nothing-sent}
 use Rattle.scripts.proofs.Playing.{readable, has-played, has-stopped, run-then, at-none, sent-reply}
 use Rattle.scripts.proofs.ScriptSteps.{events-step, events-none}
 use Rattle.scripts.proofs.play.play_readable.Goals as goal
@@ -15,7 +15,7 @@ loop-event-init g c =
       reads = all;
       replies = [];
       run = refl;
-      sent = nothing-sent _ _;
+      sent = nothing-sent _ _ _;
       flag = refl;
     }
 
@@ -23,7 +23,7 @@ pub returns-in_err-play_event-clause-part : goal.returns-in_err-play_event-claus
 returns-in_err-play_event-clause-part g c =
     let before = c.loop-event.invariant in
     let (others, is, later) = events-step _ _ _ _ _ (omega (arith, c.in-Some.ensures.shrinks)) c.in-Some.ensures.value before.reads in
-    on-err c.from_residual.result _ (has-stopped _ _ _ _ _ _ _ _ _ _ _ _ _ _ _ before.all is before.run before.sent c.in_err-play_event.ensures.part)
+    on-err c.from_residual.result _ (has-stopped _ _ _ _ _ _ _ _ _ _ _ _ _ _ before.all is before.run before.sent c.in_err-play_event.ensures.part)
 
 pub loop-event-preserved : goal.loop-event-preserved
 loop-event-preserved g c =
@@ -38,7 +38,7 @@ loop-event-preserved g c =
       reads = later;
       replies = before.replies ++ r.reply ∷ [];
       run = run-then _ _ _ _ _ _ _ before.run r.step;
-      sent = sent-reply _ _ _ _ _ _ _ _ before.sent r.sent;
+      sent = sent-reply _ _ _ _ _ _ _ before.sent r.sent;
       flag = c.in_ok-play_event.ensures.flag ∙ before.flag;
     }
 

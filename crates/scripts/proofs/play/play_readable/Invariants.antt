@@ -3,7 +3,7 @@ use Rattle.mapmachine.specs.Machine.{Runs}
 use Rattle.mapmachine.specs.declared.reply.Event.{Event}
 use Rattle.mapmachine.specs.declared.reply.Reply.{Reply}
 use Rattle.scripts.specs.Script.{script_of}
-use Rattle.scripts.specs.Sent.{IsSent}
+use Rattle.streams.specs.Sent.{IsSent}
 use Rattle.scripts.specs.Transcript.{transcript}
 use Rattle.scripts.proofs.ScriptSteps.{script_from}
 use Rattle.scripts.proofs.play.play_readable.Given as goal
@@ -19,7 +19,7 @@ invariant-loop-event g l = record {
   reads : script_from number l.rest ≡ Ok left;
   replies : List Reply;
   run : Runs l.fn.machine done replies l.machine;
-  sent : IsSent (g.S.Sink.held l.fn.sink) (g.S.Sink.held l.sink) (transcript replies) (g.S.Sink.taken l.fn.sink) (g.S.Sink.taken l.sink);
+  sent : IsSent g.S.Sink.held g.S.Sink.taken l.fn.sink (transcript replies) l.sink;
   flag : g.S.Sink.put_failed l.sink ≡ g.S.Sink.put_failed l.fn.sink;
 }
 

@@ -1,11 +1,11 @@
-use Rattle.scripts.proofs.Outgoing.{on-err, on-err-so, partly-more, sent-partly}
+use Rattle.streams.proofs.Sending.{on-err, on-err-so, cut-more, sent-cut}
 use Rattle.scripts.proofs.sending.send_answer.Goals as goal
 
-pub returns-clause-part : goal.returns-clause-part
-returns-clause-part g c =
+pub returns-clause-cut : goal.returns-clause-cut
+returns-clause-cut g c =
     on-err-so c.send_body.result _ _
-    (λ p. sent-partly _ _ _ _ _ _ _ _ c.in_ok-send_answer_line.ensures.ok (rw c.as_slice.ensures at p))
-    c.send_body.ensures.part
+    (λ p. sent-cut _ _ _ _ _ _ _ c.in_ok-send_answer_line.ensures.sent (rw c.as_slice.ensures at p))
+    c.send_body.ensures.cut
 
-pub returns-in_err-send_answer_line-clause-part : goal.returns-in_err-send_answer_line-clause-part
-returns-in_err-send_answer_line-clause-part g c = on-err _ _ (partly-more _ _ _ _ _ _ c.in_err-send_answer_line.ensures.part)
+pub returns-in_err-send_answer_line-clause-cut : goal.returns-in_err-send_answer_line-clause-cut
+returns-in_err-send_answer_line-clause-cut g c = on-err _ _ (cut-more _ _ _ _ _ _ c.in_err-send_answer_line.ensures.cut)

@@ -1,0 +1,15 @@
+use Rattle.std.proofs.Common.{◌≡◌, ℕ, List, ◌++◌, length}
+use Rattle.streams.specs.Sent.{IsSent}
+use Rattle.streams.proofs.putting.put_all.Given as goal
+
+-- what went out, and what is left, is all
+abbrev pub invariant-loop-rest : goal.invariant-loop-rest
+invariant-loop-rest g l = record {
+  text : List ℕ;
+  all : text ++ l.rest ≡ l.bytes;
+  sent : IsSent g.S.Sink.held g.S.Sink.taken l.fn.sink text l.sink;
+  flag : g.S.Sink.put_failed l.sink ≡ g.S.Sink.put_failed l.fn.sink;
+}
+
+abbrev pub decreases-loop-rest : goal.decreases-loop-rest
+decreases-loop-rest g l = length l.rest
