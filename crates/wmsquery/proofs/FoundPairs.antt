@@ -9,7 +9,7 @@ use Rattle.form_urlencoded.specs.Form.{DecodesTo}
 use Rattle.wmsquery.specs.declared.fault.Parameter.{Parameter}
 use Rattle.wmsquery.specs.declared.fault.Parameter.TheVariants as parameter
 use Rattle.wmsquery.specs.declared.pairs.Pair.{Pair}
-use Rattle.wmsquery.specs.Pairs.{text_of, pair_of, value_of, parameters, is_first_of, HaveSameValues}
+use Rattle.wmsquery.specs.Pairs.{text_of, pair_of, value_of, parameters, is_first_of, HaveSameTexts}
 use Rattle.wmsquery.specs.Report.{parameter_text}
 
 -- a test passes or fails
@@ -55,11 +55,11 @@ value-without name (x ∷ xs) pair rest h =
 
 -- a pair that no parameter wants is left out
 pub pair-without : (found : List Pair) (pair : Pair) → list_any (is_first_of found pair.name) parameters ≡ false →
-    (rest : List Pair) → HaveSameValues (found ++ rest) (found ++ pair ∷ rest)
+    (rest : List Pair) → HaveSameTexts (found ++ rest) (found ++ pair ∷ rest)
 pair-without found pair h rest p = value-without (parameter_text p) found pair rest (no-parameter (is_first_of found pair.name) h p)
 
 -- a pair that is put at the end stands before what follows
-pub pair-pushed : (found : List Pair) (pair : Pair) (rest : List Pair) → HaveSameValues ((found ++ pair ∷ []) ++ rest) (found ++ pair ∷ rest)
+pub pair-pushed : (found : List Pair) (pair : Pair) (rest : List Pair) → HaveSameTexts ((found ++ pair ∷ []) ++ rest) (found ++ pair ∷ rest)
 pair-pushed found pair rest p = ap (value_of (parameter_text p)) (append_assoc found (pair ∷ []) rest)
 
 -- the pairs that are left begin with the next

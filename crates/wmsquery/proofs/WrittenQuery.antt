@@ -1,7 +1,9 @@
 -- A query that is written out from a request means that request.
-use Rattle.std.proofs.Common.{◌≡◌, ℕ, ◌<◌, ◌≤◌, List, [], ◌∷◌, All, map, length, length-append, Bool, true, false, Option, None, Some, Ok, codes, refl, sym, ap, subst, ◌∙◌, arith}
+use Rattle.std.proofs.Common.{◌≡◌, ℕ, ◌<◌, ◌≤◌, List, [], ◌∷◌, All, map, length, length-append, Bool, true, false, Option, None, Some, Ok, refl, sym, ap, subst, ◌∙◌, arith}
 use Rattle.std.proofs.lemmas.List.Elements.{All-nil, All-cons, All-head, All-weaker}
 use Rattle.std.specs.Fmt.{decimal}
+use Rattle.std.specs.Option.{option_map_or}
+use Rattle.std.specs.Result.{result_ok, result_err}
 use Rattle.crsaxes.specs.declared.crs.Crs.{Crs}
 use Rattle.crsaxes.specs.declared.crs.Crs.TheVariants.{Crs84, Epsg4326}
 use Rattle.geom.specs.Side.{IsPictureSide}
@@ -9,19 +11,23 @@ use Rattle.geom.specs.World.{Area, IsExtent}
 use Rattle.geom.specs.Written.{written}
 use Rattle.geom.proofs.Written.{numeral}
 use Rattle.mapdefs.specs.declared.map.MapFields.{MapFields}
-use Rattle.wmsquery.specs.declared.checks.Check.{Check}
-use Rattle.wmsquery.specs.declared.pairs.Pair.{Pair}
-use Rattle.wmsquery.specs.declared.request.MapRequest.{MapRequest}
-use Rattle.wmsquery.specs.Pairs.{some_text, given}
-use Rattle.wmsquery.specs.Values.{layers_of, side_of, area_of, format_of, transparent_of, background_of, background_for, background_in, crs_value}
-use Rattle.wmsquery.specs.Checks.{checks, refusal_of}
-use Rattle.wmsquery.specs.Meaning.{Passes, HasValues, IsMeaningOf}
+use Rattle.operations.specs.Operation.{name_of}
+use Rattle.operations.specs.declared.operation.Operation.TheVariants as operation
 use Rattle.mapdefs.specs.declared.colour.Rgb.{Rgb}
+use Rattle.wmsquery.specs.declared.fault.Parameter.TheVariants as parameter
+use Rattle.wmsquery.specs.declared.pairs.Pair.{Pair}
 use Rattle.wmsquery.specs.declared.request.Format.{Format}
 use Rattle.wmsquery.specs.declared.request.Format.TheVariants.{Pixmap, ArbitraryMap}
+use Rattle.wmsquery.specs.declared.request.MapRequest.{MapRequest}
+use Rattle.wmsquery.specs.Meaning.{HasValues, IsMeaningOf}
+use Rattle.wmsquery.specs.Order.{first_fault, order, map_order}
+use Rattle.wmsquery.specs.Pairs.{Texts, some_text, texts_of, given, names_of}
+use Rattle.wmsquery.specs.Query.{layer_names, area_in, format_in, background_in, refusal, looked_at}
+use Rattle.wmsquery.specs.Values.{and_then, operation_of, layers_of, system_of, area_of, side_of, format_of, transparent_of, background_of, background_for}
 use Rattle.wmsquery.specs.Written.{with_commas, crs_text, bbox_text, format_text, transparent_text, background_text, written_pairs, AreNamed, IsBackground, IsColour, IsRequest, WrittenIsMeant}
+use Rattle.wmsquery.proofs.FirstFault.{AreAccepted, none-refused}
 use Rattle.wmsquery.proofs.WrittenAreas.{IsNumberByte, written-plain, digits-plain, area-written, colour-written}
-use Rattle.wmsquery.proofs.WrittenLayers.{layers-written, same-count}
+use Rattle.wmsquery.proofs.WrittenLayers.{layers-written, same-count, same-name, no-commas, names-split}
 use Rattle.wmsquery.proofs.WrittenPairs.{IsTextPair, plain_pair, pairs-written}
 use Rattle.wmsquery.proofs.WrittenTexts.{IsText, ascii-text, tested-text, text-pair, joined-text, names-text, hex-text}
 use Rattle.wmsquery.proofs.WrittenValues.{side-written}
@@ -62,6 +68,11 @@ bbox-is-text Epsg4326 area is =
 side-text : (n : ℕ) → IsPictureSide n → IsText (decimal n)
 side-text n is = number-text _ (digits-plain (decimal n) (numeral n (omega (arith, is.most))).digits)
 
+-- the name of an operation is text
+name-is-text : IsText (name_of operation.Map)
+unfolding name_of
+name-is-text = tested-text _ refl
+
 -- all of some pairs are texts
 record AreTexts (pairs : List (List ℕ × List ℕ)) : Type 0 where
   pub all : All IsTextPair pairs
@@ -72,8 +83,7 @@ texts-none = record { all = All-nil IsTextPair }
 texts-more : {name value : List ℕ} {rest : List (List ℕ × List ℕ)} → IsText name → IsText value → AreTexts rest → AreTexts ((name, value) ∷ rest)
 texts-more {name} {value} {rest} n v others = record { all = All-cons IsTextPair (name, value) rest (text-pair name value n v) others.all }
 
--- all pairs of a request are texts
--- so are the name of a format and what says of a background
+-- the name of a format is text, and what says of a background
 format-is-text : (format : Format) → IsText (format_text format)
 format-is-text Pixmap = tested-text _ refl
 format-is-text ArbitraryMap = tested-text _ refl
@@ -86,11 +96,12 @@ background-is-text : (background : Option Rgb) → IsText (background_text backg
 background-is-text None = hex-text (255 ∷ 255 ∷ 255 ∷ [])
 background-is-text (Some colour) = hex-text (colour.red ∷ colour.green ∷ colour.blue ∷ [])
 
+-- all pairs of a request are texts
 all-texts : (map : MapFields) (crs : Crs) (names : List (List ℕ)) (r : MapRequest) → IsRequest r → AreNamed map r.chosen names →
     AreTexts (written_pairs crs names r)
 all-texts map crs names r is are =
     texts-more (tested-text _ refl) (tested-text _ refl)
-    (texts-more (tested-text _ refl) (tested-text _ refl)
+    (texts-more (tested-text _ refl) name-is-text
     (texts-more (tested-text _ refl) (joined-text names (names-text map r.chosen names are))
     (texts-more (tested-text _ refl) (tested-text _ refl)
     (texts-more (tested-text _ refl) (crs-is-text crs)
@@ -127,12 +138,20 @@ bbox-some : (crs : Crs) (area : Area) → 1 ≤ length (bbox_text crs area)
 bbox-some Crs84 area = omega (arith, length-append (written area.minx) (44 ∷ with_commas (written area.miny ∷ written area.maxx ∷ written area.maxy ∷ [])))
 bbox-some Epsg4326 area = omega (arith, length-append (written area.miny) (44 ∷ with_commas (written area.minx ∷ written area.maxy ∷ written area.maxx ∷ [])))
 
+-- the name of an operation is given, and means that operation
+name-some : some_text (name_of operation.Map) ≡ Some (name_of operation.Map)
+unfolding name_of
+name-some = refl
+
+operation-written : operation_of (Some (name_of operation.Map)) ≡ Ok operation.Map
+operation-written = rw (same-name (name_of operation.Map) (name_of operation.Map) refl) refl
+
 -- the name of a system is given, and means that system
 crs-some : (crs : Crs) → some_text (crs_text crs) ≡ Some (crs_text crs)
 crs-some Crs84 = refl
 crs-some Epsg4326 = refl
 
-crs-written : (crs : Crs) → crs_value (Some (crs_text crs)) ≡ Ok crs
+crs-written : (crs : Crs) → system_of (Some (crs_text crs)) ≡ Ok crs
 crs-written Crs84 = refl
 crs-written Epsg4326 = refl
 
@@ -182,94 +201,77 @@ background-meant Pixmap None is = absurd is
 background-meant ArbitraryMap (Some colour) is = refl
 background-meant Pixmap (Some colour) is = refl
 
--- all of some checks pass
-record AllPass (cs : List Check) : Type 0 where
-  pub all : All Passes cs
-
-pass-none : AllPass []
-pass-none = record { all = All-nil Passes }
-
-pass-more : {c : Check} {rest : List Check} → Passes c → AllPass rest → AllPass (c ∷ rest)
-pass-more {c} {rest} passes others = record { all = All-cons Passes c rest passes others.all }
-
 module _ (map : MapFields) (crs : Crs) (names : List (List ℕ)) (r : MapRequest) (is : IsRequest r) (are : AreNamed map r.chosen names) where
-  -- LAYERS is given
-  layers-given : given (codes "LAYERS") (pairs_for crs names r) ≡ Some (with_commas names)
-  layers-given = some-given _ (names-some names (omega (arith, same-count map r.chosen names are, is.some)) (each-some map r.chosen names are))
+  -- the texts of the query
+  abbrev t : Texts
+  t = texts_of (pairs_for crs names r)
 
-  layers-are : layers_of map (given (codes "LAYERS") (pairs_for crs names r)) ≡ Ok r.chosen
-  layers-are = ap (layers_of map) layers-given ∙ layers-written map r.chosen names is.some is.most are
+  -- REQUEST names the operation
+  operation-is : operation_of (given t parameter.Request) ≡ Ok operation.Map
+  operation-is = ap operation_of name-some ∙ operation-written
 
-  -- CRS is given
-  crs-given : given (codes "CRS") (pairs_for crs names r) ≡ Some (crs_text crs)
-  crs-given = crs-some crs
+  -- LAYERS lists the names
+  names-are : layer_names t ≡ names
+  names-are =
+      ap names_of (some-given _ (names-some names (omega (arith, same-count map r.chosen names are, is.some)) (each-some map r.chosen names are)))
+      ∙ names-split names (omega (arith, same-count map r.chosen names are, is.some)) (no-commas map r.chosen names are)
 
-  crs-is : crs_value (given (codes "CRS") (pairs_for crs names r)) ≡ Ok crs
-  crs-is = ap crs_value crs-given ∙ crs-written crs
+  layers-are : layers_of map (layer_names t) ≡ Ok r.chosen
+  layers-are = ap (layers_of map) names-are ∙ layers-written map r.chosen names is.some is.most are
 
-  -- BBOX is given
-  bbox-given : given (codes "BBOX") (pairs_for crs names r) ≡ Some (bbox_text crs r.area)
-  bbox-given = some-given _ (bbox-some crs r.area)
+  -- CRS and BBOX give the area
+  crs-is : system_of (given t parameter.Crs) ≡ Ok crs
+  crs-is = ap system_of (crs-some crs) ∙ crs-written crs
 
-  area-is : area_of (given (codes "CRS") (pairs_for crs names r)) (given (codes "BBOX") (pairs_for crs names r)) ≡ Ok r.area
+  area-is : area_in t ≡ Ok r.area
   area-is =
-      ap (λ text. area_of text (given (codes "BBOX") (pairs_for crs names r))) crs-given
-      ∙ ap (area_of (Some (crs_text crs))) bbox-given
+      ap (λ s. and_then s (λ system. area_of system (given t parameter.Bbox))) crs-is
+      ∙ ap (area_of crs) (some-given _ (bbox-some crs r.area))
       ∙ area-written crs r.area is.area
 
-  -- the sides are given
-  width-is : side_of (given (codes "WIDTH") (pairs_for crs names r)) ≡ Ok r.width
+  -- the sides
+  width-is : side_of (given t parameter.Width) ≡ Ok r.width
   width-is =
       ap side_of (some-given (decimal r.width) (numeral r.width (omega (arith, is.width.most))).some) ∙ side-written r.width is.width
 
-  height-is : side_of (given (codes "HEIGHT") (pairs_for crs names r)) ≡ Ok r.height
+  height-is : side_of (given t parameter.Height) ≡ Ok r.height
   height-is =
       ap side_of (some-given (decimal r.height) (numeral r.height (omega (arith, is.height.most))).some) ∙ side-written r.height is.height
 
-  -- FORMAT is given
-  format-is : format_of (given (codes "FORMAT") (pairs_for crs names r)) ≡ Ok r.format
+  -- the format and the background
+  format-is : format_in t ≡ Ok r.format
   format-is = ap format_of (format-some r.format) ∙ format-written r.format
 
-  -- TRANSPARENT is given
-  transparent-is : transparent_of (given (codes "TRANSPARENT") (pairs_for crs names r)) ≡ Ok (is_none r.background)
+  transparent-is : transparent_of (given t parameter.Transparent) ≡ Ok (is_none r.background)
   transparent-is = ap transparent_of (transparent-some r.background) ∙ transparent-written r.background
 
-  -- BGCOLOR is given
-  background-is : background_of (given (codes "BGCOLOR") (pairs_for crs names r)) ≡ Ok (written_colour r.background)
-  background-is = ap background_of (background-some r.background) ∙ background-written r.format r.background is.background
+  colour-is : background_of (given t parameter.Bgcolor) ≡ Ok (written_colour r.background)
+  colour-is = ap background_of (background-some r.background) ∙ background-written r.format r.background is.background
 
-  meant : background_in (format_of (given (codes "FORMAT") (pairs_for crs names r))) (transparent_of (given (codes "TRANSPARENT") (pairs_for crs names r)))
-      (background_of (given (codes "BGCOLOR") (pairs_for crs names r)))
-      ≡ Ok r.background
-  meant =
-      ap (λ f. background_in f (transparent_of (given (codes "TRANSPARENT") (pairs_for crs names r))) (background_of (given (codes "BGCOLOR") (pairs_for crs names r)))) format-is
-      ∙ ap (λ t. background_in (Ok r.format) t (background_of (given (codes "BGCOLOR") (pairs_for crs names r)))) transparent-is
-      ∙ ap (λ c. background_in (Ok r.format) (Ok (is_none r.background)) c) background-is
+  background-is : background_in t ≡ Ok r.background
+  background-is =
+      ap (λ f. and_then f (λ format. and_then (transparent_of (given t parameter.Transparent)) (λ transparent. and_then (background_of (given t parameter.Bgcolor)) (λ colour. Ok (background_for format transparent colour))))) format-is
+      ∙ ap (λ b. and_then b (λ transparent. and_then (background_of (given t parameter.Bgcolor)) (λ colour. Ok (background_for r.format transparent colour)))) transparent-is
+      ∙ ap (λ c. and_then c (λ colour. Ok (background_for r.format (is_none r.background) colour))) colour-is
       ∙ ap Ok (background-meant r.format r.background is.background)
 
-  -- all checks pass
-  all-pass : AllPass (checks map (pairs_for crs names r))
-  all-pass =
-      pass-more refl
-      (pass-more refl
-      (pass-more refl
-      (pass-more (ap refusal_of layers-are)
-      (pass-more refl
-      (pass-more (ap refusal_of crs-is)
-      (pass-more (ap refusal_of area-is)
-      (pass-more (ap refusal_of width-is)
-      (pass-more (ap refusal_of height-is)
-      (pass-more (ap refusal_of format-is)
-      (pass-more (ap refusal_of transparent-is)
-      (pass-more (ap refusal_of background-is)
-      pass-none)))))))))))
+  -- no parameter of GetMap is refused
+  map-accepted : AreAccepted (refusal map t) map_order
+  map-accepted =
+      (refl, (ap result_err layers-are, (refl, (ap result_err crs-is, (ap result_err area-is, (ap result_err width-is, (ap result_err height-is, (ap result_err format-is, (ap result_err transparent-is, (ap result_err colour-is, tt))))))))))
+
+  -- nor is one before them
+  no-fault : first_fault (refusal map t) (looked_at t) ≡ None
+  no-fault =
+      ap (λ r. first_fault (refusal map t) (parameter.Service ∷ parameter.Request ∷ option_map_or order (result_ok r) [])) operation-is
+      ∙ none-refused (refusal map t) (parameter.Service ∷ parameter.Request ∷ map_order) (refl, (ap result_err operation-is, map-accepted))
 
   -- and the values are those of the request
-  values-are : HasValues map (pairs_for crs names r) r
-  values-are = record { chosen = layers-are; area = area-is; width = width-is; height = height-is; format = format-is; background = meant }
+  values-are : HasValues map t r
+  values-are = record { chosen = layers-are; area = area-is; width = width-is; height = height-is; format = format-is; background = background-is }
 
 -- a query that is written out means its request
 pub written-is-meant : WrittenIsMeant
 written-is-meant map crs names r is are =
-    subst (λ pairs. IsMeaningOf map pairs (Ok r)) (sym (pairs-written (written_pairs crs names r) (all-texts map crs names r is are).all))
-    ((all-pass map crs names r is are).all, values-are map crs names r is are)
+    subst (λ pairs. IsMeaningOf map (texts_of pairs) (Ok r)) (sym (pairs-written (written_pairs crs names r) (all-texts map crs names r is are).all))
+    (no-fault map crs names r is are, values-are map crs names r is are)

@@ -1,6 +1,9 @@
-pub mod Checks
 pub mod Meaning
+pub mod Number
+pub mod Order
 pub mod Pairs
+pub mod Query
+pub mod Reading
 pub mod Report
 pub mod Values
 pub mod Written

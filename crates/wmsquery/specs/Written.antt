@@ -12,6 +12,8 @@ use Rattle.geom.specs.Written.{written}
 use Rattle.mapdefs.specs.declared.colour.Rgb.{Rgb}
 use Rattle.mapdefs.specs.declared.layer.LayerFields.{LayerFields}
 use Rattle.mapdefs.specs.declared.map.MapFields.{MapFields}
+use Rattle.operations.specs.Operation.{name_of}
+use Rattle.operations.specs.declared.operation.Operation.TheVariants as operation
 use Rattle.wmsquery.specs.declared.lists.TheConstants.{MAX_NAMES}
 use Rattle.wmsquery.specs.declared.request.Format.{Format}
 use Rattle.wmsquery.specs.declared.request.Format.TheVariants.{Pixmap, ArbitraryMap}
@@ -55,7 +57,7 @@ background_text (Some colour) = colour_text colour
 abbrev pub written_pairs : Crs → List (List ℕ) → MapRequest → List (List ℕ × List ℕ)
 written_pairs crs names request =
     (codes "VERSION", codes "1.3.0")
-    ∷ (codes "REQUEST", codes "GetMap")
+    ∷ (codes "REQUEST", name_of operation.Map)
     ∷ (codes "LAYERS", with_commas names)
     ∷ (codes "STYLES", [])
     ∷ (codes "CRS", crs_text crs)
