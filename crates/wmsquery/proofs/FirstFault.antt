@@ -18,6 +18,14 @@ pub none-refused : (refusal : Parameter → Option Code) (ps : List Parameter) �
 none-refused refusal [] h = refl
 none-refused refusal (p ∷ ps) h = rw h.0 (none-refused refusal ps h.1)
 
+-- nor is there of two stretches
+accepted-both : (refusal : Parameter → Option Code) (ps qs : List Parameter) → AreAccepted refusal ps → AreAccepted refusal qs → AreAccepted refusal (ps ++ qs)
+accepted-both refusal [] qs hp hq = hq
+accepted-both refusal (p ∷ ps) qs hp hq = (hp.0, accepted-both refusal ps qs hp.1 hq)
+
+pub none-both : (refusal : Parameter → Option Code) (ps qs : List Parameter) → AreAccepted refusal ps → AreAccepted refusal qs → first_fault refusal (ps ++ qs) ≡ None
+none-both refusal ps qs hp hq = none-refused refusal (ps ++ qs) (accepted-both refusal ps qs hp hq)
+
 -- a value that is looked at first, and then what is done with it
 pub checked-then : {X Y : Type 0} (refusal : Parameter → Option Code) (p : Parameter) (ps : List Parameter) (x : Result X Code) (k : X → Result Y WmsFault) →
     refusal p ≡ result_err x → ((v : X) → x ≡ Ok v → result_err (k v) ≡ first_fault refusal ps) →

@@ -36,6 +36,12 @@ no-parameter test h parameter.Height = none-passes test parameters 8 parameter.S
 no-parameter test h parameter.Format = none-passes test parameters 9 parameter.Service (lit< tt) h
 no-parameter test h parameter.Transparent = none-passes test parameters 10 parameter.Service (lit< tt) h
 no-parameter test h parameter.Bgcolor = none-passes test parameters 11 parameter.Service (lit< tt) h
+no-parameter test h parameter.QueryLayers = none-passes test parameters 12 parameter.Service (lit< tt) h
+no-parameter test h parameter.InfoFormat = none-passes test parameters 13 parameter.Service (lit< tt) h
+no-parameter test h parameter.FeatureCount = none-passes test parameters 14 parameter.Service (lit< tt) h
+no-parameter test h parameter.Column = none-passes test parameters 15 parameter.Service (lit< tt) h
+no-parameter test h parameter.Row = none-passes test parameters 16 parameter.Service (lit< tt) h
+no-parameter test h parameter.UpdateSequence = none-passes test parameters 17 parameter.Service (lit< tt) h
 
 -- where a name has a value, or the pair has another name, the pair may be left out
 value-without : (name : List ℕ) (found : List Pair) (pair : Pair) (rest : List Pair) →

@@ -1,9 +1,10 @@
 -- What stands after the parameter of the fault changes nothing.
-use Rattle.std.proofs.Common.{◌≡◌, ◌∙◌, ◌⊎◌, List, length, [], ◌∷◌, ◌++◌, All, Option, None, Some, ap, refl, sym, subst, inl, inr}
+use Rattle.std.proofs.Common.{ℕ, ◌≡◌, ◌∙◌, ◌⊎◌, List, length, [], ◌∷◌, ◌++◌, All, Option, None, Some, ap, refl, sym, subst, inl, inr}
 use Rattle.std.proofs.lemmas.List.Elements.{All-nil, All-cons, All-head, All-tail}
 use Rattle.std.specs.Option.{option_map_or, option_and_then}
 use Rattle.std.specs.Result.{result_ok, result_err}
 use Rattle.operations.specs.declared.operation.Operation.{Operation}
+use Rattle.operations.specs.declared.operation.Operation.TheVariants as operation
 use Rattle.mapdefs.specs.declared.map.MapFields.{MapFields}
 use Rattle.wmsquery.specs.declared.fault.Code.{Code}
 use Rattle.wmsquery.specs.declared.fault.Parameter.{Parameter}
@@ -11,16 +12,20 @@ use Rattle.wmsquery.specs.declared.fault.Parameter.TheVariants as parameter
 use Rattle.wmsquery.specs.declared.fault.WmsFault.{WmsFault}
 use Rattle.wmsquery.specs.Meaning.{LaterChangesNothing}
 use Rattle.wmsquery.specs.Order.{first_of, first_fault, order}
-use Rattle.wmsquery.specs.Pairs.{Texts, pairs_of, texts_of, given, some_text, names_of}
-use Rattle.wmsquery.specs.Query.{refusal, looked_at}
-use Rattle.wmsquery.specs.Values.{and_then, service_of, operation_of, version_of, layers_of, styles_of, system_of, area_of, side_of, format_of, transparent_of, background_of}
+use Rattle.wmsquery.specs.Pairs.{Texts, pairs_of, texts_of, some_text, names_of}
+use Rattle.wmsquery.specs.Query.{operation_in, refusal, looked_at}
+use Rattle.wmsquery.specs.Values.{and_then, service_of, operation_of, version_of, layers_of, styles_of, system_of, area_of, side_of, format_of, transparent_of, background_of, asked_of, info_format_of, feature_count_of, pixel_of, sequence_of}
 
 -- ---- what the refusal of a parameter looks at
 
 -- the parameters on whose texts the refusal of a parameter depends, besides its own
 abbrev bases : Parameter → List Parameter
-bases parameter.Styles = parameter.Layers ∷ []
+bases parameter.Styles = parameter.Request ∷ parameter.Layers ∷ []
 bases parameter.Bbox = parameter.Crs ∷ []
+bases parameter.Format = parameter.Request ∷ []
+bases parameter.QueryLayers = parameter.Layers ∷ []
+bases parameter.Column = parameter.Width ∷ []
+bases parameter.Row = parameter.Height ∷ []
 bases _ = []
 
 -- a parameter is among some
@@ -59,20 +64,32 @@ module _ (t u : Texts) where
   bases-same seen (p ∷ ps) all among = (seen-same seen p all among.0, bases-same seen ps all among.1)
 
   -- the refusal of a parameter is the same where its text and those of its bases are
-  refusal-same : (map : MapFields) (p : Parameter) → Same p → AreSame (bases p) → refusal map t p ≡ refusal map u p
-  refusal-same map parameter.Service e b = ap (λ x. result_err (service_of (option_and_then some_text x))) e
-  refusal-same map parameter.Request e b = ap (λ x. result_err (operation_of (option_and_then some_text x))) e
-  refusal-same map parameter.Version e b = ap (λ x. result_err (version_of (option_and_then some_text x))) e
-  refusal-same map parameter.Layers e b = ap (λ x. result_err (layers_of map (names_of (option_and_then some_text x)))) e
-  refusal-same map parameter.Styles e b = λ i. result_err (styles_of (length (names_of (option_and_then some_text (b.0 i)))) (e i))
-  refusal-same map parameter.Crs e b = ap (λ x. result_err (system_of (option_and_then some_text x))) e
-  refusal-same map parameter.Bbox e b =
+  refusal-same : (map : MapFields) (sequence : ℕ) (p : Parameter) → Same p → AreSame (bases p) → refusal map sequence t p ≡ refusal map sequence u p
+  refusal-same map sequence parameter.Service e b = ap (λ x. result_err (service_of (option_and_then some_text x))) e
+  refusal-same map sequence parameter.Request e b = ap (λ x. result_err (operation_of (option_and_then some_text x))) e
+  refusal-same map sequence parameter.Version e b = ap (λ x. result_err (version_of (option_and_then some_text x))) e
+  refusal-same map sequence parameter.Layers e b = ap (λ x. result_err (layers_of map (names_of (option_and_then some_text x)))) e
+  refusal-same map sequence parameter.Styles e b =
+      λ i. result_err (and_then (operation_of (option_and_then some_text (b.0 i))) (λ o.
+      styles_of o (length (names_of (option_and_then some_text (b.1.0 i)))) (e i)))
+  refusal-same map sequence parameter.Crs e b = ap (λ x. result_err (system_of (option_and_then some_text x))) e
+  refusal-same map sequence parameter.Bbox e b =
       λ i. result_err (and_then (system_of (option_and_then some_text (b.0 i))) (λ crs. area_of crs (option_and_then some_text (e i))))
-  refusal-same map parameter.Width e b = ap (λ x. result_err (side_of (option_and_then some_text x))) e
-  refusal-same map parameter.Height e b = ap (λ x. result_err (side_of (option_and_then some_text x))) e
-  refusal-same map parameter.Format e b = ap (λ x. result_err (format_of (option_and_then some_text x))) e
-  refusal-same map parameter.Transparent e b = ap (λ x. result_err (transparent_of (option_and_then some_text x))) e
-  refusal-same map parameter.Bgcolor e b = ap (λ x. result_err (background_of (option_and_then some_text x))) e
+  refusal-same map sequence parameter.Width e b = ap (λ x. result_err (side_of (option_and_then some_text x))) e
+  refusal-same map sequence parameter.Height e b = ap (λ x. result_err (side_of (option_and_then some_text x))) e
+  refusal-same map sequence parameter.Format e b =
+      λ i. result_err (and_then (operation_of (option_and_then some_text (b.0 i))) (λ o. format_of o (option_and_then some_text (e i))))
+  refusal-same map sequence parameter.Transparent e b = ap (λ x. result_err (transparent_of (option_and_then some_text x))) e
+  refusal-same map sequence parameter.Bgcolor e b = ap (λ x. result_err (background_of (option_and_then some_text x))) e
+  refusal-same map sequence parameter.QueryLayers e b =
+      λ i. result_err (asked_of map (names_of (option_and_then some_text (b.0 i))) (names_of (option_and_then some_text (e i))))
+  refusal-same map sequence parameter.InfoFormat e b = ap (λ x. result_err (info_format_of (option_and_then some_text x))) e
+  refusal-same map sequence parameter.FeatureCount e b = ap (λ x. result_err (feature_count_of (option_and_then some_text x))) e
+  refusal-same map sequence parameter.Column e b =
+      λ i. result_err (and_then (side_of (option_and_then some_text (b.0 i))) (λ side. pixel_of side (option_and_then some_text (e i))))
+  refusal-same map sequence parameter.Row e b =
+      λ i. result_err (and_then (side_of (option_and_then some_text (b.0 i))) (λ side. pixel_of side (option_and_then some_text (e i))))
+  refusal-same map sequence parameter.UpdateSequence e b = ap (λ x. result_err (sequence_of sequence (option_and_then some_text x))) e
 
 -- ---- the first fault
 
@@ -103,38 +120,41 @@ next-one : (p : Parameter) (r : Option Code) (a b : Option WmsFault) (f : WmsFau
 next-one p (Some code) a b f rest e = e
 next-one p None a b f rest e = rest e
 
-module _ (map : MapFields) (t u : Texts) where
+module _ (map : MapFields) (sequence : ℕ) (t u : Texts) where
   -- texts that are the same up to the parameter of the fault have the same fault
   fault-same : (seen before : List Parameter) (f : WmsFault) (after later : List Parameter) → All (Same t u) seen →
       IsClosed seen (before ++ f.parameter ∷ after) → All (Same t u) (before ++ f.parameter ∷ []) →
-      first_fault (refusal map t) (before ++ f.parameter ∷ after) ≡ Some f → first_fault (refusal map u) (before ++ f.parameter ∷ later) ≡ Some f
+      first_fault (refusal map sequence t) (before ++ f.parameter ∷ after) ≡ Some f → first_fault (refusal map sequence u) (before ++ f.parameter ∷ later) ≡ Some f
   fault-same seen [] f after later known closed same e =
       let own = All-head (Same t u) f.parameter [] same in
       let all = All-cons (Same t u) f.parameter seen own known in
-      let r = refusal-same t u map f.parameter own (bases-same t u (f.parameter ∷ seen) (bases f.parameter) all closed.0) in
-      let found = last-one f.parameter (refusal map t f.parameter) (first_fault (refusal map t) after) (first_fault (refusal map u) later) f
-      (found-refuses (refusal map t) after f) e in
-      ap (λ c. first_of f.parameter c (first_fault (refusal map u) later)) (sym r) ∙ found
+      let r = refusal-same t u map sequence f.parameter own (bases-same t u (f.parameter ∷ seen) (bases f.parameter) all closed.0) in
+      let found = last-one f.parameter (refusal map sequence t f.parameter) (first_fault (refusal map sequence t) after) (first_fault (refusal map sequence u) later) f
+      (found-refuses (refusal map sequence t) after f) e in
+      ap (λ c. first_of f.parameter c (first_fault (refusal map sequence u) later)) (sym r) ∙ found
   fault-same seen (p ∷ ps) f after later known closed same e =
       let own = All-head (Same t u) p (ps ++ f.parameter ∷ []) same in
       let all = All-cons (Same t u) p seen own known in
-      let r = refusal-same t u map p own (bases-same t u (p ∷ seen) (bases p) all closed.0) in
+      let r = refusal-same t u map sequence p own (bases-same t u (p ∷ seen) (bases p) all closed.0) in
       let rest = fault-same (p ∷ seen) ps f after later all closed.1 (All-tail (Same t u) p (ps ++ f.parameter ∷ []) same) in
-      let found = next-one p (refusal map t p) (first_fault (refusal map t) (ps ++ f.parameter ∷ after))
-      (first_fault (refusal map u) (ps ++ f.parameter ∷ later)) f rest e in
-      ap (λ c. first_of p c (first_fault (refusal map u) (ps ++ f.parameter ∷ later))) (sym r) ∙ found
+      let found = next-one p (refusal map sequence t p) (first_fault (refusal map sequence t) (ps ++ f.parameter ∷ after))
+      (first_fault (refusal map sequence u) (ps ++ f.parameter ∷ later)) f rest e in
+      ap (λ c. first_of p c (first_fault (refusal map sequence u) (ps ++ f.parameter ∷ later))) (sym r) ∙ found
 
 -- ---- the order of a query
 
 -- each parameter of an order stands behind its bases
 order-closed : (o : Option Operation) → IsClosed [] (parameter.Service ∷ parameter.Request ∷ option_map_or order o [])
 order-closed None = (tt, (tt, tt))
-order-closed (Some o) =
-    (tt, (tt, (tt, (tt, ((inr (inl refl), tt), (tt, ((inr (inl refl), tt), (tt, (tt, (tt, (tt, (tt, tt))))))))))))
+order-closed (Some operation.Capabilities) = (tt, (tt, (tt, tt)))
+order-closed (Some operation.Map) =
+    (tt, (tt, (tt, (tt, ((inr (inr (inr (inl refl))), (inr (inl refl), tt)), (tt, ((inr (inl refl), tt), (tt, (tt, ((inr (inr (inr (inr (inr (inr (inr (inr (inl refl)))))))), tt), (tt, (tt, tt))))))))))))
+order-closed (Some operation.Information) =
+    (tt, (tt, (tt, (tt, ((inr (inr (inr (inl refl))), (inr (inl refl), tt)), (tt, ((inr (inl refl), tt), (tt, (tt, ((inr (inr (inr (inr (inr (inr (inr (inr (inl refl)))))))), tt), (tt, (tt, ((inr (inr (inr (inr (inr (inr (inr (inr (inr (inl refl))))))))), tt), (tt, (tt, ((inr (inr (inr (inr (inr (inr (inr (inr (inl refl)))))))), tt), ((inr (inr (inr (inr (inr (inr (inr (inr (inl refl)))))))), tt), tt)))))))))))))))))
 
 -- the parameters that an operation has besides SERVICE and REQUEST
 abbrev own : Texts → List Parameter
-own t = option_map_or order (result_ok (operation_of (given t parameter.Request))) []
+own t = option_map_or order (result_ok (operation_in t)) []
 
 -- what stands behind the parameter of the fault in the other query
 record IsOrderOf (u : Texts) (before : List Parameter) (p : Parameter) : Type 0 where
@@ -161,10 +181,10 @@ other-order t u (a ∷ b ∷ more) p after e same =
 
 -- what comes later changes nothing
 pub later-changes-nothing : LaterChangesNothing
-later-changes-nothing map a b f before after e same first =
+later-changes-nothing map sequence a b f before after e same first =
     let t = texts_of (pairs_of a) in
     let u = texts_of (pairs_of b) in
     let other = other-order t u before f.parameter after e same in
-    let closed = subst (IsClosed []) e (order-closed (result_ok (operation_of (given t parameter.Request)))) in
-    ap (first_fault (refusal map u)) other.is
-    ∙ fault-same map t u [] before f after other.later (All-nil (Same t u)) closed same (ap (first_fault (refusal map t)) (sym e) ∙ first)
+    let closed = subst (IsClosed []) e (order-closed (result_ok (operation_in t))) in
+    ap (first_fault (refusal map sequence u)) other.is
+    ∙ fault-same map sequence t u [] before f after other.later (All-nil (Same t u)) closed same (ap (first_fault (refusal map sequence t)) (sym e) ∙ first)

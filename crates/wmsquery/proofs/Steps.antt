@@ -28,3 +28,10 @@ ok x = Ok x
 -- is one
 pub same-value : {X : Type 0} (a b : X) → ok a ≡ ok b → a ≡ b
 same-value a b e = cc
+
+-- and so is an error
+abbrev err : {X : Type 0} → WmsFault → Result X WmsFault
+err f = Err f
+
+pub same-fault : {X : Type 0} (f g : WmsFault) → err {X = X} f ≡ err {X = X} g → f ≡ g
+same-fault f g e = cc

@@ -1,6 +1,6 @@
 -- Values that are written out are read again.
-use Rattle.std.proofs.Common.{ok_or, ◌≡◌, ◌≢◌, ℕ, ◌^◌, ◌<◌, ◌&&◌, true, false, nat_le, List, [], ◌∷◌, All, Some, None, Ok, ap, refl, ◌∙◌, arith, cond}
-use Rattle.std.proofs.lemmas.Bool.{and_from, le-leb, ne_eqb}
+use Rattle.std.proofs.Common.{◌==◌, ◌≤◌, min, nat_lt, ok_or, ◌≡◌, ◌≢◌, ℕ, ◌^◌, ◌<◌, ◌&&◌, true, false, nat_le, List, [], ◌∷◌, All, Some, None, Ok, ap, refl, ◌∙◌, arith, cond}
+use Rattle.std.proofs.lemmas.Bool.{and_from, le-leb, lt-ltb, ne_eqb}
 use Rattle.std.proofs.lemmas.List.Elements.{All-head, All-tail, All-weaker}
 use Rattle.std.proofs.lemmas.List.Splits.{slice_split_none, slice_split_at}
 use Rattle.std.specs.Fmt.{decimal}
@@ -10,7 +10,7 @@ use Rattle.geom.specs.Decimal.{number_of}
 use Rattle.geom.specs.Side.{IsPictureSide, picture_side}
 use Rattle.geom.proofs.Written.{numeral}
 use Rattle.wmsquery.specs.Pairs.{is_comma}
-use Rattle.wmsquery.specs.Values.{number_in, side_of}
+use Rattle.wmsquery.specs.Values.{number_in, side_of, count_within, feature_count_of, index_below, pixel_of}
 use Rattle.wmsquery.specs.declared.fault.Code.TheVariants as code
 
 -- a side that a picture may have
@@ -30,6 +30,21 @@ pub side-written : (n : ℕ) → IsPictureSide n → side_of (Some (decimal n)) 
 side-written n is =
     ap (λ c. ok_or (option_and_then picture_side c) code.InvalidParameterValue) (number-written n (omega (arith, is.most)))
     ∙ ap (λ side. ok_or side code.InvalidParameterValue) (side-within n is)
+
+-- the digits of a count that a layer may have mean that count
+pub count-written : (n : ℕ) → 1 ≤ n → n ≤ 200000 → feature_count_of (Some (decimal n)) ≡ Ok n
+count-written n some most =
+    let counted : (n == 0) ≡ false = ne_eqb n 0 (λ e. omega (arith, e, some)) in
+    let least : min n 200000 ≡ n = omega (arith, most) in
+    ap (λ c. ok_or (option_and_then count_within c) code.InvalidParameterValue) (number-written n (omega (arith, most)))
+    ∙ rw (counted, least) refl
+
+-- the digits of a pixel's index mean that pixel
+pub pixel-written : (side n : ℕ) → side ≤ 2048 → n < side → pixel_of side (Some (decimal n)) ≡ Ok n
+pixel-written side n few within =
+    let test : nat_lt n side ≡ true = lt-ltb n side within in
+    ap (λ c. ok_or (option_and_then (index_below side) c) code.InvalidPoint) (number-written n (omega (arith, few, within)))
+    ∙ rw test refl
 
 -- bytes that are no commas
 commas-none : (text : List ℕ) → All (λ b. b ≢ 44) text → All (λ b. is_comma b ≡ false) text

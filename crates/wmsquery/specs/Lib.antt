@@ -6,4 +6,5 @@ pub mod Query
 pub mod Reading
 pub mod Report
 pub mod Values
+pub mod Within
 pub mod Written

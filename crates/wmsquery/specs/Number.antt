@@ -1,4 +1,4 @@
--- Numbers of digits as far as they are read.
+-- Numbers of digits as far as they are read (docs/PROFILE.md, "Queries").
 use Rattle.std.specs.Prelude.{ℕ, ◌^◌, min}
 
 -- the number, or 2^64, which is past every limit: so far a number is read

@@ -1,14 +1,15 @@
 -- The parameters of a query (URL Standard, application/x-www-form-urlencoded; docs/PROFILE.md, "Queries").
-use Rattle.std.specs.Prelude.{◌≡◌, ◌&&◌, ◌==◌, ℕ, Bool, List, [], ◌∷◌, map, find, Option, None, Some}
+use Rattle.std.specs.Prelude.{◌≡◌, ◌&&◌, ◌==◌, ℕ, Bool, List, [], ◌∷◌, map, find, Option, None, Some, ◌++◌}
 use Rattle.std.specs.List.{slice_split}
 use Rattle.std.specs.Option.{option_map, option_and_then, is_none}
 use Rattle.std.specs.Str.{str_eq_ignore_ascii_case}
 use Rattle.std.specs.Str.Lossy.{utf8_lossy}
 use Rattle.form_urlencoded.specs.Form.{raw_pairs, decode}
+use Rattle.operations.specs.declared.operation.Operation.TheVariants as operation
 use Rattle.wmsquery.specs.declared.fault.Parameter.{Parameter}
 use Rattle.wmsquery.specs.declared.fault.Parameter.TheVariants as parameter
 use Rattle.wmsquery.specs.declared.pairs.Pair.{Pair}
-use Rattle.wmsquery.specs.Order.{map_order}
+use Rattle.wmsquery.specs.Order.{order}
 use Rattle.wmsquery.specs.Report.{parameter_text}
 
 -- the text that a name or a value stands for: decoded, with a replacement character for what is not UTF-8
@@ -59,7 +60,7 @@ names_of (Some text) = names_in text
 
 -- all parameters that are looked at
 abbrev pub parameters : List Parameter
-parameters = parameter.Service ∷ parameter.Request ∷ map_order
+parameters = parameter.Service ∷ parameter.Request ∷ order operation.Information ++ order operation.Capabilities
 
 -- two lists of pairs give each parameter the same text
 abbrev pub HaveSameTexts : List Pair → List Pair → Type 0

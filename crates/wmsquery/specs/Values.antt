@@ -1,8 +1,8 @@
--- What the text of each parameter means, or the code that refuses it (OGC 06-042, 7.3; docs/PROFILE.md, "Queries").
-use Rattle.std.specs.Prelude.{ℕ, ◌==◌, ◌&&◌, ◌||◌, Bool, true, false, not, slice_get, nat_le, if◌then◌else◌, List, [], ◌∷◌, length, Option, None, Some, Result, Ok, Err, codes, option_and_then, ok_or}
+-- What the text of each parameter means, or the code that refuses it (OGC 06-042, 7.2 to 7.4; docs/PROFILE.md, "Queries").
+use Rattle.std.specs.Prelude.{ℕ, ◌==◌, ◌&&◌, ◌||◌, Bool, true, false, not, slice_get, nat_le, nat_lt, if◌then◌else◌, List, [], ◌∷◌, length, Option, None, Some, Result, Ok, Err, codes, option_and_then, ok_or, min}
 use Rattle.std.specs.Option.{option_map_or}
 use Rattle.std.specs.Result.{result_ok}
-use Rattle.std.specs.List.{list_all}
+use Rattle.std.specs.List.{list_all, list_any}
 use Rattle.std.specs.Char.{is_ascii_digit}
 use Rattle.std.specs.Str.{str_eq_ignore_ascii_case}
 use Rattle.hex.specs.Hex.{decode_sized}
@@ -12,6 +12,7 @@ use Rattle.geom.specs.World.{Area}
 use Rattle.mapdefs.specs.declared.colour.Rgb.{Rgb}
 use Rattle.mapdefs.specs.declared.layer.LayerFields.{LayerFields}
 use Rattle.mapdefs.specs.declared.map.MapFields.{MapFields}
+use Rattle.mapdefs.specs.declared.limits.TheConstants.{MAX_FEATURES}
 use Rattle.mapdefs.specs.Name.{index_of, is_same_name}
 use Rattle.operations.specs.Operation.{name_of}
 use Rattle.operations.specs.declared.operation.Operation.{Operation}
@@ -45,7 +46,10 @@ service_of (Some text) = fixed (codes "WMS") code.InvalidParameterValue text
 
 -- the operation of a name
 abbrev pub operation_named : List ℕ → Option Operation
-operation_named name = if is_same_name name (name_of operation.Map) then Some operation.Map else None
+operation_named name =
+    if is_same_name name (name_of operation.Capabilities) then Some operation.Capabilities
+    else (if is_same_name name (name_of operation.Map) then Some operation.Map
+    else (if is_same_name name (name_of operation.Information) then Some operation.Information else None))
 
 -- REQUEST is the name of an operation
 abbrev pub operation_of : Option (List ℕ) → Result Operation Code
@@ -95,9 +99,16 @@ abbrev pub styles_listed : ℕ → List ℕ → Result (Unit {0}) Code
 styles_listed count [] = Ok tt
 styles_listed count (b ∷ bs) = style_list count (names_in (b ∷ bs))
 
--- STYLES, for so many layers, has to be there, and may be empty
-abbrev pub styles_of : ℕ → Option (List ℕ) → Result (Unit {0}) Code
-styles_of count text = and_then (required text) (styles_listed count)
+-- what stands for a parameter of GetMap that is absent: GetFeatureInfo needs it not
+abbrev pub absent : {X : Type 0} → Operation → X → Result X Code
+absent operation.Information default = Ok default
+absent operation.Map default = Err code.MissingParameterValue
+absent operation.Capabilities default = Err code.MissingParameterValue
+
+-- STYLES, for so many layers, may be empty
+abbrev pub styles_of : Operation → ℕ → Option (List ℕ) → Result (Unit {0}) Code
+styles_of o count None = absent o tt
+styles_of o count (Some text) = styles_listed count text
 
 -- CRS is a known coordinate reference system
 abbrev pub system_of : Option (List ℕ) → Result Crs Code
@@ -122,8 +133,9 @@ format_named name =
     else (if is_same_name name (codes "image/x-portable-arbitrarymap") then Ok ArbitraryMap else Err code.InvalidFormat)
 
 -- FORMAT is the name of a format
-abbrev pub format_of : Option (List ℕ) → Result Format Code
-format_of text = and_then (required text) format_named
+abbrev pub format_of : Operation → Option (List ℕ) → Result Format Code
+format_of o None = absent o Pixmap
+format_of o (Some name) = format_named name
 
 -- TRANSPARENT is TRUE or FALSE without case, FALSE where it is missing
 abbrev pub transparent_of : Option (List ℕ) → Result Bool Code
@@ -153,3 +165,52 @@ abbrev pub background_for : Format → Bool → Rgb → Option Rgb
 background_for ArbitraryMap true colour = None
 background_for ArbitraryMap false colour = Some colour
 background_for Pixmap transparent colour = Some colour
+
+-- a name is among others
+abbrev pub is_among : List ℕ → List (List ℕ) → Bool
+is_among name names = list_any (is_same_name name) names
+
+-- the layer at an index may be asked for features
+abbrev pub is_queryable : MapFields → ℕ → Bool
+is_queryable map index = option_map_or (λ (layer : LayerFields). layer.queryable) (slice_get map.layers index) false
+
+-- the index of the layer of a name that is asked for: defined, among the names of LAYERS, and queryable
+abbrev pub asked : MapFields → List (List ℕ) → List ℕ → Result ℕ Code
+asked map names name =
+    and_then (defined map name) (λ index.
+    if is_among name names then (if is_queryable map index then Ok index else Err code.LayerNotQueryable) else Err code.LayerNotDefined)
+
+-- QUERY_LAYERS lists layers of LAYERS that are queryable
+abbrev pub asked_of : MapFields → List (List ℕ) → List (List ℕ) → Result (List ℕ) Code
+asked_of map names queried = and_then (listed (length queried)) (λ _. indices_of (asked map names) queried)
+
+-- INFO_FORMAT is plain text
+abbrev pub info_format_of : Option (List ℕ) → Result (Unit {0}) Code
+info_format_of text = and_then (required text) (fixed (codes "text/plain") code.InvalidFormat)
+
+-- a count of features: not 0, and at most as many as a layer may have
+abbrev pub count_within : ℕ → Option ℕ
+count_within n = if n == 0 then None else Some (min n MAX_FEATURES)
+
+-- FEATURE_COUNT is such a count, 1 where it is missing
+abbrev pub feature_count_of : Option (List ℕ) → Result ℕ Code
+feature_count_of None = Ok 1
+feature_count_of (Some digits) = ok_or (option_and_then count_within (number_in digits)) code.InvalidParameterValue
+
+-- the index, if it is that of one of so many pixels
+abbrev pub index_below : ℕ → ℕ → Option ℕ
+index_below side n = if nat_lt n side then Some n else None
+
+-- I and J are the index of a column or row of a picture that has a side of so many pixels
+abbrev pub pixel_of : ℕ → Option (List ℕ) → Result ℕ Code
+pixel_of side text = and_then (required text) (λ digits. ok_or (option_and_then (index_below side) (number_in digits)) code.InvalidPoint)
+
+-- a client that has the document of a sequence gets the present one where that is a later one
+abbrev pub is_behind : ℕ → ℕ → Result (Unit {0}) Code
+is_behind present n =
+    if n == present then Err code.CurrentUpdateSequence else (if nat_lt n present then Ok tt else Err code.InvalidUpdateSequence)
+
+-- UPDATESEQUENCE may be missing, and is a number below the present sequence
+abbrev pub sequence_of : ℕ → Option (List ℕ) → Result (Unit {0}) Code
+sequence_of present None = Ok tt
+sequence_of present (Some digits) = and_then (ok_or (number_in digits) code.InvalidUpdateSequence) (is_behind present)

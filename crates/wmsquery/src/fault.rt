@@ -30,6 +30,18 @@ pub enum Parameter {
     Transparent,
     /// BGCOLOR: the colour of the background.
     Bgcolor,
+    /// QUERY_LAYERS: the names of the layers that are asked for features.
+    QueryLayers,
+    /// INFO_FORMAT: that of feature information.
+    InfoFormat,
+    /// FEATURE_COUNT: how many features of a layer are told at most.
+    FeatureCount,
+    /// I: the column of the pixel near which features are looked for.
+    Column,
+    /// J: its row.
+    Row,
+    /// UPDATESEQUENCE: the sequence of the capabilities document that the client has.
+    UpdateSequence,
 }
 
 /// The codes of service exceptions.
@@ -49,6 +61,14 @@ pub enum Code {
     InvalidCrs,
     /// A format is asked for that there isn't.
     InvalidFormat,
+    /// QUERY_LAYERS names a layer that may not be asked for features.
+    LayerNotQueryable,
+    /// I or J isn't that of a pixel of the picture.
+    InvalidPoint,
+    /// The client has the capabilities document of the present sequence.
+    CurrentUpdateSequence,
+    /// UPDATESEQUENCE is no number, or that of a sequence to come.
+    InvalidUpdateSequence,
 }
 
 /// Why a query is refused: the code of the service exception, and the parameter at fault.

@@ -4,14 +4,15 @@ ghost use Rattle.std.specs.Option.{option_copied};
 ghost use Rattle.wmsquery.specs.declared.fault.Parameter.TheVariants as parameter;
 ghost use Rattle.wmsquery.specs.Pairs.{names_in, names_of};
 ghost use Rattle.wmsquery.specs.Reading.{IsErrorOf, checked};
-ghost use Rattle.wmsquery.specs.Values.{layer_named, listed, defined, indices_of, layers_of, is_default, style_list, styles_of};
+ghost use Rattle.wmsquery.specs.Values.{layer_named, listed, defined, indices_of, layers_of, is_default, style_list, absent, styles_of, is_among, is_queryable, asked, asked_of};
 
 use crate::error::QueryError;
 use crate::fault::{Code, Parameter, checked};
 use mapdefs::{Items, Map};
+use operations::Operation;
 use std::alloc::{AllocError, Global};
 
-/// The most names of LAYERS.
+/// The most names of LAYERS, and of QUERY_LAYERS.
 pub const MAX_NAMES: usize = 64;
 
 // The names of a list, between commas.
@@ -22,7 +23,7 @@ fn names_in(alloc: Global, text: &str) -> Result<Vec<&str>, AllocError>
 }
 
 /// The names that a parameter lists, none where it is missing.
-pub fn names(alloc: Global, text: Option<&str>) -> Result<Vec<&str>, AllocError>
+pub fn names_of(alloc: Global, text: Option<&str>) -> Result<Vec<&str>, AllocError>
     ensures { IfOk result (λ found. each (λ x. x.now) found.items ≡ names_of (option_copied text.entry)) }
 {
     match text {
@@ -125,20 +126,104 @@ fn style_list(count: usize, entries: &[&str]) -> Result<(), Code>
     }
 }
 
+/// What stands for a parameter of GetMap that is absent, if the operation needs it not.
+pub fn absent<T: Drop>(operation: Operation, default: T) -> Result<T, Code>
+    ensures { result ≡ absent operation default }
+{
+    match operation {
+        Operation::Information => Ok(default),
+        Operation::Map | Operation::Capabilities => Err(Code::MissingParameterValue),
+    }
+}
+
 /// What STYLES means for that many layers.
 pub fn styles(
     alloc: Global,
+    operation: Operation,
     count: usize,
     text: Option<&str>,
 ) -> Result<Result<(), Code>, AllocError>
-    ensures { IfOk result (λ meant. meant ≡ styles_of count (option_copied text.entry)) }
+    ensures { IfOk result (λ meant. meant ≡ styles_of operation count (option_copied text.entry)) }
 {
     let Some(text) = text else {
-        return Ok(Err(Code::MissingParameterValue));
+        return Ok(absent(operation, ()));
     };
     if text.is_empty() {
         return Ok(Ok(()));
     }
     let entries = names_in(alloc, text)?;
     Ok(style_list(count, &entries))
+}
+
+// Whether a name is among others.
+fn is_among(name: &str, names: &[&str]) -> bool
+    ensures { result ≡ is_among name.now (each (λ x. x.now) names.now) }
+{
+    for other in names {
+        if name == *other {
+            return true;
+        }
+    }
+    false
+}
+
+// Whether the layer at an index may be asked for features.
+fn is_queryable(map: &Map, index: usize) -> bool
+    ensures { result ≡ is_queryable map.now index }
+{
+    match map.get().layers.as_slice().get(index) {
+        Some(layer) => layer.get().queryable,
+        None => false,
+    }
+}
+
+// The index of the layer of a name that is asked for features. `names` are those of LAYERS.
+fn asked(map: &Map, names: &[&str], name: &str) -> Result<usize, Code>
+    ensures value { result ≡ asked map.now (each (λ x. x.now) names.now) name.now }
+    ensures within { IfOk result (λ index. index < length map.now.layers) }
+{
+    let index = defined(map, name)?;
+    if !is_among(name, names) {
+        Err(Code::LayerNotDefined)
+    } else if is_queryable(map, index) {
+        Ok(index)
+    } else {
+        Err(Code::LayerNotQueryable)
+    }
+}
+
+// The indices of the layers of some names that are asked for features.
+fn asked_indices(
+    alloc: Global,
+    map: &Map,
+    names: &[&str],
+    queried: &[&str],
+) -> Result<Items<usize>, QueryError>
+    ensures value { MatchResult result
+        (λ found. indices_of (asked map.now (each (λ x. x.now) names.now)) (each (λ x. x.now) queried.now) ≡ Ok found)
+        (IsErrorOf (checked parameter.QueryLayers (indices_of (asked map.now (each (λ x. x.now) names.now)) (each (λ x. x.now) queried.now)))) }
+    ensures within { IfOk result (All (λ index. index < length map.now.layers)) }
+{
+    let mut found = Items::new(alloc);
+    for name in queried {
+        let index = checked(Parameter::QueryLayers, asked(map, names, name))?;
+        found.push(index)?;
+    }
+    Ok(found)
+}
+
+/// The indices of the layers that QUERY_LAYERS lists. `names` are those of LAYERS.
+pub fn asked_layers(
+    alloc: Global,
+    map: &Map,
+    names: &[&str],
+    queried: &[&str],
+) -> Result<Items<usize>, QueryError>
+    ensures value { MatchResult result
+        (λ found. asked_of map.now (each (λ x. x.now) names.now) (each (λ x. x.now) queried.now) ≡ Ok found)
+        (IsErrorOf (checked parameter.QueryLayers (asked_of map.now (each (λ x. x.now) names.now) (each (λ x. x.now) queried.now)))) }
+    ensures within { IfOk result (All (λ index. index < length map.now.layers)) }
+{
+    checked(Parameter::QueryLayers, listed(queried.len()))?;
+    asked_indices(alloc, map, names, queried)
 }

@@ -55,6 +55,12 @@ fn is_first(found: &[Pair], name: &str) -> bool
         Parameter::Format,
         Parameter::Transparent,
         Parameter::Bgcolor,
+        Parameter::QueryLayers,
+        Parameter::InfoFormat,
+        Parameter::FeatureCount,
+        Parameter::Column,
+        Parameter::Row,
+        Parameter::UpdateSequence,
     ];
     parameters.iter().any(|parameter| {
         name.eq_ignore_ascii_case(parameter.text()) && text_of(found, *parameter).is_none()

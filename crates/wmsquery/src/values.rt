@@ -1,16 +1,18 @@
-ghost use Rattle.std.specs.Prelude.{◌≡◌, IfOk};
+ghost use Rattle.std.specs.Prelude.{◌≡◌, ◌≤◌, ◌<◌, IfOk, IfSome};
 ghost use Rattle.std.specs.Option.{option_copied};
 ghost use Rattle.geom.specs.Side.{picture_side};
 ghost use Rattle.geom.specs.World.{IsExtent};
-ghost use Rattle.wmsquery.specs.Values.{fixed, service_of, operation_of, version_of, system_of, area_of, side_of, format_of, transparent_of, colour_of, background_of, background_for};
+ghost use Rattle.mapdefs.specs.declared.limits.TheConstants.{MAX_FEATURES};
+ghost use Rattle.wmsquery.specs.Values.{fixed, service_of, operation_named, operation_of, version_of, system_of, area_of, side_of, format_of, transparent_of, colour_of, background_of, background_for, info_format_of, count_within, feature_count_of, index_below, pixel_of, is_behind, sequence_of};
 
 use crate::fault::Code;
+use crate::lists::absent;
 use crate::number::read_number;
 use crate::request::Format;
 use crsaxes::{Crs, crs_of};
 use geom::{PictureSide, WorldBox};
 use hex::FromHex;
-use mapdefs::Rgb;
+use mapdefs::{MAX_FEATURES, Rgb};
 use operations::Operation;
 
 // A text that has to be this one.
@@ -30,6 +32,21 @@ pub fn service(text: Option<&str>) -> Result<(), Code>
     }
 }
 
+// The operation of a name.
+fn operation_named(name: &str) -> Option<Operation>
+    ensures { result ≡ operation_named name.now }
+{
+    if name == Operation::Capabilities.name() {
+        Some(Operation::Capabilities)
+    } else if name == Operation::Map.name() {
+        Some(Operation::Map)
+    } else if name == Operation::Information.name() {
+        Some(Operation::Information)
+    } else {
+        None
+    }
+}
+
 /// The operation that REQUEST means.
 pub fn operation(text: Option<&str>) -> Result<Operation, Code>
     ensures { result ≡ operation_of (option_copied text.entry) }
@@ -37,11 +54,7 @@ pub fn operation(text: Option<&str>) -> Result<Operation, Code>
     let Some(name) = text else {
         return Err(Code::MissingParameterValue);
     };
-    if name == Operation::Map.name() {
-        Ok(Operation::Map)
-    } else {
-        Err(Code::OperationNotSupported)
-    }
+    operation_named(name).ok_or(Code::OperationNotSupported)
 }
 
 /// What VERSION means.
@@ -102,11 +115,11 @@ pub fn side(text: Option<&str>) -> Result<PictureSide, Code>
 }
 
 /// The format that FORMAT means.
-pub fn format(text: Option<&str>) -> Result<Format, Code>
-    ensures { result ≡ format_of (option_copied text.entry) }
+pub fn format(operation: Operation, text: Option<&str>) -> Result<Format, Code>
+    ensures { result ≡ format_of operation (option_copied text.entry) }
 {
     let Some(name) = text else {
-        return Err(Code::MissingParameterValue);
+        return absent(operation, Format::Pixmap);
     };
     if name == "image/x-portable-pixmap" {
         Ok(Format::Pixmap)
@@ -167,4 +180,94 @@ pub fn background_for(format: Format, transparent: bool, colour: Rgb) -> Option<
         Format::ArbitraryMap if transparent => None,
         Format::ArbitraryMap | Format::Pixmap => Some(colour),
     }
+}
+
+/// What INFO_FORMAT means.
+pub fn info_format(text: Option<&str>) -> Result<(), Code>
+    ensures { result ≡ info_format_of (option_copied text.entry) }
+{
+    match text {
+        Some(text) => fixed("text/plain", Code::InvalidFormat, text),
+        None => Err(Code::MissingParameterValue),
+    }
+}
+
+// The count of features that a number means.
+fn count_within(number: u128) -> Option<u32>
+    ensures value { result ≡ count_within number }
+    ensures some { IfSome result (λ count. 1 ≤ count) }
+    ensures most { IfSome result (λ count. count ≤ MAX_FEATURES) }
+{
+    if number == 0 {
+        None
+    } else {
+        Some(number.min(MAX_FEATURES as u128) as u32)
+    }
+}
+
+/// The count of features that FEATURE_COUNT means.
+pub fn feature_count(text: Option<&str>) -> Result<u32, Code>
+    ensures value { result ≡ feature_count_of (option_copied text.entry) }
+    ensures some { IfOk result (λ count. 1 ≤ count) }
+    ensures most { IfOk result (λ count. count ≤ MAX_FEATURES) }
+{
+    let Some(text) = text else {
+        return Ok(1);
+    };
+    let Some(number) = read_number(text.as_bytes()) else {
+        return Err(Code::InvalidParameterValue);
+    };
+    count_within(number).ok_or(Code::InvalidParameterValue)
+}
+
+// The index of a pixel that a number means on a side of a picture.
+fn index_below(side: PictureSide, number: u128) -> Option<u32>
+    ensures value { result ≡ index_below side number }
+    ensures within { IfSome result (λ index. index < side) }
+{
+    if number < u128::from(side.pixels()) {
+        Some(number as u32)
+    } else {
+        None
+    }
+}
+
+/// The column that I means in a picture of that width, or the row that J means in one of that height.
+pub fn pixel(side: PictureSide, text: Option<&str>) -> Result<u32, Code>
+    ensures value { result ≡ pixel_of side (option_copied text.entry) }
+    ensures within { IfOk result (λ index. index < side) }
+{
+    let Some(text) = text else {
+        return Err(Code::MissingParameterValue);
+    };
+    let Some(number) = read_number(text.as_bytes()) else {
+        return Err(Code::InvalidPoint);
+    };
+    index_below(side, number).ok_or(Code::InvalidPoint)
+}
+
+// Whether a client that has the document of a sequence gets the present one.
+fn is_behind(present: u64, number: u128) -> Result<(), Code>
+    ensures { result ≡ is_behind present number }
+{
+    if number == u128::from(present) {
+        Err(Code::CurrentUpdateSequence)
+    } else if number < u128::from(present) {
+        Ok(())
+    } else {
+        Err(Code::InvalidUpdateSequence)
+    }
+}
+
+/// What UPDATESEQUENCE means at a sequence.
+pub fn update_sequence(present: u64, text: Option<&str>) -> Result<(), Code>
+    ensures { result ≡ sequence_of present (option_copied text.entry) }
+{
+    let Some(text) = text else {
+        return Ok(());
+    };
+    let Some(number) = read_number(text.as_bytes()) else {
+        return Err(Code::InvalidUpdateSequence);
+    };
+    is_behind(present, number)
 }
