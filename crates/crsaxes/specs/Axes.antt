@@ -20,7 +20,7 @@ crs_of name =
 abbrev pub is_comma : ℕ → Bool
 is_comma b = b == 44
 
--- the parts of a text between commas
+-- the parts of a text of coordinates, between commas
 abbrev pub parts : List ℕ → List (List ℕ)
 parts text = slice_split is_comma text
 

@@ -63,31 +63,41 @@ fn box_of(
     }
 }
 
-/// The box that a text of four coordinates between commas means in a coordinate reference system:
-/// the least values of both axes, and then the greatest, in the system's axis order. Spaces are not
-/// trimmed.
-///
-/// The first of these that fits is the fault: `UnknownCrs`; `NotFour`, where there are not four parts;
-/// `NotANumber`, where a part is no coordinate; `Empty`, where the box has no area. It takes no memory.
+impl Crs {
+    /// The box that a text of four coordinates between commas means in the system: the least values of both
+    /// axes, and then the greatest, in the system's axis order. Spaces are not trimmed.
+    ///
+    /// The first of these that fits is the fault: `NotFour`, where there are not four parts; `NotANumber`,
+    /// where a part is no coordinate; `Empty`, where the box has no area. It takes no memory.
+    pub fn bbox(self, text: &str) -> Result<WorldBox, AxisFault>
+        ensures value { result ≡ box_of_parts self (parts text.now) }
+        ensures extent { IfOk result IsExtent }
+    {
+        let Some((first, second, third, fourth)) = four_parts(text) else {
+            return Err(AxisFault::NotFour);
+        };
+        match (
+            Coordinate::read(first),
+            Coordinate::read(second),
+            Coordinate::read(third),
+            Coordinate::read(fourth),
+        ) {
+            (Some(first), Some(second), Some(third), Some(fourth)) => {
+                box_of(self, first, second, third, fourth)
+            }
+            _ => Err(AxisFault::NotANumber),
+        }
+    }
+}
+
+/// The box that a text means in the system of a name (`Crs::bbox`). `UnknownCrs`, where no system is known by
+/// the name, is the first of the faults.
 pub fn bbox(crs: &str, text: &str) -> Result<WorldBox, AxisFault>
     ensures value { result ≡ bbox crs.now text.now }
     ensures extent { IfOk result IsExtent }
 {
-    let Some(crs) = crs_of(crs) else {
-        return Err(AxisFault::UnknownCrs);
-    };
-    let Some((first, second, third, fourth)) = four_parts(text) else {
-        return Err(AxisFault::NotFour);
-    };
-    match (
-        Coordinate::read(first),
-        Coordinate::read(second),
-        Coordinate::read(third),
-        Coordinate::read(fourth),
-    ) {
-        (Some(first), Some(second), Some(third), Some(fourth)) => {
-            box_of(crs, first, second, third, fourth)
-        }
-        _ => Err(AxisFault::NotANumber),
+    match crs_of(crs) {
+        Some(crs) => crs.bbox(text),
+        None => Err(AxisFault::UnknownCrs),
     }
 }

@@ -1,6 +1,6 @@
 //! Coordinate reference systems: which of two coordinates is the longitude.
 //!
-//! Proved: `bbox` reads the box of four coordinates in the axis order of its system, or its first
+//! Proved: `Crs::bbox` and `bbox` read the box of four coordinates in the axis order of its system, or its first
 //! fault, by its clause `value`; a box that it reads has an area within the world (`extent`).
 //!
 //! Words: the *axis order* of a coordinate reference system (CRS) says whether the longitude or the

@@ -6,14 +6,19 @@ use mapdefs::{Items, Layer, MAX_LAYERS, Map, Rgb, Text};
 use std::alloc::{AllocError, Global};
 use test_maps::{layer_fields, map_fields};
 use test_tables::{TableFault, check_rows};
-use wmsquery::{Format, MAX_NAMES, MapRequest, read};
+use wmsquery::{Format, InformationRequest, MAX_NAMES, MapRequest, Request, read};
 
 // A query without a fault. The first pair of a name counts, so that the rows put others before it.
 const QUERY: &str =
     "VERSION=1.3.0&REQUEST=GetMap&LAYERS=a&STYLES=&CRS=CRS:84&BBOX=0,0,4,4&WIDTH=4&HEIGHT=4&FORMAT=image/x-portable-pixmap";
 
-// What is told of each query, `|` and the query. `@` is the query without a fault, `*` are 63 layers and
-// `#` 100,000 parameters that are not looked at. A line that begins with `# ` is a heading.
+// A query for features without a fault.
+const INFORMATION: &str =
+    "VERSION=1.3.0&REQUEST=GetFeatureInfo&LAYERS=a,c,d&CRS=CRS:84&BBOX=0,0,4,4&WIDTH=4&HEIGHT=3&QUERY_LAYERS=d,a&INFO_FORMAT=text/plain&I=3&J=2";
+
+// What is told of each query, `|` and the query. `@` is the query without a fault, `$` the one for features,
+// `*` are 63 layers and `#` 50,000 parameters that are not looked at. A line that begins with `# ` is a
+// heading.
 const QUERIES: &str = "\
 # the names
 MissingParameterValue: REQUEST|
@@ -86,16 +91,77 @@ LayerNotDefined: LAYERS|#LAYERS=x&@
 0, 0 0 4000000 4000000 2048 1 255 255 255|WIDTH=2048&HEIGHT=0001&@&other
 0, 0 0 4000000 4000000 4 4 255 255 255|EXCEPTIONS=x&=&&TIME=x&@&request=x
 0, 0 0 4000000 4000000 4 4 255 255 255|#@&#LAYERS=x
+0, 0 0 4000000 4000000 4 4 255 255 255|UPDATESEQUENCE=x&QUERY_LAYERS=x&INFO_FORMAT=x&FEATURE_COUNT=x&I=x&J=x&@
 0,2,2,2,2,2,2,2,2,2,2,2,2,2,2,2,2,2,2,2,2,2,2,2,2,2,2,2,2,2,2,2,2,2,2,2,2,2,2,2,2,2,2,2,2,2,2,2,2,2,2,2,2,2,2,2,2,2,2,2,2,2,2,2, 0 0 4000000 4000000 4 4 255 255 255|LAYERS=a*&@
 2,0, 10000000 40000000 14000000 44500000 5 7 10 20 30|LAYERS=c,a&CRS=EPSG:4326&BBOX=40,10,44.5,14&WIDTH=5&HEIGHT=7&BGCOLOR=0x0A141e&@
 0, 0 0 4000000 4000000 4 4 255 255 255|@";
 
+// The same of the two other operations, at the sequence 2^64 - 1.
+const OTHERS: &str = "\
+# GetCapabilities, of which three parameters are looked at
+capabilities|REQUEST=GetCapabilities
+capabilities|SERVICE=WMS&REQUEST=GetCapabilities&VERSION=x&LAYERS=x&STYLES=x&CRS=x&BBOX=x&WIDTH=x&FORMAT=x&QUERY_LAYERS=x&I=x
+capabilities|REQUEST=GetCapabilities&UPDATESEQUENCE=
+capabilities|REQUEST=GetCapabilities&UpdateSequence=18446744073709551614
+capabilities|REQUEST=GetCapabilities&UPDATESEQUENCE=00
+CurrentUpdateSequence: UPDATESEQUENCE|REQUEST=GetCapabilities&UPDATESEQUENCE=18446744073709551615
+CurrentUpdateSequence: UPDATESEQUENCE|REQUEST=GetCapabilities&UPDATESEQUENCE=0018446744073709551615
+InvalidUpdateSequence: UPDATESEQUENCE|REQUEST=GetCapabilities&UPDATESEQUENCE=18446744073709551616
+InvalidUpdateSequence: UPDATESEQUENCE|REQUEST=GetCapabilities&UPDATESEQUENCE=1000000000000000000000000000000
+InvalidUpdateSequence: UPDATESEQUENCE|REQUEST=GetCapabilities&UPDATESEQUENCE=-1
+OperationNotSupported: REQUEST|REQUEST=getCapabilities
+# two faults
+InvalidParameterValue: SERVICE|SERVICE=x&REQUEST=x&UPDATESEQUENCE=x
+OperationNotSupported: REQUEST|REQUEST=x&UPDATESEQUENCE=x
+# GetFeatureInfo
+MissingParameterValue: QUERY_LAYERS|QUERY_LAYERS=&$
+InvalidParameterValue: QUERY_LAYERS|QUERY_LAYERS=c*,x&$
+LayerNotDefined: QUERY_LAYERS|QUERY_LAYERS=d,x&$
+LayerNotDefined: QUERY_LAYERS|QUERY_LAYERS=d,&$
+LayerNotDefined: QUERY_LAYERS|QUERY_LAYERS=b&$
+LayerNotDefined: QUERY_LAYERS|LAYERS=a,c&$
+LayerNotDefined: QUERY_LAYERS|LAYERS=a,d&QUERY_LAYERS=c&$
+LayerNotDefined: QUERY_LAYERS|QUERY_LAYERS=a,x,c&$
+LayerNotQueryable: QUERY_LAYERS|QUERY_LAYERS=a,c,x&$
+MissingParameterValue: INFO_FORMAT|INFO_FORMAT=&$
+InvalidFormat: INFO_FORMAT|INFO_FORMAT=text/html&$
+InvalidParameterValue: FEATURE_COUNT|FEATURE_COUNT=0&$
+InvalidParameterValue: FEATURE_COUNT|FEATURE_COUNT=%2B1&$
+MissingParameterValue: I|I=&$
+InvalidPoint: I|I=4&$
+InvalidPoint: I|I=1000000000000000000000000000000&$
+MissingParameterValue: J|J=&$
+InvalidPoint: J|J=3&$
+InvalidPoint: J|J=1.0&$
+InvalidParameterValue: STYLES|STYLES=,&$
+# two faults, neighbours in the order of refusal
+InvalidParameterValue: VERSION|VERSION=x&LAYERS=x&$
+LayerNotDefined: LAYERS|LAYERS=x&STYLES=x&$
+StyleNotDefined: STYLES|STYLES=,x,&CRS=x&$
+InvalidCRS: CRS|CRS=x&BBOX=x&$
+InvalidParameterValue: BBOX|BBOX=x&WIDTH=x&$
+InvalidParameterValue: WIDTH|WIDTH=x&HEIGHT=x&$
+InvalidParameterValue: HEIGHT|HEIGHT=x&FORMAT=x&$
+InvalidFormat: FORMAT|FORMAT=x&TRANSPARENT=x&$
+InvalidParameterValue: TRANSPARENT|TRANSPARENT=x&BGCOLOR=x&$
+InvalidParameterValue: BGCOLOR|BGCOLOR=x&QUERY_LAYERS=x&$
+LayerNotDefined: QUERY_LAYERS|QUERY_LAYERS=x&INFO_FORMAT=x&$
+InvalidFormat: INFO_FORMAT|INFO_FORMAT=x&FEATURE_COUNT=x&$
+InvalidParameterValue: FEATURE_COUNT|FEATURE_COUNT=x&I=x&$
+InvalidPoint: I|I=x&J=x&$
+# no fault: the picture as before, the layers that are asked, the count, the column and the row
+0,2,3, 0 0 4000000 4000000 4 3 255 255 255; 3,0, 1 3 2|$
+0,2,3, 0 0 4000000 4000000 4 3 10 20 30; 3,0,3, 7 3 0|QUERY_LAYERS=d,a,d&STYLES=,default,&FORMAT=&BGCOLOR=0x0a141e&FEATURE_COUNT=007&J=00&$
+3,2,0, 0 0 4000000 4000000 4 3 nothing map; 0,3, 200000 1 2|LAYERS=d,c,a&QUERY_LAYERS=a,d&FORMAT=image/x-portable-arbitrarymap&TRANSPARENT=TRUE&FEATURE_COUNT=200001&I=0000000000000000000000001&$
+0,2,3, 0 0 4000000 4000000 4 3 255 255 255; 3,0, 200000 3 2|FEATURE_COUNT=1000000000000000000000000000000&UPDATESEQUENCE=x&$";
+
 // A layer of polygons without any.
-fn layer(alloc: Global, name: Text, on: bool) -> Layer
+fn layer(alloc: Global, name: Text, on: bool, queryable: bool) -> Layer
     ensures { result.classes ≡ [] }
 {
     let mut fields = layer_fields(alloc, name);
     fields.on = on;
+    fields.queryable = queryable;
     Layer::new(fields)
 }
 
@@ -106,17 +172,28 @@ fn map_of(alloc: Global, layers: Vec<Layer>) -> Map
     Map::new(map_fields(alloc, Items::of(layers)))
 }
 
-// A map of the layers `a` and `c`, and between them `b`, which is switched off.
+// A map of the layers `a` to `d`, of which `b` is switched off and `c` isn't queryable.
 fn test_map(alloc: Global) -> Result<Map, AllocError> {
     let a = Text::from_str(alloc, "a")?;
     let b = Text::from_str(alloc, "b")?;
     let c = Text::from_str(alloc, "c")?;
+    let d = Text::from_str(alloc, "d")?;
     let layers = vec![in alloc;
-        layer(alloc, a, true),
-        layer(alloc, b, false),
-        layer(alloc, c, true),
+        layer(alloc, a, true, true),
+        layer(alloc, b, false, true),
+        layer(alloc, c, true, false),
+        layer(alloc, d, true, true),
     ]?;
     Ok(map_of(alloc, layers))
+}
+
+// Indices, each with a comma behind it.
+fn listed(alloc: Global, indices: &[usize]) -> Result<String, AllocError> {
+    let mut list = String::new(alloc);
+    for index in indices {
+        list.push_str(format!(in alloc; "{index},")?.as_str())?;
+    }
+    Ok(list)
 }
 
 // The background of a request, and its format where that is no pixmap.
@@ -132,12 +209,9 @@ fn ground(alloc: Global, request: &MapRequest) -> Result<String, AllocError> {
     Ok(text)
 }
 
-// A request as a row tells it.
-fn shown(alloc: Global, request: &MapRequest) -> Result<String, AllocError> {
-    let mut chosen = String::new(alloc);
-    for index in request.chosen.as_slice() {
-        chosen.push_str(format!(in alloc; "{index},")?.as_str())?;
-    }
+// The picture of a request, as a row tells it.
+fn picture(alloc: Global, request: &MapRequest) -> Result<String, AllocError> {
+    let chosen = listed(alloc, request.chosen.as_slice())?;
     let area = request.area;
     let (west, south) = (area.minx().millionths(), area.miny().millionths());
     let (east, north) = (area.maxx().millionths(), area.maxy().millionths());
@@ -146,9 +220,26 @@ fn shown(alloc: Global, request: &MapRequest) -> Result<String, AllocError> {
     format!(in alloc; "{chosen} {west} {south} {east} {north} {width} {height} {ground}")
 }
 
+// A request for features, as a row tells it.
+fn information(alloc: Global, request: &InformationRequest) -> Result<String, AllocError> {
+    let picture = picture(alloc, &request.map)?;
+    let asked = listed(alloc, request.asked.as_slice())?;
+    let (count, column, row) = (request.count, request.column, request.row);
+    format!(in alloc; "{picture}; {asked} {count} {column} {row}")
+}
+
+// A request as a row tells it.
+fn shown(alloc: Global, request: &Request) -> Result<String, AllocError> {
+    match request {
+        Request::Capabilities => String::from_str(alloc, "capabilities"),
+        Request::Map(request) => picture(alloc, request),
+        Request::Information(request) => information(alloc, request),
+    }
+}
+
 // What is told of a query: its request, or the message of what refuses it.
 fn told(alloc: Global, query: &str, map: &Map) -> Result<String, AllocError> {
-    match read(alloc, query.as_bytes(), map) {
+    match read(alloc, query.as_bytes(), map, u64::MAX) {
         Ok(request) => shown(alloc, &request),
         Err(error) => format!(in alloc; "{error}"),
     }
@@ -157,8 +248,9 @@ fn told(alloc: Global, query: &str, map: &Map) -> Result<String, AllocError> {
 // A query in which all letters stand for themselves.
 fn spelt(alloc: Global, query: &str) -> Result<String, AllocError> {
     let layers = ",c".repeat(alloc, 63)?;
-    let others = "LAYER=%78&l=2&".repeat(alloc, 50_000)?;
+    let others = "LAYER=%78&l=2&".repeat(alloc, 25_000)?;
     let query = query.replace(alloc, '@', QUERY)?;
+    let query = query.replace(alloc, '$', INFORMATION)?;
     let query = query.replace(alloc, '*', layers.as_str())?;
     query.replace(alloc, '#', others.as_str())
 }
@@ -171,7 +263,12 @@ fn rows_of_queries(alloc: Global, row: &str) -> Result<String, AllocError> {
 
 #[test]
 fn queries_are_told_as_worked(rt: HostRuntime) -> Result<(), TableFault> {
-    check_rows(rt.alloc(), QUERIES, '|', 69, rows_of_queries)
+    check_rows(rt.alloc(), QUERIES, '|', 70, rows_of_queries)
+}
+
+#[test]
+fn queries_of_other_operations_are_told_as_worked(rt: HostRuntime) -> Result<(), TableFault> {
+    check_rows(rt.alloc(), OTHERS, '|', 51, rows_of_queries)
 }
 
 // A definition cites the same constant as the code, so only a test can tell a wrong limit.

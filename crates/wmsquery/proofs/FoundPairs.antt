@@ -9,7 +9,7 @@ use Rattle.form_urlencoded.specs.Form.{DecodesTo}
 use Rattle.wmsquery.specs.declared.fault.Parameter.{Parameter}
 use Rattle.wmsquery.specs.declared.fault.Parameter.TheVariants as parameter
 use Rattle.wmsquery.specs.declared.pairs.Pair.{Pair}
-use Rattle.wmsquery.specs.Pairs.{text_of, pair_of, value_of, parameters, is_first_of, HaveSameValues}
+use Rattle.wmsquery.specs.Pairs.{text_of, pair_of, value_of, parameters, is_first_of, HaveSameTexts}
 use Rattle.wmsquery.specs.Report.{parameter_text}
 
 -- a test passes or fails
@@ -36,6 +36,12 @@ no-parameter test h parameter.Height = none-passes test parameters 8 parameter.S
 no-parameter test h parameter.Format = none-passes test parameters 9 parameter.Service (lit< tt) h
 no-parameter test h parameter.Transparent = none-passes test parameters 10 parameter.Service (lit< tt) h
 no-parameter test h parameter.Bgcolor = none-passes test parameters 11 parameter.Service (lit< tt) h
+no-parameter test h parameter.QueryLayers = none-passes test parameters 12 parameter.Service (lit< tt) h
+no-parameter test h parameter.InfoFormat = none-passes test parameters 13 parameter.Service (lit< tt) h
+no-parameter test h parameter.FeatureCount = none-passes test parameters 14 parameter.Service (lit< tt) h
+no-parameter test h parameter.Column = none-passes test parameters 15 parameter.Service (lit< tt) h
+no-parameter test h parameter.Row = none-passes test parameters 16 parameter.Service (lit< tt) h
+no-parameter test h parameter.UpdateSequence = none-passes test parameters 17 parameter.Service (lit< tt) h
 
 -- where a name has a value, or the pair has another name, the pair may be left out
 value-without : (name : List ℕ) (found : List Pair) (pair : Pair) (rest : List Pair) →
@@ -55,11 +61,11 @@ value-without name (x ∷ xs) pair rest h =
 
 -- a pair that no parameter wants is left out
 pub pair-without : (found : List Pair) (pair : Pair) → list_any (is_first_of found pair.name) parameters ≡ false →
-    (rest : List Pair) → HaveSameValues (found ++ rest) (found ++ pair ∷ rest)
+    (rest : List Pair) → HaveSameTexts (found ++ rest) (found ++ pair ∷ rest)
 pair-without found pair h rest p = value-without (parameter_text p) found pair rest (no-parameter (is_first_of found pair.name) h p)
 
 -- a pair that is put at the end stands before what follows
-pub pair-pushed : (found : List Pair) (pair : Pair) (rest : List Pair) → HaveSameValues ((found ++ pair ∷ []) ++ rest) (found ++ pair ∷ rest)
+pub pair-pushed : (found : List Pair) (pair : Pair) (rest : List Pair) → HaveSameTexts ((found ++ pair ∷ []) ++ rest) (found ++ pair ∷ rest)
 pair-pushed found pair rest p = ap (value_of (parameter_text p)) (append_assoc found (pair ∷ []) rest)
 
 -- the pairs that are left begin with the next

@@ -1,158 +1,190 @@
--- What stands after the parameter of the first fault changes nothing.
-use Rattle.std.proofs.Common.{◌≡◌, ◌∙◌, ℕ, zero, suc, ◌+◌, ◌<◌, ◌≤◌, nat_lt, cond, List, ◌∷◌, [], ◌++◌, All, length, get_or, map, take, drop, append_assoc, ap, sym, subst, refl, inl, inr, arith}
-use Rattle.std.proofs.Math.Seq.{get_or-append_seam, take-append_seam}
-use Rattle.std.proofs.lemmas.Bool.{ltb-true}
-use Rattle.std.proofs.lemmas.List.{length-append, length-map, map-append, take-append-drop, get_or_append_left}
+-- What stands after the parameter of the fault changes nothing.
+use Rattle.std.proofs.Common.{ℕ, ◌≡◌, ◌∙◌, ◌⊎◌, List, length, [], ◌∷◌, ◌++◌, All, Option, None, Some, ap, refl, sym, subst, inl, inr}
+use Rattle.std.proofs.lemmas.List.Elements.{All-nil, All-cons, All-head, All-tail}
+use Rattle.std.specs.Option.{option_map_or, option_and_then}
+use Rattle.std.specs.Result.{result_ok, result_err}
+use Rattle.operations.specs.declared.operation.Operation.{Operation}
+use Rattle.operations.specs.declared.operation.Operation.TheVariants as operation
 use Rattle.mapdefs.specs.declared.map.MapFields.{MapFields}
-use Rattle.wmsquery.specs.declared.checks.Check.{Check}
+use Rattle.wmsquery.specs.declared.fault.Code.{Code}
 use Rattle.wmsquery.specs.declared.fault.Parameter.{Parameter}
 use Rattle.wmsquery.specs.declared.fault.Parameter.TheVariants as parameter
-use Rattle.wmsquery.specs.declared.pairs.Pair.{Pair}
-use Rattle.wmsquery.specs.Pairs.{pairs_of, parameters, HaveSameValue}
-use Rattle.wmsquery.specs.Checks.{checks}
+use Rattle.wmsquery.specs.declared.fault.WmsFault.{WmsFault}
 use Rattle.wmsquery.specs.Meaning.{LaterChangesNothing}
-use Rattle.wmsquery.proofs.FoundPairs.{either}
-use Rattle.wmsquery.proofs.SameValues.{ValuesBy, checks_by, values_by}
+use Rattle.wmsquery.specs.Order.{first_of, first_fault, order}
+use Rattle.wmsquery.specs.Pairs.{Texts, pairs_of, texts_of, some_text, names_of}
+use Rattle.wmsquery.specs.Query.{operation_in, refusal, looked_at}
+use Rattle.wmsquery.specs.Values.{and_then, service_of, operation_of, version_of, layers_of, styles_of, system_of, area_of, side_of, format_of, transparent_of, background_of, asked_of, info_format_of, feature_count_of, pixel_of, sequence_of}
 
--- the place of a parameter in the order of refusal
-abbrev number : Parameter → ℕ
-number parameter.Service = 0
-number parameter.Request = 1
-number parameter.Version = 2
-number parameter.Layers = 3
-number parameter.Styles = 4
-number parameter.Crs = 5
-number parameter.Bbox = 6
-number parameter.Width = 7
-number parameter.Height = 8
-number parameter.Format = 9
-number parameter.Transparent = 10
-number parameter.Bgcolor = 11
+-- ---- what the refusal of a parameter looks at
 
--- the parameter at that place
-parameter-at : (p : Parameter) → get_or parameters (number p) parameter.Service ≡ p
-parameter-at parameter.Service = refl
-parameter-at parameter.Request = refl
-parameter-at parameter.Version = refl
-parameter-at parameter.Layers = refl
-parameter-at parameter.Styles = refl
-parameter-at parameter.Crs = refl
-parameter-at parameter.Bbox = refl
-parameter-at parameter.Width = refl
-parameter-at parameter.Height = refl
-parameter-at parameter.Format = refl
-parameter-at parameter.Transparent = refl
-parameter-at parameter.Bgcolor = refl
+-- the parameters on whose texts the refusal of a parameter depends, besides its own
+abbrev bases : Parameter → List Parameter
+bases parameter.Styles = parameter.Request ∷ parameter.Layers ∷ []
+bases parameter.Bbox = parameter.Crs ∷ []
+bases parameter.Format = parameter.Request ∷ []
+bases parameter.QueryLayers = parameter.Layers ∷ []
+bases parameter.Column = parameter.Width ∷ []
+bases parameter.Row = parameter.Height ∷ []
+bases _ = []
 
--- each parameter stands there once
-number-at : (n : ℕ) → n < 12 → number (get_or parameters n parameter.Service) ≡ n
-number-at zero l = refl
-number-at (suc zero) l = refl
-number-at (suc (suc zero)) l = refl
-number-at (suc (suc (suc zero))) l = refl
-number-at (suc (suc (suc (suc zero)))) l = refl
-number-at (suc (suc (suc (suc (suc zero))))) l = refl
-number-at (suc (suc (suc (suc (suc (suc zero)))))) l = refl
-number-at (suc (suc (suc (suc (suc (suc (suc zero))))))) l = refl
-number-at (suc (suc (suc (suc (suc (suc (suc (suc zero)))))))) l = refl
-number-at (suc (suc (suc (suc (suc (suc (suc (suc (suc zero))))))))) l = refl
-number-at (suc (suc (suc (suc (suc (suc (suc (suc (suc (suc zero)))))))))) l = refl
-number-at (suc (suc (suc (suc (suc (suc (suc (suc (suc (suc (suc zero))))))))))) l = refl
-number-at (suc (suc (suc (suc (suc (suc (suc (suc (suc (suc (suc (suc n)))))))))))) l = absurd (omega (arith, l))
+-- a parameter is among some
+abbrev Among : Parameter → List Parameter → Type 0
+Among p [] = ⊥
+Among p (q ∷ qs) = (p ≡ q) ⊎ Among p qs
 
--- where the parameters fall into those before one, this one and those after it, it stands at that place
-place : (before after : List Parameter) (p : Parameter) → parameters ≡ before ++ p ∷ after → number p ≡ length before
-place before after p e =
-    let count = ap length e ∙ length-append before (p ∷ after) in
-    let at : get_or parameters (length before) parameter.Service ≡ p =
-    ap (λ ps. get_or ps (length before) parameter.Service) e ∙ get_or-append_seam before p after parameter.Service in
-    ap number (sym at) ∙ number-at (length before) (omega (arith, count))
+-- some parameters are among others
+abbrev AreAmong : List Parameter → List Parameter → Type 0
+AreAmong [] qs = Unit {0}
+AreAmong (p ∷ ps) qs = Among p qs × AreAmong ps qs
 
--- the values of the first so many parameters, and other values of those after them
-abbrev mixed : ℕ → ValuesBy → ValuesBy → ValuesBy
-mixed n v w p = cond (nat_lt (number p) n) (v p) (w p)
+-- each of some parameters has its bases among those before it, and among those that are seen already
+abbrev IsClosed : List Parameter → List Parameter → Type 0
+IsClosed seen [] = Unit {0}
+IsClosed seen (p ∷ ps) = AreAmong (bases p) (p ∷ seen) × IsClosed (p ∷ seen) ps
 
--- where the first so many are the same, all are
-mixed-same : (n : ℕ) (v w : ValuesBy) → ((p : Parameter) → number p < n → v p ≡ w p) → (p : Parameter) → mixed n v w p ≡ w p
-mixed-same n v w same p =
-    elim (either (nat_lt (number p) n)) [
-      | inl early ↦ rw early (same p (ltb-true (number p) n early))
-      | inr late ↦ rw late refl
-    ]
+module _ (t u : Texts) where
+  -- both texts of a parameter are the same
+  abbrev Same : Parameter → Type 0
+  Same p = t p ≡ u p
 
--- the first so many checks look at the first so many parameters alone
-front : (m : MapFields) (n : ℕ) (v w : ValuesBy) → n ≤ 12 → take n (checks_by m (mixed n v w)) ≡ take n (checks_by m v)
-front m zero v w l = refl
-front m (suc zero) v w l = refl
-front m (suc (suc zero)) v w l = refl
-front m (suc (suc (suc zero))) v w l = refl
-front m (suc (suc (suc (suc zero)))) v w l = refl
-front m (suc (suc (suc (suc (suc zero))))) v w l = refl
-front m (suc (suc (suc (suc (suc (suc zero)))))) v w l = refl
-front m (suc (suc (suc (suc (suc (suc (suc zero))))))) v w l = refl
-front m (suc (suc (suc (suc (suc (suc (suc (suc zero)))))))) v w l = refl
-front m (suc (suc (suc (suc (suc (suc (suc (suc (suc zero))))))))) v w l = refl
-front m (suc (suc (suc (suc (suc (suc (suc (suc (suc (suc zero)))))))))) v w l = refl
-front m (suc (suc (suc (suc (suc (suc (suc (suc (suc (suc (suc zero))))))))))) v w l = refl
-front m (suc (suc (suc (suc (suc (suc (suc (suc (suc (suc (suc (suc zero)))))))))))) v w l = refl
-front m (suc (suc (suc (suc (suc (suc (suc (suc (suc (suc (suc (suc (suc n))))))))))))) v w l = absurd (omega (arith, l))
+  -- a parameter with the same texts, among those that have
+  seen-same : (seen : List Parameter) (p : Parameter) → All Same seen → Among p seen → Same p
+  seen-same [] p all among = absurd among
+  seen-same (q ∷ qs) p all (inl is) = subst Same (sym is) (All-head Same q qs all)
+  seen-same (q ∷ qs) p all (inr later) = seen-same qs p (All-tail Same q qs all) later
 
--- so they are the same where those parameters have the same values
-same-front : (m : MapFields) (n : ℕ) (v w : ValuesBy) → n ≤ 12 → ((p : Parameter) → number p < n → v p ≡ w p) →
-    take n (checks_by m v) ≡ take n (checks_by m w)
-same-front m n v w l same =
-    let all : mixed n v w ≡ w = λ i p. mixed-same n v w same p i in
-    sym (front m n v w l) ∙ ap (λ u. take n (checks_by m u)) all
+  -- parameters with the same texts
+  abbrev AreSame : List Parameter → Type 0
+  AreSame [] = Unit {0}
+  AreSame (p ∷ ps) = Same p × AreSame ps
 
--- the parameters of the checks are all, in order
-parameters-checked : (m : MapFields) (pairs : List Pair) → map (λ (c : Check). c.parameter) (checks m pairs) ≡ parameters
-parameters-checked m pairs = refl
+  bases-same : (seen ps : List Parameter) → All Same seen → AreAmong ps seen → AreSame ps
+  bases-same seen [] all among = tt
+  bases-same seen (p ∷ ps) all among = (seen-same seen p all among.0, bases-same seen ps all among.1)
 
--- where the first of some checks are those of others, what they begin with is the same
-begins-same : (xs ys : List Check) (before : List Check) (c : Check) (after : List Check) → xs ≡ before ++ c ∷ after →
-    take (length before + 1) xs ≡ take (length before + 1) ys → ys ≡ before ++ c ∷ drop (length before + 1) ys
-begins-same xs ys before c after e same =
-    let seam : take (length before + 1) xs ≡ before ++ c ∷ [] =
-    ap (take (length before + 1)) (e ∙ sym (append_assoc before (c ∷ []) after))
-    ∙ ap (λ n. take n ((before ++ c ∷ []) ++ after)) (sym (length-append before (c ∷ [])))
-    ∙ take-append_seam (before ++ c ∷ []) after in
-    sym (take-append-drop (length before + 1) ys)
-    ∙ ap (λ front. front ++ drop (length before + 1) ys) (sym same ∙ seam)
-    ∙ append_assoc before (c ∷ []) (drop (length before + 1) ys)
+  -- the refusal of a parameter is the same where its text and those of its bases are
+  refusal-same : (map : MapFields) (sequence : ℕ) (p : Parameter) → Same p → AreSame (bases p) → refusal map sequence t p ≡ refusal map sequence u p
+  refusal-same map sequence parameter.Service e b = ap (λ x. result_err (service_of (option_and_then some_text x))) e
+  refusal-same map sequence parameter.Request e b = ap (λ x. result_err (operation_of (option_and_then some_text x))) e
+  refusal-same map sequence parameter.Version e b = ap (λ x. result_err (version_of (option_and_then some_text x))) e
+  refusal-same map sequence parameter.Layers e b = ap (λ x. result_err (layers_of map (names_of (option_and_then some_text x)))) e
+  refusal-same map sequence parameter.Styles e b =
+      λ i. result_err (and_then (operation_of (option_and_then some_text (b.0 i))) (λ o.
+      styles_of o (length (names_of (option_and_then some_text (b.1.0 i)))) (e i)))
+  refusal-same map sequence parameter.Crs e b = ap (λ x. result_err (system_of (option_and_then some_text x))) e
+  refusal-same map sequence parameter.Bbox e b =
+      λ i. result_err (and_then (system_of (option_and_then some_text (b.0 i))) (λ crs. area_of crs (option_and_then some_text (e i))))
+  refusal-same map sequence parameter.Width e b = ap (λ x. result_err (side_of (option_and_then some_text x))) e
+  refusal-same map sequence parameter.Height e b = ap (λ x. result_err (side_of (option_and_then some_text x))) e
+  refusal-same map sequence parameter.Format e b =
+      λ i. result_err (and_then (operation_of (option_and_then some_text (b.0 i))) (λ o. format_of o (option_and_then some_text (e i))))
+  refusal-same map sequence parameter.Transparent e b = ap (λ x. result_err (transparent_of (option_and_then some_text x))) e
+  refusal-same map sequence parameter.Bgcolor e b = ap (λ x. result_err (background_of (option_and_then some_text x))) e
+  refusal-same map sequence parameter.QueryLayers e b =
+      λ i. result_err (asked_of map (names_of (option_and_then some_text (b.0 i))) (names_of (option_and_then some_text (e i))))
+  refusal-same map sequence parameter.InfoFormat e b = ap (λ x. result_err (info_format_of (option_and_then some_text x))) e
+  refusal-same map sequence parameter.FeatureCount e b = ap (λ x. result_err (feature_count_of (option_and_then some_text x))) e
+  refusal-same map sequence parameter.Column e b =
+      λ i. result_err (and_then (side_of (option_and_then some_text (b.0 i))) (λ side. pixel_of side (option_and_then some_text (e i))))
+  refusal-same map sequence parameter.Row e b =
+      λ i. result_err (and_then (side_of (option_and_then some_text (b.0 i))) (λ side. pixel_of side (option_and_then some_text (e i))))
+  refusal-same map sequence parameter.UpdateSequence e b = ap (λ x. result_err (sequence_of sequence (option_and_then some_text x))) e
 
--- a parameter up to one has the same value in both
-same-before : (a b : List ℕ) (before after : List Parameter) (q : Parameter) → parameters ≡ before ++ q ∷ after →
-    All (HaveSameValue a b) (before ++ q ∷ []) → (p : Parameter) → number p < length before + 1 → HaveSameValue a b p
-same-before a b before after q e all p l =
-    let size = length-append before (q ∷ []) in
-    let inside : number p < length (before ++ q ∷ []) = omega (arith, l, size) in
-    let found : get_or (before ++ q ∷ []) (number p) parameter.Service ≡ p =
-    sym (get_or_append_left (before ++ q ∷ []) after parameter.Service (number p) inside)
-    ∙ ap (λ ps. get_or ps (number p) parameter.Service) (append_assoc before (q ∷ []) after ∙ sym e)
-    ∙ parameter-at p in
-    subst (HaveSameValue a b) found (all (number p) parameter.Service inside)
+-- ---- the first fault
+
+-- the code of a fault that is found refuses its parameter, whether that is the first or a later one
+found-first : (refuses : Parameter → Option Code) (p : Parameter) (r : Option Code) (later : Option WmsFault) (f : WmsFault) → r ≡ refuses p →
+    (later ≡ Some f → refuses f.parameter ≡ Some f.code) → first_of p r later ≡ Some f → refuses f.parameter ≡ Some f.code
+found-first refuses p (Some code) later f is rest e =
+    let parameter : p ≡ f.parameter = cc in
+    let same : code ≡ f.code = cc in
+    ap refuses (sym parameter) ∙ sym is ∙ ap Some same
+found-first refuses p None later f is rest e = rest e
+
+found-refuses : (refuses : Parameter → Option Code) (ps : List Parameter) (f : WmsFault) → first_fault refuses ps ≡ Some f → refuses f.parameter ≡ Some f.code
+found-refuses refuses [] f e = absurd (cc)
+found-refuses refuses (p ∷ ps) f e = found-first refuses p (refuses p) (first_fault refuses ps) f refl (found-refuses refuses ps f) e
+
+-- the fault of a parameter doesn't depend on what comes later
+last-one : (p : Parameter) (r : Option Code) (later other : Option WmsFault) (f : WmsFault) →
+    (later ≡ Some f → r ≡ Some f.code) → first_of p r later ≡ Some f → first_of p r other ≡ Some f
+last-one p (Some code) later other f sound e = e
+last-one p None later other f sound e = absurd (none-some f.code (sound e))
+  where
+    none-some : (code : Code) → None ≡ Some code → ⊥
+    none-some code e = cc
+
+-- where the parameters behind one have the same fault, it has
+next-one : (p : Parameter) (r : Option Code) (a b : Option WmsFault) (f : WmsFault) → (a ≡ Some f → b ≡ Some f) → first_of p r a ≡ Some f → first_of p r b ≡ Some f
+next-one p (Some code) a b f rest e = e
+next-one p None a b f rest e = rest e
+
+module _ (map : MapFields) (sequence : ℕ) (t u : Texts) where
+  -- texts that are the same up to the parameter of the fault have the same fault
+  fault-same : (seen before : List Parameter) (f : WmsFault) (after later : List Parameter) → All (Same t u) seen →
+      IsClosed seen (before ++ f.parameter ∷ after) → All (Same t u) (before ++ f.parameter ∷ []) →
+      first_fault (refusal map sequence t) (before ++ f.parameter ∷ after) ≡ Some f → first_fault (refusal map sequence u) (before ++ f.parameter ∷ later) ≡ Some f
+  fault-same seen [] f after later known closed same e =
+      let own = All-head (Same t u) f.parameter [] same in
+      let all = All-cons (Same t u) f.parameter seen own known in
+      let r = refusal-same t u map sequence f.parameter own (bases-same t u (f.parameter ∷ seen) (bases f.parameter) all closed.0) in
+      let found = last-one f.parameter (refusal map sequence t f.parameter) (first_fault (refusal map sequence t) after) (first_fault (refusal map sequence u) later) f
+      (found-refuses (refusal map sequence t) after f) e in
+      ap (λ c. first_of f.parameter c (first_fault (refusal map sequence u) later)) (sym r) ∙ found
+  fault-same seen (p ∷ ps) f after later known closed same e =
+      let own = All-head (Same t u) p (ps ++ f.parameter ∷ []) same in
+      let all = All-cons (Same t u) p seen own known in
+      let r = refusal-same t u map sequence p own (bases-same t u (p ∷ seen) (bases p) all closed.0) in
+      let rest = fault-same (p ∷ seen) ps f after later all closed.1 (All-tail (Same t u) p (ps ++ f.parameter ∷ []) same) in
+      let found = next-one p (refusal map sequence t p) (first_fault (refusal map sequence t) (ps ++ f.parameter ∷ after))
+      (first_fault (refusal map sequence u) (ps ++ f.parameter ∷ later)) f rest e in
+      ap (λ c. first_of p c (first_fault (refusal map sequence u) (ps ++ f.parameter ∷ later))) (sym r) ∙ found
+
+-- ---- the order of a query
+
+-- each parameter of an order stands behind its bases
+order-closed : (o : Option Operation) → IsClosed [] (parameter.Service ∷ parameter.Request ∷ option_map_or order o [])
+order-closed None = (tt, (tt, tt))
+order-closed (Some operation.Capabilities) = (tt, (tt, (tt, tt)))
+order-closed (Some operation.Map) =
+    (tt, (tt, (tt, (tt, ((inr (inr (inr (inl refl))), (inr (inl refl), tt)), (tt, ((inr (inl refl), tt), (tt, (tt, ((inr (inr (inr (inr (inr (inr (inr (inr (inl refl)))))))), tt), (tt, (tt, tt))))))))))))
+order-closed (Some operation.Information) =
+    (tt, (tt, (tt, (tt, ((inr (inr (inr (inl refl))), (inr (inl refl), tt)), (tt, ((inr (inl refl), tt), (tt, (tt, ((inr (inr (inr (inr (inr (inr (inr (inr (inl refl)))))))), tt), (tt, (tt, ((inr (inr (inr (inr (inr (inr (inr (inr (inr (inl refl))))))))), tt), (tt, (tt, ((inr (inr (inr (inr (inr (inr (inr (inr (inl refl)))))))), tt), ((inr (inr (inr (inr (inr (inr (inr (inr (inl refl)))))))), tt), tt)))))))))))))))))
+
+-- the parameters that an operation has besides SERVICE and REQUEST
+abbrev own : Texts → List Parameter
+own t = option_map_or order (result_ok (operation_in t)) []
+
+-- what stands behind the parameter of the fault in the other query
+record IsOrderOf (u : Texts) (before : List Parameter) (p : Parameter) : Type 0 where
+  pub later : List Parameter
+  pub is : looked_at u ≡ before ++ p ∷ later
+
+-- up to the parameter of the fault both queries have the same order
+other-order : (t u : Texts) (before : List Parameter) (p : Parameter) (after : List Parameter) → looked_at t ≡ before ++ p ∷ after →
+    All (Same t u) (before ++ p ∷ []) → IsOrderOf u before p
+other-order t u [] p after e same =
+    let is : parameter.Service ≡ p = cc in
+    record { later = parameter.Request ∷ own u; is = ap (λ q. q ∷ parameter.Request ∷ own u) is }
+other-order t u (a ∷ []) p after e same =
+    let first : parameter.Service ≡ a = cc in
+    let second : parameter.Request ≡ p = cc in
+    record { later = own u; is = λ i. first i ∷ second i ∷ own u }
+other-order t u (a ∷ b ∷ more) p after e same =
+    let second : parameter.Request ≡ b = cc in
+    let both : Same t u b = All-head (Same t u) b (more ++ p ∷ []) (All-tail (Same t u) a (b ∷ more ++ p ∷ []) same) in
+    let request : t parameter.Request ≡ u parameter.Request = subst (Same t u) (sym second) both in
+    let order : looked_at u ≡ looked_at t =
+    ap (λ x. parameter.Service ∷ parameter.Request ∷ option_map_or order (result_ok (operation_of (option_and_then some_text x))) []) (sym request) in
+    record { later = after; is = order ∙ e }
 
 -- what comes later changes nothing
 pub later-changes-nothing : LaterChangesNothing
-later-changes-nothing m a b f before after e all first =
-    let split : parameters ≡ map (λ (c : Check). c.parameter) first.before ++ first.failed.parameter ∷ map (λ (c : Check). c.parameter) first.after =
-    ap (map (λ (c : Check). c.parameter)) first.parts
-    ∙ map-append (λ (c : Check). c.parameter) first.before (first.failed ∷ first.after) in
-    let checked = place (map (λ (c : Check). c.parameter) first.before) (map (λ (c : Check). c.parameter) first.after) first.failed.parameter split in
-    let counted : length (map (λ (c : Check). c.parameter) first.before) ≡ length first.before = length-map first.before (λ (c : Check). c.parameter) in
-    let named = place before after f.parameter e in
-    let same_parameter = ap number first.parameter in
-    let many : length first.before ≡ length before = omega (arith, checked, counted, named, same_parameter) in
-    let all_parameters = ap length e ∙ length-append before (f.parameter ∷ after) in
-    let values : (p : Parameter) → number p < length first.before + 1 → HaveSameValue a b p =
-    λ p l. same-before a b before after f.parameter e all p (omega (arith, l, many)) in
-    let same = same-front m (length first.before + 1) (values_by (pairs_of a)) (values_by (pairs_of b)) (omega (arith, many, all_parameters)) values in
-    record {
-      before = first.before;
-      failed = first.failed;
-      after = drop (length first.before + 1) (checks m (pairs_of b));
-      parts = begins-same (checks m (pairs_of a)) (checks m (pairs_of b)) first.before first.failed first.after first.parts same;
-      passed = first.passed;
-      code = first.code;
-      parameter = first.parameter;
-    }
+later-changes-nothing map sequence a b f before after e same first =
+    let t = texts_of (pairs_of a) in
+    let u = texts_of (pairs_of b) in
+    let other = other-order t u before f.parameter after e same in
+    let closed = subst (IsClosed []) e (order-closed (result_ok (operation_in t))) in
+    ap (first_fault (refusal map sequence u)) other.is
+    ∙ fault-same map sequence t u [] before f after other.later (All-nil (Same t u)) closed same (ap (first_fault (refusal map sequence t)) (sym e) ∙ first)

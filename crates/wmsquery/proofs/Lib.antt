@@ -1,9 +1,11 @@
-pub mod Accepted
+pub mod Account
 pub mod FirstFault
 pub mod FoundPairs
+pub mod Indices
 pub mod LaterParameters
-pub mod OneMeaning
-pub mod SameValues
+pub mod Numbers
+pub mod SameTexts
+pub mod Steps
 pub mod WrittenAreas
 pub mod WrittenLayers
 pub mod WrittenPairs

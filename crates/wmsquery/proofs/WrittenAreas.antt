@@ -21,7 +21,7 @@ use Rattle.crsaxes.specs.declared.crs.Crs.TheVariants.{Crs84, Epsg4326}
 use Rattle.mapdefs.specs.declared.colour.Rgb.{Rgb}
 use Rattle.wmsquery.specs.Values.{area_of, background_of, rgb_of_bytes}
 use Rattle.wmsquery.specs.declared.fault.Code.TheVariants as code
-use Rattle.wmsquery.specs.Written.{crs_text, bbox_text, colour_text, IsColour, with_commas}
+use Rattle.wmsquery.specs.Written.{bbox_text, colour_text, IsColour, with_commas}
 use Rattle.wmsquery.proofs.WrittenValues.{split-joined}
 
 -- three bytes are bytes
@@ -101,7 +101,7 @@ extent-area area is =
     rw test refl
 
 -- the sides of a box in the axis order of a system mean that box
-pub area-written : (crs : Crs) (area : Area) → IsExtent area → area_of (Some (crs_text crs)) (Some (bbox_text crs area)) ≡ Ok area
+pub area-written : (crs : Crs) (area : Area) → IsExtent area → area_of crs (Some (bbox_text crs area)) ≡ Ok area
 area-written Crs84 area is =
     ap (λ r. ok_or (result_ok r) code.InvalidParameterValue)
     (four-box Crs84 area.minx area.miny area.maxx area.maxy is.world.west is.world.south is.world.east is.world.north ∙ extent-area area is)

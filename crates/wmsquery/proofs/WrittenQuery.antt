@@ -1,34 +1,38 @@
 -- A query that is written out from a request means that request.
-use Rattle.std.proofs.Common.{◌≡◌, ℕ, ◌<◌, ◌≤◌, List, [], ◌∷◌, All, map, length, length-append, Bool, true, false, Option, None, Some, Ok, codes, refl, sym, ap, subst, ◌∙◌, arith}
+use Rattle.std.proofs.Common.{◌^◌, ◌++◌, ◌≡◌, ℕ, ◌<◌, ◌≤◌, List, [], ◌∷◌, All, map, length, length-append, Bool, true, false, Option, None, Some, Ok, refl, sym, ap, subst, ◌∙◌, arith}
 use Rattle.std.proofs.lemmas.List.Elements.{All-nil, All-cons, All-head, All-weaker}
 use Rattle.std.specs.Fmt.{decimal}
+use Rattle.std.specs.Option.{option_map_or}
+use Rattle.std.specs.Result.{result_ok, result_err}
 use Rattle.crsaxes.specs.declared.crs.Crs.{Crs}
 use Rattle.crsaxes.specs.declared.crs.Crs.TheVariants.{Crs84, Epsg4326}
-use Rattle.geom.specs.Side.{IsPictureSide}
 use Rattle.geom.specs.World.{Area, IsExtent}
 use Rattle.geom.specs.Written.{written}
 use Rattle.geom.proofs.Written.{numeral}
 use Rattle.mapdefs.specs.declared.map.MapFields.{MapFields}
-use Rattle.wmsquery.specs.declared.checks.Check.{Check}
-use Rattle.wmsquery.specs.declared.pairs.Pair.{Pair}
-use Rattle.wmsquery.specs.declared.request.MapRequest.{MapRequest}
-use Rattle.wmsquery.specs.Pairs.{some_text, given}
-use Rattle.wmsquery.specs.Values.{layers_of, side_of, area_of, format_of, transparent_of, background_of, background_for, background_in, crs_value}
-use Rattle.wmsquery.specs.Checks.{checks, refusal_of}
-use Rattle.wmsquery.specs.Meaning.{Passes, HasValues, IsMeaningOf}
+use Rattle.operations.specs.Operation.{name_of}
+use Rattle.operations.specs.declared.operation.Operation.{Operation}
+use Rattle.operations.specs.declared.operation.Operation.TheVariants as operation
 use Rattle.mapdefs.specs.declared.colour.Rgb.{Rgb}
+use Rattle.wmsquery.specs.declared.fault.Parameter.TheVariants as parameter
 use Rattle.wmsquery.specs.declared.request.Format.{Format}
 use Rattle.wmsquery.specs.declared.request.Format.TheVariants.{Pixmap, ArbitraryMap}
-use Rattle.wmsquery.specs.Written.{with_commas, crs_text, bbox_text, format_text, transparent_text, background_text, written_pairs, AreNamed, IsBackground, IsColour, IsRequest, WrittenIsMeant}
+use Rattle.wmsquery.specs.declared.request.InformationRequest.{InformationRequest}
+use Rattle.wmsquery.specs.declared.request.MapRequest.{MapRequest}
+use Rattle.wmsquery.specs.declared.request.Request.{Request}
+use Rattle.wmsquery.specs.declared.request.Request.TheVariants as request
+use Rattle.wmsquery.specs.Meaning.{HasValues, HasInformation, IsMeaningOf}
+use Rattle.wmsquery.specs.Order.{first_of, first_fault, order, map_order, information_order}
+use Rattle.wmsquery.specs.Pairs.{Texts, some_text, texts_of, given, names_of}
+use Rattle.wmsquery.specs.Query.{operation_in, layer_names, styles_in, area_in, format_in, background_in, asked_in, column_in, row_in, refusal, looked_at}
+use Rattle.wmsquery.specs.Values.{and_then, service_of, operation_of, layers_of, styles_of, system_of, area_of, side_of, format_of, transparent_of, background_of, background_for, asked_of, feature_count_of, pixel_of}
+use Rattle.wmsquery.specs.Written.{with_commas, crs_text, bbox_text, format_text, transparent_text, background_text, picture_pairs, feature_pairs, written_pairs, AreNamed, IsBackground, IsColour, IsPicture, IsInformation, IsWritable, WrittenIsMeant}
+use Rattle.wmsquery.proofs.FirstFault.{AreAccepted, none-refused, none-both}
 use Rattle.wmsquery.proofs.WrittenAreas.{IsNumberByte, written-plain, digits-plain, area-written, colour-written}
-use Rattle.wmsquery.proofs.WrittenLayers.{layers-written, same-count}
+use Rattle.wmsquery.proofs.WrittenLayers.{layers-written, asked-written, same-count, no-commas, names-split}
 use Rattle.wmsquery.proofs.WrittenPairs.{IsTextPair, plain_pair, pairs-written}
 use Rattle.wmsquery.proofs.WrittenTexts.{IsText, ascii-text, tested-text, text-pair, joined-text, names-text, hex-text}
-use Rattle.wmsquery.proofs.WrittenValues.{side-written}
-
--- the pairs of a written query
-abbrev pairs_for : Crs → List (List ℕ) → MapRequest → List Pair
-pairs_for crs names request = map plain_pair (written_pairs crs names request)
+use Rattle.wmsquery.proofs.WrittenValues.{side-written, count-written, pixel-written}
 
 -- ---- the texts
 
@@ -58,9 +62,16 @@ bbox-is-text Epsg4326 area is =
     (number-text _ (written-plain area.miny is.world.south)) (number-text _ (written-plain area.minx is.world.west))
     (number-text _ (written-plain area.maxy is.world.north)) (number-text _ (written-plain area.maxx is.world.east))
 
--- a side is text
-side-text : (n : ℕ) → IsPictureSide n → IsText (decimal n)
-side-text n is = number-text _ (digits-plain (decimal n) (numeral n (omega (arith, is.most))).digits)
+-- the digits of a number are text
+decimal-text : (n : ℕ) → n < 2 ^ 64 → IsText (decimal n)
+decimal-text n small = number-text _ (digits-plain (decimal n) (numeral n small).digits)
+
+-- the name of an operation is text
+name-is-text : (o : Operation) → IsText (name_of o)
+unfolding name_of
+name-is-text operation.Capabilities = tested-text _ refl
+name-is-text operation.Map = tested-text _ refl
+name-is-text operation.Information = tested-text _ refl
 
 -- all of some pairs are texts
 record AreTexts (pairs : List (List ℕ × List ℕ)) : Type 0 where
@@ -72,8 +83,7 @@ texts-none = record { all = All-nil IsTextPair }
 texts-more : {name value : List ℕ} {rest : List (List ℕ × List ℕ)} → IsText name → IsText value → AreTexts rest → AreTexts ((name, value) ∷ rest)
 texts-more {name} {value} {rest} n v others = record { all = All-cons IsTextPair (name, value) rest (text-pair name value n v) others.all }
 
--- all pairs of a request are texts
--- so are the name of a format and what says of a background
+-- the name of a format is text, and what says of a background
 format-is-text : (format : Format) → IsText (format_text format)
 format-is-text Pixmap = tested-text _ refl
 format-is-text ArbitraryMap = tested-text _ refl
@@ -86,21 +96,39 @@ background-is-text : (background : Option Rgb) → IsText (background_text backg
 background-is-text None = hex-text (255 ∷ 255 ∷ 255 ∷ [])
 background-is-text (Some colour) = hex-text (colour.red ∷ colour.green ∷ colour.blue ∷ [])
 
-all-texts : (map : MapFields) (crs : Crs) (names : List (List ℕ)) (r : MapRequest) → IsRequest r → AreNamed map r.chosen names →
-    AreTexts (written_pairs crs names r)
-all-texts map crs names r is are =
-    texts-more (tested-text _ refl) (tested-text _ refl)
+-- all pairs that say which picture are texts
+picture-texts : (map : MapFields) (crs : Crs) (o : Operation) (names : List (List ℕ)) (r : MapRequest) (more : List (List ℕ × List ℕ)) →
+    IsPicture map names r → AreTexts more → AreTexts (picture_pairs crs o names r ++ more)
+picture-texts map crs o names r more is others =
+    texts-more (tested-text _ refl) (name-is-text o)
     (texts-more (tested-text _ refl) (tested-text _ refl)
-    (texts-more (tested-text _ refl) (joined-text names (names-text map r.chosen names are))
+    (texts-more (tested-text _ refl) (joined-text names (names-text map r.chosen names is.named))
     (texts-more (tested-text _ refl) (tested-text _ refl)
     (texts-more (tested-text _ refl) (crs-is-text crs)
     (texts-more (tested-text _ refl) (bbox-is-text crs r.area is.area)
-    (texts-more (tested-text _ refl) (side-text r.width is.width)
-    (texts-more (tested-text _ refl) (side-text r.height is.height)
+    (texts-more (tested-text _ refl) (decimal-text r.width (omega (arith, is.width.most)))
+    (texts-more (tested-text _ refl) (decimal-text r.height (omega (arith, is.height.most)))
     (texts-more (tested-text _ refl) (format-is-text r.format)
     (texts-more (tested-text _ refl) (transparent-is-text r.background)
     (texts-more (tested-text _ refl) (background-is-text r.background)
-    texts-none))))))))))
+    others))))))))))
+
+-- and those that say which features
+feature-texts : (map : MapFields) (names queried : List (List ℕ)) (r : InformationRequest) → IsInformation map names queried r → AreTexts (feature_pairs queried r)
+feature-texts map names queried r is =
+    texts-more (tested-text _ refl) (joined-text queried (names-text map r.asked queried is.named))
+    (texts-more (tested-text _ refl) (tested-text _ refl)
+    (texts-more (tested-text _ refl) (decimal-text r.count (omega (arith, is.count)))
+    (texts-more (tested-text _ refl) (decimal-text r.column (omega (arith, is.column, is.map.width.most)))
+    (texts-more (tested-text _ refl) (decimal-text r.row (omega (arith, is.row, is.map.height.most)))
+    texts-none))))
+
+-- all pairs of a request are texts
+all-texts : (map : MapFields) (crs : Crs) (names queried : List (List ℕ)) (r : Request) → IsWritable map names queried r → AreTexts (written_pairs crs names queried r)
+all-texts map crs names queried request.Capabilities is = texts-more (tested-text _ refl) (name-is-text operation.Capabilities) texts-none
+all-texts map crs names queried (request.Map r) is = picture-texts map crs operation.Map names r [] is texts-none
+all-texts map crs names queried (request.Information r) is =
+    picture-texts map crs operation.Information names r.map (feature_pairs queried r) is.map (feature-texts map names queried r is)
 
 -- ---- the values
 
@@ -127,12 +155,25 @@ bbox-some : (crs : Crs) (area : Area) → 1 ≤ length (bbox_text crs area)
 bbox-some Crs84 area = omega (arith, length-append (written area.minx) (44 ∷ with_commas (written area.miny ∷ written area.maxx ∷ written area.maxy ∷ [])))
 bbox-some Epsg4326 area = omega (arith, length-append (written area.miny) (44 ∷ with_commas (written area.minx ∷ written area.maxy ∷ written area.maxx ∷ [])))
 
+-- the name of an operation is given, and means that operation
+name-some : (o : Operation) → some_text (name_of o) ≡ Some (name_of o)
+unfolding name_of
+name-some operation.Capabilities = refl
+name-some operation.Map = refl
+name-some operation.Information = refl
+
+operation-written : (o : Operation) → operation_of (Some (name_of o)) ≡ Ok o
+unfolding name_of
+operation-written operation.Capabilities = refl
+operation-written operation.Map = refl
+operation-written operation.Information = refl
+
 -- the name of a system is given, and means that system
 crs-some : (crs : Crs) → some_text (crs_text crs) ≡ Some (crs_text crs)
 crs-some Crs84 = refl
 crs-some Epsg4326 = refl
 
-crs-written : (crs : Crs) → crs_value (Some (crs_text crs)) ≡ Ok crs
+crs-written : (crs : Crs) → system_of (Some (crs_text crs)) ≡ Ok crs
 crs-written Crs84 = refl
 crs-written Epsg4326 = refl
 
@@ -141,9 +182,9 @@ format-some : (format : Format) → some_text (format_text format) ≡ Some (for
 format-some Pixmap = refl
 format-some ArbitraryMap = refl
 
-format-written : (format : Format) → format_of (Some (format_text format)) ≡ Ok format
-format-written Pixmap = refl
-format-written ArbitraryMap = refl
+format-written : (o : Operation) (format : Format) → format_of o (Some (format_text format)) ≡ Ok format
+format-written o Pixmap = refl
+format-written o ArbitraryMap = refl
 
 -- and what says of a background
 transparent-some : (background : Option Rgb) → some_text (transparent_text background) ≡ Some (transparent_text background)
@@ -182,94 +223,169 @@ background-meant Pixmap None is = absurd is
 background-meant ArbitraryMap (Some colour) is = refl
 background-meant Pixmap (Some colour) is = refl
 
--- all of some checks pass
-record AllPass (cs : List Check) : Type 0 where
-  pub all : All Passes cs
+-- ---- the values of a picture
 
-pass-none : AllPass []
-pass-none = record { all = All-nil Passes }
+-- the texts of some pairs
+abbrev plain_texts : List (List ℕ × List ℕ) → Texts
+plain_texts pairs = texts_of (map plain_pair pairs)
 
-pass-more : {c : Check} {rest : List Check} → Passes c → AllPass rest → AllPass (c ∷ rest)
-pass-more {c} {rest} passes others = record { all = All-cons Passes c rest passes others.all }
+module _ (map : MapFields) (sequence : ℕ) (crs : Crs) (o : Operation) (names : List (List ℕ)) (r : MapRequest) (more : List (List ℕ × List ℕ))
+    (is : IsPicture map names r) where
+  -- the texts of the query
+  abbrev t : Texts
+  t = plain_texts (picture_pairs crs o names r ++ more)
 
-module _ (map : MapFields) (crs : Crs) (names : List (List ℕ)) (r : MapRequest) (is : IsRequest r) (are : AreNamed map r.chosen names) where
-  -- LAYERS is given
-  layers-given : given (codes "LAYERS") (pairs_for crs names r) ≡ Some (with_commas names)
-  layers-given = some-given _ (names-some names (omega (arith, same-count map r.chosen names are, is.some)) (each-some map r.chosen names are))
+  -- REQUEST names the operation
+  operation-is : operation_in t ≡ Ok o
+  operation-is = ap operation_of (name-some o) ∙ operation-written o
 
-  layers-are : layers_of map (given (codes "LAYERS") (pairs_for crs names r)) ≡ Ok r.chosen
-  layers-are = ap (layers_of map) layers-given ∙ layers-written map r.chosen names is.some is.most are
+  -- LAYERS lists the names
+  names-are : layer_names t ≡ names
+  names-are =
+      ap names_of (some-given _ (names-some names (omega (arith, same-count map r.chosen names is.named, is.some)) (each-some map r.chosen names is.named)))
+      ∙ names-split names (omega (arith, same-count map r.chosen names is.named, is.some)) (no-commas map r.chosen names is.named)
 
-  -- CRS is given
-  crs-given : given (codes "CRS") (pairs_for crs names r) ≡ Some (crs_text crs)
-  crs-given = crs-some crs
+  layers-are : layers_of map (layer_names t) ≡ Ok r.chosen
+  layers-are = ap (layers_of map) names-are ∙ layers-written map r.chosen names is.some is.most is.named
 
-  crs-is : crs_value (given (codes "CRS") (pairs_for crs names r)) ≡ Ok crs
-  crs-is = ap crs_value crs-given ∙ crs-written crs
+  styles-are : styles_in t ≡ Ok tt
+  styles-are = ap (λ p. and_then p (λ q. styles_of q (length (layer_names t)) (t parameter.Styles))) operation-is
 
-  -- BBOX is given
-  bbox-given : given (codes "BBOX") (pairs_for crs names r) ≡ Some (bbox_text crs r.area)
-  bbox-given = some-given _ (bbox-some crs r.area)
+  -- CRS and BBOX give the area
+  crs-is : system_of (given t parameter.Crs) ≡ Ok crs
+  crs-is = ap system_of (crs-some crs) ∙ crs-written crs
 
-  area-is : area_of (given (codes "CRS") (pairs_for crs names r)) (given (codes "BBOX") (pairs_for crs names r)) ≡ Ok r.area
+  area-is : area_in t ≡ Ok r.area
   area-is =
-      ap (λ text. area_of text (given (codes "BBOX") (pairs_for crs names r))) crs-given
-      ∙ ap (area_of (Some (crs_text crs))) bbox-given
+      ap (λ s. and_then s (λ system. area_of system (given t parameter.Bbox))) crs-is
+      ∙ ap (area_of crs) (some-given _ (bbox-some crs r.area))
       ∙ area-written crs r.area is.area
 
-  -- the sides are given
-  width-is : side_of (given (codes "WIDTH") (pairs_for crs names r)) ≡ Ok r.width
+  -- the sides
+  width-is : side_of (given t parameter.Width) ≡ Ok r.width
   width-is =
       ap side_of (some-given (decimal r.width) (numeral r.width (omega (arith, is.width.most))).some) ∙ side-written r.width is.width
 
-  height-is : side_of (given (codes "HEIGHT") (pairs_for crs names r)) ≡ Ok r.height
+  height-is : side_of (given t parameter.Height) ≡ Ok r.height
   height-is =
       ap side_of (some-given (decimal r.height) (numeral r.height (omega (arith, is.height.most))).some) ∙ side-written r.height is.height
 
-  -- FORMAT is given
-  format-is : format_of (given (codes "FORMAT") (pairs_for crs names r)) ≡ Ok r.format
-  format-is = ap format_of (format-some r.format) ∙ format-written r.format
+  -- the format and the background
+  format-is : format_in t ≡ Ok r.format
+  format-is =
+      ap (λ p. and_then p (λ q. format_of q (given t parameter.Format))) operation-is
+      ∙ ap (format_of o) (format-some r.format)
+      ∙ format-written o r.format
 
-  -- TRANSPARENT is given
-  transparent-is : transparent_of (given (codes "TRANSPARENT") (pairs_for crs names r)) ≡ Ok (is_none r.background)
+  transparent-is : transparent_of (given t parameter.Transparent) ≡ Ok (is_none r.background)
   transparent-is = ap transparent_of (transparent-some r.background) ∙ transparent-written r.background
 
-  -- BGCOLOR is given
-  background-is : background_of (given (codes "BGCOLOR") (pairs_for crs names r)) ≡ Ok (written_colour r.background)
-  background-is = ap background_of (background-some r.background) ∙ background-written r.format r.background is.background
+  colour-is : background_of (given t parameter.Bgcolor) ≡ Ok (written_colour r.background)
+  colour-is = ap background_of (background-some r.background) ∙ background-written r.format r.background is.background
 
-  meant : background_in (format_of (given (codes "FORMAT") (pairs_for crs names r))) (transparent_of (given (codes "TRANSPARENT") (pairs_for crs names r)))
-      (background_of (given (codes "BGCOLOR") (pairs_for crs names r)))
-      ≡ Ok r.background
-  meant =
-      ap (λ f. background_in f (transparent_of (given (codes "TRANSPARENT") (pairs_for crs names r))) (background_of (given (codes "BGCOLOR") (pairs_for crs names r)))) format-is
-      ∙ ap (λ t. background_in (Ok r.format) t (background_of (given (codes "BGCOLOR") (pairs_for crs names r)))) transparent-is
-      ∙ ap (λ c. background_in (Ok r.format) (Ok (is_none r.background)) c) background-is
+  background-is : background_in t ≡ Ok r.background
+  background-is =
+      ap (λ f. and_then f (λ format. and_then (transparent_of (given t parameter.Transparent)) (λ transparent. and_then (background_of (given t parameter.Bgcolor)) (λ colour. Ok (background_for format transparent colour))))) format-is
+      ∙ ap (λ b. and_then b (λ transparent. and_then (background_of (given t parameter.Bgcolor)) (λ colour. Ok (background_for r.format transparent colour)))) transparent-is
+      ∙ ap (λ c. and_then c (λ colour. Ok (background_for r.format (is_none r.background) colour))) colour-is
       ∙ ap Ok (background-meant r.format r.background is.background)
 
-  -- all checks pass
-  all-pass : AllPass (checks map (pairs_for crs names r))
-  all-pass =
-      pass-more refl
-      (pass-more refl
-      (pass-more refl
-      (pass-more (ap refusal_of layers-are)
-      (pass-more refl
-      (pass-more (ap refusal_of crs-is)
-      (pass-more (ap refusal_of area-is)
-      (pass-more (ap refusal_of width-is)
-      (pass-more (ap refusal_of height-is)
-      (pass-more (ap refusal_of format-is)
-      (pass-more (ap refusal_of transparent-is)
-      (pass-more (ap refusal_of background-is)
-      pass-none)))))))))))
+  -- no parameter of GetMap is refused
+  map-accepted : AreAccepted (refusal map sequence t) map_order
+  map-accepted =
+      (refl, (ap result_err layers-are, (ap result_err styles-are, (ap result_err crs-is, (ap result_err area-is, (ap result_err width-is, (ap result_err height-is, (ap result_err format-is, (ap result_err transparent-is, (ap result_err colour-is, tt))))))))))
 
   -- and the values are those of the request
-  values-are : HasValues map (pairs_for crs names r) r
-  values-are = record { chosen = layers-are; area = area-is; width = width-is; height = height-is; format = format-is; background = meant }
+  values-are : HasValues map t r
+  values-are = record { chosen = layers-are; area = area-is; width = width-is; height = height-is; format = format-is; background = background-is }
+
+-- ---- what stands behind SERVICE and REQUEST
+
+-- where the operation is known, and none of its parameters is refused, there is no fault
+no-fault : (map : MapFields) (sequence : ℕ) (t : Texts) (o : Operation) → service_of (given t parameter.Service) ≡ Ok tt → operation_in t ≡ Ok o →
+    first_fault (refusal map sequence t) (order o) ≡ None → first_fault (refusal map sequence t) (looked_at t) ≡ None
+no-fault map sequence t o service is none =
+    ap (λ r. first_fault (refusal map sequence t) (parameter.Service ∷ parameter.Request ∷ option_map_or order (result_ok r) [])) is
+    ∙ ap (λ c. first_of parameter.Service c (first_of parameter.Request (refusal map sequence t parameter.Request) (first_fault (refusal map sequence t) (order o)))) (ap result_err service)
+    ∙ ap (λ c. first_of parameter.Request c (first_fault (refusal map sequence t) (order o))) (ap result_err is)
+    ∙ none
+
+-- ---- the values of feature information
+
+module _ (map : MapFields) (sequence : ℕ) (crs : Crs) (names queried : List (List ℕ)) (r : InformationRequest) (is : IsInformation map names queried r) where
+  -- the texts of the query
+  abbrev u : Texts
+  u = plain_texts (picture_pairs crs operation.Information names r.map ++ feature_pairs queried r)
+
+  -- QUERY_LAYERS lists the names
+  asked-are : asked_in map u ≡ Ok r.asked
+  asked-are =
+      ap (λ ns. asked_of map ns (names_of (given u parameter.QueryLayers))) (names-are map sequence crs operation.Information names r.map (feature_pairs queried r) is.map)
+      ∙ ap (λ text. asked_of map names (names_of text))
+      (some-given _ (names-some queried (omega (arith, same-count map r.asked queried is.named, is.some)) (each-some map r.asked queried is.named)))
+      ∙ ap (asked_of map names) (names-split queried (omega (arith, same-count map r.asked queried is.named, is.some)) (no-commas map r.asked queried is.named))
+      ∙ asked-written map r.map.chosen names r.asked queried is.some is.most is.map.named is.named is.chosen is.queryable
+
+  -- the count and the pixel
+  count-is : feature_count_of (given u parameter.FeatureCount) ≡ Ok r.count
+  count-is =
+      ap feature_count_of (some-given (decimal r.count) (numeral r.count (omega (arith, is.count))).some) ∙ count-written r.count is.one is.count
+
+  column-is : column_in u ≡ Ok r.column
+  column-is =
+      ap (λ s. and_then s (λ side. pixel_of side (given u parameter.Column))) (width-is map sequence crs operation.Information names r.map (feature_pairs queried r) is.map)
+      ∙ ap (pixel_of r.map.width) (some-given (decimal r.column) (numeral r.column (omega (arith, is.column, is.map.width.most))).some)
+      ∙ pixel-written r.map.width r.column is.map.width.most is.column
+
+  row-is : row_in u ≡ Ok r.row
+  row-is =
+      ap (λ s. and_then s (λ side. pixel_of side (given u parameter.Row))) (height-is map sequence crs operation.Information names r.map (feature_pairs queried r) is.map)
+      ∙ ap (pixel_of r.map.height) (some-given (decimal r.row) (numeral r.row (omega (arith, is.row, is.map.height.most))).some)
+      ∙ pixel-written r.map.height r.row is.map.height.most is.row
+
+  -- no parameter of GetFeatureInfo is refused
+  features-accepted : AreAccepted (refusal map sequence u) information_order
+  features-accepted = (ap result_err asked-are, (refl, (ap result_err count-is, (ap result_err column-is, (ap result_err row-is, tt)))))
+
+  information-no_fault : first_fault (refusal map sequence u) (order operation.Information) ≡ None
+  information-no_fault =
+      none-both (refusal map sequence u) map_order information_order
+      (map-accepted map sequence crs operation.Information names r.map (feature_pairs queried r) is.map) features-accepted
+
+  information-are : HasInformation map u r
+  information-are = record {
+    map = values-are map sequence crs operation.Information names r.map (feature_pairs queried r) is.map;
+    asked = asked-are;
+    count = count-is;
+    column = column-is;
+    row = row-is;
+  }
+
+-- ---- the law
+
+-- the texts that are written out mean the request
+texts-meant : (map : MapFields) (sequence : ℕ) (crs : Crs) (names queried : List (List ℕ)) (r : Request) → IsWritable map names queried r →
+    IsMeaningOf map sequence (plain_texts (written_pairs crs names queried r)) (Ok r)
+texts-meant map sequence crs names queried request.Capabilities is =
+    let known = ap operation_of (name-some operation.Capabilities) ∙ operation-written operation.Capabilities in
+    (no-fault map sequence (plain_texts (written_pairs crs names queried request.Capabilities)) operation.Capabilities refl known refl, known)
+texts-meant map sequence crs names queried (request.Map r) is =
+    let known = operation-is map sequence crs operation.Map names r [] is in
+    let accepted = map-accepted map sequence crs operation.Map names r [] is in (
+      no-fault map sequence (plain_texts (picture_pairs crs operation.Map names r)) operation.Map refl known
+          (none-refused (refusal map sequence (plain_texts (picture_pairs crs operation.Map names r))) map_order accepted),
+      (known, values-are map sequence crs operation.Map names r [] is),
+    )
+texts-meant map sequence crs names queried (request.Information r) is =
+    let known = operation-is map sequence crs operation.Information names r.map (feature_pairs queried r) is.map in (
+      no-fault map sequence (plain_texts (written_pairs crs names queried (request.Information r))) operation.Information refl known
+          (information-no_fault map sequence crs names queried r is),
+      (known, information-are map sequence crs names queried r is),
+    )
 
 -- a query that is written out means its request
 pub written-is-meant : WrittenIsMeant
-written-is-meant map crs names r is are =
-    subst (λ pairs. IsMeaningOf map pairs (Ok r)) (sym (pairs-written (written_pairs crs names r) (all-texts map crs names r is are).all))
-    ((all-pass map crs names r is are).all, values-are map crs names r is are)
+written-is-meant map sequence crs names queried r is =
+    subst (λ pairs. IsMeaningOf map sequence (texts_of pairs) (Ok r))
+    (sym (pairs-written (written_pairs crs names queried r) (all-texts map crs names queried r is).all))
+    (texts-meant map sequence crs names queried r is)

@@ -1,20 +1,16 @@
 -- Values that are written out are read again.
-use Rattle.std.proofs.Common.{ok_or, ◌≡◌, ◌≢◌, ℕ, pos, ◌&&◌, true, false, nat_le, List, [], ◌∷◌, All, Some, None, Ok, ap, refl, ◌∙◌, arith, cond}
-use Rattle.std.proofs.lemmas.Bool.{and_from, le-leb, ne_eqb}
+use Rattle.std.proofs.Common.{◌==◌, ◌≤◌, min, nat_lt, ok_or, ◌≡◌, ◌≢◌, ℕ, ◌^◌, ◌<◌, ◌&&◌, true, false, nat_le, List, [], ◌∷◌, All, Some, None, Ok, ap, refl, ◌∙◌, arith, cond}
+use Rattle.std.proofs.lemmas.Bool.{and_from, le-leb, lt-ltb, ne_eqb}
 use Rattle.std.proofs.lemmas.List.Elements.{All-head, All-tail, All-weaker}
 use Rattle.std.proofs.lemmas.List.Splits.{slice_split_none, slice_split_at}
 use Rattle.std.specs.Fmt.{decimal}
 use Rattle.std.specs.List.{slice_split, join_with_byte}
-use Rattle.std.specs.Option.{option_map, option_and_then}
-use Rattle.std.specs.Result.{result_ok}
-use Rattle.geom.specs.Decimal.{whole_of}
-use Rattle.geom.specs.Number.{count_of}
+use Rattle.std.specs.Option.{option_and_then}
+use Rattle.geom.specs.Decimal.{number_of}
 use Rattle.geom.specs.Side.{IsPictureSide, picture_side}
-use Rattle.geom.specs.declared.micro.TheConstants.{NUMBER_LIMIT}
-use Rattle.geom.proofs.Numerals.{numeral-read, whole-read}
 use Rattle.geom.proofs.Written.{numeral}
-use Rattle.crsaxes.specs.Axes.{is_comma}
-use Rattle.wmsquery.specs.Values.{side_within, side_of}
+use Rattle.wmsquery.specs.Pairs.{is_comma}
+use Rattle.wmsquery.specs.Values.{number_in, side_of, count_within, feature_count_of, index_below, pixel_of}
 use Rattle.wmsquery.specs.declared.fault.Code.TheVariants as code
 
 -- a side that a picture may have
@@ -23,19 +19,32 @@ side-within n is =
     let tests : (nat_le 1 n && nat_le n 2048) ≡ true = and_from _ _ (le-leb 1 n is.some) (le-leb n 2048 is.most) in
     rw tests refl
 
--- the count of a side's digits
-count-read : (n : ℕ) → IsPictureSide n → count_of (decimal n) ≡ Some (pos n)
-count-read n is =
-    ap (λ r. option_map whole_of (result_ok r)) (numeral-read n NUMBER_LIMIT (omega (arith, is.most)) (omega arith))
-    ∙ ap Some (whole-read n)
+-- the digits of a number are that number
+pub number-written : (n : ℕ) → n < 2 ^ 64 → number_in (decimal n) ≡ Some n
+number-written n small =
+    let is = numeral n small in
+    ap (λ b. cond b (Some (number_of (decimal n))) None) is.digits ∙ ap Some is.number
 
 -- a side's digits mean that side
 pub side-written : (n : ℕ) → IsPictureSide n → side_of (Some (decimal n)) ≡ Ok n
 side-written n is =
-    let digits = (numeral n (omega (arith, is.most))).digits in
-    ap (λ b. ok_or (cond b (option_and_then side_within (count_of (decimal n))) None) code.InvalidParameterValue) digits
-    ∙ ap (λ c. ok_or (option_and_then side_within c) code.InvalidParameterValue) (count-read n is)
+    ap (λ c. ok_or (option_and_then picture_side c) code.InvalidParameterValue) (number-written n (omega (arith, is.most)))
     ∙ ap (λ side. ok_or side code.InvalidParameterValue) (side-within n is)
+
+-- the digits of a count that a layer may have mean that count
+pub count-written : (n : ℕ) → 1 ≤ n → n ≤ 200000 → feature_count_of (Some (decimal n)) ≡ Ok n
+count-written n some most =
+    let counted : (n == 0) ≡ false = ne_eqb n 0 (λ e. omega (arith, e, some)) in
+    let least : min n 200000 ≡ n = omega (arith, most) in
+    ap (λ c. ok_or (option_and_then count_within c) code.InvalidParameterValue) (number-written n (omega (arith, most)))
+    ∙ rw (counted, least) refl
+
+-- the digits of a pixel's index mean that pixel
+pub pixel-written : (side n : ℕ) → side ≤ 2048 → n < side → pixel_of side (Some (decimal n)) ≡ Ok n
+pixel-written side n few within =
+    let test : nat_lt n side ≡ true = lt-ltb n side within in
+    ap (λ c. ok_or (option_and_then (index_below side) c) code.InvalidPoint) (number-written n (omega (arith, few, within)))
+    ∙ rw test refl
 
 -- bytes that are no commas
 commas-none : (text : List ℕ) → All (λ b. b ≢ 44) text → All (λ b. is_comma b ≡ false) text

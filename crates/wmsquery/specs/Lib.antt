@@ -1,6 +1,10 @@
-pub mod Checks
 pub mod Meaning
+pub mod Number
+pub mod Order
 pub mod Pairs
+pub mod Query
+pub mod Reading
 pub mod Report
 pub mod Values
+pub mod Within
 pub mod Written

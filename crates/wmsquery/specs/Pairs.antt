@@ -1,12 +1,15 @@
 -- The parameters of a query (URL Standard, application/x-www-form-urlencoded; docs/PROFILE.md, "Queries").
-use Rattle.std.specs.Prelude.{◌≡◌, ◌&&◌, ℕ, Bool, List, [], ◌∷◌, map, find, Option, None, Some}
+use Rattle.std.specs.Prelude.{◌≡◌, ◌&&◌, ◌==◌, ℕ, Bool, List, [], ◌∷◌, map, find, Option, None, Some, ◌++◌}
+use Rattle.std.specs.List.{slice_split}
 use Rattle.std.specs.Option.{option_map, option_and_then, is_none}
 use Rattle.std.specs.Str.{str_eq_ignore_ascii_case}
 use Rattle.std.specs.Str.Lossy.{utf8_lossy}
 use Rattle.form_urlencoded.specs.Form.{raw_pairs, decode}
+use Rattle.operations.specs.declared.operation.Operation.TheVariants as operation
 use Rattle.wmsquery.specs.declared.fault.Parameter.{Parameter}
 use Rattle.wmsquery.specs.declared.fault.Parameter.TheVariants as parameter
 use Rattle.wmsquery.specs.declared.pairs.Pair.{Pair}
+use Rattle.wmsquery.specs.Order.{order}
 use Rattle.wmsquery.specs.Report.{parameter_text}
 
 -- the text that a name or a value stands for: decoded, with a replacement character for what is not UTF-8
@@ -25,29 +28,44 @@ pairs_of query = map pair_of (raw_pairs query)
 abbrev pub value_of : List ℕ → List Pair → Option (List ℕ)
 value_of name pairs = option_map (λ (pair : Pair). pair.value) (find (λ (pair : Pair). str_eq_ignore_ascii_case pair.name name) pairs)
 
--- a value that is not empty: an empty one counts as missing
+-- the text of each parameter, where it has one
+abbrev pub Texts : Type 0
+Texts = Parameter → Option (List ℕ)
+
+-- the text of a parameter is the value of the first pair of its name
+abbrev pub texts_of : List Pair → Texts
+texts_of pairs p = value_of (parameter_text p) pairs
+
+-- a text that is not empty: an empty one counts as missing
 abbrev pub some_text : List ℕ → Option (List ℕ)
 some_text [] = None
 some_text (b ∷ bs) = Some (b ∷ bs)
 
--- the value of a name, where it is not empty
-abbrev pub given : List ℕ → List Pair → Option (List ℕ)
-given name pairs = option_and_then some_text (value_of name pairs)
+-- the text of a parameter, where it is not empty
+abbrev pub given : Texts → Parameter → Option (List ℕ)
+given texts p = option_and_then some_text (texts p)
+
+-- a comma
+abbrev pub is_comma : ℕ → Bool
+is_comma b = b == 44
+
+-- the names of a list, between commas
+abbrev pub names_in : List ℕ → List (List ℕ)
+names_in text = slice_split is_comma text
+
+-- the names that a parameter lists, none where it is missing
+abbrev pub names_of : Option (List ℕ) → List (List ℕ)
+names_of None = []
+names_of (Some text) = names_in text
 
 -- all parameters that are looked at
 abbrev pub parameters : List Parameter
-parameters =
-    parameter.Service ∷ parameter.Request ∷ parameter.Version ∷ parameter.Layers ∷ parameter.Styles ∷ parameter.Crs ∷ parameter.Bbox
-    ∷ parameter.Width ∷ parameter.Height ∷ parameter.Format ∷ parameter.Transparent ∷ parameter.Bgcolor ∷ []
+parameters = parameter.Service ∷ parameter.Request ∷ order operation.Information ++ order operation.Capabilities
 
--- two lists of pairs give each parameter the same value
-abbrev pub HaveSameValues : List Pair → List Pair → Type 0
-HaveSameValues a b = (p : Parameter) → value_of (parameter_text p) a ≡ value_of (parameter_text p) b
+-- two lists of pairs give each parameter the same text
+abbrev pub HaveSameTexts : List Pair → List Pair → Type 0
+HaveSameTexts a b = (p : Parameter) → texts_of a p ≡ texts_of b p
 
--- two queries give a parameter the same value
-abbrev pub HaveSameValue : List ℕ → List ℕ → Parameter → Type 0
-HaveSameValue a b p = value_of (parameter_text p) (pairs_of a) ≡ value_of (parameter_text p) (pairs_of b)
-
--- a name is that of a parameter which has no value yet
+-- a name is that of a parameter which has no text yet
 abbrev pub is_first_of : List Pair → List ℕ → Parameter → Bool
-is_first_of found name p = str_eq_ignore_ascii_case name (parameter_text p) && is_none (value_of (parameter_text p) found)
+is_first_of found name p = str_eq_ignore_ascii_case name (parameter_text p) && is_none (texts_of found p)

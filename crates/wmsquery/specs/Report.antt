@@ -15,6 +15,10 @@ code_text code.LayerNotDefined = codes "LayerNotDefined"
 code_text code.StyleNotDefined = codes "StyleNotDefined"
 code_text code.InvalidCrs = codes "InvalidCRS"
 code_text code.InvalidFormat = codes "InvalidFormat"
+code_text code.LayerNotQueryable = codes "LayerNotQueryable"
+code_text code.InvalidPoint = codes "InvalidPoint"
+code_text code.CurrentUpdateSequence = codes "CurrentUpdateSequence"
+code_text code.InvalidUpdateSequence = codes "InvalidUpdateSequence"
 
 -- the names of the parameters
 abbrev pub parameter_text : Parameter → List ℕ
@@ -30,6 +34,12 @@ parameter_text parameter.Height = codes "HEIGHT"
 parameter_text parameter.Format = codes "FORMAT"
 parameter_text parameter.Transparent = codes "TRANSPARENT"
 parameter_text parameter.Bgcolor = codes "BGCOLOR"
+parameter_text parameter.QueryLayers = codes "QUERY_LAYERS"
+parameter_text parameter.InfoFormat = codes "INFO_FORMAT"
+parameter_text parameter.FeatureCount = codes "FEATURE_COUNT"
+parameter_text parameter.Column = codes "I"
+parameter_text parameter.Row = codes "J"
+parameter_text parameter.UpdateSequence = codes "UPDATESEQUENCE"
 
 -- what stands before the code
 unfoldable pub report_head : List ℕ

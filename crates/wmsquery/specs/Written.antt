@@ -1,5 +1,5 @@
--- Queries that are written out from a request (OGC 06-042, 7.3; URL Standard, application/x-www-form-urlencoded).
-use Rattle.std.specs.Prelude.{◌≡◌, ◌≢◌, ℕ, ◌≤◌, ◌<◌, true, List, [], ◌∷◌, ◌++◌, All, length, Option, None, Some, Ok, codes, IsUtf8}
+-- Queries that are written out from a request (OGC 06-042, 7.2 to 7.4; URL Standard, application/x-www-form-urlencoded).
+use Rattle.std.specs.Prelude.{◌≡◌, ◌≢◌, ℕ, ◌≤◌, ◌<◌, true, List, [], ◌∷◌, ◌++◌, All, Contains, length, Option, None, Some, Ok, codes, IsUtf8}
 use Rattle.std.specs.Fmt.{decimal}
 use Rattle.std.specs.List.{join_with_byte}
 use Rattle.form_urlencoded.specs.Form.{extend_pairs}
@@ -10,12 +10,20 @@ use Rattle.geom.specs.Side.{IsPictureSide}
 use Rattle.geom.specs.World.{Area, IsExtent}
 use Rattle.geom.specs.Written.{written}
 use Rattle.mapdefs.specs.declared.colour.Rgb.{Rgb}
+use Rattle.mapdefs.specs.declared.limits.TheConstants.{MAX_FEATURES}
 use Rattle.mapdefs.specs.declared.layer.LayerFields.{LayerFields}
 use Rattle.mapdefs.specs.declared.map.MapFields.{MapFields}
+use Rattle.operations.specs.Operation.{name_of}
+use Rattle.operations.specs.declared.operation.Operation.{Operation}
+use Rattle.operations.specs.declared.operation.Operation.TheVariants as operation
 use Rattle.wmsquery.specs.declared.lists.TheConstants.{MAX_NAMES}
 use Rattle.wmsquery.specs.declared.request.Format.{Format}
 use Rattle.wmsquery.specs.declared.request.Format.TheVariants.{Pixmap, ArbitraryMap}
+use Rattle.wmsquery.specs.declared.request.InformationRequest.{InformationRequest}
 use Rattle.wmsquery.specs.declared.request.MapRequest.{MapRequest}
+use Rattle.wmsquery.specs.declared.request.Request.{Request}
+use Rattle.wmsquery.specs.declared.request.Request.TheVariants as request
+use Rattle.wmsquery.specs.Values.{is_queryable}
 use Rattle.wmsquery.specs.Meaning.{IsMeaning}
 
 -- texts with a comma between each two
@@ -51,25 +59,42 @@ abbrev pub background_text : Option Rgb → List ℕ
 background_text None = colour_text (record { red = 255; green = 255; blue = 255 })
 background_text (Some colour) = colour_text colour
 
--- the parameters of a request for the layers of some names, in a system
-abbrev pub written_pairs : Crs → List (List ℕ) → MapRequest → List (List ℕ × List ℕ)
-written_pairs crs names request =
-    (codes "VERSION", codes "1.3.0")
-    ∷ (codes "REQUEST", codes "GetMap")
+-- the parameters of an operation that say which picture, for the layers of some names, in a system
+abbrev pub picture_pairs : Crs → Operation → List (List ℕ) → MapRequest → List (List ℕ × List ℕ)
+picture_pairs crs o names picture =
+    (codes "REQUEST", name_of o)
+    ∷ (codes "VERSION", codes "1.3.0")
     ∷ (codes "LAYERS", with_commas names)
     ∷ (codes "STYLES", [])
     ∷ (codes "CRS", crs_text crs)
-    ∷ (codes "BBOX", bbox_text crs request.area)
-    ∷ (codes "WIDTH", decimal request.width)
-    ∷ (codes "HEIGHT", decimal request.height)
-    ∷ (codes "FORMAT", format_text request.format)
-    ∷ (codes "TRANSPARENT", transparent_text request.background)
-    ∷ (codes "BGCOLOR", background_text request.background)
+    ∷ (codes "BBOX", bbox_text crs picture.area)
+    ∷ (codes "WIDTH", decimal picture.width)
+    ∷ (codes "HEIGHT", decimal picture.height)
+    ∷ (codes "FORMAT", format_text picture.format)
+    ∷ (codes "TRANSPARENT", transparent_text picture.background)
+    ∷ (codes "BGCOLOR", background_text picture.background)
     ∷ []
 
+-- the parameters that say which features are asked for, of the layers of some names
+abbrev pub feature_pairs : List (List ℕ) → InformationRequest → List (List ℕ × List ℕ)
+feature_pairs queried information =
+    (codes "QUERY_LAYERS", with_commas queried)
+    ∷ (codes "INFO_FORMAT", codes "text/plain")
+    ∷ (codes "FEATURE_COUNT", decimal information.count)
+    ∷ (codes "I", decimal information.column)
+    ∷ (codes "J", decimal information.row)
+    ∷ []
+
+-- the parameters of a request, for the layers of some names and for those of others, which are asked for features, in a system
+abbrev pub written_pairs : Crs → List (List ℕ) → List (List ℕ) → Request → List (List ℕ × List ℕ)
+written_pairs crs names queried request.Capabilities = (codes "REQUEST", name_of operation.Capabilities) ∷ []
+written_pairs crs names queried (request.Map picture) = picture_pairs crs operation.Map names picture
+written_pairs crs names queried (request.Information information) =
+    picture_pairs crs operation.Information names information.map ++ feature_pairs queried information
+
 -- the query of these parameters, escaped as forms are
-abbrev pub written_query : Crs → List (List ℕ) → MapRequest → List ℕ
-written_query crs names request = extend_pairs [] (written_pairs crs names request)
+abbrev pub written_query : Crs → List (List ℕ) → List (List ℕ) → Request → List ℕ
+written_query crs names queried request = extend_pairs [] (written_pairs crs names queried request)
 
 -- the layer at an index has this name, is switched on, and no layer before it has the name; a query can list the name
 pub record IsNamed (map : MapFields) (index : ℕ) (name : List ℕ) : Type 0 where
@@ -105,16 +130,38 @@ IsBackground format (Some colour) = IsColour colour
 IsBackground ArbitraryMap None = Unit {0}
 IsBackground Pixmap None = ⊥
 
--- a request of 1 to `MAX_NAMES` layers, an extent of the world, sides that a picture may have, and a background of its format
-pub record IsRequest (request : MapRequest) : Type 0 where
+-- a request of 1 to `MAX_NAMES` layers of these names, an extent of the world, sides that a picture may have, and a
+-- background of its format
+pub record IsPicture (map : MapFields) (names : List (List ℕ)) (request : MapRequest) : Type 0 where
   pub some : 1 ≤ length request.chosen
   pub most : length request.chosen ≤ MAX_NAMES
+  pub named : AreNamed map request.chosen names
   pub area : IsExtent request.area
   pub width : IsPictureSide request.width
   pub height : IsPictureSide request.height
   pub background : IsBackground request.format request.background
 
--- the law that a query that is written out from a request means that request, in each system
+-- a request for 1 to `MAX_NAMES` layers of a picture that are queryable, by these names, a count of features that a layer may
+-- have, and a pixel of the picture
+pub record IsInformation (m : MapFields) (names queried : List (List ℕ)) (request : InformationRequest) : Type 0 where
+  pub map : IsPicture m names request.map
+  pub some : 1 ≤ length request.asked
+  pub most : length request.asked ≤ MAX_NAMES
+  pub named : AreNamed m request.asked queried
+  pub chosen : All (Contains request.map.chosen) request.asked
+  pub queryable : All (λ index. is_queryable m index ≡ true) request.asked
+  pub one : 1 ≤ request.count
+  pub count : request.count ≤ MAX_FEATURES
+  pub column : request.column < request.map.width
+  pub row : request.row < request.map.height
+
+-- the request can be written out, with these names
+abbrev pub IsWritable : MapFields → List (List ℕ) → List (List ℕ) → Request → Type 0
+IsWritable map names queried request.Capabilities = Unit {0}
+IsWritable map names queried (request.Map picture) = IsPicture map names picture
+IsWritable map names queried (request.Information information) = IsInformation map names queried information
+
+-- the law that a query that is written out from a request means that request, in each system and at each sequence
 abbrev pub WrittenIsMeant : Type 0
-WrittenIsMeant = (map : MapFields) (crs : Crs) (names : List (List ℕ)) (request : MapRequest) →
-    IsRequest request → AreNamed map request.chosen names → IsMeaning map (written_query crs names request) (Ok request)
+WrittenIsMeant = (map : MapFields) (sequence : ℕ) (crs : Crs) (names queried : List (List ℕ)) (request : Request) →
+    IsWritable map names queried request → IsMeaning map sequence (written_query crs names queried request) (Ok request)

@@ -24,3 +24,13 @@ impl From<AllocError> for QueryError {
         QueryError::NoMemory
     }
 }
+
+impl From<WmsFault> for QueryError {
+    ghost use Rattle.wmsquery.specs.declared.error.QueryError.TheVariants.{Fault};
+
+    ghost from_gives = { λ f e. e ≡ Fault f };
+
+    fn from(fault: WmsFault) -> QueryError {
+        QueryError::Fault(fault)
+    }
+}

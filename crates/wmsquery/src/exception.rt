@@ -25,6 +25,10 @@ impl Code {
             Code::StyleNotDefined => "StyleNotDefined",
             Code::InvalidCrs => "InvalidCRS",
             Code::InvalidFormat => "InvalidFormat",
+            Code::LayerNotQueryable => "LayerNotQueryable",
+            Code::InvalidPoint => "InvalidPoint",
+            Code::CurrentUpdateSequence => "CurrentUpdateSequence",
+            Code::InvalidUpdateSequence => "InvalidUpdateSequence",
         }
     }
 }
@@ -47,6 +51,12 @@ impl Parameter {
             Parameter::Format => "FORMAT",
             Parameter::Transparent => "TRANSPARENT",
             Parameter::Bgcolor => "BGCOLOR",
+            Parameter::QueryLayers => "QUERY_LAYERS",
+            Parameter::InfoFormat => "INFO_FORMAT",
+            Parameter::FeatureCount => "FEATURE_COUNT",
+            Parameter::Column => "I",
+            Parameter::Row => "J",
+            Parameter::UpdateSequence => "UPDATESEQUENCE",
         }
     }
 }

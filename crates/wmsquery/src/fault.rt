@@ -1,11 +1,14 @@
+ghost use Rattle.std.specs.Prelude.{◌≡◌};
+ghost use Rattle.wmsquery.specs.Reading.{checked};
+
 use thiserror::Error;
 
-/// The parameters of a query that are looked at, in the order in which their faults are told.
+/// The parameters of a query that are looked at.
 #[derive(Clone, Copy, Debug)]
 pub enum Parameter {
     /// SERVICE, which is `WMS` where it is given.
     Service,
-    /// REQUEST, which is `GetMap`.
+    /// REQUEST: the name of an operation.
     Request,
     /// VERSION, which is `1.3.0`.
     Version,
@@ -23,10 +26,22 @@ pub enum Parameter {
     Height,
     /// FORMAT: that of the picture.
     Format,
-    /// TRANSPARENT, which is read and changes nothing.
+    /// TRANSPARENT: whether a picture has nothing where nothing is painted, if its format can show that.
     Transparent,
     /// BGCOLOR: the colour of the background.
     Bgcolor,
+    /// QUERY_LAYERS: the names of the layers that are asked for features.
+    QueryLayers,
+    /// INFO_FORMAT: that of feature information.
+    InfoFormat,
+    /// FEATURE_COUNT: how many features of a layer are told at most.
+    FeatureCount,
+    /// I: the column of the pixel near which features are looked for.
+    Column,
+    /// J: its row.
+    Row,
+    /// UPDATESEQUENCE: the sequence of the capabilities document that the client has.
+    UpdateSequence,
 }
 
 /// The codes of service exceptions.
@@ -36,16 +51,24 @@ pub enum Code {
     MissingParameterValue,
     /// A value isn't one of its parameter.
     InvalidParameterValue,
-    /// REQUEST asks for something other than a map.
+    /// REQUEST names no operation.
     OperationNotSupported,
-    /// LAYERS names a layer that the map doesn't have, or that is switched off.
+    /// A name is that of no layer, or of one that is switched off.
     LayerNotDefined,
     /// STYLES names a style other than the default.
     StyleNotDefined,
     /// CRS names a system that isn't known.
     InvalidCrs,
-    /// FORMAT is another one than that of portable pixmaps.
+    /// A format is asked for that there isn't.
     InvalidFormat,
+    /// QUERY_LAYERS names a layer that may not be asked for features.
+    LayerNotQueryable,
+    /// I or J isn't that of a pixel of the picture.
+    InvalidPoint,
+    /// The client has the capabilities document of the present sequence.
+    CurrentUpdateSequence,
+    /// UPDATESEQUENCE is no number, or that of a sequence to come.
+    InvalidUpdateSequence,
 }
 
 /// Why a query is refused: the code of the service exception, and the parameter at fault.
@@ -56,4 +79,14 @@ pub struct WmsFault {
     pub code: Code,
     /// The parameter at fault.
     pub parameter: Parameter,
+}
+
+/// What a parameter means, or its refusal as a fault.
+pub fn checked<T>(parameter: Parameter, value: Result<T, Code>) -> Result<T, WmsFault>
+    ensures { result ≡ checked parameter value }
+{
+    match value {
+        Ok(value) => Ok(value),
+        Err(code) => Err(WmsFault { code, parameter }),
+    }
 }

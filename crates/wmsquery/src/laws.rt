@@ -3,14 +3,14 @@
 ghost use Rattle.wmsquery.specs.Meaning.{LaterChangesNothing, MeaningIsOne};
 ghost use Rattle.wmsquery.specs.Written.{WrittenIsMeant};
 
-/// A query means the fault of its first check that fails whatever the parameters have that come later
-/// in the order of refusal: one that gives each parameter up to that of the fault the same value means
+/// A query means the fault of its first parameter that is refused, whatever the parameters say that come
+/// later in the order of refusal: one that gives each parameter up to that of the fault the same text means
 /// the same fault.
 pub fn later_parameters_change_nothing()
     ensures { LaterChangesNothing }
 {}
 
-/// A query means one request, or one fault: that of the first check that fails.
+/// A query means one request, or one fault: that of the first parameter that is refused.
 pub fn one_meaning()
     ensures { MeaningIsOne }
 {}

@@ -1,23 +1,26 @@
 //! What a query asks for: a request, or the first fault by the order of refusal.
 //!
-//! Proved: `read` gives the request that a query makes of a map (clause `request`), or the fault of the
-//! first check that fails (`fault`). The layers that are chosen are in the map (`layers`), and the area
-//! is one within the world (`extent`). A query means one request or one fault (`laws::one_meaning`), and
-//! the fault whatever the parameters have that come after its own in the order of refusal
-//! (`laws::later_parameters_change_nothing`). A query that is written out from a request means it
-//! (`laws::written_requests`).
+//! Proved: `read` gives the request that a query makes of a map at a sequence (clause `request`), or the
+//! fault of the first parameter that is refused (`fault`). What a request names is there: its layers are in
+//! the map, its area is one within the world, its pixel is in the picture (`within`). A query means one
+//! request or one fault (`laws::one_meaning`), and the fault whatever the parameters say that come after its
+//! own in the order of refusal (`laws::later_parameters_change_nothing`). A query that is written out from a
+//! request means it (`laws::written_requests`).
 //!
-//! Words: a *pair* is a name and a value of a query. A *value* is what a parameter means. A *check* of
-//! a parameter has the code that refuses its value, if there is one; the *refusal* is that code.
+//! Words: a *pair* is a name and a value of a query. The *text* of a parameter is the value of the first pair
+//! of its name; it *means* something, or a code refuses it. The *order of refusal* of an operation is the
+//! list of the parameters that are looked at, of which the first that is refused is at fault.
 #![tactic(auto)]
 
-mod checks;
 mod error;
 mod exception;
 mod fault;
+mod information;
 pub mod laws;
 mod lists;
+mod number;
 mod pairs;
+mod picture;
 mod query;
 mod request;
 mod values;
@@ -27,4 +30,4 @@ pub use exception::report;
 pub use fault::{Code, Parameter, WmsFault};
 pub use lists::MAX_NAMES;
 pub use query::read;
-pub use request::{Format, MapRequest};
+pub use request::{Format, InformationRequest, MapRequest, Request};

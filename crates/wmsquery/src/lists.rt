@@ -1,22 +1,35 @@
-ghost use Rattle.std.specs.Prelude.{◌≡◌, ◌<◌, All, length, map as each, IfOk, IfSome};
+ghost use Rattle.std.specs.Prelude.{◌≡◌, ◌<◌, All, length, map as each, Ok, IfOk, IfSome, MatchResult};
 ghost use Rattle.std.specs.List.{list_all};
-ghost use Rattle.std.specs.Option.{option_copied, option_map_or};
-ghost use Rattle.crsaxes.specs.Axes.{parts};
-ghost use Rattle.wmsquery.specs.Checks.{refusal_of};
-ghost use Rattle.wmsquery.specs.Values.{layer_named, indices_of, layers_of, is_default, style_list, styles_of};
+ghost use Rattle.std.specs.Option.{option_copied};
+ghost use Rattle.wmsquery.specs.declared.fault.Parameter.TheVariants as parameter;
+ghost use Rattle.wmsquery.specs.Pairs.{names_in, names_of};
+ghost use Rattle.wmsquery.specs.Reading.{IsErrorOf, checked};
+ghost use Rattle.wmsquery.specs.Values.{layer_named, listed, defined, indices_of, layers_of, is_default, style_list, absent, styles_of, is_among, is_queryable, asked, asked_of};
 
-use crate::fault::Code;
+use crate::error::QueryError;
+use crate::fault::{Code, Parameter, checked};
 use mapdefs::{Items, Map};
+use operations::Operation;
 use std::alloc::{AllocError, Global};
 
-/// The most names of LAYERS.
+/// The most names of LAYERS, and of QUERY_LAYERS.
 pub const MAX_NAMES: usize = 64;
 
-// The names in a list between commas.
-fn names(alloc: Global, text: &str) -> Result<Vec<&str>, AllocError>
-    ensures { IfOk result (λ found. each (λ x. x.now) found.items ≡ parts text.now) }
+// The names of a list, between commas.
+fn names_in(alloc: Global, text: &str) -> Result<Vec<&str>, AllocError>
+    ensures { IfOk result (λ found. each (λ x. x.now) found.items ≡ names_in text.now) }
 {
     text.split(',').collect(alloc)
+}
+
+/// The names that a parameter lists, none where it is missing.
+pub fn names_of(alloc: Global, text: Option<&str>) -> Result<Vec<&str>, AllocError>
+    ensures { IfOk result (λ found. each (λ x. x.now) found.items ≡ names_of (option_copied text.entry)) }
+{
+    match text {
+        Some(text) => names_in(alloc, text),
+        None => Ok(Vec::new(alloc)),
+    }
 }
 
 // The index of the layer of a name, where it is switched on.
@@ -36,58 +49,49 @@ fn layer_named(map: &Map, name: &str) -> Option<usize>
     }
 }
 
-// The indices of the layers of some names, if all are defined.
-fn indices(alloc: Global, map: &Map, names: &[&str]) -> Result<Option<Items<usize>>, AllocError>
-    ensures value { IfOk result (λ found. found ≡ indices_of map.now (each (λ x. x.now) names.now)) }
-    ensures within { IfOk result (λ found. IfSome found (All (λ index. index < length map.now.layers))) }
+// Whether so many names may be listed.
+fn listed(count: usize) -> Result<(), Code>
+    ensures { result ≡ listed count }
+{
+    match count {
+        0 => Err(Code::MissingParameterValue),
+        1..=MAX_NAMES => Ok(()),
+        _ => Err(Code::InvalidParameterValue),
+    }
+}
+
+// The index of the layer of a name, which has to be defined.
+fn defined(map: &Map, name: &str) -> Result<usize, Code>
+    ensures value { result ≡ defined map.now name.now }
+    ensures within { IfOk result (λ index. index < length map.now.layers) }
+{
+    layer_named(map, name).ok_or(Code::LayerNotDefined)
+}
+
+// The indices of the layers of some names.
+fn indices(alloc: Global, map: &Map, names: &[&str]) -> Result<Items<usize>, QueryError>
+    ensures value { MatchResult result
+        (λ found. indices_of (defined map.now) (each (λ x. x.now) names.now) ≡ Ok found)
+        (IsErrorOf (checked parameter.Layers (indices_of (defined map.now) (each (λ x. x.now) names.now)))) }
+    ensures within { IfOk result (All (λ index. index < length map.now.layers)) }
 {
     let mut found = Items::new(alloc);
     for name in names {
-        let Some(index) = layer_named(map, name) else {
-            return Ok(None);
-        };
+        let index = checked(Parameter::Layers, defined(map, name))?;
         found.push(index)?;
     }
-    Ok(Some(found))
+    Ok(found)
 }
 
 /// The indices of the layers that LAYERS lists.
-pub fn layers(
-    alloc: Global,
-    map: &Map,
-    value: Option<&str>,
-) -> Result<Result<Items<usize>, Code>, AllocError>
-    ensures value { IfOk result (λ found. found ≡ layers_of map.now (option_copied value.entry)) }
-    ensures within { IfOk result (λ found. IfOk found (All (λ index. index < length map.now.layers))) }
+pub fn layers(alloc: Global, map: &Map, names: &[&str]) -> Result<Items<usize>, QueryError>
+    ensures value { MatchResult result
+        (λ found. layers_of map.now (each (λ x. x.now) names.now) ≡ Ok found)
+        (IsErrorOf (checked parameter.Layers (layers_of map.now (each (λ x. x.now) names.now)))) }
+    ensures within { IfOk result (All (λ index. index < length map.now.layers)) }
 {
-    let Some(text) = value else {
-        return Ok(Err(Code::MissingParameterValue));
-    };
-    let listed = names(alloc, text)?;
-    if listed.len() > MAX_NAMES {
-        return Ok(Err(Code::InvalidParameterValue));
-    }
-    match indices(alloc, map, &listed)? {
-        Some(found) => Ok(Ok(found)),
-        None => Ok(Err(Code::LayerNotDefined)),
-    }
-}
-
-// How many names a list has between commas.
-fn name_count(text: &str) -> usize
-    ensures { result ≡ length (parts text.now) }
-{
-    text.split(',').count()
-}
-
-/// How many layers LAYERS lists.
-pub fn layer_count(value: Option<&str>) -> usize
-    ensures { result ≡ option_map_or (λ text. length (parts text)) (option_copied value.entry) 0 }
-{
-    match value {
-        Some(text) => name_count(text),
-        None => 0,
-    }
+    checked(Parameter::Layers, listed(names.len()))?;
+    indices(alloc, map, names)
 }
 
 // Whether an entry of STYLES is the default.
@@ -109,29 +113,117 @@ fn are_default(entries: &[&str]) -> bool
     true
 }
 
-// The refusal of the entries of STYLES for that many layers.
-fn style_list(count: usize, entries: &[&str]) -> Option<Code>
-    ensures { result ≡ refusal_of (style_list count (each (λ x. x.now) entries.now)) }
+// What the entries of STYLES mean for that many layers.
+fn style_list(count: usize, entries: &[&str]) -> Result<(), Code>
+    ensures { result ≡ style_list count (each (λ x. x.now) entries.now) }
 {
     if entries.len() != count {
-        Some(Code::InvalidParameterValue)
+        Err(Code::InvalidParameterValue)
     } else if are_default(entries) {
-        None
+        Ok(())
     } else {
-        Some(Code::StyleNotDefined)
+        Err(Code::StyleNotDefined)
     }
 }
 
-/// The refusal of STYLES for that many layers.
-pub fn styles(alloc: Global, count: usize, value: Option<&str>) -> Result<Option<Code>, AllocError>
-    ensures { IfOk result (λ refusal. refusal ≡ refusal_of (styles_of count (option_copied value.entry))) }
+/// What stands for a parameter of GetMap that is absent, if the operation needs it not.
+pub fn absent<T: Drop>(operation: Operation, default: T) -> Result<T, Code>
+    ensures { result ≡ absent operation default }
 {
-    let Some(text) = value else {
-        return Ok(Some(Code::MissingParameterValue));
+    match operation {
+        Operation::Information => Ok(default),
+        Operation::Map | Operation::Capabilities => Err(Code::MissingParameterValue),
+    }
+}
+
+/// What STYLES means for that many layers.
+pub fn styles(
+    alloc: Global,
+    operation: Operation,
+    count: usize,
+    text: Option<&str>,
+) -> Result<Result<(), Code>, AllocError>
+    ensures { IfOk result (λ meant. meant ≡ styles_of operation count (option_copied text.entry)) }
+{
+    let Some(text) = text else {
+        return Ok(absent(operation, ()));
     };
     if text.is_empty() {
-        return Ok(None);
+        return Ok(Ok(()));
     }
-    let entries = names(alloc, text)?;
+    let entries = names_in(alloc, text)?;
     Ok(style_list(count, &entries))
+}
+
+// Whether a name is among others.
+fn is_among(name: &str, names: &[&str]) -> bool
+    ensures { result ≡ is_among name.now (each (λ x. x.now) names.now) }
+{
+    for other in names {
+        if name == *other {
+            return true;
+        }
+    }
+    false
+}
+
+// Whether the layer at an index may be asked for features.
+fn is_queryable(map: &Map, index: usize) -> bool
+    ensures { result ≡ is_queryable map.now index }
+{
+    match map.get().layers.as_slice().get(index) {
+        Some(layer) => layer.get().queryable,
+        None => false,
+    }
+}
+
+// The index of the layer of a name that is asked for features. `names` are those of LAYERS.
+fn asked(map: &Map, names: &[&str], name: &str) -> Result<usize, Code>
+    ensures value { result ≡ asked map.now (each (λ x. x.now) names.now) name.now }
+    ensures within { IfOk result (λ index. index < length map.now.layers) }
+{
+    let index = defined(map, name)?;
+    if !is_among(name, names) {
+        Err(Code::LayerNotDefined)
+    } else if is_queryable(map, index) {
+        Ok(index)
+    } else {
+        Err(Code::LayerNotQueryable)
+    }
+}
+
+// The indices of the layers of some names that are asked for features.
+fn asked_indices(
+    alloc: Global,
+    map: &Map,
+    names: &[&str],
+    queried: &[&str],
+) -> Result<Items<usize>, QueryError>
+    ensures value { MatchResult result
+        (λ found. indices_of (asked map.now (each (λ x. x.now) names.now)) (each (λ x. x.now) queried.now) ≡ Ok found)
+        (IsErrorOf (checked parameter.QueryLayers (indices_of (asked map.now (each (λ x. x.now) names.now)) (each (λ x. x.now) queried.now)))) }
+    ensures within { IfOk result (All (λ index. index < length map.now.layers)) }
+{
+    let mut found = Items::new(alloc);
+    for name in queried {
+        let index = checked(Parameter::QueryLayers, asked(map, names, name))?;
+        found.push(index)?;
+    }
+    Ok(found)
+}
+
+/// The indices of the layers that QUERY_LAYERS lists. `names` are those of LAYERS.
+pub fn asked_layers(
+    alloc: Global,
+    map: &Map,
+    names: &[&str],
+    queried: &[&str],
+) -> Result<Items<usize>, QueryError>
+    ensures value { MatchResult result
+        (λ found. asked_of map.now (each (λ x. x.now) names.now) (each (λ x. x.now) queried.now) ≡ Ok found)
+        (IsErrorOf (checked parameter.QueryLayers (asked_of map.now (each (λ x. x.now) names.now) (each (λ x. x.now) queried.now)))) }
+    ensures within { IfOk result (All (λ index. index < length map.now.layers)) }
+{
+    checked(Parameter::QueryLayers, listed(queried.len()))?;
+    asked_indices(alloc, map, names, queried)
 }

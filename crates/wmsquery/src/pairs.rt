@@ -2,7 +2,7 @@ ghost use Rattle.std.specs.Prelude.{◌≡◌, ◌++◌, List, ◌∷◌, IfOk, 
 ghost use Rattle.std.specs.Option.{option_copied};
 ghost use Rattle.std.specs.List.{list_any};
 ghost use Rattle.wmsquery.specs.declared.pairs.Pair.{Pair};
-ghost use Rattle.wmsquery.specs.Pairs.{pairs_of, value_of, given, some_text, parameters, is_first_of, HaveSameValues};
+ghost use Rattle.wmsquery.specs.Pairs.{pairs_of, texts_of, given, some_text, parameters, is_first_of, HaveSameTexts};
 
 use crate::fault::Parameter;
 use mapdefs::Text;
@@ -27,17 +27,18 @@ fn pair_of(alloc: Global, name: &str, value: &str) -> Result<Pair, AllocError>
     })
 }
 
-/// The value of the first pair of a name, which is read without case.
-pub fn value_of<'a>(pairs: &'a [Pair], name: &str) -> Option<&'a str>
-    ensures { option_copied result ≡ value_of name.now pairs.now }
+/// The text of a parameter: the value of the first pair of its name, which is read without case.
+pub fn text_of(pairs: &[Pair], parameter: Parameter) -> Option<&str>
+    ensures { option_copied result ≡ texts_of pairs.now parameter }
 {
+    let name = parameter.text();
     let pair = pairs
         .iter()
         .find(|pair| pair.name.as_str().eq_ignore_ascii_case(name))?;
     Some(pair.value.as_str())
 }
 
-// Whether a name is that of a parameter which has no value yet.
+// Whether a name is that of a parameter which has no text yet.
 fn is_first(found: &[Pair], name: &str) -> bool
     ensures { result ≡ list_any (is_first_of found.now name.now) parameters }
 {
@@ -54,16 +55,22 @@ fn is_first(found: &[Pair], name: &str) -> bool
         Parameter::Format,
         Parameter::Transparent,
         Parameter::Bgcolor,
+        Parameter::QueryLayers,
+        Parameter::InfoFormat,
+        Parameter::FeatureCount,
+        Parameter::Column,
+        Parameter::Row,
+        Parameter::UpdateSequence,
     ];
     parameters.iter().any(|parameter| {
-        name.eq_ignore_ascii_case(parameter.text()) && value_of(found, parameter.text()).is_none()
+        name.eq_ignore_ascii_case(parameter.text()) && text_of(found, *parameter).is_none()
     })
 }
 
-// Keeps a pair, if it is the first of a parameter. Whatever follows, each parameter has the value that
+// Keeps a pair, if it is the first of a parameter. Whatever follows, each parameter has the text that
 // it would have with the pair.
 fn keep(alloc: Global, found: &mut Vec<Pair>, name: &str, value: &str) -> Result<(), AllocError>
-    ensures { OnOk result ((rest : List Pair) → HaveSameValues (found.new.items ++ rest) (found.old.items ++ record { name = name.now; value = value.now } ∷ rest)) }
+    ensures { OnOk result ((rest : List Pair) → HaveSameTexts (found.new.items ++ rest) (found.old.items ++ record { name = name.now; value = value.now } ∷ rest)) }
 {
     if is_first(found, name) {
         let pair = pair_of(alloc, name, value)?;
@@ -74,7 +81,7 @@ fn keep(alloc: Global, found: &mut Vec<Pair>, name: &str, value: &str) -> Result
 
 /// The first pair of each parameter that a query has, in order. No other pair is kept.
 pub fn first_pairs(alloc: Global, query: &[u8]) -> Result<Vec<Pair>, AllocError>
-    ensures { IfOk result (λ found. HaveSameValues found.items (pairs_of query.now)) }
+    ensures { IfOk result (λ found. HaveSameTexts found.items (pairs_of query.now)) }
 {
     let mut found = Vec::new(alloc);
     for pair in form_urlencoded::parse(alloc, query) {
@@ -91,9 +98,9 @@ fn some_text(text: &str) -> Option<&str>
     if text.is_empty() { None } else { Some(text) }
 }
 
-/// The value of a name, where it is not empty.
-pub fn given<'a>(pairs: &'a [Pair], name: &str) -> Option<&'a str>
-    ensures { option_copied result ≡ given name.now pairs.now }
+/// The text of a parameter, where it is not empty.
+pub fn given(pairs: &[Pair], parameter: Parameter) -> Option<&str>
+    ensures { option_copied result ≡ given (texts_of pairs.now) parameter }
 {
-    some_text(value_of(pairs, name)?)
+    some_text(text_of(pairs, parameter)?)
 }

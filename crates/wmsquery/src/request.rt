@@ -26,3 +26,29 @@ pub struct MapRequest {
     /// The colour of the picture where nothing is painted, or nothing.
     pub background: Option<Rgb>,
 }
+
+/// A request for the features that are seen near a pixel of a picture.
+#[derive(Drop)]
+pub struct InformationRequest {
+    /// The picture.
+    pub map: MapRequest,
+    /// The indices of the layers that are asked for features, in the order in which they are told.
+    pub asked: Items<usize>,
+    /// How many features of a layer are told at most.
+    pub count: u32,
+    /// The column of the pixel, counted from 0.
+    pub column: u32,
+    /// The row of the pixel, counted from 0.
+    pub row: u32,
+}
+
+/// What a query asks for.
+#[derive(Drop)]
+pub enum Request {
+    /// The capabilities document.
+    Capabilities,
+    /// A picture.
+    Map(MapRequest),
+    /// Feature information.
+    Information(InformationRequest),
+}

@@ -1,125 +1,125 @@
-ghost use Rattle.std.specs.Prelude.{◌≡◌, IfOk};
-ghost use Rattle.std.specs.Char.{is_ascii_digit};
-ghost use Rattle.std.specs.List.{list_all};
+ghost use Rattle.std.specs.Prelude.{◌≡◌, ◌≤◌, ◌<◌, IfOk, IfSome};
 ghost use Rattle.std.specs.Option.{option_copied};
+ghost use Rattle.geom.specs.Side.{picture_side};
 ghost use Rattle.geom.specs.World.{IsExtent};
-ghost use Rattle.wmsquery.specs.Checks.{refusal_of};
-ghost use Rattle.wmsquery.specs.Values.{fixed, service_of, request_of, version_of, crs_value, area_of, side_within, side_of, format_of, transparent_of, colour_of, background_of, background_for};
+ghost use Rattle.mapdefs.specs.declared.limits.TheConstants.{MAX_FEATURES};
+ghost use Rattle.wmsquery.specs.Values.{fixed, service_of, operation_named, operation_of, version_of, system_of, area_of, side_of, format_of, transparent_of, colour_of, background_of, background_for, info_format_of, count_within, feature_count_of, index_below, pixel_of, is_behind, sequence_of};
 
 use crate::fault::Code;
+use crate::lists::absent;
+use crate::number::read_number;
 use crate::request::Format;
-use crsaxes::{bbox, crs_of};
-use geom::{Micro, PictureSide, WorldBox};
+use crsaxes::{Crs, crs_of};
+use geom::{PictureSide, WorldBox};
 use hex::FromHex;
-use mapdefs::Rgb;
+use mapdefs::{MAX_FEATURES, Rgb};
+use operations::Operation;
 
-// The refusal of a value that has to be this text.
-fn fixed(text: &str, refusal: Code, value: &str) -> Option<Code>
-    ensures { result ≡ refusal_of (fixed text.now refusal value.now) }
+// A text that has to be this one.
+fn fixed(wanted: &str, refusal: Code, text: &str) -> Result<(), Code>
+    ensures { result ≡ fixed wanted.now refusal text.now }
 {
-    if value == text { None } else { Some(refusal) }
+    if text == wanted { Ok(()) } else { Err(refusal) }
 }
 
-/// The refusal of SERVICE.
-pub fn service(value: Option<&str>) -> Option<Code>
-    ensures { result ≡ refusal_of (service_of (option_copied value.entry)) }
+/// What SERVICE means.
+pub fn service(text: Option<&str>) -> Result<(), Code>
+    ensures { result ≡ service_of (option_copied text.entry) }
 {
-    match value {
-        Some(value) => fixed("WMS", Code::InvalidParameterValue, value),
-        None => None,
+    match text {
+        Some(text) => fixed("WMS", Code::InvalidParameterValue, text),
+        None => Ok(()),
     }
 }
 
-/// The refusal of REQUEST.
-pub fn request(value: Option<&str>) -> Option<Code>
-    ensures { result ≡ refusal_of (request_of (option_copied value.entry)) }
+// The operation of a name.
+fn operation_named(name: &str) -> Option<Operation>
+    ensures { result ≡ operation_named name.now }
 {
-    match value {
-        Some(value) => fixed("GetMap", Code::OperationNotSupported, value),
-        None => Some(Code::MissingParameterValue),
+    if name == Operation::Capabilities.name() {
+        Some(Operation::Capabilities)
+    } else if name == Operation::Map.name() {
+        Some(Operation::Map)
+    } else if name == Operation::Information.name() {
+        Some(Operation::Information)
+    } else {
+        None
     }
 }
 
-/// The refusal of VERSION.
-pub fn version(value: Option<&str>) -> Option<Code>
-    ensures { result ≡ refusal_of (version_of (option_copied value.entry)) }
+/// The operation that REQUEST means.
+pub fn operation(text: Option<&str>) -> Result<Operation, Code>
+    ensures { result ≡ operation_of (option_copied text.entry) }
 {
-    match value {
-        Some(value) => fixed("1.3.0", Code::InvalidParameterValue, value),
-        None => Some(Code::MissingParameterValue),
-    }
-}
-
-/// The refusal of CRS.
-pub fn crs(value: Option<&str>) -> Option<Code>
-    ensures { result ≡ refusal_of (crs_value (option_copied value.entry)) }
-{
-    let Some(name) = value else {
-        return Some(Code::MissingParameterValue);
-    };
-    match crs_of(name) {
-        Some(_) => None,
-        None => Some(Code::InvalidCrs),
-    }
-}
-
-/// The area that BBOX means in the axis order of CRS.
-pub fn area(crs: Option<&str>, value: Option<&str>) -> Result<WorldBox, Code>
-    ensures value { result ≡ area_of (option_copied crs.entry) (option_copied value.entry) }
-    ensures extent { IfOk result IsExtent }
-{
-    let Some(text) = value else {
+    let Some(name) = text else {
         return Err(Code::MissingParameterValue);
     };
-    let Some(name) = crs else {
-        return Err(Code::InvalidParameterValue);
+    operation_named(name).ok_or(Code::OperationNotSupported)
+}
+
+/// What VERSION means.
+pub fn version(text: Option<&str>) -> Result<(), Code>
+    ensures { result ≡ version_of (option_copied text.entry) }
+{
+    match text {
+        Some(text) => fixed("1.3.0", Code::InvalidParameterValue, text),
+        None => Err(Code::MissingParameterValue),
+    }
+}
+
+/// The system that CRS means.
+pub fn system(text: Option<&str>) -> Result<Crs, Code>
+    ensures { result ≡ system_of (option_copied text.entry) }
+{
+    match text {
+        Some(name) => crs_of(name).ok_or(Code::InvalidCrs),
+        None => Err(Code::MissingParameterValue),
+    }
+}
+
+/// The area that BBOX means in the axis order of a system.
+pub fn area(crs: Crs, text: Option<&str>) -> Result<WorldBox, Code>
+    ensures value { result ≡ area_of crs (option_copied text.entry) }
+    ensures extent { IfOk result IsExtent }
+{
+    let Some(text) = text else {
+        return Err(Code::MissingParameterValue);
     };
-    match bbox(name, text) {
+    match crs.bbox(text) {
         Ok(area) => Ok(area),
         Err(_) => Err(Code::InvalidParameterValue),
     }
 }
 
 // The side of that many pixels, if a picture may have it.
-fn side_within(number: i64) -> Option<PictureSide>
-    ensures { result ≡ side_within number }
+fn side_within(pixels: u128) -> Option<PictureSide>
+    ensures { result ≡ picture_side pixels }
 {
-    match u16::try_from(number) {
+    match u16::try_from(pixels) {
         Ok(pixels) => PictureSide::new(pixels),
         Err(_) => None,
     }
 }
 
-// Whether there are only digits.
-fn are_digits(text: &[u8]) -> bool
-    ensures { result ≡ list_all is_ascii_digit text.now }
-{
-    text.iter().all(|byte| byte.is_ascii_digit())
-}
-
 /// The side that WIDTH or HEIGHT means.
-pub fn side(value: Option<&str>) -> Result<PictureSide, Code>
-    ensures { result ≡ side_of (option_copied value.entry) }
+pub fn side(text: Option<&str>) -> Result<PictureSide, Code>
+    ensures { result ≡ side_of (option_copied text.entry) }
 {
-    let Some(text) = value else {
+    let Some(text) = text else {
         return Err(Code::MissingParameterValue);
     };
-    let text = text.as_bytes();
-    if !are_digits(text) {
-        return Err(Code::InvalidParameterValue);
-    }
-    let Some(number) = Micro::read_count(text) else {
+    let Some(pixels) = read_number(text.as_bytes()) else {
         return Err(Code::InvalidParameterValue);
     };
-    side_within(number).ok_or(Code::InvalidParameterValue)
+    side_within(pixels).ok_or(Code::InvalidParameterValue)
 }
 
 /// The format that FORMAT means.
-pub fn format(value: Option<&str>) -> Result<Format, Code>
-    ensures { result ≡ format_of (option_copied value.entry) }
+pub fn format(operation: Operation, text: Option<&str>) -> Result<Format, Code>
+    ensures { result ≡ format_of operation (option_copied text.entry) }
 {
-    let Some(name) = value else {
-        return Err(Code::MissingParameterValue);
+    let Some(name) = text else {
+        return absent(operation, Format::Pixmap);
     };
     if name == "image/x-portable-pixmap" {
         Ok(Format::Pixmap)
@@ -131,15 +131,15 @@ pub fn format(value: Option<&str>) -> Result<Format, Code>
 }
 
 /// Whether TRANSPARENT is TRUE.
-pub fn transparent(value: Option<&str>) -> Result<bool, Code>
-    ensures { result ≡ transparent_of (option_copied value.entry) }
+pub fn transparent(text: Option<&str>) -> Result<bool, Code>
+    ensures { result ≡ transparent_of (option_copied text.entry) }
 {
-    let Some(value) = value else {
+    let Some(text) = text else {
         return Ok(false);
     };
-    if value.eq_ignore_ascii_case("TRUE") {
+    if text.eq_ignore_ascii_case("TRUE") {
         Ok(true)
-    } else if value.eq_ignore_ascii_case("FALSE") {
+    } else if text.eq_ignore_ascii_case("FALSE") {
         Ok(false)
     } else {
         Err(Code::InvalidParameterValue)
@@ -158,10 +158,10 @@ fn colour_of(text: &str) -> Option<Rgb>
 }
 
 /// The colour that BGCOLOR means.
-pub fn background(value: Option<&str>) -> Result<Rgb, Code>
-    ensures { result ≡ background_of (option_copied value.entry) }
+pub fn background(text: Option<&str>) -> Result<Rgb, Code>
+    ensures { result ≡ background_of (option_copied text.entry) }
 {
-    match value {
+    match text {
         Some(text) => colour_of(text).ok_or(Code::InvalidParameterValue),
         None => Ok(Rgb {
             red: 255,
@@ -180,4 +180,94 @@ pub fn background_for(format: Format, transparent: bool, colour: Rgb) -> Option<
         Format::ArbitraryMap if transparent => None,
         Format::ArbitraryMap | Format::Pixmap => Some(colour),
     }
+}
+
+/// What INFO_FORMAT means.
+pub fn info_format(text: Option<&str>) -> Result<(), Code>
+    ensures { result ≡ info_format_of (option_copied text.entry) }
+{
+    match text {
+        Some(text) => fixed("text/plain", Code::InvalidFormat, text),
+        None => Err(Code::MissingParameterValue),
+    }
+}
+
+// The count of features that a number means.
+fn count_within(number: u128) -> Option<u32>
+    ensures value { result ≡ count_within number }
+    ensures some { IfSome result (λ count. 1 ≤ count) }
+    ensures most { IfSome result (λ count. count ≤ MAX_FEATURES) }
+{
+    if number == 0 {
+        None
+    } else {
+        Some(number.min(MAX_FEATURES as u128) as u32)
+    }
+}
+
+/// The count of features that FEATURE_COUNT means.
+pub fn feature_count(text: Option<&str>) -> Result<u32, Code>
+    ensures value { result ≡ feature_count_of (option_copied text.entry) }
+    ensures some { IfOk result (λ count. 1 ≤ count) }
+    ensures most { IfOk result (λ count. count ≤ MAX_FEATURES) }
+{
+    let Some(text) = text else {
+        return Ok(1);
+    };
+    let Some(number) = read_number(text.as_bytes()) else {
+        return Err(Code::InvalidParameterValue);
+    };
+    count_within(number).ok_or(Code::InvalidParameterValue)
+}
+
+// The index of a pixel that a number means on a side of a picture.
+fn index_below(side: PictureSide, number: u128) -> Option<u32>
+    ensures value { result ≡ index_below side number }
+    ensures within { IfSome result (λ index. index < side) }
+{
+    if number < u128::from(side.pixels()) {
+        Some(number as u32)
+    } else {
+        None
+    }
+}
+
+/// The column that I means in a picture of that width, or the row that J means in one of that height.
+pub fn pixel(side: PictureSide, text: Option<&str>) -> Result<u32, Code>
+    ensures value { result ≡ pixel_of side (option_copied text.entry) }
+    ensures within { IfOk result (λ index. index < side) }
+{
+    let Some(text) = text else {
+        return Err(Code::MissingParameterValue);
+    };
+    let Some(number) = read_number(text.as_bytes()) else {
+        return Err(Code::InvalidPoint);
+    };
+    index_below(side, number).ok_or(Code::InvalidPoint)
+}
+
+// Whether a client that has the document of a sequence gets the present one.
+fn is_behind(present: u64, number: u128) -> Result<(), Code>
+    ensures { result ≡ is_behind present number }
+{
+    if number == u128::from(present) {
+        Err(Code::CurrentUpdateSequence)
+    } else if number < u128::from(present) {
+        Ok(())
+    } else {
+        Err(Code::InvalidUpdateSequence)
+    }
+}
+
+/// What UPDATESEQUENCE means at a sequence.
+pub fn update_sequence(present: u64, text: Option<&str>) -> Result<(), Code>
+    ensures { result ≡ sequence_of present (option_copied text.entry) }
+{
+    let Some(text) = text else {
+        return Ok(());
+    };
+    let Some(number) = read_number(text.as_bytes()) else {
+        return Err(Code::InvalidUpdateSequence);
+    };
+    is_behind(present, number)
 }

@@ -1,0 +1,316 @@
+-- The reader's account of a query is what the query means.
+use Rattle.std.proofs.Common.{◌≡◌, ◌∙◌, ℕ, Bool, List, [], ◌∷◌, ◌++◌, length, Option, Some, Result, Ok, Err, IfOk, IfErr, MatchResult, ap, refl, sym, subst}
+use Rattle.std.specs.Option.{option_map_or}
+use Rattle.std.specs.Result.{result_ok, result_err}
+use Rattle.operations.specs.declared.operation.Operation.{Operation}
+use Rattle.operations.specs.declared.operation.Operation.TheVariants as operation
+use Rattle.mapdefs.specs.declared.colour.Rgb.{Rgb}
+use Rattle.mapdefs.specs.declared.map.MapFields.{MapFields}
+use Rattle.wmsquery.specs.declared.error.QueryError.{QueryError}
+use Rattle.wmsquery.specs.declared.error.QueryError.TheVariants.{Fault, NoMemory}
+use Rattle.wmsquery.specs.declared.fault.Code.{Code}
+use Rattle.wmsquery.specs.declared.fault.Parameter.{Parameter}
+use Rattle.wmsquery.specs.declared.fault.Parameter.TheVariants as parameter
+use Rattle.wmsquery.specs.declared.fault.WmsFault.{WmsFault}
+use Rattle.wmsquery.specs.declared.information.Spot.{Spot}
+use Rattle.wmsquery.specs.declared.picture.Frame.{Frame}
+use Rattle.wmsquery.specs.declared.picture.Look.{Look}
+use Rattle.wmsquery.specs.declared.request.Format.{Format}
+use Rattle.wmsquery.specs.declared.request.InformationRequest.{InformationRequest}
+use Rattle.wmsquery.specs.declared.request.MapRequest.{MapRequest}
+use Rattle.wmsquery.specs.declared.request.Request.{Request}
+use Rattle.wmsquery.specs.declared.request.Request.TheVariants as request
+use Rattle.wmsquery.specs.Meaning.{HasValues, HasInformation, IsRequestOf, IsMeaningOf, IsMeaningErrorOf}
+use Rattle.wmsquery.specs.Order.{first_fault, order, map_order, information_order}
+use Rattle.wmsquery.specs.Pairs.{Texts, given}
+use Rattle.wmsquery.specs.Query.{operation_in, layer_names, area_in, format_in, background_in, asked_in, column_in, row_in, refusal, looked_at}
+use Rattle.wmsquery.specs.Reading.{IsErrorOf, checked, operation_read, layers_read, frame_read, look_read, map_read, asked_read, spot_read, information_read, own_read, request_read}
+use Rattle.wmsquery.specs.Values.{and_then, service_of, version_of, layers_of, styles_of, system_of, area_of, side_of, format_of, transparent_of, background_of, background_for, info_format_of, feature_count_of, pixel_of, sequence_of}
+use Rattle.wmsquery.proofs.FirstFault.{checked-last, checked-then, or_later, stretches, stretch-then}
+use Rattle.wmsquery.proofs.Steps.{steps, unchecked, same-value, same-fault}
+
+-- SERVICE and REQUEST
+abbrev front : List Parameter
+front = parameter.Service ∷ parameter.Request ∷ []
+
+-- the stretches of GetMap
+abbrev layers_order : List Parameter
+layers_order = parameter.Version ∷ parameter.Layers ∷ parameter.Styles ∷ []
+
+abbrev frame_order : List Parameter
+frame_order = parameter.Crs ∷ parameter.Bbox ∷ parameter.Width ∷ parameter.Height ∷ []
+
+abbrev look_order : List Parameter
+look_order = parameter.Format ∷ parameter.Transparent ∷ parameter.Bgcolor ∷ []
+
+-- and those that GetFeatureInfo has behind them
+abbrev asked_order : List Parameter
+asked_order = parameter.QueryLayers ∷ parameter.InfoFormat ∷ []
+
+abbrev spot_order : List Parameter
+spot_order = parameter.FeatureCount ∷ parameter.Column ∷ parameter.Row ∷ []
+
+module _ (map : MapFields) (sequence : ℕ) (t : Texts) where
+  -- ---- faults
+
+  abbrev refused : Parameter → Option Code
+  refused = refusal map sequence t
+
+  operation-fault : result_err (operation_read t) ≡ first_fault refused front
+  operation-fault =
+      checked-then refused parameter.Service (parameter.Request ∷ []) (service_of (given t parameter.Service)) _ refl (λ _ _.
+      checked-last refused parameter.Request (operation_in t) refl)
+
+  layers-fault : (o : Operation) → operation_in t ≡ Ok o → result_err (layers_read map o t) ≡ first_fault refused layers_order
+  layers-fault o is =
+      checked-then refused parameter.Version (parameter.Layers ∷ parameter.Styles ∷ []) (version_of (given t parameter.Version)) _ refl (λ _ _.
+      checked-then refused parameter.Layers (parameter.Styles ∷ []) (layers_of map (layer_names t)) _ refl (λ _ _.
+      checked-then refused parameter.Styles [] (styles_of o (length (layer_names t)) (t parameter.Styles)) _
+      (ap (λ r. result_err (and_then r (λ q. styles_of q (length (layer_names t)) (t parameter.Styles)))) is) (λ _ _. refl)))
+
+  frame-fault : result_err (frame_read t) ≡ first_fault refused frame_order
+  frame-fault =
+      checked-then refused parameter.Crs (parameter.Bbox ∷ parameter.Width ∷ parameter.Height ∷ []) (system_of (given t parameter.Crs)) _ refl (λ crs is.
+      checked-then refused parameter.Bbox (parameter.Width ∷ parameter.Height ∷ []) (area_of crs (given t parameter.Bbox)) _
+      (ap (λ s. result_err (and_then s (λ system. area_of system (given t parameter.Bbox)))) is) (λ _ _.
+      checked-then refused parameter.Width (parameter.Height ∷ []) (side_of (given t parameter.Width)) _ refl (λ _ _.
+      checked-then refused parameter.Height [] (side_of (given t parameter.Height)) _ refl (λ _ _. refl))))
+
+  look-fault : (o : Operation) → operation_in t ≡ Ok o → result_err (look_read o t) ≡ first_fault refused look_order
+  look-fault o is =
+      checked-then refused parameter.Format (parameter.Transparent ∷ parameter.Bgcolor ∷ []) (format_of o (given t parameter.Format)) _
+      (ap (λ r. result_err (and_then r (λ q. format_of q (given t parameter.Format)))) is) (λ _ _.
+      checked-then refused parameter.Transparent (parameter.Bgcolor ∷ []) (transparent_of (given t parameter.Transparent)) _ refl (λ _ _.
+      checked-then refused parameter.Bgcolor [] (background_of (given t parameter.Bgcolor)) _ refl (λ _ _. refl)))
+
+  map-fault : (o : Operation) → operation_in t ≡ Ok o → result_err (map_read map o t) ≡ first_fault refused map_order
+  map-fault o is =
+      stretch-then refused layers_order (frame_order ++ look_order) (layers_read map o t) _ (layers-fault o is) (λ _ _.
+      stretch-then refused frame_order look_order (frame_read t) _ frame-fault (λ _ _.
+      stretch-then refused look_order [] (look_read o t) _ (look-fault o is) (λ _ _. refl)))
+
+  asked-fault : result_err (asked_read map t) ≡ first_fault refused asked_order
+  asked-fault =
+      checked-then refused parameter.QueryLayers (parameter.InfoFormat ∷ []) (asked_in map t) _ refl (λ _ _.
+      checked-then refused parameter.InfoFormat [] (info_format_of (given t parameter.InfoFormat)) _ refl (λ _ _. refl))
+
+  spot-fault : (width height : ℕ) → side_of (given t parameter.Width) ≡ Ok width → side_of (given t parameter.Height) ≡ Ok height →
+      result_err (spot_read width height t) ≡ first_fault refused spot_order
+  spot-fault width height is_width is_height =
+      checked-then refused parameter.FeatureCount (parameter.Column ∷ parameter.Row ∷ []) (feature_count_of (given t parameter.FeatureCount)) _ refl (λ _ _.
+      checked-then refused parameter.Column (parameter.Row ∷ []) (pixel_of width (given t parameter.Column)) _
+      (ap (λ s. result_err (and_then s (λ side. pixel_of side (given t parameter.Column)))) is_width) (λ _ _.
+      checked-then refused parameter.Row [] (pixel_of height (given t parameter.Row)) _
+      (ap (λ s. result_err (and_then s (λ side. pixel_of side (given t parameter.Row)))) is_height) (λ _ _. refl)))
+
+  -- ---- values
+
+  layers-value : (o : Operation) (chosen : List ℕ) → layers_read map o t ≡ Ok chosen → layers_of map (layer_names t) ≡ Ok chosen
+  layers-value o chosen e =
+      let version = steps (checked parameter.Version (version_of (given t parameter.Version))) _ chosen e in
+      let layers = steps (checked parameter.Layers (layers_of map (layer_names t))) _ chosen version.rest in
+      let styles = steps (checked parameter.Styles (styles_of o (length (layer_names t)) (t parameter.Styles))) _ chosen layers.rest in
+      unchecked parameter.Layers _ chosen (layers.is ∙ styles.rest)
+
+  record HasFrame (frame : Frame) : Type 0 where
+    pub area : area_in t ≡ Ok frame.area
+    pub width : side_of (given t parameter.Width) ≡ Ok frame.width
+    pub height : side_of (given t parameter.Height) ≡ Ok frame.height
+
+  frame-value : (frame : Frame) → frame_read t ≡ Ok frame → HasFrame frame
+  frame-value frame e =
+      let crs = steps (checked parameter.Crs (system_of (given t parameter.Crs))) _ frame e in
+      let area = steps (checked parameter.Bbox (area_of crs.first (given t parameter.Bbox))) _ frame crs.rest in
+      let width = steps (checked parameter.Width (side_of (given t parameter.Width))) _ frame area.rest in
+      let height = steps (checked parameter.Height (side_of (given t parameter.Height))) _ frame width.rest in
+      let same = same-value (record { area = area.first; width = width.first; height = height.first }) frame height.rest in
+      record {
+        area = ap (λ s. and_then s (λ system. area_of system (given t parameter.Bbox))) (unchecked parameter.Crs _ crs.first crs.is)
+            ∙ unchecked parameter.Bbox _ area.first area.is ∙ ap (λ (f : Frame). Ok f.area) same;
+        width = unchecked parameter.Width _ width.first width.is ∙ ap (λ (f : Frame). Ok f.width) same;
+        height = unchecked parameter.Height _ height.first height.is ∙ ap (λ (f : Frame). Ok f.height) same;
+      }
+
+  record HasLook (look : Look) : Type 0 where
+    pub format : format_in t ≡ Ok look.format
+    pub background : background_in t ≡ Ok look.background
+
+  background-is : (f : Format) (b : Bool) (c : Rgb) → format_in t ≡ Ok f → transparent_of (given t parameter.Transparent) ≡ Ok b →
+      background_of (given t parameter.Bgcolor) ≡ Ok c → background_in t ≡ Ok (background_for f b c)
+  background-is f b c is_format is_transparent is_colour = rw (is_format, is_transparent, is_colour) refl
+
+  look-value : (o : Operation) → operation_in t ≡ Ok o → (look : Look) → look_read o t ≡ Ok look → HasLook look
+  look-value o is look e =
+      let format = steps (checked parameter.Format (format_of o (given t parameter.Format))) _ look e in
+      let transparent = steps (checked parameter.Transparent (transparent_of (given t parameter.Transparent))) _ look format.rest in
+      let colour = steps (checked parameter.Bgcolor (background_of (given t parameter.Bgcolor))) _ look transparent.rest in
+      let f = ap (λ r. and_then r (λ q. format_of q (given t parameter.Format))) is ∙ unchecked parameter.Format _ format.first format.is in
+      let b = unchecked parameter.Transparent _ transparent.first transparent.is in
+      let c = unchecked parameter.Bgcolor _ colour.first colour.is in
+      let same = same-value _ look colour.rest in
+      record {
+        format = f ∙ ap (λ (l : Look). Ok l.format) same;
+        background = background-is _ _ _ f b c ∙ ap (λ (l : Look). Ok l.background) same;
+      }
+
+  map-value : (o : Operation) → operation_in t ≡ Ok o → (r : MapRequest) → map_read map o t ≡ Ok r → HasValues map t r
+  map-value o is r e =
+      let chosen = steps (layers_read map o t) _ r e in
+      let frame = steps (frame_read t) _ r chosen.rest in
+      let look = steps (look_read o t) _ r frame.rest in
+      let same = same-value _ r look.rest in
+      let f = frame-value frame.first frame.is in
+      let l = look-value o is look.first look.is in
+      record {
+        chosen = layers-value o chosen.first chosen.is ∙ ap (λ (q : MapRequest). Ok q.chosen) same;
+        area = f.area ∙ ap (λ (q : MapRequest). Ok q.area) same;
+        width = f.width ∙ ap (λ (q : MapRequest). Ok q.width) same;
+        height = f.height ∙ ap (λ (q : MapRequest). Ok q.height) same;
+        format = l.format ∙ ap (λ (q : MapRequest). Ok q.format) same;
+        background = l.background ∙ ap (λ (q : MapRequest). Ok q.background) same;
+      }
+
+  asked-value : (asked : List ℕ) → asked_read map t ≡ Ok asked → asked_in map t ≡ Ok asked
+  asked-value asked e =
+      let layers = steps (checked parameter.QueryLayers (asked_in map t)) _ asked e in
+      let format = steps (checked parameter.InfoFormat (info_format_of (given t parameter.InfoFormat))) _ asked layers.rest in
+      unchecked parameter.QueryLayers _ asked (layers.is ∙ format.rest)
+
+  record HasSpot (spot : Spot) : Type 0 where
+    pub count : feature_count_of (given t parameter.FeatureCount) ≡ Ok spot.count
+    pub column : column_in t ≡ Ok spot.column
+    pub row : row_in t ≡ Ok spot.row
+
+  spot-value : (width height : ℕ) → side_of (given t parameter.Width) ≡ Ok width → side_of (given t parameter.Height) ≡ Ok height →
+      (spot : Spot) → spot_read width height t ≡ Ok spot → HasSpot spot
+  spot-value width height is_width is_height spot e =
+      let count = steps (checked parameter.FeatureCount (feature_count_of (given t parameter.FeatureCount))) _ spot e in
+      let column = steps (checked parameter.Column (pixel_of width (given t parameter.Column))) _ spot count.rest in
+      let row = steps (checked parameter.Row (pixel_of height (given t parameter.Row))) _ spot column.rest in
+      let same = same-value (record { count = count.first; column = column.first; row = row.first }) spot row.rest in
+      record {
+        count = unchecked parameter.FeatureCount _ count.first count.is ∙ ap (λ (s : Spot). Ok s.count) same;
+        column = ap (λ s. and_then s (λ side. pixel_of side (given t parameter.Column))) is_width
+            ∙ unchecked parameter.Column _ column.first column.is ∙ ap (λ (s : Spot). Ok s.column) same;
+        row = ap (λ s. and_then s (λ side. pixel_of side (given t parameter.Row))) is_height
+            ∙ unchecked parameter.Row _ row.first row.is ∙ ap (λ (s : Spot). Ok s.row) same;
+      }
+
+  information-value : operation_in t ≡ Ok operation.Information → (r : InformationRequest) → information_read map t ≡ Ok r → HasInformation map t r
+  information-value is r e =
+      let picture = steps (map_read map operation.Information t) _ r e in
+      let values = map-value operation.Information is picture.first picture.is in
+      let asked = steps (asked_read map t) _ r picture.rest in
+      let spot = steps (spot_read picture.first.width picture.first.height t) _ r asked.rest in
+      let same = same-value _ r spot.rest in
+      let s = spot-value _ _ values.width values.height spot.first spot.is in
+      record {
+        map = subst (λ (q : InformationRequest). HasValues map t q.map) same values;
+        asked = asked-value asked.first asked.is ∙ ap (λ (q : InformationRequest). Ok q.asked) same;
+        count = s.count ∙ ap (λ (q : InformationRequest). Ok q.count) same;
+        column = s.column ∙ ap (λ (q : InformationRequest). Ok q.column) same;
+        row = s.row ∙ ap (λ (q : InformationRequest). Ok q.row) same;
+      }
+
+  information-fault : operation_in t ≡ Ok operation.Information → result_err (information_read map t) ≡ first_fault refused (map_order ++ information_order)
+  information-fault is =
+      stretch-then refused map_order information_order (map_read map operation.Information t) _ (map-fault operation.Information is) (λ picture e.
+      let values = map-value operation.Information is picture e in
+      stretch-then refused asked_order spot_order (asked_read map t) _ asked-fault (λ _ _.
+      stretch-then refused spot_order [] (spot_read picture.width picture.height t) _ (spot-fault _ _ values.width values.height) (λ _ _. refl)))
+
+  -- ---- the whole
+
+  -- the fault of what is read of the whole, and the request that it is
+  record IsOwn (o : Operation) (r : Result Request WmsFault) : Type 0 where
+    pub fault : result_err r ≡ first_fault refused (order o)
+    pub value : IfOk r (IsRequestOf map t)
+
+  capabilities-own : operation_in t ≡ Ok operation.Capabilities → (r : Result Request WmsFault) → own_read map sequence t operation.Capabilities ≡ r →
+      IfOk r (IsRequestOf map t)
+  capabilities-own is (Ok q) e =
+      let sequence = steps (checked parameter.UpdateSequence (sequence_of sequence (given t parameter.UpdateSequence))) _ q e in
+      subst (IsRequestOf map t) (same-value request.Capabilities q sequence.rest) is
+  capabilities-own is (Err f) e = tt
+
+  map-own : operation_in t ≡ Ok operation.Map → (r : Result Request WmsFault) → own_read map sequence t operation.Map ≡ r → IfOk r (IsRequestOf map t)
+  map-own is (Ok q) e =
+      let picture = steps (map_read map operation.Map t) _ q e in
+      subst (IsRequestOf map t) (same-value (request.Map picture.first) q picture.rest) (is, map-value operation.Map is picture.first picture.is)
+  map-own is (Err f) e = tt
+
+  information-own : operation_in t ≡ Ok operation.Information → (r : Result Request WmsFault) → own_read map sequence t operation.Information ≡ r →
+      IfOk r (IsRequestOf map t)
+  information-own is (Ok q) e =
+      let information = steps (information_read map t) _ q e in
+      subst (IsRequestOf map t) (same-value (request.Information information.first) q information.rest) (is, information-value is information.first information.is)
+  information-own is (Err f) e = tt
+
+  own : (o : Operation) → operation_in t ≡ Ok o → IsOwn o (own_read map sequence t o)
+  own operation.Capabilities is = record {
+    fault = checked-then refused parameter.UpdateSequence [] (sequence_of sequence (given t parameter.UpdateSequence)) _ refl (λ _ _. refl);
+    value = capabilities-own is _ refl;
+  }
+  own operation.Map is = record {
+    fault = stretch-then refused map_order [] (map_read map operation.Map t) _ (map-fault operation.Map is) (λ _ _. refl);
+    value = map-own is _ refl;
+  }
+  own operation.Information is = record {
+    fault = stretch-then refused (map_order ++ information_order) [] (information_read map t) _ (information-fault is) (λ _ _. refl);
+    value = information-own is _ refl;
+  }
+
+  -- where SERVICE or REQUEST is refused, that is the fault
+  front-refused : (f : WmsFault) → operation_read t ≡ Err f → first_fault refused (looked_at t) ≡ Some f
+  front-refused f e =
+      let rest = option_map_or order (result_ok (operation_in t)) [] in
+      stretches refused front rest ∙ ap (λ g. or_later g (first_fault refused rest)) (sym operation-fault ∙ ap result_err e)
+
+  -- and else the operation is known, and the fault is that of its own parameters
+  known : (o : Operation) → operation_read t ≡ Ok o → operation_in t ≡ Ok o
+  known o e =
+      let service = steps (checked parameter.Service (service_of (given t parameter.Service))) _ o e in
+      unchecked parameter.Request _ o service.rest
+
+  own-fault : (o : Operation) → operation_read t ≡ Ok o → first_fault refused (looked_at t) ≡ first_fault refused (order o)
+  own-fault o e =
+      let rest = option_map_or order (result_ok (operation_in t)) [] in
+      let is : rest ≡ order o = ap (λ r. option_map_or order (result_ok r) []) (known o e) in
+      stretches refused front rest
+      ∙ ap (λ g. or_later g (first_fault refused rest)) (sym operation-fault ∙ ap result_err e)
+      ∙ ap (first_fault refused) is
+
+  -- what is read of the whole is what is meant
+  meant-of : (o : Operation) (r : Result Request WmsFault) → operation_read t ≡ Ok o → IsOwn o r → IsMeaningOf map sequence t r
+  meant-of o (Ok q) e is = (own-fault o e ∙ sym is.fault, is.value)
+  meant-of o (Err f) e is = own-fault o e ∙ sym is.fault
+
+  by-operation : (o : Result Operation WmsFault) (r : Result Request WmsFault) → operation_read t ≡ o → request_read map sequence t ≡ r → IsMeaningOf map sequence t r
+  by-operation (Ok o) r e is =
+      let same : own_read map sequence t o ≡ r = sym (ap (λ p. and_then p (own_read map sequence t)) e) ∙ is in
+      meant-of o r e (subst (IsOwn o) same (own o (known o e)))
+  by-operation (Err f) (Ok q) e is = absurd (never (sym (ap (λ p. and_then p (own_read map sequence t)) e) ∙ is))
+    where
+      never : Err f ≡ Ok q → ⊥
+      never h = cc
+  by-operation (Err f) (Err g) e is =
+      front-refused f e ∙ ap Some (same-fault f g (sym (ap (λ p. and_then p (own_read map sequence t)) e) ∙ is))
+
+  meant : (r : Result Request WmsFault) → request_read map sequence t ≡ r → IsMeaningOf map sequence t r
+  meant r is = by-operation _ r refl is
+
+  -- a request that is read is the one that is meant
+  pub request-meant : (result : Result Request QueryError) →
+      MatchResult result (λ r. request_read map sequence t ≡ Ok r) (IsErrorOf (request_read map sequence t)) → IfOk result (λ r. IsMeaningOf map sequence t (Ok r))
+  request-meant (Ok r) is = meant (Ok r) is
+  request-meant (Err error) is = tt
+
+  -- and so is a fault
+  error-is : (error : QueryError) → IsErrorOf (request_read map sequence t) error → IsMeaningErrorOf map sequence t error
+  error-is (Fault f) is = meant (Err f) is
+  error-is NoMemory is = tt
+
+  pub error-meant : (result : Result Request QueryError) →
+      MatchResult result (λ r. request_read map sequence t ≡ Ok r) (IsErrorOf (request_read map sequence t)) → IfErr result (IsMeaningErrorOf map sequence t)
+  error-meant (Ok r) is = tt
+  error-meant (Err error) is = error-is error is

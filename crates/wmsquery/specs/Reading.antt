@@ -1,0 +1,104 @@
+-- The reader's own account of a query: it goes from parameter to parameter, and stops at the first that is refused.
+use Rattle.std.specs.Prelude.{◌≡◌, ℕ, List, length, Result, Ok, Err}
+use Rattle.operations.specs.declared.operation.Operation.TheVariants as operation
+use Rattle.operations.specs.declared.operation.Operation.{Operation}
+use Rattle.mapdefs.specs.declared.map.MapFields.{MapFields}
+use Rattle.wmsquery.specs.declared.error.QueryError.{QueryError}
+use Rattle.wmsquery.specs.declared.error.QueryError.TheVariants.{Fault, NoMemory}
+use Rattle.wmsquery.specs.declared.fault.Code.{Code}
+use Rattle.wmsquery.specs.declared.fault.Parameter.{Parameter}
+use Rattle.wmsquery.specs.declared.fault.Parameter.TheVariants as parameter
+use Rattle.wmsquery.specs.declared.fault.WmsFault.{WmsFault}
+use Rattle.wmsquery.specs.declared.picture.Frame.{Frame}
+use Rattle.wmsquery.specs.declared.picture.Look.{Look}
+use Rattle.wmsquery.specs.declared.information.Spot.{Spot}
+use Rattle.wmsquery.specs.declared.request.InformationRequest.{InformationRequest}
+use Rattle.wmsquery.specs.declared.request.MapRequest.{MapRequest}
+use Rattle.wmsquery.specs.declared.request.Request.{Request}
+use Rattle.wmsquery.specs.declared.request.Request.TheVariants as request
+use Rattle.wmsquery.specs.Pairs.{Texts, given}
+use Rattle.wmsquery.specs.Query.{layer_names, asked_in}
+use Rattle.wmsquery.specs.Values.{and_then, service_of, operation_of, version_of, layers_of, styles_of, system_of, area_of, side_of, format_of, transparent_of, background_of, background_for, info_format_of, feature_count_of, pixel_of, sequence_of}
+
+-- what a parameter means, or its refusal as a fault
+abbrev pub checked : {X : Type 0} → Parameter → Result X Code → Result X WmsFault
+checked p (Ok x) = Ok x
+checked p (Err code) = Err (record { code = code; parameter = p })
+
+-- an error is the fault that was found, or that memory was refused
+abbrev pub IsErrorOf : {X : Type 0} → Result X WmsFault → QueryError → Type 0
+IsErrorOf found (Fault f) = found ≡ Err f
+IsErrorOf found NoMemory = Unit {0}
+
+-- the operation
+abbrev pub operation_read : Texts → Result Operation WmsFault
+operation_read t =
+    and_then (checked parameter.Service (service_of (given t parameter.Service))) (λ _.
+    checked parameter.Request (operation_of (given t parameter.Request)))
+
+-- the layers
+abbrev pub layers_read : MapFields → Operation → Texts → Result (List ℕ) WmsFault
+layers_read map o t =
+    and_then (checked parameter.Version (version_of (given t parameter.Version))) (λ _.
+    and_then (checked parameter.Layers (layers_of map (layer_names t))) (λ chosen.
+    and_then (checked parameter.Styles (styles_of o (length (layer_names t)) (t parameter.Styles))) (λ _.
+    Ok chosen)))
+
+-- the area and the sides
+abbrev pub frame_read : Texts → Result Frame WmsFault
+frame_read t =
+    and_then (checked parameter.Crs (system_of (given t parameter.Crs))) (λ crs.
+    and_then (checked parameter.Bbox (area_of crs (given t parameter.Bbox))) (λ area.
+    and_then (checked parameter.Width (side_of (given t parameter.Width))) (λ width.
+    and_then (checked parameter.Height (side_of (given t parameter.Height))) (λ height.
+    Ok (record { area = area; width = width; height = height })))))
+
+-- the format and the background
+abbrev pub look_read : Operation → Texts → Result Look WmsFault
+look_read o t =
+    and_then (checked parameter.Format (format_of o (given t parameter.Format))) (λ format.
+    and_then (checked parameter.Transparent (transparent_of (given t parameter.Transparent))) (λ transparent.
+    and_then (checked parameter.Bgcolor (background_of (given t parameter.Bgcolor))) (λ colour.
+    Ok (record { format = format; background = background_for format transparent colour }))))
+
+-- the request for a picture, or for a picture's features
+abbrev pub map_read : MapFields → Operation → Texts → Result MapRequest WmsFault
+map_read map o t =
+    and_then (layers_read map o t) (λ chosen.
+    and_then (frame_read t) (λ frame.
+    and_then (look_read o t) (λ look.
+    Ok (record { chosen = chosen; area = frame.area; width = frame.width; height = frame.height; format = look.format; background = look.background }))))
+
+-- the layers that are asked for features
+abbrev pub asked_read : MapFields → Texts → Result (List ℕ) WmsFault
+asked_read map t =
+    and_then (checked parameter.QueryLayers (asked_in map t)) (λ asked.
+    and_then (checked parameter.InfoFormat (info_format_of (given t parameter.InfoFormat))) (λ _.
+    Ok asked))
+
+-- where features are looked for in a picture of these sides, and how many
+abbrev pub spot_read : ℕ → ℕ → Texts → Result Spot WmsFault
+spot_read width height t =
+    and_then (checked parameter.FeatureCount (feature_count_of (given t parameter.FeatureCount))) (λ count.
+    and_then (checked parameter.Column (pixel_of width (given t parameter.Column))) (λ column.
+    and_then (checked parameter.Row (pixel_of height (given t parameter.Row))) (λ row.
+    Ok (record { count = count; column = column; row = row }))))
+
+-- the request for feature information
+abbrev pub information_read : MapFields → Texts → Result InformationRequest WmsFault
+information_read map t =
+    and_then (map_read map operation.Information t) (λ picture.
+    and_then (asked_read map t) (λ asked.
+    and_then (spot_read picture.width picture.height t) (λ spot.
+    Ok (record { map = picture; asked = asked; count = spot.count; column = spot.column; row = spot.row }))))
+
+-- the request of an operation
+abbrev pub own_read : MapFields → ℕ → Texts → Operation → Result Request WmsFault
+own_read map sequence t operation.Capabilities =
+    and_then (checked parameter.UpdateSequence (sequence_of sequence (given t parameter.UpdateSequence))) (λ _. Ok request.Capabilities)
+own_read map sequence t operation.Map = and_then (map_read map operation.Map t) (λ r. Ok (request.Map r))
+own_read map sequence t operation.Information = and_then (information_read map t) (λ r. Ok (request.Information r))
+
+-- the request
+abbrev pub request_read : MapFields → ℕ → Texts → Result Request WmsFault
+request_read map sequence t = and_then (operation_read t) (own_read map sequence t)
