@@ -2,7 +2,7 @@
 use Rattle.std.specs.Prelude.{ℕ, List, [], ◌++◌, length, codes, Option, None, Some}
 use Rattle.std.specs.Fmt.{decimal}
 use Rattle.mapmachine.specs.declared.reply.Answer.{Answer}
-use Rattle.mapmachine.specs.Mime.{mime_text}
+use Rattle.operations.specs.Mime.{mime_text}
 use Rattle.httpedge.specs.declared.refusal.Refusal.{Refusal}
 use Rattle.httpedge.specs.declared.refusal.Refusal.TheVariants.{BadRequest, NotFound, MethodNotAllowed}
 use Rattle.httpedge.specs.declared.outcome.Outcome.{Outcome}

@@ -1,22 +1,31 @@
 -- The map machine: what it answers to a query, what a batch does to it, and its runs (docs/PROFILE.md, "The machine").
 use Rattle.std.specs.Prelude.{◌≡◌, ℕ, ◌+◌, ◌-ℤ◌, unsigned_abs, List, [], ◌∷◌, Result, Ok, Err}
+use Rattle.std.specs.List.{AllZip}
 use Rattle.geom.specs.Scale.{PictureScale}
 use Rattle.mapdefs.specs.declared.map.MapFields.{MapFields}
 use Rattle.mapdefs.specs.declared.picture.PictureFields.{PictureFields}
+use Rattle.operations.specs.declared.mime.Mime.TheVariants as mime
+use Rattle.scene.specs.Scene.{SceneValue}
 use Rattle.viewport.specs.View.{ViewValue}
 use Rattle.wmsquery.specs.Meaning.{IsMeaning}
 use Rattle.wmsquery.specs.Report.{report}
 use Rattle.wmsquery.specs.declared.fault.WmsFault.{WmsFault}
 use Rattle.wmsquery.specs.declared.request.Format.{Format}
 use Rattle.wmsquery.specs.declared.request.Format.TheVariants as format
+use Rattle.wmsquery.specs.declared.request.InformationRequest.{InformationRequest}
 use Rattle.wmsquery.specs.declared.request.MapRequest.{MapRequest}
+use Rattle.wmsquery.specs.declared.request.Request.{Request}
+use Rattle.wmsquery.specs.declared.request.Request.TheVariants as request
 use Rattle.batches.specs.Batch.{State, batched}
+use Rattle.capabilities.specs.Document.{document}
 use Rattle.symbols.specs.Netpbm.{pam, ppm}
 use Rattle.compose.specs.Picture.{IsPictureOf}
+use Rattle.featureinfo.specs.Answer as featureinfo
+use Rattle.featureinfo.specs.Hits.{AreHitsOf}
+use Rattle.featureinfo.specs.declared.asked.LayerHits.{LayerHits}
 use Rattle.mapmachine.specs.declared.reply.Answer.{Answer}
 use Rattle.mapmachine.specs.declared.reply.Event.{Event}
 use Rattle.mapmachine.specs.declared.reply.Event.TheVariants.{Query, Batch}
-use Rattle.mapmachine.specs.declared.reply.Mime.TheVariants as mime
 use Rattle.mapmachine.specs.declared.reply.Reply.{Reply}
 use Rattle.mapmachine.specs.declared.reply.Reply.TheVariants.{Answered, Published, Refused, NoMemory}
 
@@ -33,17 +42,40 @@ abbrev pub written_picture : Format → PictureFields → Answer
 written_picture format.Pixmap picture = record { mime = mime.Pixmap; body = ppm picture }
 written_picture format.ArbitraryMap picture = record { mime = mime.ArbitraryMap; body = pam picture }
 
--- the answer to what a query means: the picture of a request in its format, or the document of a fault
-abbrev pub Answers : MapFields → Result MapRequest WmsFault → Answer → Type 0
-Answers map (Ok request) answer =
+-- the answer to a request for a picture: the picture of the map that it asks for, in its format
+abbrev pub IsMapAnswer : MapFields → MapRequest → Answer → Type 0
+IsMapAnswer map request answer =
     (picture : PictureFields)
     × IsPictureOf map (view_of request) (scale_of (view_of request)) request.chosen request.background picture
     × (answer ≡ written_picture request.format picture)
-Answers map (Err fault) answer = answer ≡ record { mime = mime.Xml; body = report fault }
 
--- the answer to a query in a state is that to what the query means of the map
+-- what a request for a picture looks at
+abbrev pub scene_of : MapFields → MapRequest → SceneValue
+scene_of map request = record { map = map; view = view_of request; scale = scale_of (view_of request) }
+
+-- the hits are those of the layer at an index, near the pixel of the request, and no more than it counts
+abbrev pub AreAskedHits : MapFields → InformationRequest → ℕ → LayerHits → Type 0
+AreAskedHits map request index hits =
+    (hits.layer ≡ index) × AreHitsOf (scene_of map request.map) index request.column request.row request.count hits.features
+
+-- the answer to a request for feature information: the text of the hits of each layer that it asks, in its order
+abbrev pub IsInformationAnswer : MapFields → InformationRequest → Answer → Type 0
+IsInformationAnswer map request answer =
+    (found : List LayerHits)
+    × AllZip (AreAskedHits map request) request.asked found
+    × (answer ≡ record { mime = mime.Plain; body = featureinfo.answer map found })
+
+-- the answer to what a query means: the capabilities document, a picture, feature information, or the document of a fault
+abbrev pub Answers : State → Result Request WmsFault → Answer → Type 0
+Answers state (Ok request.Capabilities) answer = answer ≡ record { mime = mime.Xml; body = document state.sequence state.map }
+Answers state (Ok (request.Map picture)) answer = IsMapAnswer state.map picture answer
+Answers state (Ok (request.Information information)) answer = IsInformationAnswer state.map information answer
+Answers state (Err fault) answer = answer ≡ record { mime = mime.Xml; body = report fault }
+
+-- the answer to a query in a state is that to what the query means of the map at its sequence
 abbrev pub IsAnswer : State → List ℕ → Answer → Type 0
-IsAnswer state query answer = (meaning : Result MapRequest WmsFault) × IsMeaning state.map query meaning × Answers state.map meaning answer
+IsAnswer state query answer =
+    (meaning : Result Request WmsFault) × IsMeaning state.map state.sequence query meaning × Answers state meaning answer
 
 -- one event in a state has this reply and leads to that state: a query changes nothing, a batch leads to the state after
 -- it or is refused with its first fault, and out of memory nothing is changed

@@ -1,9 +1,9 @@
 //! The map machine: it holds a map, changes it by batches, and answers queries about it.
 //!
 //! Proved: `Machine::run` is a run of the machine (clause `run`): each event has its reply in order, an
-//! answered query the picture that it asks for or the document of its first fault, a batch that is
-//! published leads to the state after all its commands, and a reply that refuses a batch or is out of
-//! memory leaves the state. `reply`, `batch` and `step` are single events of it. `laws::published_counts`
+//! answered query what it asks for, which is the capabilities document, a picture or feature information,
+//! or the document of its first fault, a batch that is published leads to the state after all its
+//! commands, and a reply that refuses a batch or is out of memory leaves the state. `reply`, `batch` and `step` are single events of it. `laws::published_counts`
 //! says that the sequence grows by the number of published batches.
 //!
 //! Words: the *state* is the map and a *sequence*, which counts published batches. An *event* is what
@@ -18,5 +18,6 @@ mod reply;
 
 pub use batches::{BatchError, BatchFault, BatchKind, Bytes, MAX_BATCH};
 pub use machine::Machine;
-pub use reply::{Answer, Event, Mime, Reply};
+pub use operations::Mime;
+pub use reply::{Answer, Event, Reply};
 pub use streams::{Flagged, PutFailed, Sink, Source, TakeFailed, WriteFault, put_all, put_pieces};

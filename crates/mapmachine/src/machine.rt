@@ -1,19 +1,26 @@
-ghost use Rattle.std.specs.Prelude.{◌≡◌, ◌<◌, ◌-ℤ◌, unsigned_abs, All, length, Ok, Err, IfOk, IfErr, OnErr};
+ghost use Rattle.std.specs.Prelude.{◌≡◌, ◌-ℤ◌, unsigned_abs, length, Ok, Err, IfOk, IfErr, OnErr};
+ghost use Rattle.std.specs.List.{AllZip};
 ghost use Rattle.geom.specs.World.{IsExtent};
 ghost use Rattle.mapmachine.specs.Machine.{written_picture};
 
-use crate::reply::{Answer, Event, Mime, Reply};
+use crate::reply::{Answer, Event, Reply};
 use batches::{BatchError, BatchFault, BatchKind, MAX_BATCH, apply_batch};
+use capabilities::document;
 use compose::picture as picture_of;
+use featureinfo::{Asked, LayerHits, hits, text};
 use geom::{PictureSide, WorldBox};
 use layers::Layers;
 use mapdefs::{Items, Map, Picture};
+use operations::Mime;
 use scaledenom::Scale;
 use std::alloc::{AllocError, Global};
 use std::marker::Model;
 use symbols::{write_pam, write_ppm};
 use viewport::View;
-use wmsquery::{Format, MapRequest, QueryError, WmsFault, read as read_query, report};
+use wmsquery::{
+    Format, InformationRequest, MapRequest, QueryError, Request, WmsFault, read as read_query,
+    report,
+};
 
 /// The map machine: it holds a map, changes it by batches, and answers queries about it.
 #[derive(Drop)]
@@ -62,7 +69,8 @@ fn written_picture(alloc: Global, format: Format, picture: &Picture) -> Result<A
 
 impl Machine {
     ghost use Rattle.batches.specs.Batch.{IsBatchErrorOf, batched};
-    ghost use Rattle.mapmachine.specs.Machine.{Answers, IsAnswer, Steps, Runs};
+    ghost use Rattle.mapmachine.specs.Machine.{AreAskedHits, Answers, IsAnswer, Steps, Runs};
+    ghost use Rattle.wmsquery.specs.Within.{IsMapWithin, IsInformationWithin, IsWithin};
 
     /// The machine as it begins: with this map, and nothing published. It keeps the allocator. The one error
     /// is that memory was refused.
@@ -103,11 +111,20 @@ impl Machine {
         self.sequence
     }
 
-    // The answer to a request: its picture.
+    // The answer to a request for the capabilities: the document.
+    fn capabilities_answer(&self) -> Result<Answer, AllocError>
+        ensures { IfOk result (Answers self.now (Ok Request.Capabilities)) }
+    {
+        Ok(Answer {
+            mime: Mime::Xml,
+            body: document(self.alloc, self.sequence, self.layers.map())?,
+        })
+    }
+
+    // The answer to a request for a picture.
     fn picture_answer(&self, request: &MapRequest) -> Result<Answer, AllocError>
-        requires layers { All (λ index. index < length self.now.map.layers) request.now.chosen }
-        requires extent { IsExtent request.now.area }
-        ensures { IfOk result (Answers self.now.map (Ok request.now)) }
+        requires within { IsMapWithin (length self.now.map.layers) request.now }
+        ensures { IfOk result (Answers self.now (Ok (Request.Map request.now))) }
     {
         let view = View::new(request.area, request.width, request.height);
         let chosen = request.chosen.as_slice();
@@ -124,9 +141,62 @@ impl Machine {
         written_picture(self.alloc, request.format, &picture)
     }
 
+    // The hits of each layer that a request asks for features, in its order.
+    fn found(&self, request: &InformationRequest) -> Result<Items<LayerHits>, AllocError>
+        requires within { IsInformationWithin (length self.now.map.layers) request.now }
+        ensures { IfOk result (λ found. AllZip (AreAskedHits self.now.map request.now) request.now.asked found) }
+    {
+        let view = View::new(request.map.area, request.map.width, request.map.height);
+        let scale = scale_of(request.map.area, request.map.width);
+        let asked = Asked {
+            column: request.column as u16,
+            row: request.row as u16,
+            count: request.count,
+        };
+        let mut found = Items::new(self.alloc);
+        for layer in request.asked.as_slice() {
+            let layer = *layer;
+            let features = hits(
+                self.alloc,
+                self.layers.map(),
+                &self.layers,
+                view,
+                scale,
+                layer,
+                asked,
+            )?;
+            found.push(LayerHits { layer, features })?;
+        }
+        Ok(found)
+    }
+
+    // The answer to a request for feature information: the text of what is found.
+    fn information_answer(&self, request: &InformationRequest) -> Result<Answer, AllocError>
+        requires within { IsInformationWithin (length self.now.map.layers) request.now }
+        ensures { IfOk result (Answers self.now (Ok (Request.Information request.now))) }
+    {
+        let found = self.found(request)?;
+        Ok(Answer {
+            mime: Mime::Plain,
+            body: text(self.alloc, self.layers.map(), found.as_slice())?,
+        })
+    }
+
+    // The answer to a request.
+    fn request_answer(&self, request: &Request) -> Result<Answer, AllocError>
+        requires within { IsWithin (length self.now.map.layers) request.now }
+        ensures { IfOk result (Answers self.now (Ok request.now)) }
+    {
+        match request {
+            Request::Capabilities => self.capabilities_answer(),
+            Request::Map(picture) => self.picture_answer(picture),
+            Request::Information(information) => self.information_answer(information),
+        }
+    }
+
     // The answer to a query that is refused: the document of its fault.
     fn exception_answer(&self, fault: WmsFault) -> Result<Answer, AllocError>
-        ensures { IfOk result (Answers self.now.map (Err fault)) }
+        ensures { IfOk result (Answers self.now (Err fault)) }
     {
         Ok(Answer {
             mime: Mime::Xml,
@@ -134,13 +204,13 @@ impl Machine {
         })
     }
 
-    /// The answer to a query: the picture that it asks for, or the document of its first fault. The one
-    /// error is that memory was refused.
+    /// The answer to a query: the document, the picture or the features that it asks for, or the document of
+    /// its first fault. The one error is that memory was refused.
     pub fn reply(&self, query: &[u8]) -> Result<Answer, AllocError>
         ensures { IfOk result (IsAnswer self.now query.now) }
     {
-        match read_query(self.alloc, query, self.layers.map()) {
-            Ok(request) => self.picture_answer(&request),
+        match read_query(self.alloc, query, self.layers.map(), self.sequence) {
+            Ok(request) => self.request_answer(&request),
             Err(QueryError::Fault(fault)) => self.exception_answer(fault),
             Err(QueryError::NoMemory) => Err(AllocError),
         }

@@ -1,7 +1,6 @@
-ghost use Rattle.std.specs.Prelude.{◌≡◌};
-
 use batches::{BatchFault, Bytes};
 use mapdefs::Items;
+use operations::Mime;
 
 /// What is asked of the machine.
 #[derive(Drop)]
@@ -10,32 +9,6 @@ pub enum Event<'a> {
     Query(Bytes<'a>),
     /// A batch of commands that change the map, as its bytes came.
     Batch(Bytes<'a>),
-}
-
-/// What the body of an answer is.
-#[derive(Clone, Copy)]
-pub enum Mime {
-    /// A picture as Netpbm's portable pixmap.
-    Pixmap,
-    /// A picture as Netpbm's portable arbitrary map.
-    ArbitraryMap,
-    /// An XML document.
-    Xml,
-}
-
-impl Mime {
-    ghost use Rattle.mapmachine.specs.Mime.{mime_text};
-
-    /// The type as it is written.
-    pub fn text(self) -> &'static str
-        ensures { result.now ≡ mime_text self }
-    {
-        match self {
-            Mime::Pixmap => "image/x-portable-pixmap",
-            Mime::ArbitraryMap => "image/x-portable-arbitrarymap",
-            Mime::Xml => "text/xml",
-        }
-    }
 }
 
 /// The answer to a query.

@@ -5,7 +5,7 @@ use Rattle.std.proofs.lemmas.Bool.{and_parts, cases_lt, eqb-true}
 use Rattle.std.proofs.lemmas.List.Elements.{All-head, All-tail}
 use Rattle.hex.specs.Hex.{encode_lower, encode_with, lower_digits}
 use Rattle.hex.proofs.HexLemmas.{length-encode_with}
-use Rattle.mapmachine.specs.declared.reply.Mime.TheVariants.{Pixmap, ArbitraryMap}
+use Rattle.operations.specs.declared.mime.Mime.TheVariants.{Pixmap, ArbitraryMap}
 use Rattle.scripts.specs.Transcript.{body_text, hex_line, hex_within}
 use Rattle.scripts.specs.Digits.{digit_value, bytes_of, AreFullLines, lines_text}
 

@@ -1,7 +1,7 @@
 -- Lines of hexadecimal digits, and the bytes that they stand for (docs/PROFILE.md, "Sessions").
 use Rattle.std.specs.Prelude.{◌≡◌, ◌≤◌, ◌<◌, ◌+◌, ◌-◌, ◌*◌, ◌&&◌, nat_le, ℕ, if◌then◌else◌, List, [], ◌∷◌, ◌++◌, length, Option, None, Some, codes}
 use Rattle.std.specs.List.{All, concat, flat_map}
-use Rattle.mapmachine.specs.declared.reply.Mime.TheVariants.{Pixmap, ArbitraryMap}
+use Rattle.operations.specs.declared.mime.Mime.TheVariants.{Pixmap, ArbitraryMap}
 use Rattle.scripts.specs.Transcript.{body_text}
 
 -- the number that a digit stands for: 0 to 9 for themselves, a to f for 10 to 15

@@ -4,10 +4,10 @@ use Rattle.std.specs.List.{flat_map}
 use Rattle.std.specs.Fmt.{decimal}
 use Rattle.hex.specs.Hex.{encode_lower}
 use Rattle.batches.specs.Fault.{number_of}
-use Rattle.mapmachine.specs.Mime.{mime_text}
+use Rattle.operations.specs.Mime.{mime_text}
 use Rattle.mapmachine.specs.declared.reply.Answer.{Answer}
-use Rattle.mapmachine.specs.declared.reply.Mime.{Mime}
-use Rattle.mapmachine.specs.declared.reply.Mime.TheVariants.{Pixmap, ArbitraryMap, Xml}
+use Rattle.operations.specs.declared.mime.Mime.{Mime}
+use Rattle.operations.specs.declared.mime.Mime.TheVariants.{Pixmap, ArbitraryMap, Xml, Plain}
 use Rattle.mapmachine.specs.declared.reply.Reply.{Reply}
 use Rattle.mapmachine.specs.declared.reply.Reply.TheVariants.{Answered, Published, Refused, NoMemory}
 
@@ -30,6 +30,7 @@ abbrev pub body_text : Mime → List ℕ → List ℕ
 body_text Pixmap body = hex_lines body
 body_text ArbitraryMap body = hex_lines body
 body_text Xml body = body
+body_text Plain body = body
 
 -- the line before a body: its mime type, and how many bytes it has
 abbrev pub answer_line : Answer → List ℕ

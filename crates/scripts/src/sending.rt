@@ -69,7 +69,7 @@ fn send_body<S: Sink>(sink: &mut S, mime: Mime, body: &[u8]) -> Result<(), PutFa
 {
     match mime {
         Mime::Pixmap | Mime::ArbitraryMap => send_hex(sink, body),
-        Mime::Xml => put_all(sink, body),
+        Mime::Xml | Mime::Plain => put_all(sink, body),
     }
 }
 
