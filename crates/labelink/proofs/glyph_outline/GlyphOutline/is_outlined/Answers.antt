@@ -1,6 +1,6 @@
-use Rattle.std.proofs.Common.{◌≡◌, ◌∙◌, ℕ, ◌+◌, Bool, ◌||◌, to_z, of_z, w64, arith}
+use Rattle.std.proofs.Common.{◌≡◌, ◌∙◌, ◌+◌, Bool, ◌||◌, to_z, of_z, w64, arith}
 use Rattle.std.proofs.lemmas.Int.{ints}
-use lib.IntN.{ℤ, pos, ◌+ℤ◌, ◌-ℤ◌}
+use lib.IntN.{pos, ◌+ℤ◌, ◌-ℤ◌}
 use Rattle.labelink.specs.Ink.{covers_glyph}
 use Rattle.labelink.proofs.Inked.{eight-tests, passed-first, passed-second, same-eight}
 use Rattle.labelink.proofs.glyph_outline.GlyphOutline.is_outlined.Goals as goal
