@@ -2,14 +2,14 @@ use Rattle.std.proofs.Common.{sym, ◌∙◌, ap, subst}
 use Rattle.mapdefs.specs.Near.{AreCandidatesOf}
 use Rattle.mapdefs.specs.declared.map.MapFields.{MapFields}
 use Rattle.compose.specs.Near.{margin_of}
-use Rattle.compose.proofs.Painting.{painted-none, painted-chosen}
-use Rattle.compose.proofs.Sparing.{candidates-of, on-ok, spared}
-use Rattle.compose.proofs.paint.paint_layer.Goals as goal
+use Rattle.compose.proofs.Meeting.{drawn-none}
+use Rattle.compose.proofs.Sparing.{candidates-of, drawn-chosen, on-ok, spared-drawing}
+use Rattle.compose.proofs.paint.draw_layer.Goals as goal
 
 pub returns-then-not-shows : goal.returns-then-not-shows
 returns-then-not-shows g c =
     let hidden = sym c.shows.ensures ∙ c.if-not-shows.true in
-    painted-chosen c.args.scene.now.view c.args.scene.now.scale c.args.scene.now.map c.args.index c.layer-layer.result.now _ _ c.layer-layer.ensures (rw hidden (painted-none c.args.canvas.now))
+    drawn-chosen c.args.scene.now c.args.index c.layer-layer.result.now _ _ c.layer-layer.ensures (rw hidden (drawn-none c.args.scene.now c.args.drawing.now))
 
 pub returns : goal.returns
 returns g c =
@@ -20,8 +20,8 @@ returns g c =
     let margin = c.margin_of-margin.ensures.value ∙ ap (λ symbols. margin_of symbols layer) c.symbols.ensures in
     let near = subst (λ (m : MapFields). AreCandidatesOf m c.args.index c.window.result found) c.requires.near c.in_ok-found.ensures in
     let are = rw (c.window.ensures.value, margin) at (candidates-of scene.map c.args.index layer c.window.result found c.layer-layer.ensures near) in
-    on-ok c.paint_features.result _ _
-    (λ p. painted-chosen scene.view scene.scale scene.map c.args.index layer _ _ c.layer-layer.ensures
-    (rw shown (spared scene.view scene.scale scene.map.symbols layer found _ _ c.window.ensures.limits c.window.ensures.width c.window.ensures.height
+    on-ok c.draw_features.result _ _
+    (λ p. drawn-chosen scene c.args.index layer _ _ c.layer-layer.ensures
+    (rw shown (spared-drawing scene layer found _ _ c.window.ensures.limits c.window.ensures.width c.window.ensures.height
     c.requires.width c.requires.height c.requires.area are p)))
-    (rw c.deref.ensures.value at c.paint_features.ensures)
+    (rw c.deref.ensures.value at c.draw_features.ensures)
