@@ -213,7 +213,10 @@ fn answered_of_many(alloc: Global, machine: &mut Machine) -> Result<(usize, bool
     let done = exchanged(alloc, &stream, WHOLE, machine)?;
     let mut left = done.held.as_slice();
     let mut count = 0_usize;
-    while let Some(others) = left.strip_prefix(KEPT) {
+    for _ in 0..1_001 {
+        let Some(others) = left.strip_prefix(KEPT) else {
+            break;
+        };
         count = count.saturating_add(1);
         left = others;
     }
