@@ -1,9 +1,9 @@
 #!/usr/bin/env python3
 """Tries clients that send more than a head, or less, or don't read. Usage: clients_that_linger.py PROGRAM [COUNT]
 
-A picture of 512 by 512 pixels is asked for COUNT times each way (100 where it isn't given): with a body of 3 bytes in
-a second write, by http.client, which writes it so, and with 8,192 bytes or a second head after the first. Each answer
-is to come whole. Then a client holds the server: it sends half a head and waits; half a head, and a byte each second;
+Each way is tried COUNT times (100 where it isn't given). A picture of 512 by 512 pixels is asked for by a head that
+closes, with a body of 3 bytes in a second write, by http.client, which writes it so and announces it: that is refused
+with 400, and the refusal is to come whole. So is the picture where 8,192 bytes or a second head follow the first. Then a client holds the server: it sends half a head and waits; half a head, and a byte each second;
 a head for a picture of 12 MB, of which it reads nothing. Another client asks while it does. The time is printed after
 which that one was answered: 30 seconds, and what the picture took. The last client neither sends more
 nor leaves after its answer, which holds the server for 2 seconds.
@@ -24,7 +24,7 @@ SIZE = len(b"P6\n512 512\n255\n") + 3 * 512 * 512
 
 
 def head_of(target):
-    return f"GET {target} HTTP/1.1\r\nHost: x\r\n\r\n".encode()
+    return f"GET {target} HTTP/1.1\r\nConnection: close\r\n\r\n".encode()
 
 
 def connected(port):
@@ -46,7 +46,7 @@ def asked_by_library(port):
     connection = http.client.HTTPConnection("127.0.0.1", port)
     connection.request("GET", SMALL, body=b"abc")
     response = connection.getresponse()
-    return response.status == 200 and len(response.read()) == SIZE
+    return response.status == 400 and response.read() == b"" and response.getheader("Connection") == "close"
 
 
 def asked_with(later, pause):

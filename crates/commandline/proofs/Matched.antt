@@ -10,7 +10,11 @@ use Rattle.clap.specs.Words.{App, ReadsOne, Row, Text, fault_of, is_simple_and_f
 use Rattle.clap.specs.declared.parser.matches.ArgMatches.{ArgMatches}
 use Rattle.clap.specs.declared.parser.matches.SubCommand.{SubCommand}
 use Rattle.clap.specs.declared.parser.matches.ArgMatches.TheViews.{out-SubCommand}
-use Rattle.commandline.specs.Words.{app}
+use Rattle.std.specs.Str.Parse.{ParsesUnsigned, ExplainsUnsignedError, HasUnsignedDigitsIfOk}
+use Rattle.std.specs.declared.num.ParseIntError.{ParseIntError}
+use Rattle.clap.specs.declared.parser.matches.Found.{Found}
+use Rattle.clap.specs.Words.{one_of, one_text, rows_of}
+use Rattle.commandline.specs.Words.{app, IsNumber}
 
 pub named : {Z : Type 0} (o : Option (Box SubCommand Z)) (n : Text) (rows : List Row) → Some n ≡ option_map (λ b. (out-SubCommand (box_value b)).name.now) o
     → Some rows ≡ option_map (λ p. p.1) (subcommand_rows o) → subcommand_rows o ≡ Some (n, rows)
@@ -58,3 +62,11 @@ given (Some x) e P h = h
 pub on-ok : {A E : Type 0} (r : Result A E) (P : Type 0) → P → OnOk r P
 on-ok (Ok x) P h = h
 on-ok (Err e) P h = tt
+
+-- the number of an option is that of its text
+pub numbered : (bits : ℕ) (inner : Found) (name : Text) → one_text inner name ≡ one_of name (rows_of inner) → (r : Option ℕ) → (one_text inner name ≡ None → r ≡ None)
+    → ((t : Text) → one_text inner name ≡ Some t → ReadsOne (λ bs r. ParsesUnsigned {E = ParseIntError} bits 10 bs r × ExplainsUnsignedError 10 bs r × HasUnsignedDigitsIfOk bs r) t r) → IfSome r (IsNumber bits name (rows_of inner))
+numbered bits inner name same None none some = tt
+numbered bits inner name same (Some n) none some =
+    let (t, text, reads) = one-read (λ bs r. ParsesUnsigned {E = ParseIntError} bits 10 bs r × ExplainsUnsignedError 10 bs r × HasUnsignedDigitsIfOk bs r) (one_text inner name) (Some n) n refl none some in
+    (t, sym same ∙ text, reads.0)

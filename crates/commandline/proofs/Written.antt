@@ -1,10 +1,12 @@
 -- Which commands words that are written out may be.
-use Rattle.std.proofs.Common.{◌≡◌, [], ◌∷◌, Some, ap, refl, true, false, codes, arith}
+use Rattle.std.proofs.Common.{◌≡◌, ◌∙◌, List, [], ◌∷◌, Some, sym, ap, refl, true, false, codes, arith}
 use Rattle.std.proofs.Math.ListN.{get_or}
 use Rattle.clap.proofs.OnLiterals.{clap_on_literals}
 use Rattle.commandline.specs.declared.form.Command.{Command}
 use Rattle.commandline.specs.declared.form.Command.TheVariants.{Session, Check, Run, Serve}
-use Rattle.commandline.specs.Words.{IsSession, Checks, Plays, Serves, May}
+use Rattle.clap.specs.Words.{Row, Text, one_of}
+use Rattle.commandline.specs.declared.form.Service.{Service}
+use Rattle.commandline.specs.Words.{IsSession, Checks, Plays, IsService, IsServedBy, Serves, May}
 
 -- two optional texts that are equal have equal texts
 same : {X : Type 0} (a b : X) → Some a ≡ Some b → b ≡ a
@@ -15,39 +17,57 @@ unfolding clap_on_literals
 none Session h = h
 none (Check file explains) h = h
 none (Run file script) h = h
-none (Serve file port connections) h = h
+none (Serve file service) h = h
 
 pub check : (c : Command) → May (codes "check" ∷ codes "a.map" ∷ []) c → Checks (codes "a.map") false c
 unfolding clap_on_literals
 check Session h = h
 check (Check file explains) h = (same _ _ h.1, h.2.unset refl)
 check (Run file script) h = absurd (cc)
-check (Serve file port connections) h = absurd (cc)
+check (Serve file service) h = absurd (cc)
 
 pub explained : (c : Command) → May (codes "check" ∷ codes "--explain" ∷ codes "a.map" ∷ []) c → Checks (codes "a.map") true c
 unfolding clap_on_literals
 explained Session h = h
 explained (Check file explains) h = (same _ _ h.1, h.2.set refl)
 explained (Run file script) h = absurd (cc)
-explained (Serve file port connections) h = absurd (cc)
+explained (Serve file service) h = absurd (cc)
 
 pub run : (c : Command) → May (codes "run" ∷ codes "a.map" ∷ codes "b.txt" ∷ []) c → Plays (codes "a.map") (codes "b.txt") c
 unfolding clap_on_literals
 run Session h = h
 run (Check file explains) h = absurd (cc)
 run (Run file script) h = (same _ _ h.1, same _ _ h.2)
-run (Serve file port connections) h = absurd (cc)
+run (Serve file service) h = absurd (cc)
 
-pub serve : (c : Command) → May (codes "serve" ∷ codes "a.map" ∷ codes "--connections" ∷ codes "2" ∷ []) c → Serves (codes "a.map") (codes "8080") (codes "2") c
+-- the texts of rows that are known are those that the numbers are of
+served-by : (rows : List Row) (service : Service) (port connections idle timeout : Text) → IsService rows service →
+    one_of (codes "port") rows ≡ Some port → one_of (codes "connections") rows ≡ Some connections → one_of (codes "idle") rows ≡ Some idle → one_of (codes "timeout") rows ≡ Some timeout →
+    IsServedBy port connections idle timeout service
+served-by rows service port connections idle timeout is p n i t = record {
+  reads_port = rw (same _ _ (sym p ∙ is.port.1)) at is.port.2;
+  reads_connections = rw (same _ _ (sym n ∙ is.connections.1)) at is.connections.2;
+  reads_idle = rw (same _ _ (sym i ∙ is.idle.1)) at is.idle.2;
+  reads_timeout = rw (same _ _ (sym t ∙ is.timeout.1)) at is.timeout.2;
+}
+
+pub serve : (c : Command) → May (codes "serve" ∷ codes "a.map" ∷ codes "--connections" ∷ codes "2" ∷ []) c → Serves (codes "a.map") (codes "8080") (codes "2") (codes "200") (codes "30") c
 unfolding clap_on_literals
 serve Session h = h
 serve (Check file explains) h = let first : 115 ≡ 99 = ap (λ t. get_or t 0 0) h.0 in absurd (omega (arith, first))
 serve (Run file script) h = let first : 115 ≡ 114 = ap (λ t. get_or t 0 0) h.0 in absurd (omega (arith, first))
-serve (Serve file port connections) h = (same _ _ h.1, rw (same _ _ h.2.1) at h.2.2, rw (same _ _ h.3.1) at h.3.2)
+serve (Serve file service) h = (same _ _ h.1, served-by _ service _ _ _ _ h.2 refl refl refl refl)
 
-pub served : (c : Command) → May (codes "serve" ∷ codes "--port" ∷ codes "81" ∷ codes "a.map" ∷ []) c → Serves (codes "a.map") (codes "81") (codes "0") c
+pub served : (c : Command) → May (codes "serve" ∷ codes "--port" ∷ codes "81" ∷ codes "a.map" ∷ []) c → Serves (codes "a.map") (codes "81") (codes "0") (codes "200") (codes "30") c
 unfolding clap_on_literals
 served Session h = h
 served (Check file explains) h = let first : 115 ≡ 99 = ap (λ t. get_or t 0 0) h.0 in absurd (omega (arith, first))
 served (Run file script) h = let first : 115 ≡ 114 = ap (λ t. get_or t 0 0) h.0 in absurd (omega (arith, first))
-served (Serve file port connections) h = (same _ _ h.1, rw (same _ _ h.2.1) at h.2.2, rw (same _ _ h.3.1) at h.3.2)
+served (Serve file service) h = (same _ _ h.1, served-by _ service _ _ _ _ h.2 refl refl refl refl)
+
+pub timed : (c : Command) → May (codes "serve" ∷ codes "a.map" ∷ codes "--timeout" ∷ codes "9" ∷ codes "--idle" ∷ codes "50" ∷ []) c → Serves (codes "a.map") (codes "8080") (codes "0") (codes "50") (codes "9") c
+unfolding clap_on_literals
+timed Session h = h
+timed (Check file explains) h = let first : 115 ≡ 99 = ap (λ t. get_or t 0 0) h.0 in absurd (omega (arith, first))
+timed (Run file script) h = let first : 115 ≡ 114 = ap (λ t. get_or t 0 0) h.0 in absurd (omega (arith, first))
+timed (Serve file service) h = (same _ _ h.1, served-by _ service _ _ _ _ h.2 refl refl refl refl)

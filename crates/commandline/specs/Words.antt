@@ -1,11 +1,13 @@
 -- The command line (docs/PROFILE.md, "The program").
-use Rattle.std.specs.Prelude.{◌≡◌, ℕ, pos, Ok, List, [], ◌∷◌, Option, Some, None, Bool, true, false, codes}
+use Rattle.std.specs.Prelude.{◌≡◌, ◌≤◌, ℕ, pos, Ok, List, [], ◌∷◌, Option, Some, None, Bool, true, false, codes}
 use Rattle.std.specs.Str.Parse.{ParsesUnsigned}
 use Rattle.std.specs.declared.num.ParseIntError.{ParseIntError}
 use Rattle.clap.specs.declared.builder.action.ArgAction.TheVariants.{SetTrue}
+use Rattle.clap.specs.declared.builder.value_parser.ValueParser.{ValueParser}
 use Rattle.clap.specs.declared.builder.value_parser.ValueParser.TheVariants as vp
 use Rattle.clap.specs.Words.{App, Row, Rule, Text, fault_of, first_of, one_of, subcommand_of, takes, new_app, new_rule, with_rule, with_subcommand}
 use Rattle.commandline.specs.declared.form.Command.{Command}
+use Rattle.commandline.specs.declared.form.Service.{Service}
 use Rattle.commandline.specs.declared.form.Command.TheVariants.{Session, Check, Run, Serve}
 use Rattle.commandline.specs.declared.words.WordsFault.{WordsFault}
 use Rattle.commandline.specs.declared.words.WordsFault.TheVariants.{Refused, NoMemory}
@@ -30,21 +32,39 @@ check_app = with_rule (with_rule (new_app (codes "check")) file_rule) explain_ru
 abbrev pub run_app : App
 run_app = with_rule (with_rule (new_app (codes "run")) file_rule) script_rule
 
+-- an option of a number, with what it is where it isn't given
+abbrev pub number_rule : Text → ValueParser → Text → Rule
+number_rule name parser default = record (new_rule name) { long = Some name; parser = Some parser; defaults = default ∷ [] }
+
 -- `--port PORT`, a number of 16 bits, 8080 where it isn't given
 abbrev pub port_rule : Rule
-port_rule = record (new_rule (codes "port")) { long = Some (codes "port"); parser = Some (vp.Signed (pos 0) (pos 65535)); defaults = codes "8080" ∷ [] }
+port_rule = number_rule (codes "port") (vp.Signed (pos 0) (pos 65535)) (codes "8080")
 
 -- `--connections N`, a number of 32 bits, 0 where it isn't given
 abbrev pub connections_rule : Rule
-connections_rule = record (new_rule (codes "connections")) { long = Some (codes "connections"); parser = Some (vp.Signed (pos 0) (pos 4294967295)); defaults = codes "0" ∷ [] }
+connections_rule = number_rule (codes "connections") (vp.Signed (pos 0) (pos 4294967295)) (codes "0")
 
--- `serve FILE --port PORT`
+-- `--idle MILLISECONDS`, 1 to 60,000, 200 where it isn't given
+abbrev pub idle_rule : Rule
+idle_rule = number_rule (codes "idle") (vp.Signed (pos 1) (pos 60000)) (codes "200")
+
+-- `--timeout SECONDS`, 1 to 3,600, 30 where it isn't given
+abbrev pub timeout_rule : Rule
+timeout_rule = number_rule (codes "timeout") (vp.Signed (pos 1) (pos 3600)) (codes "30")
+
+-- `serve FILE --port PORT`, and with one more option each
 abbrev pub port_app : App
 port_app = with_rule (with_rule (new_app (codes "serve")) file_rule) port_rule
 
--- `serve FILE --port PORT --connections N`
+abbrev pub counted_app : App
+counted_app = with_rule port_app connections_rule
+
+abbrev pub idle_app : App
+idle_app = with_rule counted_app idle_rule
+
+-- `serve FILE --port PORT --connections N --idle MILLISECONDS --timeout SECONDS`
 abbrev pub serve_app : App
-serve_app = with_rule port_app connections_rule
+serve_app = with_rule idle_app timeout_rule
 
 -- the program by its name, whose words don't begin with it
 abbrev pub named_app : App
@@ -58,6 +78,15 @@ app = with_subcommand (with_subcommand (with_subcommand named_app check_app.top)
 abbrev pub IsNumber : ℕ → Text → List Row → ℕ → Type 0
 IsNumber bits name rows n = (t : Text) × (one_of name rows ≡ Some t) × ParsesUnsigned {E = ParseIntError} bits 10 t (Ok n)
 
+-- the rows of matches say how a map is served, and the times lie in their ranges
+pub record IsService (rows : List Row) (service : Service) : Type 0 where
+  pub port : IsNumber 16 (codes "port") rows service.port
+  pub connections : IsNumber 32 (codes "connections") rows service.connections
+  pub idle : IsNumber 16 (codes "idle") rows service.idle
+  pub timeout : IsNumber 16 (codes "timeout") rows service.timeout
+  pub idle_range : (1 ≤ service.idle) × (service.idle ≤ 60000)
+  pub timeout_range : (1 ≤ service.timeout) × (service.timeout ≤ 3600)
+
 -- a flag is set in the rows of matches, or it is not
 pub record IsFlag (name : Text) (rows : List Row) (flag : Bool) : Type 0 where
   pub set : one_of name rows ≡ Some (codes "true") → flag ≡ true
@@ -69,14 +98,13 @@ abbrev pub IsCommand : Option (Text × List Row) → Command → Type 0
 IsCommand None Session = Unit {0}
 IsCommand None (Check file explains) = ⊥
 IsCommand None (Run file script) = ⊥
-IsCommand None (Serve file port connections) = ⊥
+IsCommand None (Serve file service) = ⊥
 IsCommand (Some m) Session = ⊥
 IsCommand (Some m) (Check file explains) =
     (m.0 ≡ codes "check") × (first_of (codes "FILE") m.1 ≡ Some file.now) × IsFlag (codes "explain") m.1 explains
 IsCommand (Some m) (Run file script) =
     (m.0 ≡ codes "run") × (first_of (codes "FILE") m.1 ≡ Some file.now) × (first_of (codes "SCRIPT") m.1 ≡ Some script.now)
-IsCommand (Some m) (Serve file port connections) =
-    (m.0 ≡ codes "serve") × (first_of (codes "FILE") m.1 ≡ Some file.now) × IsNumber 16 (codes "port") m.1 port × IsNumber 32 (codes "connections") m.1 connections
+IsCommand (Some m) (Serve file service) = (m.0 ≡ codes "serve") × (first_of (codes "FILE") m.1 ≡ Some file.now) × IsService m.1 service
 
 -- the words were refused
 abbrev pub is_refusal : WordsFault → Bool
@@ -98,29 +126,41 @@ abbrev pub Plays : Text → Text → Command → Type 0
 Plays map_name script_name (Run file script) = (file.now ≡ map_name) × (script.now ≡ script_name)
 Plays map_name script_name _ = ⊥
 
--- the command serves the mapfile of a name on the port of a text, up to the connections of a text
-abbrev pub Serves : Text → Text → Text → Command → Type 0
-Serves name port_text count_text (Serve file port connections) =
-    (file.now ≡ name) × ParsesUnsigned {E = ParseIntError} 16 10 port_text (Ok port) × ParsesUnsigned {E = ParseIntError} 32 10 count_text (Ok connections)
-Serves name port_text count_text _ = ⊥
+-- the text is that of a number of so many bits
+abbrev pub Reads : ℕ → Text → ℕ → Type 0
+Reads bits text n = ParsesUnsigned {E = ParseIntError} bits 10 text (Ok n)
+
+-- the command serves the mapfile of a name, by the texts of its options
+pub record IsServedBy (port connections idle timeout : Text) (service : Service) : Type 0 where
+  pub reads_port : Reads 16 port service.port
+  pub reads_connections : Reads 32 connections service.connections
+  pub reads_idle : Reads 16 idle service.idle
+  pub reads_timeout : Reads 16 timeout service.timeout
+
+abbrev pub Serves : Text → Text → Text → Text → Text → Command → Type 0
+Serves name port connections idle timeout (Serve file service) = (file.now ≡ name) × IsServedBy port connections idle timeout service
+Serves name port connections idle timeout _ = ⊥
 
 -- the commands that words may be
 abbrev pub May : List Text → Command → Type 0
 May words command = IsCommand (subcommand_of app words) command
 
 -- the law on words that are written out: no words are a session; `check` has its file, and its flag where that is given; `run` has
--- the mapfile before the script; `serve` has its file, and numbers that aren't given are 8080 and 0
+-- the mapfile before the script; `serve` has its file, and numbers that aren't given are 8080, 0, 200 and 30
 pub record FormsAreWritten : Type 0 where
   pub none : (c : Command) → May [] c → IsSession c
   pub check : (c : Command) → May (codes "check" ∷ codes "a.map" ∷ []) c → Checks (codes "a.map") false c
   pub explained : (c : Command) → May (codes "check" ∷ codes "--explain" ∷ codes "a.map" ∷ []) c → Checks (codes "a.map") true c
   pub run : (c : Command) → May (codes "run" ∷ codes "a.map" ∷ codes "b.txt" ∷ []) c → Plays (codes "a.map") (codes "b.txt") c
-  pub serve : (c : Command) → May (codes "serve" ∷ codes "a.map" ∷ codes "--connections" ∷ codes "2" ∷ []) c → Serves (codes "a.map") (codes "8080") (codes "2") c
-  pub served : (c : Command) → May (codes "serve" ∷ codes "--port" ∷ codes "81" ∷ codes "a.map" ∷ []) c → Serves (codes "a.map") (codes "81") (codes "0") c
+  pub serve : (c : Command) → May (codes "serve" ∷ codes "a.map" ∷ codes "--connections" ∷ codes "2" ∷ []) c → Serves (codes "a.map") (codes "8080") (codes "2") (codes "200") (codes "30") c
+  pub served : (c : Command) → May (codes "serve" ∷ codes "--port" ∷ codes "81" ∷ codes "a.map" ∷ []) c → Serves (codes "a.map") (codes "81") (codes "0") (codes "200") (codes "30") c
+  pub timed : (c : Command) → May (codes "serve" ∷ codes "a.map" ∷ codes "--timeout" ∷ codes "9" ∷ codes "--idle" ∷ codes "50" ∷ []) c → Serves (codes "a.map") (codes "8080") (codes "0") (codes "50") (codes "9") c
 
--- the law on words that are taken or refused: the forms are taken; words that lack a file, begin with another word, or have a port
+-- the law on words that are taken or refused: the forms are taken; words that lack a file, begin with another word, or have a number
 -- beyond its range are refused
 pub record FormsAreTaken : Type 0 where
   pub taken : (fault_of app [] ≡ []) × (fault_of app (codes "check" ∷ codes "a.map" ∷ []) ≡ []) × (fault_of app (codes "run" ∷ codes "a.map" ∷ codes "b.txt" ∷ []) ≡ [])
   pub refused : (takes app (codes "check" ∷ []) ≡ false) × (takes app (codes "run" ∷ codes "a.map" ∷ []) ≡ false) × (takes app (codes "draw" ∷ codes "a.map" ∷ []) ≡ false)
       × (takes app (codes "serve" ∷ codes "a.map" ∷ codes "--port" ∷ codes "65536" ∷ []) ≡ false)
+  pub untimely : (takes app (codes "serve" ∷ codes "a.map" ∷ codes "--idle" ∷ codes "0" ∷ []) ≡ false) × (takes app (codes "serve" ∷ codes "a.map" ∷ codes "--idle" ∷ codes "60001" ∷ []) ≡ false)
+      × (takes app (codes "serve" ∷ codes "a.map" ∷ codes "--timeout" ∷ codes "0" ∷ []) ≡ false) × (takes app (codes "serve" ∷ codes "a.map" ∷ codes "--timeout" ∷ codes "3601" ∷ []) ≡ false)

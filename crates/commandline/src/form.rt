@@ -21,9 +21,20 @@ pub enum Command<'a> {
     Serve {
         /// The name of the mapfile.
         file: &'a str,
-        /// The port, 0 for one that is free.
-        port: u16,
-        /// How many connections are answered, 0 without an end.
-        connections: u32,
+        /// How it is served.
+        service: Service,
     },
+}
+
+/// How a map is served.
+#[derive(Clone, Copy)]
+pub struct Service {
+    /// The port, 0 for one that is free.
+    pub port: u16,
+    /// How many connections are answered, 0 without an end.
+    pub connections: u32,
+    /// How many milliseconds a connection may be idle after an answer, 1 to 60,000.
+    pub idle: u16,
+    /// How many seconds a head that has begun, and an answer, may take, 1 to 3,600.
+    pub timeout: u16,
 }

@@ -11,5 +11,5 @@ mod form;
 pub mod laws;
 mod words;
 
-pub use form::Command;
+pub use form::{Command, Service};
 pub use words::{WordsFault, command};

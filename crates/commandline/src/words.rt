@@ -1,13 +1,14 @@
 ghost use Rattle.std.specs.Prelude.{◌≡◌, ◌≢◌, IfOk, IfErr, IfSome, OnOk, map, [], true, false};
-ghost use Rattle.clap.specs.Words.{app_of, fault_of, kind_of, new_app, subcommand_of, subcommand_rows_of, takes, with_rule};
+ghost use Rattle.clap.specs.Words.{app_of, rule_of, rows_of, found_of, fault_of, kind_of, new_app, subcommand_of, subcommand_rows_of, takes, with_rule};
 ghost use Rattle.clap.specs.declared.error.kind.ErrorKind.TheVariants.{OutOfMemory};
 ghost use Rattle.clap.specs.declared.builder.command.Command.TheViews.{out-Command};
 ghost use Rattle.commandline.specs.Forms.{IsWithForm};
-ghost use Rattle.commandline.specs.Words.{app, named_app, file_rule, check_app, run_app, port_app, serve_app, IsCommand, is_refusal};
+ghost use Rattle.commandline.specs.Words.{app, named_app, file_rule, number_rule, check_app, run_app, port_app, counted_app, idle_app, serve_app, IsCommand, IsNumber, IsService, is_refusal};
 
-use crate::form::Command;
+use crate::form::{Command, Service};
+use clap::builder::ValueParser;
 use clap::error::ErrorKind;
-use clap::{Arg, ArgAction, ArgMatches, value_parser};
+use clap::{Arg, ArgAction, ArgMatches};
 use std::alloc::{AllocError, Global};
 use thiserror::Error;
 
@@ -61,31 +62,57 @@ fn run_form<'a>(alloc: Global) -> Result<clap::Command<'a>, AllocError>
     form.arg(Arg::new(alloc, "SCRIPT").required(true))
 }
 
-// The form `serve FILE --port PORT`, to which an option is still to come.
+// An option of a number, with what it is where it isn't given.
+fn number<'a>(alloc: Global, name: &'a str, parser: ValueParser<'a>, default: &'a str) -> Arg<'a>
+    ensures rule { rule_of result ≡ number_rule name.now parser.entry default.now }
+    ensures local { result.global ≡ false }
+{
+    Arg::new(alloc, name)
+        .long(name)
+        .value_parser(parser)
+        .default_value(default)
+}
+
+// The form `serve FILE --port PORT`, to which options are still to come.
 fn port_form<'a>(alloc: Global) -> Result<clap::Command<'a>, AllocError>
     ensures app { IfOk result (λ c. app_of c ≡ port_app) }
     ensures local { IfOk result (λ c. (out-Command c).has_globals ≡ false) }
 {
     let about = "Answers connections on a port of this machine";
     let form = file_form(alloc, "serve", about)?;
-    let port = Arg::new(alloc, "port")
-        .long("port")
-        .value_parser(value_parser!(u16))
-        .default_value("8080");
-    form.arg(port)
+    form.arg(number(alloc, "port", ValueParser::signed(0, 65_535), "8080"))
 }
 
-// The form `serve FILE --port PORT --connections N`.
+// The same with `--connections N`.
+fn counted_form<'a>(alloc: Global) -> Result<clap::Command<'a>, AllocError>
+    ensures app { IfOk result (λ c. app_of c ≡ counted_app) }
+    ensures local { IfOk result (λ c. (out-Command c).has_globals ≡ false) }
+{
+    let form = port_form(alloc)?;
+    form.arg(number(
+        alloc,
+        "connections",
+        ValueParser::signed(0, 4_294_967_295),
+        "0",
+    ))
+}
+
+// The same with `--idle MILLISECONDS`.
+fn idle_form<'a>(alloc: Global) -> Result<clap::Command<'a>, AllocError>
+    ensures app { IfOk result (λ c. app_of c ≡ idle_app) }
+    ensures local { IfOk result (λ c. (out-Command c).has_globals ≡ false) }
+{
+    let form = counted_form(alloc)?;
+    form.arg(number(alloc, "idle", ValueParser::signed(1, 60_000), "200"))
+}
+
+// The form `serve` with all of its options, of which the last is `--timeout SECONDS`.
 fn serve_form<'a>(alloc: Global) -> Result<clap::Command<'a>, AllocError>
     ensures app { IfOk result (λ c. app_of c ≡ serve_app) }
     ensures local { IfOk result (λ c. (out-Command c).has_globals ≡ false) }
 {
-    let form = port_form(alloc)?;
-    let connections = Arg::new(alloc, "connections")
-        .long("connections")
-        .value_parser(value_parser!(u32))
-        .default_value("0");
-    form.arg(connections)
+    let form = idle_form(alloc)?;
+    form.arg(number(alloc, "timeout", ValueParser::signed(1, 3_600), "30"))
 }
 
 // The program by its name, without forms.
@@ -122,6 +149,39 @@ fn forms<'a>(alloc: Global) -> Result<clap::Command<'a>, AllocError>
     with_form(two, serve_form(alloc))
 }
 
+// The number of an option of 16 bits.
+fn number_of<'a>(matches: &ArgMatches<'a>, name: &str) -> Option<u16>
+    ensures { IfSome result (IsNumber 16 name.now (rows_of (found_of matches.now))) }
+{
+    matches.get_one::<u16>(name)
+}
+
+// The number of an option of 32 bits.
+fn large_number_of<'a>(matches: &ArgMatches<'a>, name: &str) -> Option<u32>
+    ensures { IfSome result (IsNumber 32 name.now (rows_of (found_of matches.now))) }
+{
+    matches.get_one::<u32>(name)
+}
+
+// How matches say that a map is served. Times beyond their ranges don't come.
+fn service_of<'a>(matches: &ArgMatches<'a>) -> Option<Service>
+    ensures { IfSome result (IsService (rows_of (found_of matches.now))) }
+{
+    let port = number_of(matches, "port")?;
+    let connections = large_number_of(matches, "connections")?;
+    let idle = number_of(matches, "idle")?;
+    let timeout = number_of(matches, "timeout")?;
+    if idle < 1 || idle > 60_000 || timeout < 1 || timeout > 3_600 {
+        return None;
+    }
+    Some(Service {
+        port,
+        connections,
+        idle,
+        timeout,
+    })
+}
+
 // The command of matches.
 fn command_of<'a>(matches: &ArgMatches<'a>) -> Option<Command<'a>>
     ensures { IfSome result (IsCommand (subcommand_rows_of matches.now)) }
@@ -141,8 +201,7 @@ fn command_of<'a>(matches: &ArgMatches<'a>) -> Option<Command<'a>>
         }),
         "serve" => Some(Command::Serve {
             file,
-            port: inner.get_one::<u16>("port")?,
-            connections: inner.get_one::<u32>("connections")?,
+            service: service_of(inner)?,
         }),
         _ => None,
     }

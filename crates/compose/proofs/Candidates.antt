@@ -11,7 +11,8 @@ use Rattle.compose.specs.Paint.{Thing, colour_in, covers}
 use Rattle.compose.specs.Picture.{colour_at}
 use Rattle.mapdefs.specs.declared.colour.Rgb.{Rgb}
 use Rattle.mapdefs.specs.declared.feature.FeatureFields.{FeatureFields}
-use Rattle.compose.specs.Near.{CandidatesPaintAll, things_at}
+use Rattle.compose.specs.Near.{CandidatesPaintAll}
+use Rattle.compose.specs.Walk.{given_at}
 use Rattle.compose.proofs.Finding.{first_or, here, there}
 
 -- things of which none covers the pixel leave its colour
@@ -24,20 +25,20 @@ quiet background (t ∷ things) i j h =
     ∙ (ap (λ (c : Option Rgb). colour_at c things i j) one ∙ quiet background things i j both.1)
 
 -- indices from one on
-at-start : (h : ℕ → List Thing) (things : List Thing) (from : ℕ) → h (from + 0) ≡ things → h from ≡ things
+pub at-start : {A : Type 0} (h : ℕ → A) (things : A) (from : ℕ) → h (from + 0) ≡ things → h from ≡ things
 at-start h things from e = ap h (turn from) ∙ e
   where
     turn : (n : ℕ) → n ≡ n + 0
     turn n = omega arith
 
-one-on : (h : ℕ → List Thing) (things : List Thing) (from k : ℕ) → h (from + suc k) ≡ things → h (from + 1 + k) ≡ things
+pub one-on : {A : Type 0} (h : ℕ → A) (things : A) (from k : ℕ) → h (from + suc k) ≡ things → h (from + 1 + k) ≡ things
 one-on h things from k e = ap h (turn from k) ∙ e
   where
     turn : (n k : ℕ) → n + 1 + k ≡ n + suc k
     turn n k = omega arith
 
 -- the first number of a rising list is the least
-first-least : (y : ℕ) (ys : List ℕ) (x : ℕ) → IsStrictlySortedBy nat_cmp (y ∷ ys) → Contains (y ∷ ys) x → y ≤ x
+pub first-least : (y : ℕ) (ys : List ℕ) (x : ℕ) → IsStrictlySortedBy nat_cmp (y ∷ ys) → Contains (y ∷ ys) x → y ≤ x
 first-least y ys x s c = ⊎_elim
     (λ (e : c.0 ≡ 0). let f : get_or (y ∷ ys) 0 x ≡ x = rw e at c.2 in omega (arith, f))
     (λ (p : c.0 ≡ 0 → ⊥).
@@ -45,14 +46,14 @@ first-least y ys x s c = ⊎_elim
     omega (arith, lt, c.2))
     (cases_eq c.0 0)
 
-first-below : (y : ℕ) (ys : List ℕ) (x : ℕ) → IsStrictlySortedBy nat_cmp (y ∷ ys) → Contains ys x → y < x
+pub first-below : (y : ℕ) (ys : List ℕ) (x : ℕ) → IsStrictlySortedBy nat_cmp (y ∷ ys) → Contains ys x → y < x
 first-below y ys x s c =
     let lt = below_from_sorted (y ∷ ys) 0 (1 + c.0) x s (omega arith) (omega (arith, c.1)) in
     let e = get_or-append-add (y ∷ []) ys c.0 x in
     omega (arith, lt, e, c.2)
 
 -- the numbers lie between two
-abbrev AreFrom : ℕ → ℕ → List ℕ → Type 0
+abbrev pub AreFrom : ℕ → ℕ → List ℕ → Type 0
 AreFrom from past found = (k : ℕ) → Contains found k → (from ≤ k) × (k < past)
 
 -- and each of those between that passes is one of them
@@ -131,7 +132,7 @@ from-on f h i j (x ∷ xs) from past (y ∷ ys) background e link rising within 
 -- an element whose things cover a pixel is one of those that have some
 covered-there : (f : FeatureFields → List Thing) (features : List FeatureFields) (found : List ℕ) (i j k : ℕ) →
     ((feature : FeatureFields) → slice_get features k ≡ Some feature → list_any (λ t. covers t i j) (f feature) ≡ true → Contains found k) →
-    list_any (λ t. covers t i j) (things_at f features k) ≡ true → Contains found k
+    list_any (λ t. covers t i j) (given_at f features k) ≡ true → Contains found k
 covered-there f features found i j k each h = go (slice_get features k) refl
   where
     go : (o : Option FeatureFields) → slice_get features k ≡ o → Contains found k
@@ -140,8 +141,8 @@ covered-there f features found i j k each h = go (slice_get features k) refl
 
 pub paint-all : CandidatesPaintAll
 paint-all f features found background i j rising indices each =
-    from-on f (things_at f features) i j features 0 (length features) found background (omega arith)
-    (λ k x s. ap (λ (n : ℕ). things_at f features n) (none k) ∙ rw s refl)
+    from-on f (given_at f features) i j features 0 (length features) found background (omega arith)
+    (λ k x s. ap (λ (n : ℕ). given_at f features n) (none k) ∙ rw s refl)
     (sorted_from_strictly_increasing found rising)
     (λ k c. (omega arith, All-contains (λ (n : ℕ). n < length features) found k indices c))
     (λ k low high e. covered-there f features found i j k (each k) e)

@@ -1,7 +1,13 @@
 pub mod Candidates
+pub mod Cutting
+pub mod Meeting
 pub mod Filling
 pub mod Finding
+pub mod Finishing
+pub mod Found
+pub mod Labelling
 pub mod Margins
+pub mod NearAnchors
 pub mod NearBoxes
 pub mod NearEdges
 pub mod NearLines
@@ -11,3 +17,4 @@ pub mod Painting
 pub mod Sparing
 pub mod Sweeping
 pub mod Thinning
+pub mod Walking

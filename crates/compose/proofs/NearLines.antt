@@ -61,32 +61,32 @@ either w e p a b = go (is_steep e) refl
     go false h = b
 
 -- where both ends lie on one side of a point, by more than half the width, the segment doesn't cover it
-right-segment : (w : ℕ) (p : DevicePoint) → FailsBetween (λ v. int_le v.x (p.x +ℤ pos (8 * w))) (λ e. covers_segment w e p)
+pub right-segment : (w : ℕ) (p : DevicePoint) → FailsBetween (λ v. int_le v.x (p.x +ℤ pos (8 * w))) (λ e. covers_segment w e p)
 right-segment w p e a b =
     let ends = both-ends (λ v. (p.x +ℤ pos (8 * w)) <ℤ v.x) e (not_le_of e.from.x (p.x +ℤ pos (8 * w)) a) (not_le_of e.to.x (p.x +ℤ pos (8 * w)) b) in
     let turn = both-ends (λ v. (p.x +ℤ pos (8 * w)) <ℤ v.y) (turned_edge e) ends.0 ends.1 in
     either w e p (right-covers w e p ends.0 ends.1) (above-covers w (turned_edge e) (turned p) (omega (arith, ints, turn.0)))
 
-left-segment : (w : ℕ) (p : DevicePoint) → FailsBetween (λ v. int_le (p.x -ℤ pos (8 * w)) v.x) (λ e. covers_segment w e p)
+pub left-segment : (w : ℕ) (p : DevicePoint) → FailsBetween (λ v. int_le (p.x -ℤ pos (8 * w)) v.x) (λ e. covers_segment w e p)
 left-segment w p e a b =
     let ends = both-ends (λ v. v.x <ℤ (p.x -ℤ pos (8 * w))) e (not_le_of (p.x -ℤ pos (8 * w)) e.from.x a) (not_le_of (p.x -ℤ pos (8 * w)) e.to.x b) in
     let turn = both-ends (λ v. v.y <ℤ (p.x -ℤ pos (8 * w))) (turned_edge e) ends.0 ends.1 in
     either w e p (left-covers w e p ends.0 ends.1) (below-covers w (turned_edge e) (turned p) (omega (arith, ints, turn.1)))
 
-bottom-segment : (w : ℕ) (p : DevicePoint) → FailsBetween (λ v. int_le v.y (p.y +ℤ pos (8 * w))) (λ e. covers_segment w e p)
+pub bottom-segment : (w : ℕ) (p : DevicePoint) → FailsBetween (λ v. int_le v.y (p.y +ℤ pos (8 * w))) (λ e. covers_segment w e p)
 bottom-segment w p e a b =
     let ends = both-ends (λ v. (p.y +ℤ pos (8 * w)) <ℤ v.y) e (not_le_of e.from.y (p.y +ℤ pos (8 * w)) a) (not_le_of e.to.y (p.y +ℤ pos (8 * w)) b) in
     let turn = both-ends (λ v. (p.y +ℤ pos (8 * w)) <ℤ v.x) (turned_edge e) ends.0 ends.1 in
     either w e p (above-covers w e p (omega (arith, ints, ends.0))) (right-covers w (turned_edge e) (turned p) turn.0 turn.1)
 
-top-segment : (w : ℕ) (p : DevicePoint) → FailsBetween (λ v. int_le (p.y -ℤ pos (8 * w)) v.y) (λ e. covers_segment w e p)
+pub top-segment : (w : ℕ) (p : DevicePoint) → FailsBetween (λ v. int_le (p.y -ℤ pos (8 * w)) v.y) (λ e. covers_segment w e p)
 top-segment w p e a b =
     let ends = both-ends (λ v. v.y <ℤ (p.y -ℤ pos (8 * w))) e (not_le_of (p.y -ℤ pos (8 * w)) e.from.y a) (not_le_of (p.y -ℤ pos (8 * w)) e.to.y b) in
     let turn = both-ends (λ v. v.x <ℤ (p.y -ℤ pos (8 * w))) (turned_edge e) ends.0 ends.1 in
     either w e p (below-covers w e p (omega (arith, ints, ends.1))) (left-covers w (turned_edge e) (turned p) turn.0 turn.1)
 
 -- the segments of a line, by its edges
-segments-edges : (closed : Bool) (w i j : ℕ) (parts : List (List DevicePoint)) →
+pub segments-edges : (closed : Bool) (w i j : ℕ) (parts : List (List DevicePoint)) →
     list_any (covers_centre (pos i) (pos j)) (flat_map (segments_of closed w) parts) ≡ list_any (λ e. covers_segment w e (pixel_centre (pos i) (pos j))) (flat_map (edges_of closed) parts)
 segments-edges closed w i j [] = refl
 segments-edges closed w i j (part ∷ parts) =
@@ -99,7 +99,7 @@ segments-edges closed w i j (part ∷ parts) =
     one (e ∷ es) = ap (λ b. covers_segment w e (pixel_centre (pos i) (pos j)) || b) (one es)
 
 -- its squares, by its vertices
-squares-points : (at : Place → DevicePoint) (w i j : ℕ) (parts : List (List Place)) →
+pub squares-points : (at : Place → DevicePoint) (w i j : ℕ) (parts : List (List Place)) →
     list_any (λ s. covers_square s (pos i) (pos j)) (flat_map (map (square_at w)) (map (map at) parts))
     ≡ list_any (λ q. covers_square (square_at w (at q)) (pos i) (pos j)) (flat_map (λ part. part) parts)
 squares-points at w i j [] = refl

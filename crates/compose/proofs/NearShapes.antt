@@ -118,35 +118,35 @@ both-ends P e p q = go (int_le e.from.y e.to.y) refl
     go false h = (q, p)
 
 -- which edges cross the height of p at p or left of it, by the side of both ends
-right-fails : (p : DevicePoint) → FailsBetween (λ v. int_le v.x p.x) (crosses_at_or_left p)
+pub right-fails : (p : DevicePoint) → FailsBetween (λ v. int_le v.x p.x) (crosses_at_or_left p)
 right-fails p e a b =
     let ends = both-ends (λ v. p.x <ℤ v.x) e (not_le_of e.from.x p.x a) (not_le_of e.to.x p.x b) in
     right-crosses e p ends.0 ends.1
 
-left-alike : (p : DevicePoint) → FailsBetween (λ v. int_lt p.x v.x) (λ e. is_one_of (crosses_at_or_left p e) (crosses_height e p.y))
+pub left-alike : (p : DevicePoint) → FailsBetween (λ v. int_lt p.x v.x) (λ e. is_one_of (crosses_at_or_left p e) (crosses_height e p.y))
 left-alike p e a b =
     let from : e.from.x ≤ℤ p.x = omega (arith, ints, a) in
     let to : e.to.x ≤ℤ p.x = omega (arith, ints, b) in
     let ends = both-ends (λ v. v.x ≤ℤ p.x) e from to in
     differs-not (crosses_at_or_left p e) (crosses_height e p.y) (left-crosses e p ends.0 ends.1)
 
-below-fails : (p : DevicePoint) → FailsBetween (λ v. int_le v.y p.y) (crosses_at_or_left p)
+pub below-fails : (p : DevicePoint) → FailsBetween (λ v. int_le v.y p.y) (crosses_at_or_left p)
 below-fails p e a b = rw (a, b) refl
 
-above-fails : (p : DevicePoint) → FailsBetween (λ v. int_lt p.y v.y) (crosses_at_or_left p)
+pub above-fails : (p : DevicePoint) → FailsBetween (λ v. int_lt p.y v.y) (crosses_at_or_left p)
 above-fails p e a b =
     let from : int_le e.from.y p.y ≡ true = sym (omega (arith, ints, a)) in
     let to : int_le e.to.y p.y ≡ true = sym (omega (arith, ints, b)) in
     rw (from, to) refl
 
 -- a point that no edge crosses is not inside
-none-inside : (parts : List (List Place)) (at : Place → DevicePoint) (u : DevicePoint → Bool) (p : DevicePoint) → FailsBetween u (crosses_at_or_left p) →
+pub none-inside : (parts : List (List Place)) (at : Place → DevicePoint) (u : DevicePoint → Bool) (p : DevicePoint) → FailsBetween u (crosses_at_or_left p) →
     list_any (λ q. u (at q)) (flat_map (λ part. part) parts) ≡ false → is_inside (map (map at) parts) p ≡ false
 none-inside parts at u p fails h =
     ap is_odd (count-failed (crosses_at_or_left p) (edges (map (map at) parts)) (parts-fail true at u (crosses_at_or_left p) fails parts h))
 
 -- nor is one with all vertices left of it
-left-inside : (parts : List (List Place)) (at : Place → DevicePoint) (p : DevicePoint) →
+pub left-inside : (parts : List (List Place)) (at : Place → DevicePoint) (p : DevicePoint) →
     list_any (λ q. int_lt p.x (at q).x) (flat_map (λ part. part) parts) ≡ false → is_inside (map (map at) parts) p ≡ false
 left-inside parts at p h =
     ap is_odd (count-alike (crosses_at_or_left p) (λ e. crosses_height e p.y) (edges (map (map at) parts))

@@ -1,5 +1,5 @@
 -- Painting one thing after another.
-use Rattle.std.proofs.Common.{◌≡◌, zero, suc, ℕ, ◌+◌, ◌*◌, ◌/◌, ◌%◌, ◌<◌, Bool, true, false, List, [], ◌∷◌, ◌++◌, length, get_or, take, reverse, replicate, Option, None, Some, cond, refl, sym, ◌∙◌, ap, arith, take_all, subst}
+use Rattle.std.proofs.Common.{◌≡◌, zero, suc, ℕ, ◌+◌, ◌*◌, ◌/◌, ◌%◌, ◌<◌, Bool, true, false, List, [], ◌∷◌, ◌++◌, length, get_or, take, reverse, replicate, Option, None, Some, cond, refl, sym, ◌∙◌, ap, arith, take_all}
 use Rattle.std.proofs.lemmas.Grind.{flat_map-append}
 use Rattle.std.proofs.lemmas.List.{reverse-append, append-nil, take_more, get_or-replicate, length-replicate}
 use Rattle.std.proofs.lemmas.List.Folds.{find-append}
@@ -8,15 +8,12 @@ use Rattle.std.proofs.lemmas.Option.{slice_get-get_or}
 use Rattle.std.specs.List.{flat_map, find}
 use Rattle.std.specs.Option.{option_map_or, option_or}
 use Rattle.std.specs.Prelude.{slice_get}
-use Rattle.geom.specs.Scale.{PictureScale}
 use Rattle.mapdefs.specs.declared.colour.Rgb.{Rgb}
-use Rattle.mapdefs.specs.declared.layer.LayerFields.{LayerFields}
-use Rattle.mapdefs.specs.declared.map.MapFields.{MapFields}
 use Rattle.mapdefs.specs.declared.picture.PictureFields.{PictureFields}
 use Rattle.viewport.specs.View.{ViewValue}
-use Rattle.compose.specs.Paint.{Thing, covers, colour_in, layer_things, chosen_things, paint_list}
+use Rattle.compose.specs.Paint.{Thing, covers, colour_in}
 use Rattle.compose.specs.Painted.{IsFilled, IsPainted, colour_of}
-use Rattle.compose.specs.Picture.{colour_at, IsPictureOf}
+use Rattle.compose.specs.Picture.{colour_at}
 
 -- a default after two options, one after the other
 map_or-option_or : {X Y : Type 0} (f : X → Y) (a b : Option X) (d : Y) → option_map_or f (option_or a b) d ≡ option_map_or f a (option_map_or f b d)
@@ -74,28 +71,22 @@ pub painted_end : {X : Type 0} (f : X → List Thing) (xs : List X) (i : ℕ) (a
     IsPainted a b (flat_map f (take i xs)) → IsPainted a b (flat_map f xs)
 painted_end f xs i a b e p = rw (take_all i xs (omega arith)) at p
 
--- a canvas of the background that is painted over with the paint list is the picture
-painted-canvas : (m : MapFields) (view : ViewValue) (scale : PictureScale) (chosen : List ℕ) (background : Option Rgb) (b : PictureFields) →
-    IsPainted (record { width = view.width; height = view.height; pixels = replicate (view.width * view.height) background }) b (paint_list view scale m chosen) →
-    IsPictureOf m view scale chosen background b
-painted-canvas m view scale chosen background b p = record {
-  width = p.width;
-  height = p.height;
-  area = p.area ∙ length-replicate (view.width * view.height) background ∙ rw (p.width, p.height);
-  pixels = λ i j left up.
-      let inside : j * view.width + i < view.width * view.height = omega (arith, mul-add-lt j view.width i view.height up left) in
-      let first : j * view.width + i < length (replicate (view.width * view.height) background) = omega (arith, length-replicate {A = Option Rgb}) in
-      let last : j * view.width + i < length b.pixels = omega (arith, p.area) in
-      let colour = rw (get_or-replicate (view.width * view.height) (j * view.width + i) background None inside, mod-mul-add j view.width i left, div-mul-add j view.width i left) at (p.pixels (j * view.width + i) first) in
-      slice_get-get_or b.pixels (j * view.width + i) None last ∙ ap Some colour;
-}
+-- the pixels of a canvas of the background that is painted over have their colours
+pub painted-pixels : (view : ViewValue) (background : Option Rgb) (things : List Thing) (b : PictureFields) →
+    IsPainted (record { width = view.width; height = view.height; pixels = replicate (view.width * view.height) background }) b things →
+    (i j : ℕ) → i < view.width → j < view.height → slice_get b.pixels (j * view.width + i) ≡ Some (colour_at background things i j)
+painted-pixels view background things b p i j left up =
+    let inside : j * view.width + i < view.width * view.height = omega (arith, mul-add-lt j view.width i view.height up left) in
+    let first : j * view.width + i < length (replicate (view.width * view.height) background) = omega (arith, length-replicate {A = Option Rgb}) in
+    let last : j * view.width + i < length b.pixels = omega (arith, p.area) in
+    let colour = rw (get_or-replicate (view.width * view.height) (j * view.width + i) background None inside, mod-mul-add j view.width i left, div-mul-add j view.width i left) at (p.pixels (j * view.width + i) first) in
+    slice_get-get_or b.pixels (j * view.width + i) None last ∙ ap Some colour
 
--- the same of any canvas that is one of the background
-pub painted-picture : (m : MapFields) (view : ViewValue) (scale : PictureScale) (chosen : List ℕ) (background : Option Rgb) (a b : PictureFields) →
-    a ≡ record { width = view.width; height = view.height; pixels = replicate (view.width * view.height) background } →
-    IsPainted a b (paint_list view scale m chosen) → IsPictureOf m view scale chosen background b
-painted-picture m view scale chosen background a b e p =
-    painted-canvas m view scale chosen background b (subst (λ (x : PictureFields). IsPainted x b (paint_list view scale m chosen)) e p)
+-- there are as many as its sides say
+pub painted-area : (view : ViewValue) (background : Option Rgb) (things : List Thing) (b : PictureFields) →
+    IsPainted (record { width = view.width; height = view.height; pixels = replicate (view.width * view.height) background }) b things →
+    length b.pixels ≡ b.width * b.height
+painted-area view background things b p = p.area ∙ length-replicate (view.width * view.height) background ∙ rw (p.width, p.height)
 
 -- pixels that have their colours where a thing covers them, and else are as they were, are painted over with the thing
 pub painted-thing : (thing : Thing) (test : ℕ → ℕ → Bool) (colour : ℕ → ℕ → Option Rgb) (a b : PictureFields) → ((i j : ℕ) → covers thing i j ≡ test i j) →
@@ -124,8 +115,3 @@ painted-rows thing test colour a b area same shown f = record {
     row-below : (at w h : ℕ) → at < w * h → at / w < h
     row-below at zero h below = absurd (omega arith)
     row-below at (suc w) h below = div_below at (suc w) h (omega arith) (omega arith)
-
--- what a layer paints is what its index in the map does
-pub painted-chosen : (view : ViewValue) (scale : PictureScale) (m : MapFields) (index : ℕ) (layer : LayerFields) (a b : PictureFields) →
-    slice_get m.layers index ≡ Some layer → IsPainted a b (layer_things view scale m.symbols layer) → IsPainted a b (chosen_things view scale m index)
-painted-chosen view scale m index layer a b e p = rw e p

@@ -1,21 +1,26 @@
 -- Painting what is found of a layer paints the layer.
-use Rattle.std.proofs.Common.{◌≡◌, ◌∙◌, ℕ, ◌*◌, ◌/◌, ◌%◌, ◌<◌, Bool, true, false, List, All, length, get_or, Option, Some, None, Result, Ok, Err, OnOk, refl, sym, ap, arith}
+use Rattle.std.proofs.Common.{◌≡◌, ◌∙◌, ℕ, ◌*◌, ◌/◌, ◌%◌, ◌<◌, List, ◌++◌, length, get_or, Some, Result, Ok, Err, OnOk, ap, arith}
 use Rattle.std.proofs.lemmas.Nat.{div_below}
 use Rattle.std.proofs.lemmas.Option.{slice_get-get_or}
-use Rattle.std.specs.List.{Contains, flat_map, list_any}
+use Rattle.std.specs.List.{flat_map}
 use Rattle.std.specs.Prelude.{slice_get}
 use Rattle.geom.specs.Scale.{PictureScale}
 use Rattle.geom.specs.Side.{IsPictureSide}
 use Rattle.geom.specs.World.{Area, IsExtent}
 use Rattle.mapdefs.specs.Near.{AreCandidates, AreCandidatesOf}
-use Rattle.mapdefs.specs.declared.feature.FeatureFields.{FeatureFields}
 use Rattle.mapdefs.specs.declared.layer.LayerFields.{LayerFields}
 use Rattle.mapdefs.specs.declared.map.MapFields.{MapFields}
 use Rattle.mapdefs.specs.declared.picture.PictureFields.{PictureFields}
 use Rattle.mapdefs.specs.declared.symbol.Symbol.{Symbol}
 use Rattle.viewport.specs.View.{ViewValue, window}
-use Rattle.compose.specs.Near.{margin_of, things_at}
-use Rattle.compose.specs.Paint.{Thing, covers, feature_things}
+use Rattle.compose.specs.Near.{margin_of}
+use Rattle.compose.specs.Drawn.{DrawingValue, IsDrawn}
+use Rattle.compose.specs.Walk.{Met, given_at, met_chosen, met_feature, met_layer, met_things}
+use Rattle.labelcache.specs.Candidate.{CandidateValue}
+use Rattle.scene.specs.Scene.{SceneValue}
+use Rattle.compose.proofs.Found.{found-label-all, given-nested}
+use Rattle.compose.proofs.Walking.{nested, of-feature}
+use Rattle.compose.specs.Paint.{feature_things}
 use Rattle.compose.specs.Painted.{IsPainted, colour_of}
 use Rattle.compose.proofs.Candidates.{paint-all}
 use Rattle.compose.proofs.NearThings.{paints-near}
@@ -25,10 +30,10 @@ pub on-ok : {T E : Type 0} (r : Result T E) (P Q : Type 0) → (P → Q) → OnO
 on-ok (Ok x) P Q f p = f p
 on-ok (Err e) P Q f p = tt
 
--- what an element paints is what its index does
-pub painted-at : {X : Type 0} (f : X → List Thing) (xs : List X) (k : ℕ) (x : X) (a b : PictureFields) → k < length xs → x ≡ get_or xs k x →
-    IsPainted a b (f x) → IsPainted a b (things_at f xs k)
-painted-at f xs k x a b short is p = rw (slice_get-get_or xs k x short, ← is) p
+-- what an element meets is what its index does
+pub drawn-at : {X : Type 0} (scene : SceneValue) (f : X → List Met) (xs : List X) (k : ℕ) (x : X) (a b : DrawingValue) → k < length xs → x ≡ get_or xs k x →
+    IsDrawn scene a b (f x) → IsDrawn scene a b (given_at f xs k)
+drawn-at scene f xs k x a b short is p = rw (slice_get-get_or xs k x short, ← is) p
 
 -- the candidates of a layer in a map are those of the layer
 pub candidates-of : (m : MapFields) (index : ℕ) (layer : LayerFields) (w : Area) (found : List ℕ) → slice_get m.layers index ≡ Some layer →
@@ -43,7 +48,7 @@ column-below at w some = omega arith
 pub spared : (view : ViewValue) (scale : PictureScale) (symbols : List Symbol) (layer : LayerFields) (found : List ℕ) (a b : PictureFields) →
     IsExtent view.area → IsPictureSide view.width → IsPictureSide view.height → a.width ≡ view.width → a.height ≡ view.height → length a.pixels ≡ a.width * a.height →
     AreCandidates layer.features (window view (margin_of symbols layer)) found →
-    IsPainted a b (flat_map (things_at (feature_things view scale symbols layer) layer.features) found) →
+    IsPainted a b (flat_map (given_at (feature_things view scale symbols layer) layer.features) found) →
     IsPainted a b (flat_map (feature_things view scale symbols layer) layer.features)
 spared view scale symbols layer found a b extent width height wide high area are p = record {
   width = p.width;
@@ -57,3 +62,30 @@ spared view scale symbols layer found a b extent width height wide high area are
       ∙ paint-all (feature_things view scale symbols layer) layer.features found (colour_of a.pixels at) (at % a.width) (at / a.width) are.rising are.indices
       (λ k feature is covered. are.each k feature is (paints-near view scale symbols layer feature (at % a.width) (at / a.width) extent width height column row covered));
 }
+
+-- and they meet the same candidates for labels, so that drawing what is found draws all
+pub spared-drawing : (scene : SceneValue) (layer : LayerFields) (found : List ℕ) (a b : DrawingValue) →
+    IsExtent scene.view.area → IsPictureSide scene.view.width → IsPictureSide scene.view.height →
+    a.canvas.width ≡ scene.view.width → a.canvas.height ≡ scene.view.height → length a.canvas.pixels ≡ a.canvas.width * a.canvas.height →
+    AreCandidates layer.features (window scene.view (margin_of scene.map.symbols layer)) found →
+    IsDrawn scene a b (flat_map (given_at (met_feature scene.scale layer) layer.features) found) →
+    IsDrawn scene a b (flat_map (met_feature scene.scale layer) layer.features)
+spared-drawing scene layer found a b extent width height wide high area are p =
+    let view = scene.view in
+    let symbols = scene.map.symbols in
+    let things = met_things view symbols in
+    let painted = feature_things view scene.scale symbols layer in
+    let same = of-feature view scene.scale symbols layer in
+    record {
+      painted = rw (← nested things (met_feature scene.scale layer) painted same layer.features)
+          (spared view scene.scale symbols layer found a.canvas b.canvas extent width height wide high area are
+          (rw (← given-nested things (met_feature scene.scale layer) painted same layer.features found) at p.painted));
+      labelled = p.labelled
+          ∙ ap (λ (z : List CandidateValue). a.labels ++ z)
+          (found-label-all view (margin_of symbols layer) scene.scale scene.map.font layer found extent width height are);
+    }
+
+-- what a layer meets is what its index in the map does
+pub drawn-chosen : (scene : SceneValue) (index : ℕ) (layer : LayerFields) (a b : DrawingValue) → slice_get scene.map.layers index ≡ Some layer →
+    IsDrawn scene a b (met_layer scene.scale layer) → IsDrawn scene a b (met_chosen scene.scale scene.map index)
+drawn-chosen scene index layer a b e p = rw e p

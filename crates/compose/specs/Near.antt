@@ -15,6 +15,7 @@ use Rattle.mapdefs.specs.declared.style.StyleFields.{StyleFields}
 use Rattle.mapdefs.specs.declared.symbol.Symbol.{Symbol}
 use Rattle.viewport.specs.View.{ViewValue, window}
 use Rattle.compose.specs.Paint.{Thing, covers, feature_things}
+use Rattle.compose.specs.Walk.{given_at}
 use Rattle.mapdefs.specs.Near.{HasBoxIn}
 
 -- the greater side of a symbol's pixmap
@@ -46,13 +47,9 @@ PaintsNear = (view : ViewValue) (scale : PictureScale) (symbols : List Symbol) (
     list_any (λ thing. covers thing i j) (feature_things view scale symbols layer feature) ≡ true →
     HasBoxIn (window view (margin_of symbols layer)) feature
 
--- the things of the element of an index, if there is one
-abbrev pub things_at : {X : Type 0} → (X → List Thing) → List X → ℕ → List Thing
-things_at f xs index = option_map_or f (slice_get xs index) []
-
 -- the law: painting candidates in their order is painting all, where each whose things cover a pixel of the picture is a candidate
 abbrev pub CandidatesPaintAll : Type 0
 CandidatesPaintAll = (f : FeatureFields → List Thing) (features : List FeatureFields) (found : List ℕ) (background : Option Rgb) (i j : ℕ) →
     IsStrictlyIncreasing found → All (λ k. k < length features) found →
     ((k : ℕ) (feature : FeatureFields) → slice_get features k ≡ Some feature → list_any (λ thing. covers thing i j) (f feature) ≡ true → Contains found k) →
-    colour_at background (flat_map (things_at f features) found) i j ≡ colour_at background (flat_map f features) i j
+    colour_at background (flat_map (given_at f features) found) i j ≡ colour_at background (flat_map f features) i j

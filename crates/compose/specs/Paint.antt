@@ -6,10 +6,13 @@ use Rattle.geom.specs.Device.{DevicePoint, PixelPlace, pixel_centre, pixel_of}
 use Rattle.geom.specs.EvenOdd.{is_inside}
 use Rattle.geom.specs.Scale.{PictureScale}
 use Rattle.geom.specs.World.{Place}
+use Rattle.bdffont.specs.Ink.{has_ink}
+use Rattle.labelink.specs.Ink.{has_outline}
 use Rattle.mapdefs.specs.Class.{class_of, is_visible_layer}
 use Rattle.mapdefs.specs.declared.class.ClassFields.{ClassFields}
 use Rattle.mapdefs.specs.declared.colour.Rgb.{Rgb}
 use Rattle.mapdefs.specs.declared.feature.FeatureFields.{FeatureFields}
+use Rattle.mapdefs.specs.declared.font.FontFields.{FontFields}
 use Rattle.mapdefs.specs.declared.layer.Kind.{Kind}
 use Rattle.mapdefs.specs.declared.layer.Kind.TheVariants as kind
 use Rattle.mapdefs.specs.declared.layer.LayerFields.{LayerFields}
@@ -23,12 +26,21 @@ use Rattle.symbols.specs.Stamp.{StampValue, pixel_at}
 use Rattle.symbols.specs.Stamp as stamp
 use Rattle.viewport.specs.View.{ViewValue, device_point}
 
--- what is painted: rings that are filled with a colour, a line of a colour, a square of a colour, or a pixmap
+-- a text on the picture: its characters in a font, with its upper left pixel
+pub record Written : Type 0 where
+  pub font : FontFields
+  pub characters : List ℕ
+  pub at : PixelPlace
+
+-- what is painted: rings that are filled with a colour, a line of a colour, a square of a colour, or a pixmap; and the
+-- outline round all glyphs of a text, or these themselves, of a colour
 pub data Thing : Type 0 where
   Fill : List (List DevicePoint) → Rgb → Thing
   Stroke : LineValue → Rgb → Thing
   Mark : SquareValue → Rgb → Thing
   Stamped : StampValue → Thing
+  Outlined : Written → Rgb → Thing
+  Inked : Written → Rgb → Thing
 
 -- whether it covers the pixel in a column and a row: rings cover a pixel whose centre lies inside of them
 abbrev pub covers : Thing → ℕ → ℕ → Bool
@@ -36,6 +48,8 @@ covers (Fill rings colour) i j = is_inside rings (pixel_centre (pos i) (pos j))
 covers (Stroke stroke colour) i j = line.covers_pixel stroke (pos i) (pos j)
 covers (Mark square colour) i j = covers_square square (pos i) (pos j)
 covers (Stamped pixmap) i j = stamp.covers_pixel pixmap (pos i) (pos j)
+covers (Outlined w colour) i j = has_outline w.font w.characters w.at (pos i) (pos j)
+covers (Inked w colour) i j = has_ink w.font w.characters w.at (pos i) (pos j)
 
 -- the colour that it gives to a pixel: a pixmap has one for each pixel that it covers, the others for all
 abbrev pub colour_in : Thing → ℕ → ℕ → Option Rgb
@@ -43,6 +57,8 @@ colour_in (Fill rings colour) i j = Some colour
 colour_in (Stroke stroke colour) i j = Some colour
 colour_in (Mark square colour) i j = Some colour
 colour_in (Stamped pixmap) i j = pixel_at pixmap (pos i) (pos j)
+colour_in (Outlined w colour) i j = Some colour
+colour_in (Inked w colour) i j = Some colour
 
 -- the parts of a feature on the picture: the rings of a polygon, or lines
 abbrev pub parts_of : ViewValue → FeatureFields → List (List DevicePoint)
@@ -106,6 +122,6 @@ layer_things view scale symbols layer =
 abbrev pub chosen_things : ViewValue → PictureScale → MapFields → ℕ → List Thing
 chosen_things view scale m index = option_map_or (layer_things view scale m.symbols) (slice_get m.layers index) []
 
--- all that is painted, from the first to the last: the chosen layers, in order
+-- all that is painted of features, from the first to the last: the chosen layers, in order
 abbrev pub paint_list : ViewValue → PictureScale → MapFields → List ℕ → List Thing
 paint_list view scale m chosen = flat_map (chosen_things view scale m) chosen

@@ -1,11 +1,13 @@
--- The picture of a map (docs/PROFILE.md, "How features are painted").
-use Rattle.std.specs.Prelude.{◌≡◌, ℕ, ◌+◌, ◌*◌, ◌<◌, List, length, reverse, find, Option, Some, slice_get}
+-- The picture of a map (docs/PROFILE.md, "How features are painted" and "Labels").
+use Rattle.std.specs.Prelude.{◌≡◌, ℕ, ◌+◌, ◌*◌, ◌<◌, List, ◌++◌, length, reverse, find, Option, Some, slice_get}
 use Rattle.std.specs.Option.{option_map_or}
 use Rattle.geom.specs.Scale.{PictureScale}
+use Rattle.labelcache.specs.declared.cache.Placed.{Placed}
 use Rattle.mapdefs.specs.declared.colour.Rgb.{Rgb}
 use Rattle.mapdefs.specs.declared.map.MapFields.{MapFields}
 use Rattle.mapdefs.specs.declared.picture.PictureFields.{PictureFields}
 use Rattle.viewport.specs.View.{ViewValue}
+use Rattle.compose.specs.Labels.{ArePlaced, candidate_list, ink_list}
 use Rattle.compose.specs.Paint.{Thing, covers, colour_in, paint_list}
 
 -- the colour of a pixel: that of the last thing that covers it, else the background, which may be nothing
@@ -13,10 +15,18 @@ unfoldable pub colour_at : Option Rgb → List Thing → ℕ → ℕ → Option 
 colour_at background things i j =
     option_map_or (λ thing. colour_in thing i j) (find (λ thing. covers thing i j) (reverse things)) background
 
--- the picture has the view's sides, as many pixels as these say, and each pixel has its colour
+-- the picture has labels, the view's sides, and as many pixels as these say; each pixel has the colour of the last thing that covers it,
+-- of what is painted of features and then of the labels, else the background
 pub record IsPictureOf (m : MapFields) (view : ViewValue) (scale : PictureScale) (chosen : List ℕ) (background : Option Rgb) (picture : PictureFields) : Type 0 where
+  pub labels : List Placed
+  pub placed : ArePlaced view m.font (candidate_list view scale m chosen) labels
   pub width : picture.width ≡ view.width
   pub height : picture.height ≡ view.height
   pub area : length picture.pixels ≡ picture.width * picture.height
   pub pixels : (i j : ℕ) → i < view.width → j < view.height →
-      slice_get picture.pixels (j * view.width + i) ≡ Some (colour_at background (paint_list view scale m chosen) i j)
+      slice_get picture.pixels (j * view.width + i) ≡ Some (colour_at background (paint_list view scale m chosen ++ ink_list m.font (candidate_list view scale m chosen) labels) i j)
+
+-- the law that there is one picture
+abbrev pub HasOnePicture : Type 0
+HasOnePicture = (m : MapFields) (view : ViewValue) (scale : PictureScale) (chosen : List ℕ) (background : Option Rgb) (a b : PictureFields) →
+    IsPictureOf m view scale chosen background a → IsPictureOf m view scale chosen background b → a ≡ b

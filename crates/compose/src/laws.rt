@@ -1,6 +1,10 @@
 //! Laws of the definitions. A law is a function without arguments whose contract states it.
 
+ghost use Rattle.compose.specs.Anchor.{AnchorsAreNear};
+ghost use Rattle.compose.specs.Labels.{FoundLabelAll};
 ghost use Rattle.compose.specs.Near.{CandidatesPaintAll, PaintsNear};
+ghost use Rattle.compose.specs.Picture.{HasOnePicture};
+ghost use Rattle.compose.specs.Walk.{PaintListIsOfTheMet};
 
 /// A feature that paints a pixel of the picture has its box in the window of its layer's margin, so that what is
 /// painted doesn't depend on how features are found.
@@ -11,4 +15,25 @@ pub fn paints_near()
 /// Painting the candidates, in their order, gives each pixel the colour that painting all features gives it.
 pub fn candidates_paint_all()
     ensures { CandidatesPaintAll }
+{}
+
+/// The paint list is what is painted of the features that are met, of which the candidates for labels are too.
+pub fn paint_list_is_of_the_met()
+    ensures { PaintListIsOfTheMet }
+{}
+
+/// A feature whose anchor lies in the picture has its box in the window of every margin, 0 included.
+pub fn anchors_are_near()
+    ensures { AnchorsAreNear }
+{}
+
+/// What is found in a window of the picture, whatever its margin and whatever else is found, gives the candidates
+/// that all features of the layer give, in the same order: so their numbers and the labels are the same.
+pub fn found_label_all()
+    ensures { FoundLabelAll }
+{}
+
+/// There is one picture at most of a map in a view.
+pub fn one_picture()
+    ensures { HasOnePicture }
 {}

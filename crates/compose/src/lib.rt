@@ -1,22 +1,32 @@
 //! From a map to its picture: what is painted, and in which order.
 //!
 //! Proved: `picture` gives the picture of the chosen layers in a view. Each pixel has the colour of
-//! the last thing of the paint list that covers it, else the background, which may be nothing
-//! (`IsPictureOf`).
+//! the last thing of the paint list, and then of the ink of the labels, that covers it, else the
+//! background, which may be nothing (`IsPictureOf`). The labels are the placement of the candidates of
+//! the features that are met. There is one such picture (`laws::one_picture`), and it doesn't depend on
+//! how features are found (`laws::paints_near`, `candidates_paint_all`, `anchors_are_near`,
+//! `found_label_all`).
 //!
 //! Words: a *thing* is what is painted at once: the rings of a polygon, a line or a square in one colour,
 //! or a pixmap. The *paint list* has the things of the chosen layers in order: a layer's features, a
 //! feature's styles, the points of a feature. A *canvas* is the picture while it is painted. A *colouring*
 //! gives the pixels of a cover their colours. A *run* is a stretch of a ring's vertices in one row of the
-//! picture. Edges *stand for* others where they cover the same pixels of its rows.
+//! picture. Edges *stand for* others where they cover the same pixels of its rows. A feature is *met* when the
+//! chosen layers are gone through and it has a class. A *candidate* is a text that may be placed, and its *anchor*
+//! the pixel that its label stands at.
 #![tactic(auto)]
 
+mod anchor;
 mod canvas;
 mod colouring;
+mod drawing;
+mod ink;
+mod label;
 mod latitudes;
 pub mod laws;
 mod lines;
 mod margin;
+mod met;
 mod paint;
 mod points;
 mod polygons;

@@ -54,8 +54,12 @@ pub fn paint_line(canvas: &mut Canvas, line: &Line, colour: Rgb) -> Result<(), A
     paint_covers(canvas, line.squares(), colour)
 }
 
-// Gives the colour to the pixels that some cover covers.
-fn paint_covers<C: Cover>(canvas: &mut Canvas, covers: &[C], colour: Rgb) -> Result<(), AllocError>
+/// Gives the colour to the pixels that some cover covers.
+pub fn paint_covers<C: Cover>(
+    canvas: &mut Canvas,
+    covers: &[C],
+    colour: Rgb,
+) -> Result<(), AllocError>
     ensures { OnOk result (IsFilled (λ i j. list_any (λ c. C.covered c i j) covers.now) (λ i j. Some colour) canvas.old canvas.new) }
 {
     for cover in covers {

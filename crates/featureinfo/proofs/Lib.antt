@@ -1,0 +1,6 @@
+mod Firsts
+mod InWindow
+mod PointsNear
+mod Reaching
+mod Spans
+mod Wanted

@@ -1,12 +1,21 @@
-//! The text of an answer to a click: the features that were hit, layer by layer.
+//! Feature information: which features of a layer are seen near a pixel of a picture, and the text of them.
 //!
-//! Proved: `text` gives the text of the hits in a map, byte by byte, by its clause.
+//! Proved: `hits` gives the first features of a layer that are hit (`AreHitsOf`), for every `near`: those of a
+//! layer that shows at the scale which have a class, and whose plain cover has a pixel of the picture within the
+//! layer's tolerance of the asked one. `text` gives the text of the hits of some layers, byte by byte.
+//! `laws::nearby` says which pixels are near the asked one, and `laws::far` that a feature is not hit whose
+//! vertices all lie beyond one side of these.
 //!
-//! Words: the *hits* of a layer are the indices of the features that were hit, in order.
+//! Words: the *plain cover* of a feature is the polygon, a line one pixel wide, or the pixels of points, whatever its
+//! styles are. The *hits* of a layer are the indices of the features that were hit, in order.
 #![tactic(auto)]
 
-mod hits;
+mod asked;
+pub mod laws;
+mod nearby;
+mod reach;
+mod side;
 mod text_lines;
 
-pub use hits::LayerHits;
+pub use asked::{Asked, LayerHits, hits};
 pub use text_lines::text;

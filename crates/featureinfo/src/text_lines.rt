@@ -2,7 +2,7 @@ ghost use Rattle.std.specs.Prelude.{◌≡◌, ◌++◌, IfOk, OnOk};
 ghost use Rattle.std.specs.List.{flat_map};
 ghost use Rattle.featureinfo.specs.Answer.{item_line, item_lines, feature_lines, lines_at, layer_line, layer_lines, hit_lines, first_line, answer};
 
-use crate::hits::LayerHits;
+use crate::asked::LayerHits;
 use itoa::Buffer;
 use mapdefs::{FeatureFields, Items, LayerFields, Map, MapFields, Text};
 use std::alloc::{AllocError, Global};
@@ -71,11 +71,11 @@ fn add_at(out: &mut Vec<u8>, layer: &LayerFields, index: usize) -> Result<(), Al
 }
 
 // Adds the lines of some features.
-fn add_features(out: &mut Vec<u8>, layer: &LayerFields, indices: &[usize]) -> Result<(), AllocError>
+fn add_features(out: &mut Vec<u8>, layer: &LayerFields, indices: &[u32]) -> Result<(), AllocError>
     ensures { OnOk result (out.new.items ≡ out.old.items ++ flat_map (lines_at layer.now) indices.now) }
 {
     for index in indices {
-        add_at(out, layer, *index)?;
+        add_at(out, layer, *index as usize)?;
     }
     Ok(())
 }
@@ -91,7 +91,7 @@ fn add_layer_line(out: &mut Vec<u8>, name: &str) -> Result<(), AllocError>
 }
 
 // Adds the lines of a layer's hits.
-fn add_layer(out: &mut Vec<u8>, layer: &LayerFields, indices: &[usize]) -> Result<(), AllocError>
+fn add_layer(out: &mut Vec<u8>, layer: &LayerFields, indices: &[u32]) -> Result<(), AllocError>
     ensures { OnOk result (out.new.items ≡ out.old.items ++ layer_lines layer.now indices.now) }
 {
     match indices {

@@ -1,10 +1,7 @@
 -- What happens at a port, call after call.
 use Rattle.std.proofs.Common.{◌≡◌, ◌≢◌, ◌⊎◌, inl, inr, ℕ, zero, suc, min, IfSome, ◌+◌, ◌-◌, ◌^◌, ◌<◌, List, [], ◌∷◌, ◌++◌, Option, None, Some, refl, sym, ap, ◌∙◌, append_assoc, append-nil, arith}
 use Rattle.batches.specs.Batch.{State}
-use Rattle.httpedge.specs.Exchange.{written_of}
 use Rattle.httpedge.specs.declared.edge.EdgeFault.{EdgeFault}
-use Rattle.httpedge.specs.declared.edge.EdgeFault.TheVariants.{Read, Write}
-use Rattle.sessions.specs.Connections.{HasPartlyServed}
 use Rattle.sessions.specs.declared.outcome.Outcome.TheVariants.{Served, SocketFailed}
 use Rattle.hosting.specs.Ports.{PortEvent, Failed, Opened, Closed, Notes, IsAnswered, IsVisited, GoesOn, Runs, begins, fails, answers, HasRun}
 
@@ -17,13 +14,6 @@ Notes-trans None b c es fs p q = tt
 Notes-trans (Some x) None c es fs p q = absurd p
 Notes-trans (Some x) (Some y) None es fs p q = absurd q
 Notes-trans (Some x) (Some y) (Some z) es fs p q = q ∙ ap (λ l. l ++ fs) p ∙ append_assoc x es fs
-
--- a connection that had a fault was given up
-pub given-up : (fault : EdgeFault) (stream before after : Option (List ℕ)) (old new : State) →
-    IfSome (written_of fault) (λ written. IfSome stream (λ s. HasPartlyServed s old new before after written)) →
-    (fault ≡ Read → (after ≡ before) × (new ≡ old)) → IsAnswered (Some fault) stream before after old new
-given-up Read stream before after old new part unread = unread refl
-given-up (Write written) stream before after old new part unread = part
 
 pub visited : (a b c : Option (List PortEvent)) (stream before after : Option (List ℕ)) (fault : Option EdgeFault) (old new : State) →
     Notes a b (Opened stream before ∷ []) → Notes b c (Closed after fault ∷ []) → IsAnswered fault stream before after old new → IsVisited a c old new

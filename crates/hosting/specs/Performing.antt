@@ -76,6 +76,6 @@ Performs host (Run name script) outcome old new failed =
     (front : List ℕ) × IsFront name.now front × (after : Left) × (script_after : Left)
     × RunsTo (gives_in host.file front) outcome name.now script.now (host.file name.now) after
     (with_input (host.file script.now) old) (with_input script_after new) failed
-Performs host (Serve name port connections) outcome old new failed =
+Performs host (Serve name service) outcome old new failed =
     (front : List ℕ) × IsFront name.now front × (after : Left)
-    × ServesTo host.ports (host.listens port) (gives_in host.file front) connections outcome name.now (host.file name.now) after old new failed
+    × ServesTo host.ports (host.listens service.port) (gives_in host.file front) service.connections outcome name.now (host.file name.now) after old new failed

@@ -2,8 +2,7 @@
 use Rattle.std.specs.Prelude.{◌≡◌, ◌⊎◌, ℕ, ◌+◌, ◌-◌, ◌^◌, ◌<◌, List, [], ◌∷◌, ◌++◌, Option, None, Some, IfSome, ⊤}
 use Rattle.batches.specs.Batch.{State}
 use Rattle.httpedge.specs.declared.edge.EdgeFault.{EdgeFault}
-use Rattle.httpedge.specs.declared.edge.EdgeFault.TheVariants.{Read, Write}
-use Rattle.sessions.specs.Connections.{HasServed, HasPartlyServed}
+use Rattle.sessions.specs.Connections.{HasServed, HasLeft}
 use Rattle.sessions.specs.declared.outcome.Outcome.{Outcome}
 use Rattle.sessions.specs.declared.outcome.Outcome.TheVariants.{Served, SocketFailed}
 
@@ -20,11 +19,10 @@ Notes None after events = ⊤
 Notes (Some before) None events = ⊥
 Notes (Some before) (Some after) events = after ≡ before ++ events
 
--- a connection was answered; or its reader failed, and nothing was written; or its writer failed, and only so many bytes of the answer went out
+-- a connection was answered; or it was given up for a fault, and the first answers, or the front of them, went out
 abbrev pub IsAnswered : Option EdgeFault → Option (List ℕ) → Option (List ℕ) → Option (List ℕ) → State → State → Type 0
 IsAnswered None stream before after old new = IfSome stream (λ s. HasServed s old new before after)
-IsAnswered (Some Read) stream before after old new = (after ≡ before) × (new ≡ old)
-IsAnswered (Some (Write written)) stream before after old new = IfSome stream (λ s. HasPartlyServed s old new before after written)
+IsAnswered (Some fault) stream before after old new = IfSome stream (λ s. HasLeft fault s old new before after)
 
 -- a connection was opened, answered or given up, and closed
 pub record IsVisited (log_before log_after : Option (List PortEvent)) (old new : State) : Type 0 where

@@ -11,7 +11,7 @@ use crate::files::{HostFile, HostFolder};
 use crate::host::Host;
 use crate::port::{AddressFault, Port};
 use crate::serving::answer_connections;
-use commandline::Command;
+use commandline::{Command, Service};
 use mapdefs::Map;
 use mapmachine::{Flagged, Machine, Sink, Source, put_pieces};
 use sessions::{Outcome, check_file, read_map, run_files, serve_session};
@@ -43,21 +43,20 @@ pub fn serve_port<H: Host, O: Sink>(
     alloc: Global,
     host: &H,
     map: Map,
-    port: u16,
-    connections: u32,
+    service: Service,
     output: &mut O,
 ) -> Outcome
-    ensures listens { ListensTo (record { log = H.Port.log; address = H.Port.address }) (H.listens host.now port) connections map result (O.held output.old) (O.held output.new) }
+    ensures listens { ListensTo (record { log = H.Port.log; address = H.Port.address }) (H.listens host.now service.port) service.connections map result (O.held output.old) (O.held output.new) }
     ensures flag { O.put_failed output.new ≡ (is_output_failed result || O.put_failed output.old) }
 {
     let Ok(mut machine) = Machine::open(alloc, map) else {
         return Outcome::NoMemory;
     };
-    let Ok(mut port) = host.listen(port) else {
+    let Ok(mut port) = host.listen(service) else {
         return Outcome::SocketFailed;
     };
     match tell_address(alloc, &port, output) {
-        Outcome::Served => answer_connections(alloc, &mut machine, &mut port, connections),
+        Outcome::Served => answer_connections(alloc, &mut machine, &mut port, service.connections),
         failed => failed,
     }
 }
@@ -87,13 +86,12 @@ fn serve_file<H: Host, O: Sink, E: Sink>(
     alloc: Global,
     host: &H,
     file: &str,
-    port: u16,
-    connections: u32,
+    service: Service,
     output: &mut O,
     errors: &mut E,
 ) -> Outcome
     ensures serves { (front : List ℕ) × IsFront file.now front × (after : Left)
-        × ServesTo (record { log = H.Port.log; address = H.Port.address }) (H.listens host.now port) (gives_in (H.file host.now) front) connections result file.now (H.file host.now file.now) after
+        × ServesTo (record { log = H.Port.log; address = H.Port.address }) (H.listens host.now service.port) (gives_in (H.file host.now) front) service.connections result file.now (H.file host.now file.now) after
         (record { input = None; output = O.held output.old; errors = E.held errors.old })
         (record { input = None; output = O.held output.new; errors = E.held errors.new })
         (E.put_failed errors.new) }
@@ -101,7 +99,7 @@ fn serve_file<H: Host, O: Sink, E: Sink>(
     ensures flag { O.put_failed output.new ≡ (is_output_failed result || O.put_failed output.old) }
 {
     match read_host_map(alloc, host, file, errors) {
-        Ok(map) => serve_port(alloc, host, map, port, connections, output),
+        Ok(map) => serve_port(alloc, host, map, service, output),
         Err(outcome) => outcome,
     }
 }
@@ -188,10 +186,8 @@ pub fn perform<H: Host, I: Source, O: Sink, E: Sink>(
         }
         Command::Check { file, explains } => check(alloc, host, file, explains, output, errors),
         Command::Run { file, script } => run(alloc, host, file, script, output, errors),
-        Command::Serve {
-            file,
-            port,
-            connections,
-        } => serve_file(alloc, host, file, port, connections, output, errors),
+        Command::Serve { file, service } => {
+            serve_file(alloc, host, file, service, output, errors)
+        }
     }
 }

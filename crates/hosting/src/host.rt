@@ -1,6 +1,7 @@
 ghost use Rattle.std.specs.Prelude.{◌≡◌, IfOk};
 
 use crate::port::Port;
+use commandline::Service;
 use std::io::{self, Read};
 use thiserror::Error;
 
@@ -29,7 +30,7 @@ pub trait Host {
     fn open(&self, path: &str) -> io::Result<Self::File>
         ensures { IfOk result (λ f. Self.File.remaining f ≡ file self.now path.now) };
 
-    /// Listens on the port of a number, where 0 is one that is free.
-    fn listen(&self, port: u16) -> Result<Self::Port, ListenFailed>
-        ensures { IfOk result (λ p. listens self.now port p) };
+    /// Listens on the port of a service, where 0 is one that is free.
+    fn listen(&self, service: Service) -> Result<Self::Port, ListenFailed>
+        ensures { IfOk result (λ p. listens self.now service.port p) };
 }

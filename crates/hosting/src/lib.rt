@@ -4,7 +4,7 @@
 //! Proved over every host: `answer` does what its words ask for (`answers`), and `perform` what a command asks
 //! for, with the files of the names in it (`performs`). `answer_connections` answers connection after
 //! connection from the state that the machine is in, and ends only with the last that was asked for or where
-//! none come (`runs`). `hang_up` closes the writing side of a connection after its answer and reads what still
+//! none come (`runs`); each has its requests answered, up to its last. `hang_up` closes the writing side of a connection after its answer and reads what still
 //! comes, up to a limit. `HostFile` and `HostFolder` give the bytes that the host is known to have.
 //!
 //! `SystemHost` is the machine that the program runs on. Nothing is known of what its files and sockets give;
@@ -33,12 +33,11 @@ pub use ending::Ending;
 pub use files::{HostFile, HostFolder};
 pub use host::{Host, ListenFailed};
 pub use limits::{
-    ANSWER_SECONDS, DRAIN_SECONDS, FAILURE_MILLISECONDS, HEAD_SECONDS, STILL_SECONDS, TimeLimit,
-    WRITE_SECONDS,
+    ANSWER_TIMES, DRAIN_SECONDS, FAILURE_MILLISECONDS, TimeLimit, WRITE_SECONDS, Waits,
 };
 pub use port::{AcceptFailed, Accepted, AddressFault, Port};
 pub use serving::answer_connections;
 pub use sockets::SocketPort;
 pub use system::{SystemHost, read_words};
-pub use timed::{TimedReader, TimedWriter};
+pub use timed::{TimedReader, TimedWriter, Turn};
 pub use words::{WordsUnread, answer};

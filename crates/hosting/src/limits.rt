@@ -1,20 +1,15 @@
-ghost use Rattle.std.specs.Prelude.{◌≡◌, option_map};
+ghost use Rattle.std.specs.Prelude.{◌≡◌, ◌*◌, option_map};
 ghost use Rattle.std.specs.Duration.{as_nanos};
 ghost use Rattle.std.specs.Time.{instant_nanos};
 ghost use Rattle.hosting.specs.Times.{IsLeft};
 
+use commandline::Service;
 use std::io;
 use std::rt::Clock;
 use std::time::{Duration, Instant};
 
-/// How many seconds a head may take in all, from the opening of its connection.
-pub const HEAD_SECONDS: u64 = 30;
-
-/// How many seconds an answer may take in all.
-pub const ANSWER_SECONDS: u64 = 600;
-
-/// How many seconds a client may take none of its answer.
-pub const STILL_SECONDS: u64 = 30;
+/// How often the time that an answer may stand still fits into the time that it may take in all.
+pub const ANSWER_TIMES: u32 = 20;
 
 /// How many seconds a write waits, until it is made again or says how many bytes went.
 pub const WRITE_SECONDS: u64 = 1;
@@ -24,6 +19,29 @@ pub const DRAIN_SECONDS: u64 = 2;
 
 /// How many milliseconds are waited after a call for a connection has failed.
 pub const FAILURE_MILLISECONDS: u64 = 10;
+
+/// How long the calls of a connection may wait.
+#[derive(Clone, Copy)]
+pub struct Waits {
+    /// A read that follows an answer.
+    pub idle: Duration,
+    /// A head in all, from its first bytes on, or from the opening of its connection; and an answer of which the client
+    /// takes nothing.
+    pub timeout: Duration,
+}
+
+impl Waits {
+    /// Those that a service asks for.
+    pub fn of(service: Service) -> Self
+        ensures idle { as_nanos result.idle ≡ 1000000 * service.idle }
+        ensures timeout { as_nanos result.timeout ≡ 1000000000 * service.timeout }
+    {
+        Waits {
+            idle: Duration::from_millis(u64::from(service.idle)),
+            timeout: Duration::from_secs(u64::from(service.timeout)),
+        }
+    }
+}
 
 /// A time that began at an instant.
 #[derive(Clone, Copy)]
@@ -40,9 +58,9 @@ impl TimeLimit {
         TimeLimit { began, whole }
     }
 
-    /// So many seconds from now on.
-    pub fn start(clock: &impl Clock, seconds: u64) -> io::Result<Self> {
-        Ok(TimeLimit::new(Instant::now(clock)?, Duration::from_secs(seconds)))
+    /// So long from now on.
+    pub fn start(clock: &impl Clock, whole: Duration) -> io::Result<Self> {
+        Ok(TimeLimit::new(Instant::now(clock)?, whole))
     }
 
     /// How much of it is left at an instant, where any is.

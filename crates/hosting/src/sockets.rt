@@ -2,9 +2,9 @@ ghost use Rattle.std.specs.Prelude.{None, []};
 ghost use Rattle.hosting.specs.Ports.{Notes};
 
 use crate::closing::hang_up;
-use crate::limits::{DRAIN_SECONDS, FAILURE_MILLISECONDS, HEAD_SECONDS, TimeLimit};
+use crate::limits::{DRAIN_SECONDS, FAILURE_MILLISECONDS, TimeLimit, Waits};
 use crate::port::{AcceptFailed, Accepted, AddressFault, Port};
-use crate::timed::{TimedReader, TimedWriter};
+use crate::timed::{TimedReader, TimedWriter, Turn};
 use httpedge::EdgeFault;
 use mapdefs::Text;
 use mapmachine::Flagged;
@@ -22,22 +22,31 @@ type SocketWriter<'a> = Flagged<TimedWriter<'a, TcpStream, HostRuntime>>;
 pub struct SocketPort<'a> {
     rt: &'a HostRuntime,
     listener: TcpListener,
+    waits: Waits,
 }
 
 impl<'a> SocketPort<'a> {
-    /// The port of a listener.
-    pub fn new(rt: &'a HostRuntime, listener: TcpListener) -> Self {
-        SocketPort { rt, listener }
+    /// The port of a listener, with how long the calls of its connections wait.
+    pub fn new(rt: &'a HostRuntime, listener: TcpListener, waits: Waits) -> Self {
+        SocketPort {
+            rt,
+            listener,
+            waits,
+        }
     }
 
-    // Opens the next connection. The time of its head begins.
+    // Opens the next connection. The time of its first head begins. What is written leaves at once: an answer that
+    // waited for the client's word that it has the one before would wait for as long as that is kept back.
     fn open(&self) -> io::Result<Accepted<SocketReader<'a>, SocketWriter<'a>>> {
         let (stream, _) = self.listener.accept()?;
-        let limit = TimeLimit::start(self.rt, HEAD_SECONDS)?;
-        let reader = TimedReader::new(stream.try_clone()?, self.rt, limit);
+        stream.set_nodelay(true)?;
+        let Ok((read, written)) = Turn::pair(self.rt.alloc()) else {
+            return Err(io::Error::from(io::ErrorKind::OutOfMemory));
+        };
+        let reader = TimedReader::start(stream.try_clone()?, self.rt, self.waits, read)?;
         Ok(Accepted {
             reader: Flagged::new(reader),
-            writer: Flagged::new(TimedWriter::new(stream, self.rt)),
+            writer: Flagged::new(TimedWriter::new(stream, self.rt, self.waits, written)),
         })
     }
 }
@@ -81,7 +90,7 @@ impl<'a> Port for SocketPort<'a> {
         let Accepted { reader, writer } = accepted;
         let (mut reader, mut writer) = (reader.into_inner(), writer.into_inner());
         // Without a clock nothing more is read.
-        if let Ok(limit) = TimeLimit::start(self.rt, DRAIN_SECONDS) {
+        if let Ok(limit) = TimeLimit::start(self.rt, Duration::from_secs(DRAIN_SECONDS)) {
             reader.limit(limit);
         }
         hang_up(&mut Flagged::new(reader), &mut writer, fault);

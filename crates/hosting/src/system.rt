@@ -1,8 +1,10 @@
 ghost use Rattle.std.specs.Prelude.{None};
 
 use crate::host::{Host, ListenFailed};
+use crate::limits::Waits;
 use crate::sockets::SocketPort;
 use crate::words::WordsUnread;
+use commandline::Service;
 use std::fs::{self, File};
 use std::net::{Ipv4Addr, TcpListener};
 use std::{env, io};
@@ -33,9 +35,9 @@ impl<'a> Host for SystemHost<'a> {
         fs::open(self.rt, path)
     }
 
-    fn listen(&self, port: u16) -> Result<SocketPort<'a>, ListenFailed> {
-        match TcpListener::bind(self.rt, (Ipv4Addr::LOCALHOST, port)) {
-            Ok(listener) => Ok(SocketPort::new(self.rt, listener)),
+    fn listen(&self, service: Service) -> Result<SocketPort<'a>, ListenFailed> {
+        match TcpListener::bind(self.rt, (Ipv4Addr::LOCALHOST, service.port)) {
+            Ok(listener) => Ok(SocketPort::new(self.rt, listener, Waits::of(service))),
             Err(_) => Err(ListenFailed),
         }
     }

@@ -1,47 +1,100 @@
 ghost use Rattle.std.specs.Prelude.{◌≡◌, true};
 
 use crate::closing::Closing;
-use crate::limits::{ANSWER_SECONDS, STILL_SECONDS, TimeLimit, WRITE_SECONDS};
+use crate::limits::{ANSWER_TIMES, TimeLimit, WRITE_SECONDS, Waits};
+use std::alloc::{AllocError, Global};
+use std::cell::Cell;
 use std::io::{self, ErrorKind, Read, Write};
 use std::net::{OpenStream, Shutdown};
+use std::rc::Rc;
 use std::rt::Clock;
 use std::time::Duration;
 
 // How often a call is made again that a signal interrupted.
 const MAX_TRIES: u32 = 1_000;
 
-/// What a client sends, up to the end of a time: each read waits for what is left of it.
+/// What the two sides of a connection share: whether an answer was written since the last read.
+#[derive(Drop)]
+pub struct Turn {
+    is_answered: Rc<Cell<bool>>,
+}
+
+impl Turn {
+    /// Both ends of one, where nothing was written. The error is that memory was refused.
+    pub fn pair(alloc: Global) -> Result<(Turn, Turn), AllocError> {
+        let is_answered = Rc::new(alloc, Cell::new(false))?;
+        let other = is_answered.clone()?;
+        Ok((Turn { is_answered }, Turn { is_answered: other }))
+    }
+}
+
+/// What a client sends. The time of a head begins with its first bytes, that of the first with the opening of the
+/// connection, and each read waits for what is left of it. A read that follows an answer waits for the time of an
+/// idle connection.
 #[derive(Drop)]
 pub struct TimedReader<'a, S, C> {
     stream: S,
     clock: &'a C,
+    waits: Waits,
+    turn: Turn,
     limit: TimeLimit,
+    is_idle: bool,
 }
 
-impl<'a, S, C> TimedReader<'a, S, C> {
-    /// A stream that is read up to the end of that time.
-    pub fn new(stream: S, clock: &'a C, limit: TimeLimit) -> Self {
-        TimedReader {
+impl<'a, S, C: Clock> TimedReader<'a, S, C> {
+    /// A stream whose first head begins now.
+    pub fn start(stream: S, clock: &'a C, waits: Waits, turn: Turn) -> io::Result<Self>
+    where
+        S: Drop,
+    {
+        Ok(TimedReader {
+            limit: TimeLimit::start(clock, waits.timeout)?,
             stream,
             clock,
-            limit,
-        }
+            waits,
+            turn,
+            is_idle: false,
+        })
     }
 
-    /// Another time from now on.
+    /// Another time from now on, whatever was answered.
     pub fn limit(&mut self, limit: TimeLimit) {
+        self.turn.is_answered.set(false);
+        self.is_idle = false;
         self.limit = limit;
+    }
+
+    // Begins the time of an idle connection, where an answer was written.
+    fn rest(&mut self) -> io::Result<()> {
+        if self.turn.is_answered.replace(false) {
+            self.limit = TimeLimit::start(self.clock, self.waits.idle)?;
+            self.is_idle = true;
+        }
+        Ok(())
+    }
+
+    // Begins the time of a head, whose first bytes came.
+    fn begin(&mut self) -> io::Result<()> {
+        if self.is_idle {
+            self.limit = TimeLimit::start(self.clock, self.waits.timeout)?;
+            self.is_idle = false;
+        }
+        Ok(())
     }
 }
 
 impl<S: Read + OpenStream, C: Clock> Read for TimedReader<'_, S, C> {
     fn read(&mut self, room: &mut [u8]) -> io::Result<usize> {
+        self.rest()?;
         for _ in 0..MAX_TRIES {
             let left = self.limit.left(self.clock)?;
             self.stream.set_read_timeout(Some(left))?;
             match self.stream.read(room) {
                 Err(error) if error.kind() == ErrorKind::Interrupted => {}
-                read => return read,
+                read => {
+                    self.begin()?;
+                    return read;
+                }
             }
         }
         Err(io::Error::from(ErrorKind::TimedOut))
@@ -49,11 +102,13 @@ impl<S: Read + OpenStream, C: Clock> Read for TimedReader<'_, S, C> {
 }
 
 /// What a client gets. An answer may stand still for a time, and has another in all, which begins with the first
-/// write. So a write waits for a second at most, and is made again while none of its bytes went.
+/// write after a read. So a write waits for a second at most, and is made again while none of its bytes went.
 #[derive(Drop)]
 pub struct TimedWriter<'a, S, C> {
     stream: S,
     clock: &'a C,
+    waits: Waits,
+    turn: Turn,
     limit: Option<TimeLimit>,
     // The time since bytes last went.
     still: Option<TimeLimit>,
@@ -62,10 +117,12 @@ pub struct TimedWriter<'a, S, C> {
 
 impl<'a, S, C> TimedWriter<'a, S, C> {
     /// A stream to which nothing is written yet.
-    pub fn new(stream: S, clock: &'a C) -> Self {
+    pub fn new(stream: S, clock: &'a C, waits: Waits, turn: Turn) -> Self {
         TimedWriter {
             stream,
             clock,
+            waits,
+            turn,
             limit: None,
             still: None,
             is_shut: false,
@@ -77,11 +134,11 @@ impl<'a, S, C> TimedWriter<'a, S, C> {
 fn left_of<C: Clock>(
     limit: &mut Option<TimeLimit>,
     clock: &C,
-    seconds: u64,
+    whole: Duration,
 ) -> io::Result<Duration> {
     let begun = match *limit {
         Some(begun) => begun,
-        None => TimeLimit::start(clock, seconds)?,
+        None => TimeLimit::start(clock, whole)?,
     };
     *limit = Some(begun);
     begun.left(clock)
@@ -90,9 +147,18 @@ fn left_of<C: Clock>(
 impl<S, C: Clock> TimedWriter<'_, S, C> {
     // How long the next write may wait.
     fn next_wait(&mut self) -> io::Result<Duration> {
-        let left = left_of(&mut self.limit, self.clock, ANSWER_SECONDS)?;
-        let still = left_of(&mut self.still, self.clock, STILL_SECONDS)?;
+        let whole = self.waits.timeout.saturating_mul(ANSWER_TIMES);
+        let left = left_of(&mut self.limit, self.clock, whole)?;
+        let still = left_of(&mut self.still, self.clock, self.waits.timeout)?;
         Ok(left.min(still).min(Duration::from_secs(WRITE_SECONDS)))
+    }
+
+    // Begins the times of an answer, where the client was read since the last one.
+    fn begin(&mut self) {
+        if !self.turn.is_answered.replace(true) {
+            self.limit = None;
+            self.still = None;
+        }
     }
 }
 
@@ -106,6 +172,7 @@ fn moved_nothing(error: &io::Error) -> bool {
 
 impl<S: Write + OpenStream, C: Clock> Write for TimedWriter<'_, S, C> {
     fn write(&mut self, bytes: &[u8]) -> io::Result<usize> {
+        self.begin();
         for _ in 0..MAX_TRIES {
             let wait = self.next_wait()?;
             self.stream.set_write_timeout(Some(wait))?;

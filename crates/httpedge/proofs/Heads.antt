@@ -1,5 +1,5 @@
 -- Heads of streams: where they end, and which bytes have none.
-use Rattle.std.proofs.Common.{◌≡◌, ◌∙◌, ℕ, ◌<◌, ◌≤◌, inl, inr, List, [], ◌∷◌, ◌++◌, true, false, length, take, drop, refl, sym, ap, arith, append_assoc, length-append, take-append-drop}
+use Rattle.std.proofs.Common.{◌≡◌, ◌∙◌, Bool, ℕ, ◌<◌, ◌≤◌, inl, inr, List, [], ◌∷◌, ◌++◌, true, false, length, take, drop, refl, sym, ap, arith, append_assoc, length-append, take-append-drop}
 use Rattle.std.specs.List.{list_any, list_all, flat_map}
 use Rattle.std.proofs.lemmas.List.{take-append-le, drop-append-le}
 use Rattle.std.proofs.lemmas.List.Folds.{list_any-append, list_all-append}
@@ -11,7 +11,8 @@ use Rattle.httparse.specs.Spans.{RequestOverflows}
 use Rattle.httparse.proofs.GrammarLemmas.{ReadsRequest-append, print_request-append, request_unique}
 use Rattle.httpedge.specs.Received.{is_line_feed, is_newline}
 use Rattle.httpedge.specs.Head.{HasHead, HasNoHead}
-use Rattle.httpedge.specs.Meaning.{Meaning, Refused, IsMeaning, AlwaysMeans, head_meaning}
+use Rattle.httpedge.specs.Meaning.{Refused}
+use Rattle.httpedge.specs.Turn.{Turn, IsTurn, AlwaysTurns}
 use Rattle.httpedge.specs.declared.refusal.Refusal.TheVariants.{BadRequest}
 
 -- the end of a line ends in LF
@@ -54,7 +55,7 @@ head-front a b head has short =
     }
 
 -- the head of the front of a stream is that of the stream
-pub head-more : (a b : List ℕ) (head : RequestHead) → HasHead a head → HasHead (a ++ b) head
+unfoldable pub head-more : (a b : List ℕ) (head : RequestHead) → HasHead a head → HasHead (a ++ b) head
 head-more a b head has = record {
   rest = has.rest ++ b;
   reads = ReadsRequest-append a head has.rest b has.reads;
@@ -83,22 +84,15 @@ piece-headless a b none line head has =
       | inr long ↦ let e : true ≡ false = sym (head-in-piece a b head has long.1) ∙ line in cc
     ]
 
--- a stream that begins with bytes that decide means what they decide
-pub always-more : (a b : List ℕ) (meaning : Meaning) → AlwaysMeans a meaning → AlwaysMeans (a ++ b) meaning
-always-more a b meaning always more = rw (append_assoc a b more) (always (b ++ more))
-
-pub always-head : (a : List ℕ) (head : RequestHead) (meaning : Meaning) → HasHead a head → meaning ≡ head_meaning head → AlwaysMeans a meaning
-always-head a head meaning has e more = inl (head, head-more a more head has, e)
-
 -- bytes without a head, whatever follows, are refused
-pub always-refused : (a : List ℕ) → 0 < length a → ((more : List ℕ) → HasNoHead (a ++ more)) → AlwaysMeans a (Refused BadRequest)
-always-refused [] some none more = absurd (omega arith)
-always-refused (b ∷ bs) some none more = inr (none more, refl)
+pub always-refused : (a : List ℕ) → 0 < length a → ((more : List ℕ) → HasNoHead (a ++ more)) → (is-last : Bool) → AlwaysTurns is-last a true (Refused BadRequest)
+always-refused [] some none is-last more = absurd (omega arith)
+always-refused (b ∷ bs) some none is-last more = inr (none more, refl)
 
-pub always-full : (a : List ℕ) → length a ≡ 16384 → HasNoHead a → AlwaysMeans a (Refused BadRequest)
+pub always-full : (a : List ℕ) → length a ≡ 16384 → HasNoHead a → (is-last : Bool) → AlwaysTurns is-last a true (Refused BadRequest)
 always-full a full none = always-refused a (omega (arith, full)) (λ more. full-headless a more full none)
 
-pub always-overflow : (a : List ℕ) → 0 < length a → RequestOverflows 64 a → AlwaysMeans a (Refused BadRequest)
+pub always-overflow : (a : List ℕ) → 0 < length a → RequestOverflows 64 a → (is-last : Bool) → AlwaysTurns is-last a true (Refused BadRequest)
 always-overflow a some over =
     always-refused a some (λ more head has. let n : 64 < length head.fields = over more head has.rest has.reads in let f = has.fields in omega arith)
 
@@ -106,11 +100,13 @@ always-overflow a some over =
 head-is-one : (stream : List ℕ) (a b : RequestHead) → HasHead stream a → HasHead stream b → a ≡ b
 head-is-one stream a b x y = (request_unique stream a b x.rest y.rest x.reads y.reads).0
 
-pub meaning-is-one : (stream : List ℕ) (a b : Meaning) → IsMeaning stream a → IsMeaning stream b → a ≡ b
-meaning-is-one stream a b (inl x) (inl y) = x.2 ∙ ap head_meaning (head-is-one stream x.0 y.0 x.1 y.1) ∙ sym y.2
-meaning-is-one stream a b (inl x) (inr y) = absurd (y.0 x.0 x.1)
-meaning-is-one stream a b (inr x) (inl y) = absurd (x.0 y.0 y.1)
-meaning-is-one stream a b (inr x) (inr y) = x.1 ∙ sym y.1
+pub turn-is-one : (is-last : Bool) (rest : List ℕ) (a b : Turn) → IsTurn is-last rest a → IsTurn is-last rest b → a ≡ b
+turn-is-one is-last rest a b (inl x) (inl y) =
+    let same = request_unique rest x.0 y.0 x.1.rest y.1.rest x.1.reads y.1.reads in
+    x.2 ∙ rw (same.0, same.1) refl ∙ sym y.2
+turn-is-one is-last rest a b (inl x) (inr y) = absurd (y.0 x.0 x.1)
+turn-is-one is-last rest a b (inr x) (inl y) = absurd (x.0 y.0 y.1)
+turn-is-one is-last rest a b (inr x) (inr y) = x.1 ∙ sym y.1
 
 -- no bytes have no head
 pub nothing-headless : HasNoHead []

@@ -1,7 +1,12 @@
+pub mod Alone
 pub mod Blanks
-pub mod Deciding
+pub mod Courses
+pub mod Decisions
+pub mod Ending
+pub mod Exchanges
 pub mod Heads
-pub mod Reading
+pub mod Parts
+pub mod Serving
 pub mod Taking
 pub mod Targets
 pub mod Wanted

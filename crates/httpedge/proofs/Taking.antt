@@ -1,54 +1,103 @@
--- A piece is taken in up to the limit of a head: what the bytes decide then, all that came decides.
-use Rattle.std.proofs.Common.{◌≡◌, ◌∙◌, ℕ, ◌+◌, ◌-◌, ◌<◌, ◌≤◌, List, ◌++◌, length, take, drop, min, ap, subst, arith, append_assoc, length-append, length-take, take-append-drop}
-use Rattle.std.proofs.lemmas.List.{take_all}
+-- What is taken of a piece: all of it, or up to the end of the head that it completes.
+use Rattle.std.proofs.Common.{length-drop, append-nil, eqb-true, suc, [], ◌∷◌, ◌==◌, ◌≡◌, ◌∙◌, inr, true, false, Bool, Option, None, Some, ℕ, ◌+◌, ◌-◌, ◌<◌, ◌≤◌, List, ◌++◌, length, take, drop, min, refl, sym, ap, subst, arith, length-append, length-take, take-append-drop}
+use Rattle.std.proofs.lemmas.List.{take_all, take-take, take-append-le, drop-append-le, length-take-le}
+use Rattle.std.proofs.Math.Seq.{take-append-add, take-append_seam}
+use Rattle.std.specs.List.{slice_range}
 use Rattle.httparse.specs.Spans.{IsWithin, span_bytes}
-use Rattle.httparse.specs.declared.spans.Span.{Span}
-use Rattle.httpedge.specs.Connection.{progress, Comes}
+use Rattle.httpedge.specs.Connection.{Decided, progress_by, Takes, Feeds, Ends}
+use Rattle.httpedge.specs.declared.decision.Decision.TheVariants as decision
+use Rattle.httpedge.specs.declared.refusal.Refusal.TheVariants.{BadRequest}
+use Rattle.httpedge.proofs.Heads.{nothing-headless}
 use Rattle.httpedge.specs.Head.{HasNoHead}
-use Rattle.httpedge.specs.Meaning.{Meaning, Refused, Asks, AlwaysMeans}
-use Rattle.httpedge.specs.Verdict.{IsVerdict}
-use Rattle.httpedge.specs.declared.verdict.Verdict.{Verdict}
-use Rattle.httpedge.specs.declared.verdict.Verdict.TheVariants as verdict
-use Rattle.httpedge.proofs.Heads.{always-more}
+use Rattle.httpedge.specs.Meaning.{Meaning, decision_meaning}
+use Rattle.httpedge.specs.Verdict.{Decides, IsDecision, IsJudgedAs}
+use Rattle.httpedge.specs.declared.decision.Decision.{Decision}
+use Rattle.httpedge.specs.declared.verdict.Judged.{Judged}
 
--- below the limit the piece was taken whole
-whole : (old piece front new : List ℕ) (count : ℕ) → length old < 16384 → count ≡ min (length piece) (16384 - length old) → front ≡ take count piece → new ≡ old ++ front →
-    length new < 16384 → new ≡ old ++ piece
-whole old piece front new count room is cut e below =
-    let n : length new ≡ length old + length front = ap length e ∙ length-append old front in
-    let m : length front ≡ min count (length piece) = ap length cut ∙ length-take count piece in
-    let all : length piece ≤ count = omega arith in
-    e ∙ ap (λ l. old ++ l) (cut ∙ take_all count piece all)
+-- a range within the first bytes is a range of all
+pub range-front : (bytes : List ℕ) (n start end : ℕ) → start ≤ end → end ≤ n → n ≤ length bytes → slice_range (take n bytes) start end ≡ slice_range bytes start end
+range-front bytes n start end ordered within bound =
+    let long : length (take n bytes) ≡ n = length-take-le n bytes bound in
+    let all : take n bytes ++ drop n bytes ≡ bytes = take-append-drop n bytes in
+    let at : drop start (take n bytes ++ drop n bytes) ≡ drop start (take n bytes) ++ drop n bytes = drop-append-le start (take n bytes) (drop n bytes) (omega (arith, long, ordered, within)) in
+    let rest : length (drop start (take n bytes)) ≡ n - start = omega (arith, length-drop start (take n bytes), long) in
+    sym (ap (λ l. take (end - start) (drop start l)) (sym all) ∙ ap (take (end - start)) at ∙ take-append-le (end - start) (drop start (take n bytes)) (drop n bytes) (omega (arith, rest, within)))
 
--- what the bytes always mean, all that came does
-always : (old piece front new : List ℕ) (count : ℕ) (meaning : Meaning) → front ≡ take count piece → new ≡ old ++ front → AlwaysMeans new meaning → AlwaysMeans (old ++ piece) meaning
-always old piece front new count meaning cut e means =
-    let all : new ++ drop count piece ≡ old ++ piece =
-    ap (λ l. l ++ drop count piece) (e ∙ ap (λ l. old ++ l) cut) ∙ append_assoc old (take count piece) (drop count piece)
-    ∙ ap (λ l. old ++ l) (take-append-drop count piece) in
-    let P : List ℕ → Type 0 = λ l. AlwaysMeans l meaning in
-    subst P all (always-more new (drop count piece) meaning means)
+-- the first bytes that are judged are the old ones and the front of the piece
+cut : (old piece front all : List ℕ) (count len : ℕ) → front ≡ take count piece → count ≤ length piece → all ≡ old ++ front → length old ≤ len → len ≤ length all → take len all ≡ old ++ take (len - length old) piece
+cut old piece front all count len is bound e from to =
+    let n : len ≡ length old + (len - length old) = omega arith in
+    let size : length all ≡ length old + length front = ap length e ∙ length-append old front in
+    let short : len - length old ≤ count = omega (arith, size, ap length is, length-take count piece, to) in
+    rw (e, is) (ap (λ m. take m (old ++ take count piece)) n ∙ take-append-add old (take count piece) (len - length old) ∙ ap (λ l. old ++ l) (take-take (len - length old) count piece short))
 
--- what the bytes decide with the front of the piece, all that came decides
-pub taken : (old piece front new : List ℕ) (count : ℕ) (v : Verdict) → length old < 16384 → count ≡ min (length piece) (16384 - length old) →
-    front ≡ take count piece → new ≡ old ++ front → IsVerdict new v → Comes (old ++ piece) (progress new v)
-taken old piece front new count verdict.Open room is cut e decides =
-    let all = whole old piece front new count room is cut e decides.1 in
-    (all, (subst HasNoHead all decides.0, omega (arith, ap length all, decides.1)))
-taken old piece front new count (verdict.Ask query) room is cut e decides = always old piece front new count (Asks (span_bytes new query)) cut e decides.1
-taken old piece front new count (verdict.Refused refusal) room is cut e decides = always old piece front new count (Refused refusal) cut e decides
+-- no shorter front decides than the bytes that have no head
+pub from-old : (old front all : List ℕ) (judged : Judged) (meaning : Meaning) → HasNoHead old → all ≡ old ++ front → IsDecision all judged meaning → length old ≤ judged.len
+from-old old front all judged meaning none e decision =
+    let size : length all ≡ length old + length front = ap length e ∙ length-append old front in
+    decision.shortest (length old) (omega (arith, size)) (subst HasNoHead (sym (ap (take (length old)) e ∙ take-append_seam old front)) none)
 
-pub open-headless : (bytes : List ℕ) (v : Verdict) → IsVerdict bytes v → v ≡ verdict.Open → HasNoHead bytes
-open-headless bytes verdict.Open decides e = decides.0
-open-headless bytes (verdict.Ask query) decides e = absurd (cc)
-open-headless bytes (verdict.Refused refusal) decides e = absurd (cc)
+pub old-first : (old front all : List ℕ) (judged : Judged) (d : Option Decision) → HasNoHead old → all ≡ old ++ front → IsJudgedAs all judged d → length old ≤ judged.len
+old-first old front all judged None none e judges = omega (arith, judges.2, ap length e, length-append old front)
+old-first old front all judged (Some decided) none e judges = from-old old front all judged _ none e judges
 
-pub open-below : (bytes : List ℕ) (v : Verdict) → IsVerdict bytes v → v ≡ verdict.Open → length bytes < 16384
-open-below bytes verdict.Open decides e = decides.1
-open-below bytes (verdict.Ask query) decides e = absurd (cc)
-open-below bytes (verdict.Refused refusal) decides e = absurd (cc)
+-- what the front of the piece decides
+pub taken : (old piece front all new : List ℕ) (count : ℕ) (judged : Judged) (d : Option Decision) → length old < 16384 → count ≡ min (length piece) (16384 - length old) → front ≡ take count piece →
+    all ≡ old ++ front → new ≡ take judged.len all → HasNoHead old → IsWithin judged.len judged.query → IsJudgedAs all judged d → Takes old piece (judged.len - length old) (progress_by d judged.closes (span_bytes new judged.query) new)
+taken old piece front all new count judged None room is part e kept none within judges =
+    let size : length all ≡ length old + length front = ap length e ∙ length-append old front in
+    let m : length front ≡ min count (length piece) = ap length part ∙ length-take count piece in
+    let whole : judged.len - length old ≡ length piece = omega (arith, size, m, is, judges.1, judges.2, room) in
+    let all-is : all ≡ old ++ take (judged.len - length old) piece = e ∙ ap (λ l. old ++ l) (part ∙ take_all count piece (omega (arith, whole, size, m, judges.2)) ∙ sym (take_all (judged.len - length old) piece (omega (arith, whole)))) in
+    record {
+      comes = (kept ∙ take_all judged.len all (omega (arith, judges.2)) ∙ all-is, (subst HasNoHead all-is judges.0, omega (arith, ap length all-is, judges.1)));
+      bound = omega (arith, whole);
+      cut = λ short. absurd (omega (arith, whole, short));
+    }
+taken old piece front all new count judged (Some decided) room is part e kept none within judges =
+    let query = judged.query in
+    let from = from-old old front all judged _ none e judges in
+    let bytes : take judged.len all ≡ old ++ take (judged.len - length old) piece = cut old piece front all count judged.len part (omega (arith, is)) e from judges.len in
+    let same : span_bytes all query ≡ span_bytes new query = sym (rw kept (range-front all judged.len query.start query.end within.0 within.1 judges.len)) in
+    record {
+      comes = subst (λ l. Decides l judged.closes (decision_meaning decided (span_bytes new query))) bytes (subst (λ q. Decides (take judged.len all) judged.closes (decision_meaning decided q)) same judges.decides);
+      bound = omega (arith, is, ap length e, length-append old front, ap length part, length-take count piece, judges.len);
+      cut = λ short. refl;
+    }
 
-pub query-within : (bytes : List ℕ) (v : Verdict) → IsVerdict bytes v → (span : Span) → v ≡ verdict.Ask span → IsWithin (length bytes) span
-query-within bytes verdict.Open decides span e = absurd (cc)
-query-within bytes (verdict.Ask query) decides span e = let same : query ≡ span = cc in subst (IsWithin (length bytes)) same decides.0
-query-within bytes (verdict.Refused refusal) decides span e = absurd (cc)
+-- what stays open is all that came
+pub open-all : (all : List ℕ) (judged : Judged) (d : Option Decision) → IsJudgedAs all judged d → d ≡ None → take judged.len all ≡ all
+open-all all judged None judges e = take_all judged.len all (omega (arith, judges.2))
+open-all all judged (Some decided) judges e = absurd (cc)
+
+pub open-headless : (all : List ℕ) (judged : Judged) (d : Option Decision) → IsJudgedAs all judged d → d ≡ None → HasNoHead all
+open-headless all judged None judges e = judges.0
+open-headless all judged (Some decided) judges e = absurd (cc)
+
+pub open-below : (all : List ℕ) (judged : Judged) (d : Option Decision) → IsJudgedAs all judged d → d ≡ None → length all < 16384
+open-below all judged None judges e = judges.1
+open-below all judged (Some decided) judges e = absurd (cc)
+
+pub within-all : (all : List ℕ) (judged : Judged) (d : Option Decision) → IsJudgedAs all judged d → judged.len ≤ length all
+within-all all judged None judges = omega (arith, judges.2)
+within-all all judged (Some decided) judges = judges.len
+
+-- an empty piece changes nothing
+pub empty-feeds : (bytes piece query : List ℕ) (closes : Bool) (d : Option Decision) (empty : Bool) → d ≡ None → empty ≡ (length piece == 0) → empty ≡ true → HasNoHead bytes → length bytes < 16384 →
+    Feeds (progress_by d closes query bytes) piece 0 (progress_by d closes query bytes)
+empty-feeds bytes [] query closes d empty e is n none below =
+    let all : bytes ≡ bytes ++ [] = sym (append-nil bytes) in
+    rw e (record { comes = (all, (subst HasNoHead all none, subst (λ (l : List ℕ). length l < 16384) all below)); bound = omega arith; cut = λ short. absurd (omega (arith, short)) })
+empty-feeds bytes (p ∷ ps) query closes d empty e is n none below = absurd (omega (arith, eqb-true (suc (length ps)) 0 (sym is ∙ n)))
+
+-- the end of what has no head
+pub end-refused : (bytes query : List ℕ) (count : ℕ) (closes : Bool) (d : Option Decision) (empty : Bool) → d ≡ None → count ≡ length bytes → empty ≡ (count == 0) → empty ≡ false →
+    HasNoHead bytes → Ends (progress_by d closes query bytes) (Decided true (decision.Refused BadRequest) [])
+end-refused [] query count closes d empty is e counts some headless = absurd (cc)
+end-refused (byte ∷ bytes) query count closes d empty is e counts some headless = rw is ((λ is-last. inr (headless, refl)), refl)
+
+-- the end of nothing
+pub end-kept : (bytes query : List ℕ) (count : ℕ) (closes : Bool) (d : Option Decision) (empty : Bool) → d ≡ None → count ≡ length bytes → empty ≡ (count == 0) → empty ≡ true →
+    Ends (progress_by d closes query bytes) (progress_by d closes query bytes)
+end-kept [] query count closes d empty is e counts none = rw is ((λ is-last. inr (nothing-headless, refl)), refl)
+end-kept (byte ∷ bytes) query count closes d empty is e counts none = absurd (omega (arith, e, eqb-true count 0 (sym counts ∙ none)))

@@ -1,5 +1,5 @@
 -- The path and the query of a target that stands among some bytes.
-use Rattle.std.proofs.Common.{◌≡◌, ℕ, ◌+◌, ◌-◌, ◌≤◌, inl, inr, List, true, false, length, take, drop, min, refl, arith, length-take, length-drop}
+use Rattle.std.proofs.Common.{◌≡◌, ℕ, ◌+◌, ◌-◌, ◌≤◌, inl, inr, List, Bool, if◌then◌else◌, length, take, drop, min, refl, sym, arith, length-take, length-drop}
 use Rattle.std.specs.List.{slice_range, before_first, after_first, position_or_len}
 use Rattle.std.proofs.lemmas.Bool.Decides.{leb_tells}
 use Rattle.std.proofs.lemmas.List.{drop-take, drop-drop}
@@ -23,21 +23,16 @@ range-after bytes start end n from ordered within e =
           rw (none) (drop_of_length-le (slice_range bytes start end) short)
     ]
 
--- a path that isn't served isn't found
-pub target-refused : (target text path : List ℕ) (n : ℕ) → text ≡ target → n ≡ position_or_len is_question_mark text → path ≡ take n text → is_served path ≡ false →
-    target_meaning target ≡ Refused NotFound
-unfolding target_meaning
-target-refused target text path n is count front unserved =
-    let e : is_served (before_first is_question_mark target) ≡ false = rw (← is, ← count, ← front) unserved in
-    rw e refl
+-- where the query of a target stands
+pub query-at : (bytes : List ℕ) (start end from : ℕ) (text : List ℕ) (n : ℕ) → start ≤ end → end ≤ length bytes → text ≡ slice_range bytes start end →
+    n ≡ position_or_len is_question_mark text → from ≡ min (start + n + 1) end → slice_range bytes from end ≡ after_first is_question_mark (slice_range bytes start end)
+query-at bytes start end from text n ordered within is count e =
+    sym (rw (← is, ← count, is) (range-after bytes start end n from ordered within e))
 
--- of a path that is served the query is asked
-pub target-asked : (bytes : List ℕ) (start end from : ℕ) (text path : List ℕ) (n : ℕ) → start ≤ end → end ≤ length bytes → text ≡ slice_range bytes start end →
-    n ≡ position_or_len is_question_mark text → path ≡ take n text → is_served path ≡ true → from ≡ min (start + n + 1) end →
-    target_meaning (slice_range bytes start end) ≡ Asks (slice_range bytes from end)
+-- what a target means, by its path
+pub target-served : (target path : List ℕ) (n : ℕ) (served : Bool) → n ≡ position_or_len is_question_mark target → path ≡ take n target → served ≡ is_served path →
+    target_meaning target ≡ (if served then Asks (after_first is_question_mark target) else Refused NotFound)
 unfolding target_meaning
-target-asked bytes start end from text path n ordered within is count front served e =
-    let s : is_served (before_first is_question_mark (slice_range bytes start end)) ≡ true = rw (← is, ← count, ← front) served in
-    let q : after_first is_question_mark (slice_range bytes start end) ≡ slice_range bytes from end =
-    rw (← is, ← count, is) (range-after bytes start end n from ordered within e) in
-    rw (s, q) refl
+target-served target path n served count front e =
+    let same : is_served (before_first is_question_mark target) ≡ served = rw (e, front, count) refl in
+    rw same refl

@@ -1,5 +1,5 @@
--- Reads that are wanted: each gives a byte at least, so that they are fewer than the bytes of a head.
-use Rattle.std.proofs.Common.{◌≡◌, ◌∙◌, ℕ, ◌+◌, ◌<◌, ◌≤◌, zero, suc, List, [], ◌∷◌, ◌++◌, length, Option, None, Some, refl, sym, ap, subst, arith, length-append, append-nil}
+-- Reads that are wanted.
+use Rattle.std.proofs.Common.{◌≡◌, ◌∙◌, ℕ, ◌<◌, ◌≤◌, zero, suc, inl, inr, Bool, true, false, ◌||◌, ◌==◌, if◌then◌else◌, List, [], ◌∷◌, ◌++◌, length, Option, None, Some, refl, sym, ap, subst, arith, length-append, append-nil}
 use Rattle.std.specs.List.{All, FoldsTo, concat}
 use Rattle.std.proofs.lemmas.List.Elements.{All-nil, All-append}
 use Rattle.std.proofs.lemmas.List.Folds.{concat-append}
@@ -7,20 +7,78 @@ use Rattle.std.proofs.lemmas.Fn.{FoldsTo-push}
 use Rattle.std.specs.Io.KnownBytes.{Consumes, Keeps}
 use Rattle.std.proofs.KnownBytes.{Consumes-nil, Consumes-trans, Consumes-kept}
 use Rattle.httpedge.specs.Connection.{LeavesOpen}
-use Rattle.httpedge.specs.Reads.{WantsMore, ReadsTo, ReadsToPiece}
-use Rattle.httpedge.proofs.Heads.{head-more, nothing-headless}
+use Rattle.std.proofs.lemmas.Bool.Decides.{leb_tells}
+use Rattle.httparse.specs.Grammar.{print_request}
+use Rattle.httparse.proofs.GrammarLemmas.{ReadsRequest-append, request_unique}
+use Rattle.httpedge.specs.Exchange.{Said}
+use Rattle.httpedge.specs.Fields.{announces_body, closes}
+use Rattle.httpedge.specs.Meaning.{Meaning, Refused, head_meaning}
+use Rattle.httpedge.specs.Reads.{Wants, WantsMore, ReadsTo, ReadsToPiece}
+use Rattle.httpedge.specs.Serving.{HasCome}
+use Rattle.httpedge.specs.Turn.{Turn, Last, Further, headless_turn}
+use Rattle.httpedge.specs.declared.conn.TheConstants.{REQUESTS}
+use Rattle.httpedge.specs.declared.refusal.Refusal.TheVariants.{BadRequest}
+use Rattle.httpedge.proofs.Heads.{head-front, head-more, nothing-headless}
 
 -- each front of what leaves a stream open does so
-pub fronts-leave-open : (front more : List ℕ) → LeavesOpen (front ++ more) → LeavesOpen front
+fronts-leave-open : (front more : List ℕ) → LeavesOpen (front ++ more) → LeavesOpen front
 fronts-leave-open front more leaves =
     ((λ head has. leaves.0 head (head-more front more head has)), omega (arith, leaves.1, length-append front more))
 
+-- a stream without a head has no further turn
+no-further : (stream after : List ℕ) (meaning : Meaning) → Further meaning after ≡ headless_turn stream → ⊥
+no-further [] after meaning e = cc
+no-further (byte ∷ bytes) after meaning e = cc
+
+turn-by : Bool → Bool → Meaning → List ℕ → Turn
+turn-by announces ends meaning rest = if announces then Last (Refused BadRequest) else (if ends then Last meaning else Further meaning rest)
+
+-- what a further turn says, it says whatever follows
+further-by : (announces ends : Bool) (meaning asked : Meaning) (rest after : List ℕ) → Further meaning after ≡ turn-by announces ends asked rest →
+    (after ≡ rest) × ((other : List ℕ) → Further meaning other ≡ turn-by announces ends asked other)
+unfolding turn-by
+further-by true ends meaning asked rest after e = absurd (cc)
+further-by false true meaning asked rest after e = absurd (cc)
+further-by false false meaning asked rest after e = let m : meaning ≡ asked = cc in (cc, λ other. ap (λ x. Further x other) m)
+
+-- where a read is wanted after some bytes, one was after each front of them
+pub fronts-want : (n : ℕ) (front more : List ℕ) → Wants n (front ++ more) → Wants n front
+unfolding Wants turn-by
+fronts-want zero front more wants = wants
+fronts-want (suc n) front more (inl leaves) = inl (fronts-leave-open front more leaves)
+fronts-want (suc n) front more (inr (meaning, after, inr (none, e), wants)) = absurd (no-further (front ++ more) after meaning e)
+fronts-want (suc n) front more (inr (meaning, after, inl (head, has, e), wants)) =
+    elim (leb_tells (length (print_request head)) (length front)) [
+      | inl short ↦
+          let own = head-front front more head has short.1 in
+          let same = request_unique (front ++ more) head head has.rest (own.rest ++ more) has.reads (ReadsRequest-append front head own.rest more own.reads) in
+          let further = further-by (announces_body head) (closes head || (n == 0)) meaning (head_meaning head) has.rest after e in
+          let rest : Wants n (own.rest ++ more) = subst (Wants n) (further.0 ∙ same.1) wants in
+          inr (meaning, own.rest, inl (head, own, further.1 own.rest), fronts-want n own.rest more rest)
+      | inr long ↦ inl (
+        (λ other own.
+            let same = request_unique (front ++ more) other head (own.rest ++ more) has.rest (ReadsRequest-append front other own.rest more own.reads) has.reads in
+            let fits : length (print_request other) ≤ length front = omega (arith, ap length own.reads.1, length-append (print_request other) own.rest) in
+            omega (arith, long.1, fits, ap (λ h. length (print_request h)) same.0)),
+        omega (arith, long.1, has.bytes),
+      )
+    ]
+
 -- before the first read
 pub none-wanted : WantsMore []
+unfolding Wants
 none-wanted = record {
   some = All-nil (λ piece. 0 < length piece);
-  leaves = (nothing-headless, omega arith);
+  wants = inl (nothing-headless, omega arith);
 }
+
+-- where the connection is to be read on, a read is wanted
+pub wants-now : {A : Type 0} (answers : A → List ℕ → Said → A → Type 0) (n k : ℕ) (read said came : List ℕ) (first now : A) → HasCome answers n read first said k came now → 0 < k → LeavesOpen came → Wants n read
+unfolding Wants
+wants-now answers n zero read said came first now come some leaves = absurd (omega (arith, some))
+wants-now answers n (suc k) read said came first now come some leaves =
+    let all : came ++ [] ≡ came = append-nil came in
+    subst (Wants n) (append-nil read) (come.wanted [] (inl (subst LeavesOpen (sym all) leaves)))
 
 -- one piece that is some
 one-some : (piece : List ℕ) → 0 < length piece → All (λ p. 0 < length p) (piece ∷ [])
@@ -31,27 +89,11 @@ pub concat-one : (pieces : List (List ℕ)) (piece : List ℕ) → concat (piece
 concat-one pieces piece = concat-append pieces (piece ∷ []) ∙ ap (λ l. concat pieces ++ l) (append-nil piece)
 
 -- one read more
-pub wanted-more : (pieces : List (List ℕ)) (piece : List ℕ) → WantsMore pieces → 0 < length piece → LeavesOpen (concat pieces ++ piece) → WantsMore (pieces ++ piece ∷ [])
-wanted-more pieces piece before some leaves = record {
+pub wanted-more : (pieces : List (List ℕ)) (piece : List ℕ) → WantsMore pieces → 0 < length piece → Wants REQUESTS (concat pieces ++ piece) → WantsMore (pieces ++ piece ∷ [])
+wanted-more pieces piece before some wants = record {
   some = All-append (λ p. 0 < length p) pieces (piece ∷ []) before.some (one-some piece some);
-  leaves = subst LeavesOpen (sym (concat-one pieces piece)) leaves;
+  wants = subst (Wants REQUESTS) (sym (concat-one pieces piece)) wants;
 }
-
--- pieces that are some are at most as many as their bytes
-count-some : (pieces : List (List ℕ)) → All (λ piece. 0 < length piece) pieces → length pieces ≤ length (concat pieces)
-count-some [] some = omega arith
-count-some (piece ∷ pieces) some =
-    let first : 0 < length piece = some 0 [] (omega arith) in
-    let others : length pieces ≤ length (concat pieces) = count-some pieces (λ k d h. some (suc k) d (omega (arith, h))) in
-    omega (arith, first, others, length-append piece (concat pieces))
-
--- wanted reads are fewer than the bytes of a head
-pub wanted-below : (pieces : List (List ℕ)) → WantsMore pieces → length pieces < 16384
-wanted-below pieces before = omega (arith, count-some pieces before.some, before.leaves.1)
-
--- so with one read more they are at most as many
-pub reads-below : (pieces : List (List ℕ)) (start middle end : ℕ) → WantsMore pieces → middle ≡ start + length pieces → end ≤ middle + 1 → end ≤ start + 16384
-reads-below pieces start middle end before count more = omega (arith, wanted-below pieces before, count, more)
 
 -- a reader was read so far, by reads that were all wanted
 pub record HasGoneOn {R : Type 0} (left : R → Option (List ℕ)) (took : R → Option (List ℕ) → R → Type 0) (pieces : List (List ℕ)) (old new : R) : Type 0 where
@@ -68,10 +110,10 @@ gone-nowhere left took old = record {
 
 -- by one read more
 pub gone-further : {R : Type 0} (left : R → Option (List ℕ)) (took : R → Option (List ℕ) → R → Type 0) (pieces : List (List ℕ)) (piece : List ℕ) (old middle new : R) →
-    HasGoneOn left took pieces old middle → took middle (Some piece) new → Consumes (left middle) (left new) piece → 0 < length piece → LeavesOpen (concat pieces ++ piece) →
+    HasGoneOn left took pieces old middle → took middle (Some piece) new → Consumes (left middle) (left new) piece → 0 < length piece → Wants REQUESTS (concat pieces ++ piece) →
     HasGoneOn left took (pieces ++ piece ∷ []) old new
-gone-further {R} left took pieces piece old middle new before once bytes some leaves = record {
-  wanted = wanted-more pieces piece before.wanted some leaves;
+gone-further {R} left took pieces piece old middle new before once bytes some wants = record {
+  wanted = wanted-more pieces piece before.wanted some wants;
   reads = FoldsTo-push (λ (reader : R) (given : List ℕ) (next : R). took reader (Some given) next) old pieces middle piece new before.reads once;
   bytes = subst (Consumes (left old) (left new)) (sym (concat-one pieces piece)) (Consumes-trans (left old) (left middle) (left new) (concat pieces) piece before.bytes bytes);
 }

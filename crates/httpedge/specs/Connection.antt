@@ -1,78 +1,93 @@
--- How far a connection has come, by the bytes that came (docs/PROFILE.md, "HTTP").
-use Rattle.std.specs.Prelude.{◌≡◌, ℕ, ◌<◌, List, [], ◌++◌, length, Bool, true, false}
+-- How far a connection has come, by the bytes that came since the last forgotten head (docs/PROFILE.md, "HTTP").
+use Rattle.std.specs.Prelude.{◌≡◌, ℕ, ◌+◌, ◌<◌, ◌≤◌, List, [], ◌∷◌, ◌++◌, length, take, Bool, true, false, not, ◌&&◌, ◌||◌, ◌==◌, Option, None, Some}
 use Rattle.httparse.specs.Spans.{span_bytes}
 use Rattle.httpedge.specs.Head.{HasNoHead}
-use Rattle.httpedge.specs.Meaning.{Meaning, Nothing, Refused, Asks, IsMeaning, AlwaysMeans}
-use Rattle.httpedge.specs.declared.verdict.Verdict.{Verdict}
-use Rattle.httpedge.specs.declared.verdict.Verdict.TheVariants as verdict
-use Rattle.httpedge.specs.declared.step.Step.{Step}
-use Rattle.httpedge.specs.declared.step.Step.TheVariants as step
-use Rattle.httpedge.specs.declared.step.End.{End}
-use Rattle.httpedge.specs.declared.step.End.TheVariants as end
+use Rattle.httpedge.specs.Meaning.{decision_meaning, meaning_of}
+use Rattle.httpedge.specs.Turn.{IsTurn, Last}
+use Rattle.httpedge.specs.Verdict.{Decides}
+use Rattle.httpedge.specs.declared.conn.TheConstants.{REQUESTS}
+use Rattle.httpedge.specs.declared.decision.Decision.{Decision}
+use Rattle.httpedge.specs.declared.decision.Decision.TheVariants as decision
+use Rattle.httpedge.specs.declared.received.Received.{Received}
+use Rattle.httpedge.specs.declared.refusal.Refusal.TheVariants.{BadRequest}
 
--- these bytes came and nothing is decided; or it is decided what the stream means
+-- these bytes came and nothing is decided; or a decision stands: whether it closes, what it is, and the query
 pub data Progress : Type 0 where
   Open : List ℕ → Progress
-  Decided : Meaning → Progress
+  Decided : Bool → Decision → List ℕ → Progress
 
--- the verdict on the bytes that came, as progress
-abbrev pub progress : List ℕ → Verdict → Progress
-progress bytes verdict.Open = Open bytes
-progress bytes (verdict.Ask query) = Decided (Asks (span_bytes bytes query))
-progress bytes (verdict.Refused refusal) = Decided (Refused refusal)
+-- what was received, as progress
+abbrev pub progress_by : Option Decision → Bool → List ℕ → List ℕ → Progress
+progress_by None closes query bytes = Open bytes
+progress_by (Some decided) closes query bytes = Decided closes decided query
+
+abbrev pub progress : Received → Progress
+progress received = progress_by received.decision received.closes (span_bytes received.bytes.items received.query) received.bytes.items
+
+-- a decision stands
+abbrev pub is_decided : Progress → Bool
+is_decided (Open came) = false
+is_decided (Decided closes decided query) = true
+
+-- what is decided, if anything is
+abbrev pub step_of : Progress → Option Decision
+step_of (Open came) = None
+step_of (Decided closes decided query) = Some decided
+
+-- the query of a decision
+abbrev pub query_of : Progress → List ℕ
+query_of (Open came) = []
+query_of (Decided closes decided query) = query
 
 -- bytes begin with no head, and a head has room for more than them
 abbrev pub LeavesOpen : List ℕ → Type 0
 LeavesOpen came = HasNoHead came × (length came < 16384)
 
--- these bytes came: they have no head yet and may get one, or they decide for each continuation
+-- these bytes came: they have no head yet and may get one, or they decide
 abbrev pub Comes : List ℕ → Progress → Type 0
 Comes came (Open bytes) = (bytes ≡ came) × LeavesOpen came
-Comes came (Decided Nothing) = ⊥
-Comes came (Decided (Refused refusal)) = AlwaysMeans came (Refused refusal)
-Comes came (Decided (Asks query)) = AlwaysMeans came (Asks query)
+Comes came (Decided closes decided query) = Decides came closes (decision_meaning decided query)
 
--- a further piece came; what was decided stays
-abbrev pub Feeds : Progress → List ℕ → Progress → Type 0
-Feeds (Open came) piece new = Comes (came ++ piece) new
-Feeds (Decided meaning) piece new = new ≡ Decided meaning
+-- the first bytes of a piece were taken: all of them, or those that decide
+pub record Takes (came piece : List ℕ) (taken : ℕ) (new : Progress) : Type 0 where
+  pub comes : Comes (came ++ take taken piece) new
+  pub bound : taken ≤ length piece
+  pub cut : taken < length piece → is_decided new ≡ true
 
--- how far the end of a stream brings a connection: where nothing came nothing is decided
-abbrev pub ended : List ℕ → Meaning → Progress
-ended came Nothing = Open came
-ended came (Refused refusal) = Decided (Refused refusal)
-ended came (Asks query) = Decided (Asks query)
+-- a further piece came. With a decision standing nothing is taken
+abbrev pub Feeds : Progress → List ℕ → ℕ → Progress → Type 0
+Feeds (Open came) piece taken new = Takes came piece taken new
+Feeds (Decided closes decided query) piece taken new = (taken ≡ 0) × (new ≡ Decided closes decided query)
 
--- the stream ended: what came is all of it; what was decided stays
-abbrev pub Ends : Progress → Meaning → Progress → Type 0
-Ends (Open came) meaning new = IsMeaning came meaning × (new ≡ ended came meaning)
-Ends (Decided decided) meaning new = (meaning ≡ decided) × (new ≡ Decided decided)
+-- how far the end of a stream brings a connection: bytes without a head are refused; where nothing came nothing is decided
+abbrev pub ended : Progress → Progress
+ended (Open []) = Open []
+ended (Open (byte ∷ bytes)) = Decided true (decision.Refused BadRequest) []
+ended (Decided closes decided query) = Decided closes decided query
 
--- what a piece is answered with
-abbrev pub step_of : Progress → Step
-step_of (Open came) = step.More
-step_of (Decided Nothing) = step.More
-step_of (Decided (Refused refusal)) = step.Refused refusal
-step_of (Decided (Asks query)) = step.Ask
+-- the stream ended: what came is all that is left of it, and means this; what was decided stays
+abbrev pub Ends : Progress → Progress → Type 0
+Ends (Open came) new = ((is_last : Bool) → IsTurn is_last came (Last (meaning_of (step_of new) (query_of new)))) × (new ≡ ended (Open came))
+Ends (Decided closes decided query) new = new ≡ Decided closes decided query
 
--- what an end is answered with
-abbrev pub end_of : Meaning → End
-end_of Nothing = end.Nothing
-end_of (Refused refusal) = end.Refused refusal
-end_of (Asks query) = end.Ask
+-- how many heads were forgotten, and how far the next has come
+pub record Course : Type 0 where
+  pub done : ℕ
+  pub progress : Progress
 
--- the query that was asked
-abbrev pub query_of : Progress → List ℕ
-query_of (Decided (Asks query)) = query
-query_of _ = []
+-- a decision ends the connection: by its head, or as the last
+abbrev pub ends_by : Bool → Progress → Bool
+ends_by is_last (Open came) = false
+ends_by is_last (Decided closes decided query) = closes || is_last
 
--- whether a query was asked
-abbrev pub is_asked : Progress → Bool
-is_asked (Decided (Asks query)) = true
-is_asked _ = false
+-- a decision stands that ends the connection
+abbrev pub is_closing : Course → Bool
+is_closing course = ends_by (course.done + 1 == REQUESTS) course.progress
 
--- the meaning that an end and the query tell
-abbrev pub meaning_of : End → List ℕ → Meaning
-meaning_of end.Nothing query = Nothing
-meaning_of (end.Refused refusal) query = Refused refusal
-meaning_of end.Ask query = Asks query
+-- a decision stands that doesn't
+abbrev pub goes_on : Course → Bool
+goes_on course = is_decided course.progress && not (is_closing course)
+
+-- its head is forgotten
+abbrev pub forgotten : Course → Course
+forgotten course = record { done = course.done + 1; progress = Open [] }

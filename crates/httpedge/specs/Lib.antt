@@ -1,9 +1,13 @@
 pub mod Asking
 pub mod Connection
 pub mod Exchange
+pub mod Fields
 pub mod Head
 pub mod Meaning
 pub mod Reads
 pub mod Received
 pub mod Response
+pub mod Serving
+pub mod Stopped
+pub mod Turn
 pub mod Verdict

@@ -1,11 +1,12 @@
 -- What a stream asks for (docs/PROFILE.md, "HTTP").
-use Rattle.std.specs.Prelude.{◌≡◌, ◌⊎◌, ℕ, List, [], ◌∷◌, ◌++◌, Bool, ◌||◌, ◌==◌, if◌then◌else◌, codes}
+use Rattle.std.specs.Prelude.{ℕ, List, Bool, Option, None, Some, ◌||◌, ◌==◌, if◌then◌else◌, codes}
 use Rattle.std.specs.List.{before_first, after_first}
 use Rattle.std.specs.Str.{bytes_eq}
 use Rattle.httparse.specs.Grammar.{RequestHead}
-use Rattle.httpedge.specs.Head.{HasHead, HasNoHead}
+use Rattle.httpedge.specs.declared.decision.Decision.{Decision}
+use Rattle.httpedge.specs.declared.decision.Decision.TheVariants as decision
 use Rattle.httpedge.specs.declared.refusal.Refusal.{Refusal}
-use Rattle.httpedge.specs.declared.refusal.Refusal.TheVariants.{BadRequest, NotFound, MethodNotAllowed}
+use Rattle.httpedge.specs.declared.refusal.Refusal.TheVariants.{NotFound, MethodNotAllowed}
 
 -- nothing, a refusal, or a query that is asked
 pub data Meaning : Type 0 where
@@ -27,24 +28,19 @@ target_meaning target =
     if is_served (before_first is_question_mark target) then Asks (after_first is_question_mark target) else Refused NotFound
 
 -- a method other than GET is refused before the path is looked at
+abbrev pub request_meaning : List ℕ → List ℕ → Meaning
+request_meaning method target = if bytes_eq method (codes "GET") then target_meaning target else Refused MethodNotAllowed
+
+-- what a head asks for
 abbrev pub head_meaning : RequestHead → Meaning
-head_meaning head = if bytes_eq head.method (codes "GET") then target_meaning head.target else Refused MethodNotAllowed
+head_meaning head = request_meaning head.method head.target
 
--- a stream without a head is refused, unless it is empty
-abbrev pub headless_meaning : List ℕ → Meaning
-headless_meaning [] = Nothing
-headless_meaning (byte ∷ bytes) = Refused BadRequest
+-- what a decision means, where this is the query of the target
+abbrev pub decision_meaning : Decision → List ℕ → Meaning
+decision_meaning decision.Ask query = Asks query
+decision_meaning (decision.Refused refusal) query = Refused refusal
 
--- a stream means what its head means
-abbrev pub IsMeaning : List ℕ → Meaning → Type 0
-IsMeaning stream meaning =
-    ((head : RequestHead) × HasHead stream head × (meaning ≡ head_meaning head))
-    ⊎ (HasNoHead stream × (meaning ≡ headless_meaning stream))
-
--- a stream means this, whatever bytes follow
-abbrev pub AlwaysMeans : List ℕ → Meaning → Type 0
-AlwaysMeans bytes meaning = (more : List ℕ) → IsMeaning (bytes ++ more) meaning
-
--- the law that a stream has one meaning
-abbrev pub MeaningIsOne : Type 0
-MeaningIsOne = (stream : List ℕ) (a b : Meaning) → IsMeaning stream a → IsMeaning stream b → a ≡ b
+-- what a decision means, if there is one
+abbrev pub meaning_of : Option Decision → List ℕ → Meaning
+meaning_of None query = Nothing
+meaning_of (Some decided) query = decision_meaning decided query

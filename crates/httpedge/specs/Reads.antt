@@ -1,16 +1,25 @@
 -- How far a stream is read (docs/PROFILE.md, "HTTP").
-use Rattle.std.specs.Prelude.{◌<◌, ℕ, List, [], ◌++◌, length, Option, None, Some}
+use Rattle.std.specs.Prelude.{◌⊎◌, ◌<◌, ℕ, zero, suc, List, [], ◌++◌, length, Option, None, Some, ◌==◌}
 use Rattle.std.specs.List.{All, FoldsTo, concat}
 use Rattle.std.specs.Option.{unwrap_or}
 use Rattle.std.specs.Io.KnownBytes.{Consumes}
 use Rattle.httpedge.specs.Connection.{LeavesOpen}
+use Rattle.httpedge.specs.Meaning.{Meaning}
+use Rattle.httpedge.specs.Turn.{IsTurn, Further}
+use Rattle.httpedge.specs.declared.conn.TheConstants.{REQUESTS}
 use Rattle.httpedge.specs.declared.edge.EdgeFault.{EdgeFault}
 use Rattle.httpedge.specs.declared.edge.EdgeFault.TheVariants.{Read, Write}
 
--- each piece has a byte at least, and all of them together leave open what the stream means: a further read is wanted
+-- a further read is wanted by a connection that has so many requests left: the bytes that came are heads that don't end it, and then
+-- bytes that begin with no head and are less than a head may have
+unfoldable pub Wants : ℕ → List ℕ → Type 0
+Wants zero came = ⊥
+Wants (suc n) came = LeavesOpen came ⊎ ((meaning : Meaning) × (after : List ℕ) × IsTurn (n == 0) came (Further meaning after) × Wants n after)
+
+-- each piece has a byte at least, and after all of them together a further read is wanted
 pub record WantsMore (pieces : List (List ℕ)) : Type 0 where
   pub some : All (λ piece. 0 < length piece) pieces
-  pub leaves : LeavesOpen (concat pieces)
+  pub wants : Wants REQUESTS (concat pieces)
 
 -- a reader was read up to a last read that was wanted, and no further. `left` tells what a reader has left, where that
 -- is known; `took` relates a reader, what one read gave, if it didn't fail, and the reader after it
@@ -28,9 +37,9 @@ ReadsToPiece left took old new = (piece : List ℕ) × ReadsTo left took (Some p
 
 -- how far a reader was read before a fault: where the reader failed, that was the last read
 abbrev pub ReadsToFault : {R : Type 0} → EdgeFault → (R → Option (List ℕ)) → (R → Option (List ℕ) → R → Type 0) → R → R → Type 0
-ReadsToFault Read left took old new = ReadsTo left took None old new
+ReadsToFault (Read written) left took old new = ReadsTo left took None old new
 ReadsToFault (Write written) left took old new = ReadsToPiece left took old new
 
--- the law that each front of what leaves a stream open does so: each read before one that is wanted was wanted
-abbrev pub FrontsLeaveOpen : Type 0
-FrontsLeaveOpen = (front more : List ℕ) → LeavesOpen (front ++ more) → LeavesOpen front
+-- the law that where a read is wanted, each read before it was
+abbrev pub FrontsWant : Type 0
+FrontsWant = (front more : List ℕ) → Wants REQUESTS (front ++ more) → Wants REQUESTS front

@@ -1,5 +1,5 @@
 -- The bytes of responses (RFC 9112; docs/PROFILE.md, "HTTP").
-use Rattle.std.specs.Prelude.{ℕ, List, [], ◌++◌, length, codes, Option, None, Some}
+use Rattle.std.specs.Prelude.{ℕ, List, ◌++◌, length, codes, Bool, true, false}
 use Rattle.std.specs.Fmt.{decimal}
 use Rattle.mapmachine.specs.declared.reply.Answer.{Answer}
 use Rattle.operations.specs.Mime.{mime_text}
@@ -8,35 +8,42 @@ use Rattle.httpedge.specs.declared.refusal.Refusal.TheVariants.{BadRequest, NotF
 use Rattle.httpedge.specs.declared.outcome.Outcome.{Outcome}
 use Rattle.httpedge.specs.declared.outcome.Outcome.TheVariants.{Answered, Refused, Busy}
 
--- a response without a body, by the refusal
-unfoldable pub refusal_text : Refusal → List ℕ
-refusal_text BadRequest = codes "HTTP/1.1 400 Bad Request\r\nContent-Length: 0\r\nConnection: close\r\n\r\n"
-refusal_text NotFound = codes "HTTP/1.1 404 Not Found\r\nContent-Length: 0\r\nConnection: close\r\n\r\n"
-refusal_text MethodNotAllowed = codes "HTTP/1.1 405 Method Not Allowed\r\nAllow: GET\r\nContent-Length: 0\r\nConnection: close\r\n\r\n"
+-- the end of a head, with the line that no further response comes where it is the last
+unfoldable pub head_end : Bool → List ℕ
+head_end true = codes "Connection: close\r\n\r\n"
+head_end false = codes "\r\n"
 
--- the response where a query can't be answered now
-unfoldable pub busy_text : List ℕ
-busy_text = codes "HTTP/1.1 503 Service Unavailable\r\nContent-Length: 0\r\nConnection: close\r\n\r\n"
+-- the lines of a refusal
+unfoldable pub refusal_lines : Refusal → List ℕ
+refusal_lines BadRequest = codes "HTTP/1.1 400 Bad Request\r\nContent-Length: 0\r\n"
+refusal_lines NotFound = codes "HTTP/1.1 404 Not Found\r\nContent-Length: 0\r\n"
+refusal_lines MethodNotAllowed = codes "HTTP/1.1 405 Method Not Allowed\r\nAllow: GET\r\nContent-Length: 0\r\n"
 
--- a body under its fixed head: its mime type, how many bytes it has, and that no further response comes
-unfoldable pub body_text : List ℕ → List ℕ → List ℕ → List ℕ
-body_text mime count body =
-    codes "HTTP/1.1 200 OK\r\nContent-Type: " ++ (mime ++ (codes "\r\nContent-Length: " ++ (count ++ (codes "\r\nConnection: close\r\n\r\n" ++ body))))
+-- the lines where a query can't be answered now
+unfoldable pub busy_lines : List ℕ
+busy_lines = codes "HTTP/1.1 503 Service Unavailable\r\nContent-Length: 0\r\n"
+
+-- a response without a body
+abbrev pub refusal_text : Refusal → Bool → List ℕ
+refusal_text refusal closing = refusal_lines refusal ++ head_end closing
+
+abbrev pub busy_text : Bool → List ℕ
+busy_text closing = busy_lines ++ head_end closing
+
+-- a body under its fixed head: its mime type, and how many bytes it has
+unfoldable pub body_text : List ℕ → List ℕ → List ℕ → Bool → List ℕ
+body_text mime count body closing =
+    codes "HTTP/1.1 200 OK\r\nContent-Type: " ++ (mime ++ (codes "\r\nContent-Length: " ++ (count ++ (codes "\r\n" ++ (head_end closing ++ body)))))
 
 -- an answer under its head
-abbrev pub answer_text : Answer → List ℕ
-answer_text answer = body_text (mime_text answer.mime) (decimal (length answer.body)) answer.body
+abbrev pub answer_text : Answer → Bool → List ℕ
+answer_text answer closing = body_text (mime_text answer.mime) (decimal (length answer.body)) answer.body closing
 
 -- the bytes of a response
-abbrev pub response : Outcome → List ℕ
-response (Answered answer) = answer_text answer
-response (Refused refusal) = refusal_text refusal
-response Busy = busy_text
-
--- the bytes of an outcome, if there is one
-abbrev pub outcome_text : Option Outcome → List ℕ
-outcome_text None = []
-outcome_text (Some outcome) = response outcome
+abbrev pub response : Outcome → Bool → List ℕ
+response (Answered answer) closing = answer_text answer closing
+response (Refused refusal) closing = refusal_text refusal closing
+response Busy closing = busy_text closing
 
 -- the number of a refusal's status
 abbrev pub status_of : Refusal → ℕ

@@ -1,26 +1,30 @@
 -- What a verdict on some bytes says of the stream that they begin (RFC 9112; docs/PROFILE.md, "HTTP").
-use Rattle.std.specs.Prelude.{◌≡◌, ◌<◌, ℕ, List, length}
+use Rattle.std.specs.Prelude.{◌≡◌, ◌<◌, ◌≤◌, ℕ, List, [], length, take, Bool, ◌||◌, Option, None, Some}
+use Rattle.httparse.specs.Grammar.{RequestHead}
 use Rattle.httparse.specs.Spans.{span_bytes, IsWithin}
-use Rattle.httparse.specs.declared.spans.Span.{Span}
-use Rattle.httpedge.specs.Head.{HasNoHead}
-use Rattle.httpedge.specs.Meaning.{Refused, Asks, target_meaning, AlwaysMeans}
-use Rattle.httpedge.specs.declared.verdict.Verdict.{Verdict}
-use Rattle.httpedge.specs.declared.verdict.Verdict.TheVariants as verdict
+use Rattle.httpedge.specs.Head.{HasHead, HasNoHead}
+use Rattle.httpedge.specs.Meaning.{Meaning, decision_meaning}
+use Rattle.httpedge.specs.Turn.{AlwaysTurns}
+use Rattle.httpedge.specs.declared.decision.Decision.{Decision}
+use Rattle.httpedge.specs.declared.verdict.Judged.{Judged}
 
--- the verdict is what the target means that stands there
-abbrev pub IsTarget : List ℕ → Span → Verdict → Type 0
-IsTarget bytes target verdict.Open = ⊥
-IsTarget bytes target (verdict.Ask query) = IsWithin (length bytes) query × (target_meaning (span_bytes bytes target) ≡ Asks (span_bytes bytes query))
-IsTarget bytes target (verdict.Refused refusal) = target_meaning (span_bytes bytes target) ≡ Refused refusal
+-- some bytes decide a turn, also where it is the last; a head that they begin with is all of them
+pub record Decides (bytes : List ℕ) (closes : Bool) (meaning : Meaning) : Type 0 where
+  pub turns : (is_last : Bool) → AlwaysTurns is_last bytes (closes || is_last) meaning
+  pub whole : (head : RequestHead) (has : HasHead bytes head) → has.rest ≡ []
 
--- the bytes have no head, or decide for each continuation
-abbrev pub IsDecided : List ℕ → Verdict → Type 0
-IsDecided bytes verdict.Open = HasNoHead bytes
-IsDecided bytes (verdict.Ask query) = IsWithin (length bytes) query × AlwaysMeans bytes (Asks (span_bytes bytes query))
-IsDecided bytes (verdict.Refused refusal) = AlwaysMeans bytes (Refused refusal)
+-- the first bytes decide, and no shorter front has a head
+pub record IsDecision (bytes : List ℕ) (judged : Judged) (meaning : Meaning) : Type 0 where
+  pub len : judged.len ≤ length bytes
+  pub decides : Decides (take judged.len bytes) judged.closes meaning
+  pub shortest : (n : ℕ) → n ≤ length bytes → HasNoHead (take n bytes) → n ≤ judged.len
 
--- the same, and they are open only below the limit
-abbrev pub IsVerdict : List ℕ → Verdict → Type 0
-IsVerdict bytes verdict.Open = HasNoHead bytes × (length bytes < 16384)
-IsVerdict bytes (verdict.Ask query) = IsDecided bytes (verdict.Ask query)
-IsVerdict bytes (verdict.Refused refusal) = IsDecided bytes (verdict.Refused refusal)
+-- the bytes have no head and may get one, or the first of them decide
+abbrev pub IsJudgedAs : List ℕ → Judged → Option Decision → Type 0
+IsJudgedAs bytes judged None = HasNoHead bytes × (length bytes < 16384) × (judged.len ≡ length bytes)
+IsJudgedAs bytes judged (Some decision) = IsDecision bytes judged (decision_meaning decision (span_bytes bytes judged.query))
+
+-- so is the verdict, and the query lies in what decides
+pub record IsJudged (bytes : List ℕ) (judged : Judged) : Type 0 where
+  pub query : IsWithin judged.len judged.query
+  pub verdict : IsJudgedAs bytes judged judged.decision

@@ -1,65 +1,102 @@
-ghost use Rattle.std.specs.Prelude.{◌≡◌, IfOk, [], true};
-ghost use Rattle.httpedge.specs.Connection.{Progress, Open, Feeds, Ends, step_of, end_of, query_of, is_asked};
-ghost use Rattle.httpedge.specs.Meaning.{Meaning};
+ghost use Rattle.std.specs.Prelude.{◌≡◌, IfOk, [], if◌then◌else◌, true};
+ghost use Rattle.httpedge.specs.Connection.{Open, Feeds, Ends, step_of, query_of, is_decided, is_closing, goes_on, forgotten};
 
+use crate::Decision;
 use crate::received::Received;
-use crate::verdict::Verdict;
-use crate::{End, Step};
 use std::alloc::{AllocError, Global};
 use std::marker::Model;
 
-/// A connection: the bytes of its stream that came, and what they decide.
+/// The most requests of a connection.
+pub const REQUESTS: u32 = 1_000;
+
+/// What a piece led to.
+#[derive(Clone, Copy, Debug)]
+pub struct Fed {
+    /// How many bytes of the piece were taken.
+    pub taken: usize,
+    /// What is decided. Where nothing is, further bytes are to be read.
+    pub step: Option<Decision>,
+}
+
+/// A connection: how many of its heads are done, the bytes that came since, and what they decide.
 #[derive(Drop)]
 pub struct Conn {
     received: Received,
+    done: u32,
 }
 
 impl Model for Conn {
-    ghost use Rattle.httpedge.specs.Connection.{Progress, progress};
+    ghost use Rattle.std.specs.Prelude.{◌<◌};
+    ghost use Rattle.httpedge.specs.Connection.{Course, progress};
     ghost use Rattle.httpedge.specs.Received.{IsReceived};
+    ghost use Rattle.httpedge.specs.declared.conn.TheConstants.{REQUESTS};
 
-    ghost Value = { Progress };
+    ghost Value = { Course };
 
-    ghost view = { λ conn. progress conn.received.bytes.items conn.received.verdict };
+    ghost view = { λ conn. record { done = conn.done; progress = progress conn.received } };
 
-    ghost invariant = { λ conn. IsReceived conn.received };
+    ghost invariant = { λ conn. IsReceived conn.received × (conn.done < REQUESTS) };
 }
 
 impl Conn {
     /// A connection from which nothing came. It takes the memory for a head, and no more later.
     pub fn new(alloc: Global) -> Result<Self, AllocError>
-        ensures { IfOk result (λ conn. conn ≡ Open []) }
+        ensures { IfOk result (λ conn. conn ≡ record { done = 0; progress = Open [] }) }
     {
         Ok(Conn {
             received: Received::new(alloc)?,
+            done: 0,
         })
     }
 
-    /// Takes a piece of the stream. Once something is decided it says so again, and the piece isn't looked at.
-    pub fn feed(&mut self, piece: &[u8]) -> Step
-        ensures feeds { Feeds self.old piece.now self.new }
-        ensures step { result ≡ step_of self.new }
-        ensures asked { result ≡ Step.Ask → is_asked self.new ≡ true }
+    /// Takes bytes of a piece: all, or those up to a decision. Once something is decided it says so again.
+    pub fn feed(&mut self, piece: &[u8]) -> Fed
+        ensures feeds { Feeds self.old.progress piece.now result.taken self.new.progress }
+        ensures done { self.new.done ≡ self.old.done }
+        ensures step { result.step ≡ step_of self.new.progress }
     {
-        self.received.feed(piece)
-    }
-
-    /// Takes the end of the stream. Once something is decided it says so again.
-    pub fn end(&mut self) -> End
-        ensures ends { (meaning : Meaning) × Ends self.old meaning self.new × (result ≡ end_of meaning) }
-        ensures asked { result ≡ End.Ask → is_asked self.new ≡ true }
-    {
-        self.received.end()
-    }
-
-    /// The query that was asked.
-    pub fn query(&self) -> &[u8]
-        requires asked { is_asked self.now ≡ true }
-        ensures { result.now ≡ query_of self.now }
-    {
-        match self.received.verdict {
-            Verdict::Ask(query) => query.of(&self.received.bytes),
-            _ => unreachable!(),
+        let taken = self.received.feed(piece);
+        Fed {
+            taken,
+            step: self.received.decision,
         }
+    }
+
+    /// Takes the end of the stream. Where nothing came, nothing is decided; once something is decided it says so again.
+    pub fn end(&mut self) -> Option<Decision>
+        ensures ends { Ends self.old.progress self.new.progress }
+        ensures done { self.new.done ≡ self.old.done }
+        ensures step { result ≡ step_of self.new.progress }
+    {
+        self.received.end();
+        self.received.decision
+    }
+
+    /// The query of the head that decided.
+    pub fn query(&self) -> &[u8]
+        requires decided { is_decided self.now.progress ≡ true }
+        ensures { result.now ≡ query_of self.now.progress }
+    {
+        self.received.query.of(&self.received.bytes)
+    }
+
+    /// Whether a decision stands that ends the connection.
+    pub fn closing(&self) -> bool
+        ensures { result ≡ is_closing self.now }
+    {
+        self.received.decision.is_some() && (self.received.closes || self.done + 1 == REQUESTS)
+    }
+
+    /// Forgets the head of a decision that doesn't end the connection, and says whether there was one.
+    pub fn next(&mut self) -> bool
+        ensures was { result ≡ goes_on self.old }
+        ensures forgets { self.new ≡ (if goes_on self.old then forgotten self.old else self.old) }
+    {
+        if self.received.decision.is_none() || self.closing() {
+            return false;
+        }
+        self.received.forget();
+        self.done += 1;
+        true
     }
 }

@@ -1,14 +1,18 @@
-ghost use Rattle.std.specs.Prelude.{◌≡◌, ◌||◌, ◌+◌, ◌≤◌, not, OnOk, IfOk, IfErr, IfSome, List, [], None, Result, MatchResult, true};
+ghost use Rattle.std.specs.Prelude.{◌≡◌, ◌||◌, ◌+◌, ◌<◌, ◌≤◌, ◌++◌, ℕ, List, [], Bool, Some, not, if◌then◌else◌, length, OnOk, OnErr, IfOk, IfErr, IfSome, MatchResult, Result, true};
+ghost use Rattle.std.specs.Io.KnownBytes.{Consumes};
+ghost use Rattle.streams.specs.Sent.{IsSent, IsCutSomewhere};
 ghost use Rattle.mapmachine.specs.declared.reply.Answer.{Answer};
-ghost use Rattle.httpedge.specs.Connection.{Open, meaning_of, query_of, is_asked};
-ghost use Rattle.httpedge.specs.Meaning.{IsMeaning};
-ghost use Rattle.httpedge.specs.Reads.{ReadsTo, ReadsToPiece, ReadsToFault};
-ghost use Rattle.httpedge.specs.Response.{response, outcome_text};
-ghost use Rattle.httpedge.specs.Exchange.{HasExchanged, HasPartlyExchanged, IsReply, said_text, is_read, written_of};
+ghost use Rattle.httpedge.specs.Connection.{Open, step_of, query_of, is_closing, goes_on, forgotten};
+ghost use Rattle.httpedge.specs.Exchange.{IsReply, IsExchange, IsBegun, said_text};
+ghost use Rattle.httpedge.specs.Meaning.{decision_meaning};
+ghost use Rattle.httpedge.specs.Reads.{ReadsToPiece, ReadsToFault};
+ghost use Rattle.httpedge.specs.Response.{response};
+ghost use Rattle.httpedge.specs.Serving.{IsReading, Serves, requests_left, came_of, missing};
+ghost use Rattle.httpedge.specs.Stopped.{HasExchanged, HasStopped, HasKeptUp, is_read, written_of};
 ghost use Rattle.httpedge.specs.declared.asks.Busy.{Busy};
 
-use crate::{Asks, Busy, Conn, End, Outcome, Step, respond};
-use mapmachine::{Sink, Source, TakeFailed, WriteFault};
+use crate::{Asks, Busy, Conn, Decision, Outcome, respond};
+use mapmachine::{PutFailed, Sink, Source};
 use thiserror::Error;
 
 // How many bytes are read at once, at most.
@@ -17,47 +21,23 @@ const PIECE: usize = 4_096;
 /// Why an exchange was given up.
 #[derive(Clone, Copy, Debug, PartialEq, Eq, Error)]
 pub enum EdgeFault {
-    /// The reader failed. Nothing was written.
-    #[error("the reader failed")]
-    Read,
+    /// The reader failed. All answers before went out.
+    #[error("the reader failed after {written} bytes were written")]
+    Read {
+        /// How many bytes the answers before have in all.
+        written: u128,
+    },
     /// The writer failed.
     #[error("the writer failed after {written} bytes")]
     Write {
-        /// How many bytes of the response it took.
+        /// How many bytes it took, of all answers.
         written: u128,
     },
 }
 
-// Reads until it is decided what the stream means.
-fn read_request<R: Source>(conn: &mut Conn, reader: &mut R) -> Result<End, TakeFailed>
-    requires new { conn.old ≡ Open [] }
-    ensures means { IfOk result (λ end. IfSome (R.left reader.old) (λ stream. IsMeaning stream (meaning_of end (query_of conn.new)))) }
-    ensures asked { IfOk result (λ end. end ≡ End.Ask → is_asked conn.new ≡ true) }
-    ensures flag { MatchResult result (λ _. R.take_failed reader.new ≡ R.take_failed reader.old) (λ _. R.take_failed reader.new ≡ true) }
-    ensures reads { MatchResult result (λ _. ReadsToPiece R.left R.took reader.old reader.new) (λ _. ReadsTo R.left R.took None reader.old reader.new) }
-    ensures most { R.reads reader.new ≤ R.reads reader.old + 16384 }
-{
-    let mut room = [0; PIECE];
-    loop {
-        let count = match reader.take(&mut room) {
-            Ok(count) => count,
-            Err(_) => return Err(TakeFailed),
-        };
-        if count == 0 {
-            return Ok(conn.end());
-        }
-        let (piece, _) = room.split_at(count);
-        match conn.feed(piece) {
-            Step::More => {}
-            Step::Ask => return Ok(End::Ask),
-            Step::Refused(refusal) => return Ok(End::Refused(refusal)),
-        }
-    }
-}
-
 // What is said to a query.
 fn ask<A: Asks>(asks: &mut A, query: &[u8]) -> Outcome
-    ensures { (said : Result Answer Busy) × A.answers asks.old query.now said asks.new × (response result ≡ said_text said) }
+    ensures { (said : Result Answer Busy) × A.answers asks.old query.now said asks.new × ((closing : Bool) → response result closing ≡ said_text said closing) }
 {
     match asks.answer(query) {
         Ok(answer) => Outcome::Answered(answer),
@@ -65,48 +45,146 @@ fn ask<A: Asks>(asks: &mut A, query: &[u8]) -> Outcome
     }
 }
 
-// What is written of a stream that ended so.
-fn outcome<A: Asks>(conn: &Conn, end: End, asks: &mut A) -> Option<Outcome>
-    requires asked { end ≡ End.Ask → is_asked conn.now ≡ true }
-    ensures { IsReply A.answers (meaning_of end (query_of conn.now)) asks.old (outcome_text result) asks.new }
+// What is written where that is decided.
+fn outcome<A: Asks>(conn: &Conn, decision: Decision, asks: &mut A) -> Outcome
+    requires decided { step_of conn.now.progress ≡ Some decision }
+    ensures { (closing : Bool) → IsReply A.answers closing (decision_meaning decision (query_of conn.now.progress)) asks.old (response result closing) asks.new }
 {
-    match end {
-        End::Nothing => None,
-        End::Ask => Some(ask(asks, conn.query())),
-        End::Refused(refusal) => Some(Outcome::Refused(refusal)),
+    match decision {
+        Decision::Ask => ask(asks, conn.query()),
+        Decision::Refused(refusal) => Outcome::Refused(refusal),
     }
 }
 
-/// Answers a stream: reads until its head decides, or up to the end, and writes what that means. The
-/// connection is new. A fault of the reader leaves the writer and whoever is asked as they were; where the writer
-/// fails, exactly the first `written` bytes of the response went out, and not all of them.
+// Answers what is decided, and says whether the connection goes on. Then the head is forgotten.
+fn answer<W: Sink, A: Asks>(
+    conn: &mut Conn,
+    decision: Decision,
+    writer: &mut W,
+    asks: &mut A,
+) -> Result<bool, PutFailed>
+    requires decided { step_of conn.old.progress ≡ Some decision }
+    ensures sent { OnOk result ((text : List ℕ) × IsSent W.held W.taken writer.old text writer.new
+        × IsReply A.answers (is_closing conn.old) (decision_meaning decision (query_of conn.old.progress)) asks.old text asks.new) }
+    ensures cut { OnErr result ((text : List ℕ) × IsCutSomewhere W.held W.taken writer.old text writer.new
+        × IsReply A.answers (is_closing conn.old) (decision_meaning decision (query_of conn.old.progress)) asks.old text asks.new) }
+    ensures next { IfOk result (λ on. on ≡ goes_on conn.old) }
+    ensures forgets { OnOk result (conn.new ≡ (if goes_on conn.old then forgotten conn.old else conn.old)) }
+    ensures flag { MatchResult result (λ _. W.put_failed writer.new ≡ W.put_failed writer.old) (λ _. W.put_failed writer.new ≡ true) }
+{
+    let outcome = outcome(conn, decision, asks);
+    match respond(&outcome, conn.closing(), writer) {
+        Ok(()) => Ok(conn.next()),
+        Err(_) => Err(PutFailed),
+    }
+}
+
+// Answers the heads that end in a piece, one after the other, and says whether the connection goes on.
+fn answer_piece<W: Sink, A: Asks>(
+    conn: &mut Conn,
+    piece: &[u8],
+    writer: &mut W,
+    asks: &mut A,
+) -> Result<bool, PutFailed>
+    requires reading { IsReading conn.old }
+    requires some { 0 < length piece.now }
+    ensures serves { IfOk result (λ on. (text : List ℕ) × IsSent W.held W.taken writer.old text writer.new
+        × Serves on A.answers (requests_left conn.old) (came_of conn.old.progress ++ piece.now) asks.old text conn.new asks.new) }
+    ensures less { IfOk result (λ on. on ≡ true → missing conn.new < missing conn.old) }
+    ensures cut { OnErr result ((text : List ℕ) × IsCutSomewhere W.held W.taken writer.old text writer.new
+        × ((more : List ℕ) → IsBegun A.answers (requests_left conn.old) ((came_of conn.old.progress ++ piece.now) ++ more) asks.old text asks.new)) }
+    ensures flag { MatchResult result (λ _. W.put_failed writer.new ≡ W.put_failed writer.old) (λ _. W.put_failed writer.new ≡ true) }
+{
+    let mut rest = piece;
+    loop {
+        let fed = conn.feed(rest);
+        let Some(decision) = fed.step else {
+            return Ok(true);
+        };
+        let (_, others) = rest.split_at(fed.taken);
+        if !answer(conn, decision, writer, asks)? {
+            return Ok(false);
+        }
+        rest = others;
+    }
+}
+
+// Answers the end of a stream.
+fn answer_end<W: Sink, A: Asks>(
+    conn: &mut Conn,
+    writer: &mut W,
+    asks: &mut A,
+) -> Result<(), PutFailed>
+    requires reading { IsReading conn.old }
+    ensures sent { OnOk result ((text : List ℕ) × IsSent W.held W.taken writer.old text writer.new
+        × IsExchange A.answers (requests_left conn.old) (came_of conn.old.progress) asks.old text asks.new) }
+    ensures cut { OnErr result ((text : List ℕ) × IsCutSomewhere W.held W.taken writer.old text writer.new
+        × IsBegun A.answers (requests_left conn.old) (came_of conn.old.progress) asks.old text asks.new) }
+    ensures flag { MatchResult result (λ _. W.put_failed writer.new ≡ W.put_failed writer.old) (λ _. W.put_failed writer.new ≡ true) }
+{
+    match conn.end() {
+        None => Ok(()),
+        Some(decision) => match answer(conn, decision, writer, asks) {
+            Ok(_) => Ok(()),
+            Err(_) => Err(PutFailed),
+        },
+    }
+}
+
+/// Answers a stream: reads, and answers each head as soon as it is whole, up to the end or to a head that ends the
+/// connection. The connection is new.
 ///
-/// It reads only while what came begins with no head and is less than a head may have, and not after the end or
-/// a failed read (`reads`): at most 16,384 times (`most`), since each read but the last gives a byte. It takes no
-/// memory but in whoever is asked.
+/// After a fault of the reader all answers to what was read have gone out, `written` bytes in all; where the writer
+/// fails, exactly the first `written` bytes of the answers went out.
+///
+/// It reads only while no whole head stands unanswered and none has ended the connection (`reads`): at most
+/// 16,384,000 times (`most`), since each read but the last gives a byte, and there are 1,000 heads at most. It takes
+/// no memory but in whoever is asked.
 pub fn exchange<R: Source, W: Sink, A: Asks>(
     conn: &mut Conn,
     reader: &mut R,
     writer: &mut W,
     asks: &mut A,
 ) -> Result<(), EdgeFault>
-    requires new { conn.old ≡ Open [] }
-    ensures exchanged { OnOk result (IfSome (R.left reader.old) (λ stream. HasExchanged A.answers stream asks.old asks.new (W.held writer.old) (W.held writer.new))) }
-    ensures part { IfErr result (λ fault. IfSome (written_of fault) (λ written. IfSome (R.left reader.old) (λ stream. HasPartlyExchanged A.answers stream asks.old asks.new (W.held writer.old) (W.held writer.new) written))) }
-    ensures unread { IfErr result (λ fault. fault ≡ EdgeFault.Read → (writer.new ≡ writer.old) × (asks.new ≡ asks.old)) }
+    requires new { conn.old ≡ record { done = 0; progress = Open [] } }
+    ensures exchanged { OnOk result (IfSome (R.left reader.old) (λ stream. HasExchanged A.answers W.held W.taken stream asks.old asks.new writer.old writer.new)) }
+    ensures stopped { IfErr result (λ fault. IfSome (R.left reader.old) (λ stream. HasStopped fault A.answers W.held W.taken stream asks.old asks.new writer.old writer.new)) }
+    ensures kept_up { IfErr result (λ fault. is_read fault ≡ true → (read : List ℕ) × Consumes (R.left reader.old) (R.left reader.new) read
+        × HasKeptUp A.answers W.held W.taken read asks.old asks.new writer.old writer.new) }
+    ensures written { IfErr result (λ fault. W.taken writer.new ≡ W.taken writer.old + written_of fault) }
     ensures read_flag { MatchResult result (λ _. R.take_failed reader.new ≡ R.take_failed reader.old) (λ fault. R.take_failed reader.new ≡ (is_read fault || R.take_failed reader.old)) }
     ensures write_flag { MatchResult result (λ _. W.put_failed writer.new ≡ W.put_failed writer.old) (λ fault. W.put_failed writer.new ≡ (not (is_read fault) || W.put_failed writer.old)) }
     ensures reads { MatchResult result (λ _. ReadsToPiece R.left R.took reader.old reader.new) (λ fault. ReadsToFault fault R.left R.took reader.old reader.new) }
-    ensures most { R.reads reader.new ≤ R.reads reader.old + 16384 }
+    ensures most { R.reads reader.new ≤ R.reads reader.old + 16384000 }
 {
-    let Ok(end) = read_request(conn, reader) else {
-        return Err(EdgeFault::Read);
-    };
-    match outcome(conn, end, asks) {
-        None => Ok(()),
-        Some(outcome) => match respond(&outcome, writer) {
-            Ok(()) => Ok(()),
-            Err(WriteFault { written }) => Err(EdgeFault::Write { written }),
-        },
+    let before = writer.taken();
+    let mut room = [0; PIECE];
+    loop {
+        let count = match reader.take(&mut room) {
+            Ok(count) => count,
+            Err(_) => {
+                return Err(EdgeFault::Read {
+                    written: writer.taken() - before,
+                });
+            }
+        };
+        if count == 0 {
+            return match answer_end(conn, writer, asks) {
+                Ok(()) => Ok(()),
+                Err(_) => Err(EdgeFault::Write {
+                    written: writer.taken() - before,
+                }),
+            };
+        }
+        let (piece, _) = room.split_at(count);
+        match answer_piece(conn, piece, writer, asks) {
+            Ok(true) => {}
+            Ok(false) => return Ok(()),
+            Err(_) => {
+                return Err(EdgeFault::Write {
+                    written: writer.taken() - before,
+                });
+            }
+        }
     }
 }

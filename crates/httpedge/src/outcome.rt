@@ -6,7 +6,7 @@ use mapmachine::Answer;
 pub enum Outcome {
     /// The answer to its query.
     Answered(Answer),
-    /// That its stream is refused.
+    /// That its request is refused.
     Refused(Refusal),
     /// That its query can't be answered now.
     Busy,

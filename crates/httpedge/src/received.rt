@@ -1,13 +1,13 @@
-ghost use Rattle.std.specs.Prelude.{◌≡◌, ◌<◌, ◌≤◌, ◌+◌, ◌++◌, length, vec_capacity, IfOk, [], true, false};
+ghost use Rattle.std.specs.Prelude.{◌≡◌, ◌<◌, ◌≤◌, ◌+◌, ◌++◌, length, vec_capacity, IfOk, None, [], true, false};
 ghost use Rattle.std.specs.List.{list_any, list_all};
 ghost use Rattle.httpedge.specs.Received.{is_line_feed, is_newline, IsReceived};
-ghost use Rattle.httpedge.specs.Connection.{Open, progress, Comes, Feeds, Ends, ended, step_of, end_of, is_asked};
+ghost use Rattle.httpedge.specs.Connection.{Open, progress, Takes, Feeds, Ends};
 ghost use Rattle.httpedge.specs.Head.{HasNoHead};
-ghost use Rattle.httpedge.specs.Meaning.{Meaning, IsMeaning};
 ghost use Rattle.httpedge.specs.declared.verdict.TheConstants.{HEAD_BYTES};
 
-use crate::verdict::{HEAD_BYTES, Verdict, judge};
-use crate::{End, Refusal, Step};
+use crate::verdict::{HEAD_BYTES, NOWHERE, judge};
+use crate::{Decision, Refusal};
+use httparse::spans::Span;
 use std::alloc::{AllocError, Global};
 
 /// The bytes that came, up to the limit of a head, and what they decide.
@@ -15,8 +15,12 @@ use std::alloc::{AllocError, Global};
 pub struct Received {
     /// The bytes, for which there is room up to the limit.
     pub bytes: Vec<u8>,
-    /// What they decide.
-    pub verdict: Verdict,
+    /// What they decide, if they do.
+    pub decision: Option<Decision>,
+    /// Where the query of their target stands.
+    pub query: Span,
+    /// Whether their head ends the connection.
+    pub closes: bool,
     /// Whether one of the bytes is neither CR nor LF.
     pub has_text: bool,
     /// How many bytes there were when they were last parsed.
@@ -50,11 +54,13 @@ impl Received {
     /// No bytes, with room for a head.
     pub fn new(alloc: Global) -> Result<Self, AllocError>
         ensures received { IfOk result IsReceived }
-        ensures nothing { IfOk result (λ received. progress received.bytes.items received.verdict ≡ Open []) }
+        ensures nothing { IfOk result (λ received. progress received ≡ Open []) }
     {
         Ok(Received {
             bytes: Vec::with_capacity(alloc, HEAD_BYTES)?,
-            verdict: Verdict::Open,
+            decision: None,
+            query: NOWHERE,
+            closes: false,
             has_text: false,
             parsed: 0,
         })
@@ -63,7 +69,7 @@ impl Received {
     // Whether a head may end in a further piece: a line ends in it, and not all lines are empty.
     fn may_end_head(&self, piece: &[u8]) -> bool
         requires received { IsReceived self.now }
-        requires open { self.now.verdict ≡ Verdict.Open }
+        requires open { self.now.decision ≡ None }
         ensures { result ≡ false → HasNoHead (self.now.bytes.items ++ piece.now) }
     {
         if !ends_line(piece) {
@@ -76,7 +82,7 @@ impl Received {
     // where they have doubled since they were last parsed, so that bytes without a line are refused too.
     fn is_due(&self, piece: &[u8]) -> bool
         requires received { IsReceived self.now }
-        requires open { self.now.verdict ≡ Verdict.Open }
+        requires open { self.now.decision ≡ None }
         requires limit { length piece.now ≤ HEAD_BYTES }
         ensures { result ≡ false → HasNoHead (self.now.bytes.items ++ piece.now) }
     {
@@ -86,21 +92,23 @@ impl Received {
     // Whether the bytes with a further piece have text.
     fn has_text_with(&self, piece: &[u8]) -> bool
         requires received { IsReceived self.now }
+        requires open { self.now.decision ≡ None }
         ensures { result ≡ false → list_all is_newline (self.now.bytes.items ++ piece.now) ≡ true }
     {
         self.has_text || !is_blank(piece)
     }
 
-    // Takes a further piece in, and judges the bytes.
-    fn take_in(&mut self, piece: &[u8])
+    // Takes from a further piece what may belong to the head, and judges the bytes. A head that ends in the piece is
+    // all that is kept.
+    fn take_in(&mut self, piece: &[u8]) -> usize
         requires received { IsReceived self.old }
-        requires open { self.old.verdict ≡ Verdict.Open }
+        requires open { self.old.decision ≡ None }
         requires some { 0 < length piece.now }
         ensures received { IsReceived self.new }
-        ensures comes { Comes (self.old.bytes.items ++ piece.now) (progress self.new.bytes.items self.new.verdict) }
+        ensures takes { Takes self.old.bytes.items piece.now result (progress self.new) }
     {
-        let room = HEAD_BYTES - self.bytes.len();
-        let (front, _) = piece.split_at(piece.len().min(room));
+        let before = self.bytes.len();
+        let (front, _) = piece.split_at(piece.len().min(HEAD_BYTES - before));
         let is_due = self.is_due(front);
         self.has_text = self.has_text_with(front);
         add(&mut self.bytes, front);
@@ -109,79 +117,53 @@ impl Received {
         } else {
             self.parsed
         };
-        self.verdict = judge(&self.bytes, is_due);
+        let judged = judge(&self.bytes, is_due);
+        self.bytes.truncate(judged.len);
+        self.decision = judged.decision;
+        self.query = judged.query;
+        self.closes = judged.closes;
+        judged.len - before
     }
 
-    // Takes a piece while nothing is decided.
-    fn feed_open(&mut self, piece: &[u8])
+    /// Takes bytes of a piece, and says how many. What was decided stays.
+    pub fn feed(&mut self, piece: &[u8]) -> usize
         requires received { IsReceived self.old }
-        requires open { self.old.verdict ≡ Verdict.Open }
         ensures received { IsReceived self.new }
-        ensures comes { Comes (self.old.bytes.items ++ piece.now) (progress self.new.bytes.items self.new.verdict) }
+        ensures feeds { Feeds (progress self.old) piece.now result (progress self.new) }
     {
-        if piece.is_empty() {
-            return;
-        }
-        self.take_in(piece);
-    }
-
-    // What is answered to a piece.
-    fn step(&self) -> Step
-        ensures step { result ≡ step_of (progress self.now.bytes.items self.now.verdict) }
-        ensures asked { result ≡ Step.Ask → is_asked (progress self.now.bytes.items self.now.verdict) ≡ true }
-    {
-        match self.verdict {
-            Verdict::Open => Step::More,
-            Verdict::Ask(_) => Step::Ask,
-            Verdict::Refused(refusal) => Step::Refused(refusal),
+        match self.decision {
+            None if !piece.is_empty() => self.take_in(piece),
+            _ => 0,
         }
     }
 
-    /// Takes a piece. What was decided stays.
-    pub fn feed(&mut self, piece: &[u8]) -> Step
+    /// Takes the end of the stream. What was decided stays.
+    pub fn end(&mut self)
         requires received { IsReceived self.old }
         ensures received { IsReceived self.new }
-        ensures feeds { Feeds (progress self.old.bytes.items self.old.verdict) piece.now (progress self.new.bytes.items self.new.verdict) }
-        ensures step { result ≡ step_of (progress self.new.bytes.items self.new.verdict) }
-        ensures asked { result ≡ Step.Ask → is_asked (progress self.new.bytes.items self.new.verdict) ≡ true }
+        ensures ends { Ends (progress self.old) (progress self.new) }
     {
-        match self.verdict {
-            Verdict::Open => {
-                self.feed_open(piece);
-                self.step()
+        match self.decision {
+            None if !self.bytes.is_empty() => {
+                self.decision = Some(Decision::Refused(Refusal::BadRequest));
+                self.query = NOWHERE;
+                self.closes = true;
             }
-            Verdict::Ask(_) | Verdict::Refused(_) => self.step(),
+            _ => {}
         }
     }
 
-    // Takes the end while nothing is decided.
-    fn end_open(&mut self) -> End
-        requires received { IsReceived self.old }
-        requires open { self.old.verdict ≡ Verdict.Open }
-        ensures received { IsReceived self.new }
-        ensures ends { (meaning : Meaning) × IsMeaning self.old.bytes.items meaning
-            × (progress self.new.bytes.items self.new.verdict ≡ ended self.old.bytes.items meaning) × (result ≡ end_of meaning) }
-        ensures asked { result ≡ End.Ask → is_asked (progress self.new.bytes.items self.new.verdict) ≡ true }
-    {
-        if self.bytes.is_empty() {
-            return End::Nothing;
-        }
-        self.verdict = Verdict::Refused(Refusal::BadRequest);
-        End::Refused(Refusal::BadRequest)
-    }
-
-    /// Takes the end. What was decided stays.
-    pub fn end(&mut self) -> End
+    /// Forgets the head, and what it decided. The room stays.
+    pub fn forget(&mut self)
         requires received { IsReceived self.old }
         ensures received { IsReceived self.new }
-        ensures ends { (meaning : Meaning) × Ends (progress self.old.bytes.items self.old.verdict) meaning (progress self.new.bytes.items self.new.verdict)
-            × (result ≡ end_of meaning) }
-        ensures asked { result ≡ End.Ask → is_asked (progress self.new.bytes.items self.new.verdict) ≡ true }
+        ensures nothing { progress self.new ≡ Open [] }
     {
-        match self.verdict {
-            Verdict::Open => self.end_open(),
-            Verdict::Ask(_) => End::Ask,
-            Verdict::Refused(refusal) => End::Refused(refusal),
-        }
+        self.bytes.truncate(0);
+        self.decision = None;
+        self.query = NOWHERE;
+        self.closes = false;
+        self.has_text = false;
+        self.parsed = 0;
     }
 }

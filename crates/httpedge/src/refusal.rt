@@ -3,10 +3,10 @@ ghost use Rattle.httpedge.specs.Response.{status_of};
 
 use http::StatusCode;
 
-/// Why a stream asks no query.
+/// Why a request asks no query.
 #[derive(Clone, Copy, Debug)]
 pub enum Refusal {
-    /// It has no head.
+    /// There is no head, or it announces a body.
     BadRequest,
     /// Its target has a path that isn't served.
     NotFound,

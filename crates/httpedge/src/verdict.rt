@@ -1,31 +1,42 @@
-ghost use Rattle.std.specs.Prelude.{◌≡◌, ◌<◌, ◌≤◌, ◌+◌, length, drop, false, true};
-ghost use Rattle.std.specs.List.{before_first, after_first, position_or_len};
-ghost use Rattle.httparse.specs.Spans.{span_bytes, IsWithin};
-ghost use Rattle.httpedge.specs.Head.{HasNoHead};
-ghost use Rattle.httpedge.specs.Meaning.{is_question_mark, is_served, target_meaning, AlwaysMeans};
-ghost use Rattle.httpedge.specs.Verdict.{IsTarget, IsDecided, IsVerdict};
-ghost use Rattle.httpedge.specs.declared.verdict.TheConstants.{HEAD_BYTES};
+//! What the bytes that came decide.
 
-use crate::Refusal;
+ghost use Rattle.std.specs.Prelude.{◌≡◌, ◌<◌, ◌≤◌, ◌+◌, ℕ, Bool, length, take, drop, map, All, ◌==◌, ◌||◌, false, true};
+ghost use Rattle.httpedge.specs.Fields.{says_close};
+ghost use Rattle.std.specs.List.{list_any, before_first, after_first, position_or_len};
+ghost use Rattle.httparse.specs.Spans.{span_bytes, header_bytes, IsWithin, IsHeaderWithin, IsRequestWithin, IsRequestOf};
+ghost use Rattle.httpedge.specs.Head.{HasNoHead};
+ghost use Rattle.httpedge.specs.Meaning.{Refused, is_question_mark, is_served, target_meaning, request_meaning, decision_meaning};
+ghost use Rattle.httpedge.specs.Turn.{AlwaysTurns};
+ghost use Rattle.httpedge.specs.Verdict.{IsJudged};
+ghost use Rattle.httpedge.specs.declared.refusal.Refusal.TheVariants.{BadRequest};
+ghost use Rattle.httpedge.specs.declared.verdict.TheConstants.{HEAD_BYTES, HEAD_FIELDS};
+
+use crate::fields::{has_body, has_closing};
+use crate::{Decision, Refusal};
 use httparse::Status;
-use httparse::spans::{EMPTY_HEADER_SPAN, Span, parse_request};
+use httparse::spans::{EMPTY_HEADER_SPAN, HeaderSpan, RequestSpans, Span, parse_request};
 
 /// The most bytes of a head.
 pub const HEAD_BYTES: usize = 16_384;
 
-// The most fields of a head.
-const HEAD_FIELDS: usize = 64;
+/// The most fields of a head.
+pub const HEAD_FIELDS: usize = 64;
 
-/// What the bytes that came decide.
+/// A verdict on the first bytes of some.
 #[derive(Clone, Copy)]
-pub enum Verdict {
-    /// Nothing.
-    Open,
-    /// A query is asked, which stands there.
-    Ask(Span),
-    /// The stream is refused.
-    Refused(Refusal),
+pub struct Judged {
+    /// What they decide, if they do.
+    pub decision: Option<Decision>,
+    /// Where the query of their target stands.
+    pub query: Span,
+    /// Whether that ends the connection.
+    pub closes: bool,
+    /// How many bytes that are: a whole head, or all.
+    pub len: usize,
 }
+
+/// Where nothing stands.
+pub const NOWHERE: Span = Span { start: 0, end: 0 };
 
 // How many bytes stand before the first question mark.
 fn path_len(target: &[u8]) -> usize
@@ -42,67 +53,129 @@ fn is_served(path: &[u8]) -> bool
     path == b"/".as_slice() || path == b"/wms".as_slice()
 }
 
-// The verdict on a target that stands there.
-fn judge_target(bytes: &[u8], target: Span) -> Verdict
+// Where the query of a target stands: after its first question mark.
+fn query_of(bytes: &[u8], target: Span) -> Span
     requires within { IsWithin (length bytes.now) target }
-    ensures { IsTarget bytes.now target result }
+    ensures within { IsWithin target.end result }
+    ensures query { span_bytes bytes.now result ≡ after_first is_question_mark (span_bytes bytes.now target) }
 {
-    let text = target.of(bytes);
-    let (path, _) = text.split_at(path_len(text));
-    if !is_served(path) {
-        return Verdict::Refused(Refusal::NotFound);
-    }
-    Verdict::Ask(Span {
-        start: (target.start + path.len() + 1).min(target.end),
+    Span {
+        start: (target.start + path_len(target.of(bytes)) + 1).min(target.end),
         end: target.end,
-    })
+    }
 }
 
-// What bytes decide by their head, if they have one.
-fn judge_head(bytes: &[u8]) -> Verdict
-    requires some { 0 < length bytes.now }
-    requires limit { length bytes.now ≤ HEAD_BYTES }
-    ensures { IsDecided bytes.now result }
+// What a target decides.
+fn decide_target(target: &[u8]) -> Decision
+    ensures { decision_meaning result (after_first is_question_mark target.now) ≡ target_meaning target.now }
 {
-    let mut fields = [EMPTY_HEADER_SPAN; HEAD_FIELDS];
-    match parse_request(bytes, &mut fields) {
-        Ok(Status::Complete(head)) => {
-            if head.method.of(bytes) == b"GET".as_slice() {
-                judge_target(bytes, head.path)
-            } else {
-                Verdict::Refused(Refusal::MethodNotAllowed)
-            }
-        }
-        Ok(Status::Partial) => Verdict::Open,
-        Err(_) => Verdict::Refused(Refusal::BadRequest),
+    let (path, _) = target.split_at(path_len(target));
+    if is_served(path) {
+        Decision::Ask
+    } else {
+        Decision::Refused(Refusal::NotFound)
+    }
+}
+
+// What a method and a target decide.
+fn decide(method: &[u8], target: &[u8]) -> Decision
+    ensures { decision_meaning result (after_first is_question_mark target.now) ≡ request_meaning method.now target.now }
+{
+    if method == b"GET".as_slice() {
+        decide_target(target)
+    } else {
+        Decision::Refused(Refusal::MethodNotAllowed)
+    }
+}
+
+// Whether a head ends the connection, by its version or by a field.
+fn ends(bytes: &[u8], fields: &[HeaderSpan], version: u8) -> bool
+    requires within { All (IsHeaderWithin (length bytes.now)) fields.now }
+    ensures { result ≡ (version == 0 || list_any says_close (map (header_bytes bytes.now) fields.now)) }
+{
+    version == 0 || has_closing(bytes, fields)
+}
+
+// The verdict on a head that the parser found.
+fn judge_head(bytes: &[u8], fields: &[HeaderSpan], head: RequestSpans) -> Judged
+    requires limit { length bytes.now ≤ HEAD_BYTES }
+    requires room { length fields.now ≤ HEAD_FIELDS }
+    requires within { IsRequestWithin bytes.now fields.now head }
+    requires complete { IsRequestOf bytes.now fields.now head }
+    ensures { IsJudged bytes.now result }
+{
+    let (fields, _) = fields.split_at(head.headers);
+    let query = query_of(bytes, head.path);
+    if has_body(bytes, fields) {
+        return Judged {
+            decision: Some(Decision::Refused(Refusal::BadRequest)),
+            query,
+            closes: true,
+            len: head.len,
+        };
+    }
+    Judged {
+        decision: Some(decide(head.method.of(bytes), head.path.of(bytes))),
+        query,
+        closes: ends(bytes, fields, head.version),
+        len: head.len,
+    }
+}
+
+// The verdict on bytes without a head, which get none by any that follow.
+fn judge_hopeless(bytes: &[u8]) -> Judged
+    requires headless { HasNoHead bytes.now }
+    requires always { (is_last : Bool) → AlwaysTurns is_last bytes.now true (Refused BadRequest) }
+    ensures { IsJudged bytes.now result }
+{
+    Judged {
+        decision: Some(Decision::Refused(Refusal::BadRequest)),
+        query: NOWHERE,
+        closes: true,
+        len: bytes.len(),
     }
 }
 
 // The verdict on bytes without a head.
-fn judge_headless(bytes: &[u8]) -> Verdict
+fn judge_headless(bytes: &[u8]) -> Judged
     requires limit { length bytes.now ≤ HEAD_BYTES }
     requires headless { HasNoHead bytes.now }
-    ensures { IsVerdict bytes.now result }
+    ensures { IsJudged bytes.now result }
 {
     if bytes.len() == HEAD_BYTES {
-        Verdict::Refused(Refusal::BadRequest)
-    } else {
-        Verdict::Open
+        return judge_hopeless(bytes);
+    }
+    Judged {
+        decision: None,
+        query: NOWHERE,
+        closes: false,
+        len: bytes.len(),
+    }
+}
+
+// The verdict on bytes that are parsed.
+fn judge_parsed(bytes: &[u8]) -> Judged
+    requires some { 0 < length bytes.now }
+    requires limit { length bytes.now ≤ HEAD_BYTES }
+    ensures { IsJudged bytes.now result }
+{
+    let mut fields = [EMPTY_HEADER_SPAN; HEAD_FIELDS];
+    match parse_request(bytes, &mut fields) {
+        Ok(Status::Complete(head)) => judge_head(bytes, &fields, head),
+        Ok(Status::Partial) => judge_headless(bytes),
+        Err(_) => judge_hopeless(bytes),
     }
 }
 
 /// What the bytes decide that came so far. Where it isn't due, they have no head.
-pub fn judge(bytes: &[u8], is_due: bool) -> Verdict
+pub fn judge(bytes: &[u8], is_due: bool) -> Judged
     requires some { 0 < length bytes.now }
     requires limit { length bytes.now ≤ HEAD_BYTES }
     requires due { is_due ≡ false → HasNoHead bytes.now }
-    ensures { IsVerdict bytes.now result }
+    ensures { IsJudged bytes.now result }
 {
     if is_due {
-        match judge_head(bytes) {
-            Verdict::Open => judge_headless(bytes),
-            decided => decided,
-        }
+        judge_parsed(bytes)
     } else {
         judge_headless(bytes)
     }

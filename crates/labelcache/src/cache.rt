@@ -1,4 +1,4 @@
-ghost use Rattle.std.specs.Prelude.{◌≡◌, [], ◌∷◌, ◌++◌, IfOk, OnOk, OnErr};
+ghost use Rattle.std.specs.Prelude.{◌≡◌, [], ◌∷◌, ◌++◌, IfOk, OnOk, OnErr, MatchOption, None, Some, slice_get};
 ghost use Rattle.labelcache.specs.Placement.{IsPlacement, setting};
 
 use crate::candidate::Candidate;
@@ -57,6 +57,13 @@ impl<'a> Cache<'a> {
 }
 
 impl Cache<'_> {
+    /// The candidate of a number, if there is one.
+    pub fn candidate(&self, number: usize) -> Option<&Candidate<'_>>
+        ensures { MatchOption result (slice_get self.now number ≡ None) (λ c. slice_get self.now number ≡ Some c.now) }
+    {
+        self.candidates.get(number)
+    }
+
     /// The placement of the candidates on a picture of that width and height, with the font.
     ///
     /// It takes memory for the labels, and for what tests ask of them.

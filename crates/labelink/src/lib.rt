@@ -3,14 +3,18 @@
 //! Proved: a `GlyphPlace` covers the pixels that its glyph inks, by itself and row by row (`Cover`).
 //! `text_glyphs` gives those of a text, and `laws::ink_is_of_glyphs` says that the text has ink where one of
 //! them covers. An outline has the pixels of which one of the eight neighbours has ink of the text;
-//! `laws::outline_is_of_moved_texts` says that these are the ink of eight texts, each moved by a pixel.
+//! `laws::outline_is_of_moved_texts` says that these are the ink of eight texts, each moved by a pixel. A
+//! `GlyphOutline` covers those of one glyph, and `laws::outline_is_of_glyphs` says that the outline of a text is
+//! that of its glyphs.
 //!
 //! Words: a glyph's *place* is its leftmost column and its first row on the picture, on it or off it.
 #![tactic(auto)]
 
+mod glyph_outline;
 mod glyph_place;
 pub mod laws;
 mod text;
 
+pub use glyph_outline::GlyphOutline;
 pub use glyph_place::GlyphPlace;
 pub use text::text_glyphs;

@@ -10,7 +10,7 @@ ghost use Rattle.viewport.specs.declared.view.TheConstants.{MAX_MARGIN};
 use crate::classes::first_class;
 use crate::parts::points_of_parts;
 use geom::{Device, Pixel, World, WorldBox};
-use mapdefs::{ClassFields, FeatureFields, Items, LayerFields, Map, Symbol};
+use mapdefs::{ClassFields, FeatureFields, Font, Items, LayerFields, Map, Symbol};
 use scaledenom::Scale;
 use std::alloc::{AllocError, Global};
 use std::marker::Model;
@@ -56,11 +56,21 @@ impl<'a> Scene<'a> {
     }
 
     /// The layer of an index in the map.
-    pub fn layer(&self, index: usize) -> &LayerFields
+    pub fn layer(&self, index: usize) -> &'a LayerFields
         requires { index < length self.now.map.layers }
         ensures { slice_get self.now.map.layers index ≡ Some result.now }
     {
         self.map.get().layers.as_slice()[index].get()
+    }
+
+    /// The font of the map's labels, if it has one.
+    pub fn font(&self) -> Option<&'a Font>
+        ensures { option_copied result ≡ self.now.map.font }
+    {
+        match &self.map.get().font {
+            Some(font) => Some(font.get()),
+            None => None,
+        }
     }
 
     /// The symbols of the map.

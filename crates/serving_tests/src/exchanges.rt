@@ -1,4 +1,4 @@
-use crate::narrow::holding_nothing;
+use crate::narrow::{Cut, holding_nothing};
 use httpedge::{Asks, Busy, Conn, EdgeFault, Outcome, Refusal, exchange, respond};
 use mapdefs::{Items, Map};
 use mapmachine::{Answer, Flagged, Machine, Mime};
@@ -46,11 +46,12 @@ const WHOLE: Way = Way {
     written: 1_000_000,
 };
 
-// What an exchange led to: its result, what went out, and whether reading and writing failed.
+// What an exchange led to: its result, what went out in how many calls, and whether reading and writing failed.
 #[derive(Drop)]
 struct Done {
     result: Result<(), EdgeFault>,
     held: Vec<u8>,
+    calls: usize,
     take_failed: bool,
     put_failed: bool,
 }
@@ -76,14 +77,27 @@ fn exchanged<A: Asks>(
         result,
         take_failed: reader.take_failed(),
         put_failed: writer.put_failed(),
+        calls: usize::MAX.wrapping_sub(writer.inner().calls),
         held: writer.into_inner().held,
     })
 }
 
-// A head without a query, of 30 bytes.
+// A head without a query, of 30 bytes, and one of 40 that ends the connection.
 const HEAD: &[u8] = b"GET /wms HTTP/1.1\r\nHost: x\r\n\r\n";
 
-// Its response, of 298 bytes: 83 of a head, and the document of a query without REQUEST.
+const LAST: &[u8] = b"GET /wms HTTP/1.1\r\nConnection: close\r\n\r\n";
+
+// The response to the first, of 279 bytes: 64 of a head, and the document of a query without REQUEST.
+const KEPT: &[u8] = b"HTTP/1.1 200 OK\r\n\
+Content-Type: text/xml\r\n\
+Content-Length: 215\r\n\
+\r\n\
+<?xml version=\"1.0\" encoding=\"UTF-8\"?>\n\
+<ServiceExceptionReport version=\"1.3.0\" xmlns=\"http://www.opengis.net/ogc\">\n\
+<ServiceException code=\"MissingParameterValue\">REQUEST</ServiceException>\n\
+</ServiceExceptionReport>\n";
+
+// The response to the second, of 298 bytes.
 const RESPONSE: &[u8] = b"HTTP/1.1 200 OK\r\n\
 Content-Type: text/xml\r\n\
 Content-Length: 215\r\n\
@@ -93,6 +107,15 @@ Connection: close\r\n\
 <ServiceExceptionReport version=\"1.3.0\" xmlns=\"http://www.opengis.net/ogc\">\n\
 <ServiceException code=\"MissingParameterValue\">REQUEST</ServiceException>\n\
 </ServiceExceptionReport>\n";
+
+// Texts that follow each other.
+fn joined(alloc: Global, texts: &[&[u8]]) -> Result<Vec<u8>, AllocError> {
+    let mut all = Vec::new(alloc);
+    for text in texts {
+        all.extend_from_slice(text)?;
+    }
+    Ok(all)
+}
 
 // Whether all of a response went out, and nothing failed.
 fn is_whole(done: &Done, response: &[u8]) -> bool {
@@ -104,7 +127,7 @@ fn is_whole(done: &Done, response: &[u8]) -> bool {
 
 // Whether an exchange ended in a fault after these bytes, with its flag alone.
 fn is_cut(done: &Done, fault: EdgeFault, held: &[u8]) -> bool {
-    let is_unread = fault == EdgeFault::Read;
+    let is_unread = matches!(fault, EdgeFault::Read { .. });
     done.result == Err(fault)
         && (done.take_failed, done.put_failed) == (is_unread, !is_unread)
         && done.held.as_slice() == held
@@ -113,14 +136,14 @@ fn is_cut(done: &Done, fault: EdgeFault, held: &[u8]) -> bool {
 // How many exchanges answer a stream whole that comes and goes in pieces of many lengths.
 fn whole_exchanges(alloc: Global, machine: &mut Machine) -> Result<usize, AllocError> {
     let mut count = 0_usize;
-    for reads in 1..=31 {
+    for reads in 1..=41 {
         for writes in [1, 82, 83, 300] {
             let way = Way {
                 reads,
                 writes,
                 ..WHOLE
             };
-            let done = exchanged(alloc, HEAD, way, machine)?;
+            let done = exchanged(alloc, LAST, way, machine)?;
             count = count.saturating_add(usize::from(is_whole(&done, RESPONSE)));
         }
     }
@@ -135,8 +158,8 @@ fn first_read_too_late(alloc: Global, machine: &mut Machine) -> Result<(usize, b
             failing_read,
             ..WHOLE
         };
-        let done = exchanged(alloc, HEAD, way, machine)?;
-        if !is_cut(&done, EdgeFault::Read, &[]) {
+        let done = exchanged(alloc, LAST, way, machine)?;
+        if !is_cut(&done, EdgeFault::Read { written: 0 }, &[]) {
             return Ok((failing_read, is_whole(&done, RESPONSE)));
         }
     }
@@ -147,7 +170,7 @@ fn first_read_too_late(alloc: Global, machine: &mut Machine) -> Result<(usize, b
 fn first_room_enough(alloc: Global, machine: &mut Machine) -> Result<(usize, bool), AllocError> {
     for written in 0..=RESPONSE.len() {
         let way = Way { written, ..WHOLE };
-        let done = exchanged(alloc, HEAD, way, machine)?;
+        let done = exchanged(alloc, LAST, way, machine)?;
         let fault = EdgeFault::Write {
             written: written as u128,
         };
@@ -158,15 +181,79 @@ fn first_room_enough(alloc: Global, machine: &mut Machine) -> Result<(usize, boo
     Ok((0, false))
 }
 
+// How many exchanges of two heads are whole that come in three pieces, for each pair of places where they are cut.
+fn whole_pairs(alloc: Global, machine: &mut Machine) -> Result<usize, AllocError> {
+    let stream = joined(alloc, &[HEAD, LAST])?;
+    let expected = joined(alloc, &[KEPT, RESPONSE])?;
+    let mut count = 0_usize;
+    for first in 0..=stream.len() {
+        for second in first..=stream.len() {
+            let mut conn = Conn::new(alloc)?;
+            let mut reader = Flagged::new(Cut {
+                bytes: &stream,
+                at: 0,
+                cuts: [first, second],
+            });
+            let mut writer = Flagged::new(Vec::new(alloc));
+            let result = exchange(&mut conn, &mut reader, &mut writer, machine);
+            let is_whole = result == Ok(())
+                && writer.into_inner().as_slice() == expected.as_slice();
+            count = count.saturating_add(usize::from(is_whole));
+        }
+    }
+    Ok(count)
+}
+
+// How many of 1,001 requests are answered, and whether the last answer closes and no other.
+fn answered_of_many(alloc: Global, machine: &mut Machine) -> Result<(usize, bool), AllocError> {
+    let mut stream = Vec::new(alloc);
+    for _ in 0..1_001 {
+        stream.extend_from_slice(HEAD)?;
+    }
+    let done = exchanged(alloc, &stream, WHOLE, machine)?;
+    let mut left = done.held.as_slice();
+    let mut count = 0_usize;
+    for _ in 0..1_001 {
+        let Some(others) = left.strip_prefix(KEPT) else {
+            break;
+        };
+        count = count.saturating_add(1);
+        left = others;
+    }
+    let is_last = done.result == Ok(()) && left == RESPONSE;
+    Ok((count.saturating_add(usize::from(is_last)), is_last))
+}
+
+// In how many calls of the writer two answers leave, and one of 5,000 bytes with its head.
+fn calls_of_writes(alloc: Global, machine: &mut Machine) -> Result<(usize, usize), AllocError> {
+    let stream = joined(alloc, &[HEAD, LAST])?;
+    let way = Way {
+        reads: 100,
+        writes: 100_000,
+        ..WHOLE
+    };
+    let done = exchanged(alloc, &stream, way, machine)?;
+    let mut writer = Flagged::new(holding_nothing(alloc, b"", 100_000, usize::MAX));
+    let outcome = Outcome::Answered(Answer {
+        mime: Mime::Xml,
+        body: Items::of(vec![in alloc; b'x'; 5_000]?),
+    });
+    let _ = respond(&outcome, false, &mut writer);
+    Ok((done.calls, usize::MAX.wrapping_sub(writer.inner().calls)))
+}
+
 // What is told of the exchanges of a name.
 fn told_of_cuts(alloc: Global, machine: &mut Machine, name: &str) -> Result<String, AllocError> {
     match name {
         "pieces" => {
             let count = whole_exchanges(alloc, machine)?;
-            format!(in alloc; "{} {} {count}", HEAD.len(), RESPONSE.len())
+            format!(in alloc; "{} {} {count}", LAST.len(), RESPONSE.len())
         }
         "failed reads" => format!(in alloc; "{:?}", first_read_too_late(alloc, machine)?),
         "failed writes" => format!(in alloc; "{:?}", first_room_enough(alloc, machine)?),
+        "pairs of cuts" => format!(in alloc; "{}", whole_pairs(alloc, machine)?),
+        "many" => format!(in alloc; "{:?}", answered_of_many(alloc, machine)?),
+        "calls" => format!(in alloc; "{:?}", calls_of_writes(alloc, machine)?),
         _ => String::from_str(alloc, "malformed"),
     }
 }
@@ -177,16 +264,20 @@ fn rows_of_cuts(alloc: Global, row: &str) -> Result<String, AllocError> {
 
 // What is told, `|` and of which exchanges.
 const CUTS: &str = "\
-# the bytes of the head and of the response, and how many of 31 by 4 exchanges are whole
-30 298 124|pieces
-# reads before this one leave nothing written; the head is whole after 30
-(31, true)|failed reads
+# the bytes of the head and of the response, and how many of 41 by 4 exchanges are whole
+40 298 164|pieces
+# reads before this one leave nothing written; the head is whole after 40
+(41, true)|failed reads
 # with fewer bytes it is told how many went out
-(298, true)|failed writes";
+(298, true)|failed writes
+# two heads have 70 bytes: 71 places, and 71 by 72 by half pairs of them
+2556|pairs of cuts
+(1000, true)|many
+(2, 2)|calls";
 
 #[test]
 fn streams_are_answered_or_cut_where_they_fail(rt: HostRuntime) -> Result<(), TableFault> {
-    check_rows(rt.alloc(), CUTS, '|', 3, rows_of_cuts)
+    check_rows(rt.alloc(), CUTS, '|', 6, rows_of_cuts)
 }
 
 // How often it was asked, the result, whether reading and writing failed, and the response, `|` and a stream. CR
@@ -194,11 +285,17 @@ fn streams_are_answered_or_cut_where_they_fail(rt: HostRuntime) -> Result<(), Ta
 const REFUSALS: &str = "\
 0 Ok(()) false false |
 0 Ok(()) false false HTTP/1.1 400 Bad Request^~Content-Length: 0^~Connection: close^~^~|GET /wms HTTP/1.1^~Host: x^~^
-0 Ok(()) false false HTTP/1.1 405 Method Not Allowed^~Allow: GET^~Content-Length: 0^~Connection: close^~^~|POST /wms HTTP/1.1^~^~
-0 Ok(()) false false HTTP/1.1 405 Method Not Allowed^~Allow: GET^~Content-Length: 0^~Connection: close^~^~|POST /x HTTP/1.1^~^~
-0 Ok(()) false false HTTP/1.1 404 Not Found^~Content-Length: 0^~Connection: close^~^~|GET /x HTTP/1.1^~^~
-# a busy server
-1 Ok(()) false false HTTP/1.1 503 Service Unavailable^~Content-Length: 0^~Connection: close^~^~|GET /wms HTTP/1.1^~Host: x^~^~";
+0 Ok(()) false false HTTP/1.1 405 Method Not Allowed^~Allow: GET^~Content-Length: 0^~^~|POST /wms HTTP/1.1^~^~
+0 Ok(()) false false HTTP/1.1 405 Method Not Allowed^~Allow: GET^~Content-Length: 0^~Connection: close^~^~|POST /x HTTP/1.0^~^~
+0 Ok(()) false false HTTP/1.1 404 Not Found^~Content-Length: 0^~^~|GET /x HTTP/1.1^~^~
+# a busy server, which goes on
+1 Ok(()) false false HTTP/1.1 503 Service Unavailable^~Content-Length: 0^~^~|GET /wms HTTP/1.1^~Host: x^~^~
+# what follows a refusal is answered, up to a head that closes
+1 Ok(()) false false HTTP/1.1 404 Not Found^~Content-Length: 0^~^~HTTP/1.1 503 Service Unavailable^~Content-Length: 0^~Connection: close^~^~|GET /x HTTP/1.1^~^~GET /wms HTTP/1.1^~Connection: close^~^~GET /wms HTTP/1.1^~^~
+1 Ok(()) false false HTTP/1.1 405 Method Not Allowed^~Allow: GET^~Content-Length: 0^~^~HTTP/1.1 503 Service Unavailable^~Content-Length: 0^~Connection: close^~^~|POST /wms HTTP/1.1^~Content-Length: 0^~^~GET /wms HTTP/1.0^~^~
+# a head that announces a body, before 405 and 404: no byte after it is a request
+0 Ok(()) false false HTTP/1.1 400 Bad Request^~Content-Length: 0^~Connection: close^~^~|GET /wms HTTP/1.1^~Content-Length: 5^~^~hello
+0 Ok(()) false false HTTP/1.1 400 Bad Request^~Content-Length: 0^~Connection: close^~^~|POST /x HTTP/1.1^~Transfer-Encoding: chunked^~^~GET /wms HTTP/1.1^~^~";
 
 // A text as rows write it.
 fn written(alloc: Global, bytes: &[u8]) -> Result<String, AllocError> {
@@ -233,7 +330,7 @@ fn rows_of_refusals(alloc: Global, row: &str) -> Result<String, AllocError> {
 
 #[test]
 fn streams_are_refused_without_asking_and_busy_is_told(rt: HostRuntime) -> Result<(), TableFault> {
-    check_rows(rt.alloc(), REFUSALS, '|', 6, rows_of_refusals)
+    check_rows(rt.alloc(), REFUSALS, '|', 10, rows_of_refusals)
 }
 
 // What is told of an exchange whose reader fails after so many reads.
@@ -287,39 +384,44 @@ fn rows_of_reads(alloc: Global, row: &str) -> Result<String, AllocError> {
 // status that went out, `|`, then how many bytes come at once, after how many reads the reader fails, how many
 // bytes follow a text, and the text. CR is written `^` and LF `~`.
 const READS: &str = "\
-# a whole head in one piece: a further read would fail
-1 0 Ok(()) false 503|1000 1 0 GET /wms HTTP/1.1^~Host: x^~^~
-1 0 Ok(()) false 404|1000 1 0 GET /x HTTP/1.1^~^~
-1 0 Ok(()) false 405|1000 1 0 POST /wms HTTP/1.1^~^~
+# a whole head that ends the connection, in one piece: a further read would fail
+1 0 Ok(()) false 503|1000 1 0 GET /wms HTTP/1.0^~Host: x^~^~
+1 0 Ok(()) false 404|1000 1 0 GET /x HTTP/1.1^~connection: Close^~^~
+1 0 Ok(()) false 400|1000 1 0 POST /wms HTTP/1.1^~Content-Length: 5^~^~
 # bytes that begin no head
 1 0 Ok(()) false 400|1000 1 0 {}~
-# bytes after the head: in its piece, and in pieces that aren't read
-1 0 Ok(()) false 404|1000 1 900 GET /x HTTP/1.1^~^~
-1 0 Ok(()) false 404|1000 1 9000 GET /x HTTP/1.1^~^~
+# a head that goes on is answered, and then it is read on
+2 0 Err(Read { written: 55 }) true 503|1000 1 0 GET /wms HTTP/1.1^~Host: x^~^~
+2 0 Ok(()) false 503|1000 2 0 GET /wms HTTP/1.1^~Host: x^~^~
+# and two heads of one piece are, before a further read
+2 0 Err(Read { written: 100 }) true 404|1000 1 0 GET /x HTTP/1.1^~^~GET /wms HTTP/1.1^~^~
+# bytes after the last head: in its piece, and in pieces that aren't read
+1 0 Ok(()) false 404|1000 1 900 GET /x HTTP/1.0^~^~
+1 0 Ok(()) false 404|1000 1 9000 GET /x HTTP/1.0^~^~
 # 19 bytes, 7 at once
-3 0 Ok(()) false 404|7 3 0 GET /x HTTP/1.1^~^~
-3 2 Ok(()) false 404|7 5 0 GET /x HTTP/1.1^~^~
-3 0 Err(Read) true none|7 2 0 GET /x HTTP/1.1^~^~
-1 0 Err(Read) true none|7 0 0 GET /x HTTP/1.1^~^~
+3 0 Ok(()) false 404|7 3 0 GET /x HTTP/1.0^~^~
+3 2 Ok(()) false 404|7 5 0 GET /x HTTP/1.0^~^~
+3 0 Err(Read { written: 0 }) true none|7 2 0 GET /x HTTP/1.0^~^~
+1 0 Err(Read { written: 0 }) true none|7 0 0 GET /x HTTP/1.0^~^~
 # the end comes in the head, or at once
 2 0 Ok(()) false 400|1000 2 0 GET /x HTTP/1.1^~^
 1 0 Ok(()) false none|1000 1 0
 # a head that doesn't end: the 16,384th byte decides, or the end after one less
 16384 0 Ok(()) false 400|1 16384 20000 GET / HTTP/1.1^~A:
 16384 0 Ok(()) false 400|1 16384 16365 GET / HTTP/1.1^~A:
-16384 0 Err(Read) true none|1 16383 20000 GET / HTTP/1.1^~A:
+16384 0 Err(Read { written: 0 }) true none|1 16383 20000 GET / HTTP/1.1^~A:
 # and in pieces of at most 4,096 bytes
 4 5 Ok(()) false 400|1000000 9 20000 GET / HTTP/1.1^~A:";
 
 #[test]
 fn streams_are_read_up_to_what_decides(rt: HostRuntime) -> Result<(), TableFault> {
-    check_rows(rt.alloc(), READS, '|', 16, rows_of_reads)
+    check_rows(rt.alloc(), READS, '|', 19, rows_of_reads)
 }
 
 // What an outcome is written as.
-fn response(alloc: Global, outcome: &Outcome) -> Result<String, AllocError> {
+fn response(alloc: Global, outcome: &Outcome, closing: bool) -> Result<String, AllocError> {
     let mut writer = Flagged::new(Vec::new(alloc));
-    match respond(outcome, &mut writer) {
+    match respond(outcome, closing, &mut writer) {
         Ok(()) => written(alloc, &writer.into_inner()),
         Err(fault) => format!(in alloc; "{fault}"),
     }
@@ -333,12 +435,13 @@ fn picture(alloc: Global) -> Result<String, AllocError> {
         mime: Mime::Pixmap,
         body: Items::of(body),
     });
-    response(alloc, &outcome)
+    response(alloc, &outcome, true)
 }
 
 // The status of a refusal, and what it is written as.
 fn refused(alloc: Global, refusal: Refusal) -> Result<String, AllocError> {
-    let response = response(alloc, &Outcome::Refused(refusal))?;
+    let closing = matches!(refusal, Refusal::BadRequest);
+    let response = response(alloc, &Outcome::Refused(refusal), closing)?;
     format!(in alloc; "{}: {response}", refusal.status())
 }
 
@@ -346,8 +449,8 @@ fn refused(alloc: Global, refusal: Refusal) -> Result<String, AllocError> {
 const RESPONSES: &str = "\
 HTTP/1.1 200 OK^~Content-Type: image/x-portable-pixmap^~Content-Length: 14^~Connection: close^~^~P6~1 1~255~~\x14\x1e|picture
 400 Bad Request: HTTP/1.1 400 Bad Request^~Content-Length: 0^~Connection: close^~^~|BadRequest
-404 Not Found: HTTP/1.1 404 Not Found^~Content-Length: 0^~Connection: close^~^~|NotFound
-405 Method Not Allowed: HTTP/1.1 405 Method Not Allowed^~Allow: GET^~Content-Length: 0^~Connection: close^~^~|MethodNotAllowed";
+404 Not Found: HTTP/1.1 404 Not Found^~Content-Length: 0^~^~|NotFound
+405 Method Not Allowed: HTTP/1.1 405 Method Not Allowed^~Allow: GET^~Content-Length: 0^~^~|MethodNotAllowed";
 
 fn rows_of_responses(alloc: Global, row: &str) -> Result<String, AllocError> {
     match row {

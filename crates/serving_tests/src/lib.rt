@@ -15,4 +15,4 @@ mod narrow;
 #[cfg(test)]
 mod request_heads;
 #[cfg(test)]
-mod streams;
+mod sinks_and_sources;

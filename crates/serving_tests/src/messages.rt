@@ -6,7 +6,7 @@ use test_tables::{TableFault, check_rows};
 // What is told, `|` and the crate that tells it.
 const MESSAGES: &str = "\
 the reader failed, the writer failed, the writer failed after 98 bytes|mapmachine
-the server is busy, the reader failed, the writer failed after 98 bytes|httpedge
+the server is busy, the reader failed after 279 bytes were written, the writer failed after 98 bytes|httpedge
 # whether faults of writing are equal that differ in their number of bytes
 false false|others";
 
@@ -16,7 +16,7 @@ fn rows_of_messages(alloc: Global, row: &str) -> Result<String, AllocError> {
     let shorter = EdgeFault::Write { written: 97 };
     match row {
         "mapmachine" => format!(in alloc; "{}, {}, {failed}", TakeFailed, PutFailed),
-        "httpedge" => format!(in alloc; "{}, {}, {cut}", Busy, EdgeFault::Read),
+        "httpedge" => format!(in alloc; "{}, {}, {cut}", Busy, EdgeFault::Read { written: 279 }),
         "others" => format!(in alloc;
             "{} {}",
             cut == shorter,

@@ -79,3 +79,33 @@ pub(crate) fn holding_nothing(
         room: usize::MAX,
     }
 }
+
+// A reader in memory, which ends each of its pieces where the bytes are cut.
+#[derive(Drop)]
+pub(crate) struct Cut<'a> {
+    pub(crate) bytes: &'a [u8],
+    pub(crate) at: usize,
+    pub(crate) cuts: [usize; 2],
+}
+
+impl Cut<'_> {
+    // Where the next piece ends.
+    fn end(&self) -> usize {
+        for cut in self.cuts {
+            if cut > self.at {
+                return cut.min(self.bytes.len());
+            }
+        }
+        self.bytes.len()
+    }
+}
+
+impl Read for Cut<'_> {
+    fn read(&mut self, room: &mut [u8]) -> io::Result<usize> {
+        let piece = self.bytes.get(self.at..self.end()).unwrap_or(&[]);
+        let count = piece.len().min(room.len());
+        room[..count].copy_from_slice(&piece[..count]);
+        self.at = self.at.saturating_add(count);
+        Ok(count)
+    }
+}

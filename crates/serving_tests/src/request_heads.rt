@@ -1,6 +1,6 @@
 ghost use Rattle.std.specs.Prelude.{◌≤◌, length};
 
-use httpedge::{Conn, End, Refusal, Step};
+use httpedge::{Conn, Decision, Refusal};
 use std::alloc::{AllocError, Global};
 use test_tables::{TableFault, check_rows};
 
@@ -13,25 +13,35 @@ fn asked(alloc: Global, query: &[u8]) -> Result<String, AllocError> {
     }
 }
 
-// A refusal as a row tells it.
-fn refused(alloc: Global, refusal: Refusal) -> Result<String, AllocError> {
-    format!(in alloc; "{}", refusal.status().as_str())
+// What is decided, as a row tells it, and whether it ends the connection, which a bad request does.
+fn decided(
+    alloc: Global,
+    decision: Decision,
+    query: &[u8],
+    closing: bool,
+) -> Result<String, AllocError> {
+    let told = match decision {
+        Decision::Ask => asked(alloc, query),
+        Decision::Refused(refusal) => format!(in alloc; "{}", refusal.status().as_str()),
+    }?;
+    match (decision, closing) {
+        (Decision::Refused(Refusal::BadRequest), false) => format!(in alloc; "{told} and stays"),
+        (Decision::Refused(Refusal::BadRequest), true) | (_, false) => Ok(told),
+        (_, true) => format!(in alloc; "{told} and closes"),
+    }
 }
 
-// What a stream means that comes in these pieces, up to its end, as a row tells it.
+// What a stream asks for first that comes in these pieces, up to its end, as a row tells it.
 fn meaning(alloc: Global, pieces: &[&[u8]]) -> Result<String, AllocError> {
     let mut conn = Conn::new(alloc)?;
     for piece in pieces {
-        match conn.feed(piece) {
-            Step::More => {}
-            Step::Ask => return asked(alloc, conn.query()),
-            Step::Refused(refusal) => return refused(alloc, refusal),
+        if let Some(decision) = conn.feed(piece).step {
+            return decided(alloc, decision, conn.query(), conn.closing());
         }
     }
     match conn.end() {
-        End::Nothing => Ok(String::new(alloc)),
-        End::Ask => asked(alloc, conn.query()),
-        End::Refused(refusal) => refused(alloc, refusal),
+        None => Ok(String::new(alloc)),
+        Some(decision) => decided(alloc, decision, conn.query(), conn.closing()),
     }
 }
 
@@ -75,12 +85,24 @@ const STREAMS: &str = "\
 200 ->GET_/wms?_HTTP/1.1||
 200 a?b=c>GET_/wms?a?b=c_HTTP/1.1||
 200 ?b>GET_/wms??b_HTTP/1.1||
-200 a=b>GET_/wms?a=b_HTTP/1.0||
+200 a=b and closes>GET_/wms?a=b_HTTP/1.0||
 200 a=b>GET_/wms?a=b_HTTP/1.1~Host:_x~~
 200 a=b>GET_/wms?a=b_HTTP/1.1|Host:_x~|
 200 a=b>|~|GET_/wms?a=b_HTTP/1.1||
 200 a=b>GET_/wms?a=b_HTTP/1.1||GET_/?c=d_HTTP/1.1||
-200 a=b>GET_/wms?a=b_HTTP/1.1|Content-Length:_3||c=d
+# a head that announces a body
+400>GET_/wms?a=b_HTTP/1.1|Content-Length:_3||c=d
+400>POST_/x_HTTP/1.0|TRANSFER-encoding:_chunked||
+400>GET_/wms?a=b_HTTP/1.1|Content-Length:_0|Content-Length:_1||
+400>GET_/wms?a=b_HTTP/1.1|Content-Length:_00||
+200 a=b>GET_/wms?a=b_HTTP/1.1|content-LENGTH:_0_|Content-Length:0||
+# one that ends the connection
+200 a=b and closes>GET_/wms?a=b_HTTP/1.1|Connection:_close||
+200 a=b and closes>GET_/wms?a=b_HTTP/1.1|Connection:_keep-alive|CONNECTION:_a,_CLOSE_,b||
+405 and closes>POST_/wms?a=b_HTTP/1.1|Connection:_close||
+404 and closes>GET_/x_HTTP/1.0|Connection:_keep-alive||
+200 a=b>GET_/wms?a=b_HTTP/1.1|Connection:_closed,_not-close||
+200 a=b>GET_/wms?a=b_HTTP/1.1|X-Connection:_close||
 200 a=b>GET_/wms?a=b_HTTP/1.1|Host:||
 405>POST_/wms?a=b_HTTP/1.1||
 405>HEAD_/wms?a=b_HTTP/1.1||
@@ -134,7 +156,7 @@ fn rows_of_streams(alloc: Global, row: &str) -> Result<String, AllocError> {
 
 #[test]
 fn streams_mean_what_their_heads_say(rt: HostRuntime) -> Result<(), TableFault> {
-    check_rows(rt.alloc(), STREAMS, '>', 47, rows_of_streams)
+    check_rows(rt.alloc(), STREAMS, '>', 57, rows_of_streams)
 }
 
 // How many bytes, the beginning of what they mean in two pieces and a byte at a time, `>`, then what is sent
@@ -188,14 +210,15 @@ fn at_most_16384_bytes_are_a_head(rt: HostRuntime) -> Result<(), TableFault> {
 
 // What a piece leads to, a head after it, the end and a head after that, `>` and the piece.
 const DECISIONS: &str = "\
-Refused(MethodNotAllowed) Refused(MethodNotAllowed) Refused(MethodNotAllowed) Refused(MethodNotAllowed)>POST_/_HTTP/1.1||
-Refused(NotFound) Refused(NotFound) Refused(NotFound) Refused(NotFound)>GET_/x_HTTP/1.1||
+19 Some(Refused(MethodNotAllowed)) 0 Some(Refused(MethodNotAllowed)) Some(Refused(MethodNotAllowed)) 0 Some(Refused(MethodNotAllowed))>POST_/_HTTP/1.1||
+19 Some(Refused(NotFound)) 0 Some(Refused(NotFound)) Some(Refused(NotFound)) 0 Some(Refused(NotFound))>GET_/x_HTTP/1.1||
 # what can't become a head is refused at once
-Refused(BadRequest) Refused(BadRequest) Refused(BadRequest) Refused(BadRequest)>\x16\x03\x01
-# a query is asked once and for all
-Ask Ask Ask Ask>GET_/?a=b_HTTP/1.1||
+3 Some(Refused(BadRequest)) 0 Some(Refused(BadRequest)) Some(Refused(BadRequest)) 0 Some(Refused(BadRequest))>\x16\x03\x01
+# a query is asked, and no byte after its head is taken
+22 Some(Ask) 0 Some(Ask) Some(Ask) 0 Some(Ask)>GET_/?a=b_HTTP/1.1||
+22 Some(Ask) 0 Some(Ask) Some(Ask) 0 Some(Ask)>GET_/?a=b_HTTP/1.1||GET_/x
 # no piece is no end
-More Ask Ask Ask>";
+0 None 25 Some(Ask) Some(Ask) 0 Some(Ask)>";
 
 fn rows_of_decisions(alloc: Global, row: &str) -> Result<String, AllocError> {
     let piece = stream_of(alloc, row)?;
@@ -204,25 +227,31 @@ fn rows_of_decisions(alloc: Global, row: &str) -> Result<String, AllocError> {
     let second = conn.feed(b"GET /wms?c=d HTTP/1.1\r\n\r\n");
     let end = conn.end();
     let third = conn.feed(b"GET / HTTP/1.1\r\n\r\n");
-    format!(in alloc; "{first:?} {second:?} {end:?} {third:?}")
+    format!(in alloc;
+        "{} {:?} {} {:?} {end:?} {} {:?}",
+        first.taken, first.step, second.taken, second.step, third.taken, third.step
+    )
 }
 
 #[test]
 fn decisions_stay(rt: HostRuntime) -> Result<(), TableFault> {
-    check_rows(rt.alloc(), DECISIONS, '>', 5, rows_of_decisions)
+    check_rows(rt.alloc(), DECISIONS, '>', 6, rows_of_decisions)
 }
 
-// What the end after a piece leads to, what a head after it, `>` and the piece.
+// What the end after a piece leads to, what a head after it, whether the head is forgotten, and what a head leads to
+// then, `>` and the piece.
 const ENDS: &str = "\
-Nothing Ask>
-Refused(BadRequest) Refused(BadRequest)>G";
+None Some(Ask) true Some(Refused(NotFound))>
+Some(Refused(BadRequest)) Some(Refused(BadRequest)) false Some(Refused(BadRequest))>G";
 
 fn rows_of_ends(alloc: Global, row: &str) -> Result<String, AllocError> {
     let mut conn = Conn::new(alloc)?;
     let _ = conn.feed(row.as_bytes());
     let end = conn.end();
-    let step = conn.feed(b"GET / HTTP/1.1\r\n\r\n");
-    format!(in alloc; "{end:?} {step:?}")
+    let step = conn.feed(b"GET / HTTP/1.1\r\n\r\n").step;
+    let is_next = conn.next();
+    let further = conn.feed(b"GET /x HTTP/1.1\r\n\r\n").step;
+    format!(in alloc; "{end:?} {step:?} {is_next} {further:?}")
 }
 
 #[test]

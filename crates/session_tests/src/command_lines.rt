@@ -20,13 +20,10 @@ fn told(alloc: Global, words: &[&str]) -> Result<String, AllocError> {
             },
         ) => format!(in alloc; "check {file} in words"),
         Ok(Command::Run { file, script }) => format!(in alloc; "run {file} and then {script}"),
-        Ok(
-            Command::Serve {
-                file,
-                port,
-                connections,
-            },
-        ) => format!(in alloc; "serve {file} on {port} for {connections}"),
+        Ok(Command::Serve { file, service }) => format!(in alloc;
+            "serve {file} on {} for {}, idle {} and timeout {}",
+            service.port, service.connections, service.idle, service.timeout
+        ),
         Err(WordsFault::Refused { text }) => Ok(text),
         Err(WordsFault::NoMemory) => Err(AllocError),
     }
@@ -51,9 +48,13 @@ run a|error: the following required arguments were not provided:~  <SCRIPT>~~Usa
 check a b|error: unexpected argument 'b' found~~Usage: mapservd check [OPTIONS] <FILE>~~For more information, try '--help'.~
 run a b c|error: unexpected argument 'c' found~~Usage: mapservd run <FILE> <SCRIPT>~~For more information, try '--help'.~
 m.map|error: unrecognized subcommand 'm.map'~~Usage: mapservd [COMMAND]~~For more information, try '--help'.~
-serve m.map|serve m.map on 8080 for 0
-serve m.map --port 0 --connections 4294967295|serve m.map on 0 for 4294967295
-serve --connections 2 m.map --port 65535|serve m.map on 65535 for 2
+serve m.map|serve m.map on 8080 for 0, idle 200 and timeout 30
+serve m.map --port 0 --connections 4294967295|serve m.map on 0 for 4294967295, idle 200 and timeout 30
+serve --connections 2 m.map --port 65535|serve m.map on 65535 for 2, idle 200 and timeout 30
+serve m.map --timeout 3600 --idle 60000|serve m.map on 8080 for 0, idle 60000 and timeout 3600
+serve --idle 1 --timeout 1 m.map|serve m.map on 8080 for 0, idle 1 and timeout 1
+serve m.map --idle 0|error: invalid value '0' for '--idle <idle>': 0 is not in 1..=60000~~For more information, try '--help'.~
+serve m.map --timeout 3601|error: invalid value '3601' for '--timeout <timeout>': 3601 is not in 1..=3600~~For more information, try '--help'.~
 serve m.map --port 65536|error: invalid value '65536' for '--port <port>': 65536 is not in 0..=65535~~For more information, try '--help'.~
 serve m.map --connections 4294967296|error: invalid value '4294967296' for '--connections <connections>': 4294967296 is not in 0..=4294967295~~For more information, try '--help'.~
 draw m.map|error: unrecognized subcommand 'draw'~~Usage: mapservd [COMMAND]~~For more information, try '--help'.~
@@ -72,7 +73,7 @@ fn is_form(alloc: Global, row: &str) -> Result<bool, AllocError> {
 
 #[test]
 fn words_have_their_forms(rt: HostRuntime) -> Result<(), TableFault> {
-    check_all(rt.alloc(), WORDS, 27, is_form)
+    check_all(rt.alloc(), WORDS, 31, is_form)
 }
 
 // What is told of words that were refused with this text, and of those for which there was no memory.

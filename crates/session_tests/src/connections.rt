@@ -1,6 +1,6 @@
 use crate::cuts::opened;
 use crate::memory::stream_of;
-use crate::ports::{HEAD, RESPONSE};
+use crate::ports::{LAST, RESPONSE};
 use mapmachine::Machine;
 use sessions::serve_connection;
 use std::alloc::{AllocError, Global};
@@ -8,11 +8,11 @@ use test_tables::{TableFault, check_rows};
 
 // What becomes of a connection, whether its reader and its writer failed, whether the writer holds the first
 // bytes of the response, and how many. Then the calls of the reader and of the writer that fail, where each
-// moves one byte: the head has 30, the response 298.
+// moves one byte: the head has 40, the response 298.
 const FAILING: &str = "\
-the reader failed, true false true 0=0 -
-the reader failed, true false true 0=29 -
-served, false false true 298=30 -
+the reader failed after 0 bytes were written, true false true 0=0 -
+the reader failed after 0 bytes were written, true false true 0=39 -
+served, false false true 298=40 -
 the writer failed after 0 bytes, false true true 0=- 0
 the writer failed after 100 bytes, false true true 100=- 100
 the writer failed after 297 bytes, false true true 297=- 297
@@ -24,7 +24,7 @@ fn told_of(
     reading: Option<usize>,
     writing: Option<usize>,
 ) -> Result<String, AllocError> {
-    let mut reader = stream_of(alloc, HEAD, 1, reading);
+    let mut reader = stream_of(alloc, LAST, 1, reading);
     let mut writer = stream_of(alloc, "", 1, writing);
     let served = serve_connection(alloc, machine, &mut reader, &mut writer);
     let failed = (reader.take_failed(), writer.put_failed());

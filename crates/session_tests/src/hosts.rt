@@ -1,8 +1,9 @@
 ghost use Rattle.std.specs.Prelude.{◌≡◌, None};
 
 use crate::memory::{Memory, stream_of};
-use crate::ports::{HEAD, RESPONSE};
+use crate::ports::{LAST, RESPONSE};
 use crate::texts::{columns, spelt};
+use commandline::Service;
 use hosting::{
     AcceptFailed, Accepted, AddressFault, Host, ListenFailed, Port, WordsUnread, answer,
 };
@@ -54,7 +55,7 @@ impl<'a> Port for Letters<'a> {
         };
         self.left = left;
         let sent = match letter {
-            b'c' => HEAD,
+            b'c' => LAST,
             b'x' => "!",
             _ => return Err(AcceptFailed),
         };
@@ -74,7 +75,7 @@ impl<'a> Port for Letters<'a> {
         let held = accepted.writer.into_inner().held;
         let count = match fault {
             None if held.as_slice() == RESPONSE => &self.counts.answered,
-            Some(EdgeFault::Read) if held.is_empty() => &self.counts.unread,
+            Some(EdgeFault::Read { .. }) if held.is_empty() => &self.counts.unread,
             _ => return,
         };
         count.set(count.get().saturating_add(1));
@@ -122,8 +123,8 @@ impl<'a> Host for Shelf<'a> {
         Err(io::Error::from(io::ErrorKind::NotFound))
     }
 
-    fn listen(&self, port: u16) -> Result<Letters<'a>, ListenFailed> {
-        if port != 81 {
+    fn listen(&self, service: Service) -> Result<Letters<'a>, ListenFailed> {
+        if service.port != 81 {
             return Err(ListenFailed);
         }
         Ok(Letters {

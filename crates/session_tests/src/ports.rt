@@ -1,3 +1,4 @@
+use commandline::Service;
 use hosting::{Host, SystemHost, serve_port};
 use mapmachine::Flagged;
 use mapparse::{Files, parse};
@@ -5,13 +6,16 @@ use sessions::{Outcome, read_all};
 use std::io::{self, Read, Write};
 use std::net::{Ipv4Addr, Shutdown, TcpListener, TcpStream};
 use std::test::Fail;
-use std::time::Instant;
+use std::time::{Duration, Instant};
 use std::{env, fs, str};
 
-/// A head without a query, of 30 bytes.
-pub const HEAD: &str = "GET /wms HTTP/1.1\r\nHost: x\r\n\r\n";
+/// A head without a query that ends its connection, of 40 bytes.
+pub const LAST: &str = "GET /wms HTTP/1.1\r\nConnection: close\r\n\r\n";
 
-/// Its response, of 298 bytes: 83 of a head, and the document of a query without REQUEST.
+// One that doesn't, of 30 bytes.
+const HEAD: &str = "GET /wms HTTP/1.1\r\nHost: x\r\n\r\n";
+
+/// The response to the first, of 298 bytes: 83 of a head, and the document of a query without REQUEST.
 pub const RESPONSE: &[u8] = b"HTTP/1.1 200 OK\r\n\
 Content-Type: text/xml\r\n\
 Content-Length: 215\r\n\
@@ -80,11 +84,21 @@ impl Write for Clients<'_> {
 // A head of 4,096 bytes. So many are read at once, and what comes after them stands unread when they are answered.
 fn long_head(rt: &HostRuntime) -> io::Result<String> {
     let mut head = String::from_str(rt.alloc(), "GET /wms?")?;
-    for _ in 0..4_065 {
+    for _ in 0..4_055 {
         head.push('a')?;
     }
-    head.push_str(" HTTP/1.1\r\nHost: x\r\n\r\n")?;
+    head.push_str(" HTTP/1.1\r\nConnection: close\r\n\r\n")?;
     Ok(head)
+}
+
+// The service on a port, for so many connections.
+fn service(port: u16, connections: u32) -> Service {
+    Service {
+        port,
+        connections,
+        idle: 300,
+        timeout: 30,
+    }
 }
 
 // How the connections of some texts are answered: the outcome, and all that came back.
@@ -102,7 +116,7 @@ fn answered(
         streams: Vec::new(alloc),
     });
     let host = SystemHost::new(rt);
-    let outcome = serve_port(alloc, &host, map, 0, connections, &mut output);
+    let outcome = serve_port(alloc, &host, map, service(0, connections), &mut output);
     let mut answers = Vec::new(alloc);
     for mut stream in output.into_inner().streams {
         stream.read_to_end(&mut answers)?;
@@ -112,7 +126,7 @@ fn answered(
 
 #[test]
 fn a_port_answers_its_connections_in_turn(rt: HostRuntime) -> Result<(), Fail> {
-    let (outcome, answers) = answered(&rt, &[HEAD, HEAD], 3)?;
+    let (outcome, answers) = answered(&rt, &[LAST, LAST], 3)?;
     let is_served = matches!(outcome, Outcome::Served);
     let told = (is_served, answers.get(..298), answers.get(298..));
     assert_eq!(rt; told, (true, Some(RESPONSE), Some(RESPONSE)));
@@ -120,7 +134,7 @@ fn a_port_answers_its_connections_in_turn(rt: HostRuntime) -> Result<(), Fail> {
 }
 
 #[test]
-fn bytes_after_a_head_leave_its_answer_whole(rt: HostRuntime) -> Result<(), Fail> {
+fn bytes_after_a_last_head_leave_its_answer_whole(rt: HostRuntime) -> Result<(), Fail> {
     let alloc = rt.alloc();
     let head = long_head(&rt)?;
     let body = format!(in alloc; "{head}|abc")?;
@@ -132,13 +146,31 @@ fn bytes_after_a_head_leave_its_answer_whole(rt: HostRuntime) -> Result<(), Fail
 }
 
 #[test]
+fn a_connection_has_its_requests_answered(rt: HostRuntime) -> Result<(), Fail> {
+    let texts = format!(in rt.alloc(); "{HEAD}|{HEAD}|{LAST}")?;
+    let (_, answers) = answered(&rt, &[texts.as_str()], 2)?;
+    // 279 bytes twice, which lack the line of the last
+    assert_eq!(rt; (answers.len(), answers.get(558..)), (856, Some(RESPONSE)));
+    Ok(())
+}
+
+// For how long two connections are answered, of which the first stays, and how many bytes come back.
+fn waited(rt: &HostRuntime, first: &str) -> Result<(Duration, usize), Fail> {
+    let stays = format!(in rt.alloc(); "{first}|stays")?;
+    let began = Instant::now(rt)?;
+    let (_, answers) = answered(rt, &[stays.as_str(), LAST], 3)?;
+    Ok((began.elapsed(rt)?, answers.len()))
+}
+
+#[test]
 fn a_client_that_stays_is_left(rt: HostRuntime) -> Result<(), Fail> {
-    let stays = format!(in rt.alloc(); "{HEAD}|stays")?;
-    let began = Instant::now(&rt)?;
-    let (_, answers) = answered(&rt, &[stays.as_str(), HEAD], 3)?;
-    // It is left after 2 seconds, and not when the time of its head is over.
-    let is_left = began.elapsed(&rt)?.as_secs() < 20;
-    assert_eq!(rt; (answers.len(), is_left), (596, true));
+    // After the last answer it is left after 2 seconds, and not when the time of its head is over.
+    let (left, count) = waited(&rt, LAST)?;
+    assert_eq!(rt; (count, left.as_secs() < 20), (596, true));
+    // After another it may be idle for 300 milliseconds.
+    let (left, count) = waited(&rt, HEAD)?;
+    let is_in_time = left.as_millis() >= 300 && left.as_millis() < 1_500;
+    assert_eq!(rt; (count, is_in_time), (577, true));
     Ok(())
 }
 
@@ -149,7 +181,13 @@ fn a_port_that_is_taken_is_told(rt: HostRuntime) -> Result<(), Fail> {
     let listener = TcpListener::bind(&rt, (Ipv4Addr::LOCALHOST, 0))?;
     let port = listener.local_addr()?.port();
     let mut output = Flagged::new(Vec::new(alloc));
-    let outcome = serve_port(alloc, &SystemHost::new(&rt), map, port, 1, &mut output);
+    let outcome = serve_port(
+        alloc,
+        &SystemHost::new(&rt),
+        map,
+        service(port, 1),
+        &mut output,
+    );
     drop(listener);
     let told = (
         matches!(outcome, Outcome::SocketFailed),

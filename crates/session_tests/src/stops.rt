@@ -4,19 +4,19 @@ use std::alloc::{AllocError, Global};
 use test_tables::{TableFault, check_all};
 
 // Forms, the number of their output's call that fails, of those that write 5 bytes at most and of the flush
-// after them, and what becomes of it. The line of `check` has seven such calls, the fault of a script five.
+// after them, and what becomes of it. The line of `check` has five such calls, the fault of a script three.
 const FAILING: &str = "\
 check|0|3 OutputFailed||
-check|3|3 OutputFailed|ok 0 laye|
-check|7|3 OutputFailed|ok 0 layers 0 features~|
-check|8|0 Checked|ok 0 layers 0 features~|
+check|3|3 OutputFailed|ok 0 layers 0 f|
+check|5|3 OutputFailed|ok 0 layers 0 features~|
+check|6|0 Checked|ok 0 layers 0 features~|
 explain|0|3 OutputFailed||
-explain|7|3 OutputFailed|ok 0 layers 0 features~|
-explain|8|0 Checked|ok 0 layers 0 features~|
+explain|5|3 OutputFailed|ok 0 layers 0 features~|
+explain|6|0 Checked|ok 0 layers 0 features~|
 run|0|3 OutputFailed||
 run|2|3 OutputFailed|fault scri|
-run|5|3 OutputFailed|fault script 1~|
-run|6|0 Played|fault script 1~|";
+run|3|3 OutputFailed|fault script 1~|
+run|4|0 Played|fault script 1~|";
 
 // Whether a form whose output fails ends as its row says.
 fn is_failed(alloc: Global, line: &str) -> Result<bool, AllocError> {

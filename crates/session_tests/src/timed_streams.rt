@@ -1,4 +1,4 @@
-use hosting::{Closing, HEAD_SECONDS, TimeLimit, TimedReader, TimedWriter};
+use hosting::{Closing, TimedReader, TimedWriter, Turn, Waits};
 use std::alloc::{AllocError, Global};
 use std::cell::Cell;
 use std::io::{self, Read, Write};
@@ -108,7 +108,8 @@ fn told_of_calls<F: FnMut() -> bool>(
 }
 
 // What is told of a stream whose first call comes 5 seconds after the time of its head began. The row has how many
-// seconds each call takes, and what becomes of the calls.
+// seconds each call takes, and what becomes of the calls. An idle connection has 7 seconds, a head and an answer that
+// stands still 30.
 const WAITS: &str = "\
 25 5 in 2=read 20
 25 15 5 in 3=read 10
@@ -121,7 +122,13 @@ in 1=read 10 stands
 1 1 1 1 1 1 1 1 1 1 in 11=write 29 signalled
 in 1=write 30 signalled
 in 30=write 1 stands
-in 3=write 10 stands";
+in 3=write 10 stands
+# an answer after the head: the next head has 7 seconds to begin, and 30 then
+7 30 20 10 in 4=rest 10
+7 30 26 22 18 14 10 6 2 in 9=rest 4
+in 1=rest 7 stands
+# answers with a read between have their times each
+7 7 7 7 7 7 7 7 7 7 in 20=answers 290";
 
 // A clock at which the time of a head began 5 seconds ago.
 fn times_of(takes: u64, way: &str) -> Times<'_> {
@@ -135,40 +142,67 @@ fn times_of(takes: u64, way: &str) -> Times<'_> {
     }
 }
 
-// What is told of a reader, the time of whose head begins at 7 seconds.
-fn told_of_reads(alloc: Global, times: &Times<'_>) -> Result<String, AllocError> {
+// How long the calls of a connection may wait.
+fn waits() -> Waits {
+    Waits {
+        idle: Duration::from_secs(7),
+        timeout: Duration::from_secs(30),
+    }
+}
+
+// Both sides of a connection whose first head begins at 7 seconds.
+fn sides<'a>(
+    alloc: Global,
+    times: &'a Times<'a>,
+) -> Result<
+    (
+        TimedReader<'a, Slow<'a>, Times<'a>>,
+        TimedWriter<'a, Slow<'a>, Times<'a>>,
+    ),
+    AllocError,
+> {
+    let (read, written) = Turn::pair(alloc)?;
     times.now.set(7);
-    let Ok(limit) = TimeLimit::start(&*times, HEAD_SECONDS) else {
+    let Ok(reader) = TimedReader::start(Slow(times), times, waits(), read) else {
         return Err(AllocError);
     };
     times.now.set(12);
-    let mut reader = TimedReader::new(Slow(&*times), &*times, limit);
-    told_of_calls(alloc, &*times, || reader.read(&mut [0]).is_ok())
-}
-
-fn told_of_writes(alloc: Global, times: &Times<'_>) -> Result<String, AllocError> {
-    let mut writer = TimedWriter::new(Slow(&*times), &*times);
-    told_of_calls(alloc, &*times, || writer.write(&[0]).is_ok())
+    Ok((
+        reader,
+        TimedWriter::new(Slow(times), times, waits(), written),
+    ))
 }
 
 fn told(alloc: Global, row: &str) -> Result<String, AllocError> {
     let (call, rest) = row.split_once(' ').unwrap_or(("", ""));
     let (takes, way) = rest.split_once(' ').unwrap_or((rest, ""));
     let times = times_of(takes.parse().unwrap_or(0), way);
+    let (mut reader, mut writer) = sides(alloc, &times)?;
     match call {
-        "read" => told_of_reads(alloc, &times),
-        _ => told_of_writes(alloc, &times),
+        "read" => told_of_calls(alloc, &times, || reader.read(&mut [0]).is_ok()),
+        "write" => told_of_calls(alloc, &times, || writer.write(&[0]).is_ok()),
+        "rest" => {
+            let _ = writer.write(&[]);
+            times.calls.set(0);
+            times.now.set(12);
+            told_of_calls(alloc, &times, || reader.read(&mut [0]).is_ok())
+        }
+        _ => told_of_calls(alloc, &times, || {
+            writer.write(&[0]).is_ok() && reader.read(&mut [0]).is_ok()
+        }),
     }
 }
 
 #[test]
 fn calls_wait_for_what_is_left_of_a_time(rt: HostRuntime) -> Result<(), TableFault> {
-    check_rows(rt.alloc(), WAITS, '=', 12, told)
+    check_rows(rt.alloc(), WAITS, '=', 16, told)
 }
 
 #[test]
-fn the_writing_side_is_closed(rt: HostRuntime) {
+fn the_writing_side_is_closed(rt: HostRuntime) -> Result<(), AllocError> {
     let times = times_of(0, "");
-    TimedWriter::new(Slow(&times), &times).shut();
+    let (_, mut writer) = sides(rt.alloc(), &times)?;
+    writer.shut();
     assert!(rt; times.is_shut.get());
+    Ok(())
 }

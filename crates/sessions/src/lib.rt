@@ -5,7 +5,7 @@
 //! whole transcript of the map machine's replies, or exactly the first bytes of it, or the fault of the
 //! mapfile (`tells`); `check_file` and `run_files` say the same of the files that they read.
 //! `split_session` parts a session at its first line of two percent signs. `summary` says how many bytes
-//! went out where the writer fails. `serve_connection` answers the stream of one connection.
+//! went out where the writer fails. `serve_connection` answers the requests of one connection.
 #![tactic(auto)]
 
 mod checking;

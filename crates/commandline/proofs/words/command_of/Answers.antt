@@ -30,20 +30,11 @@ returns-in_ok-get_str-in-run c =
     let script = sym (first_value-rows inner (codes "SCRIPT")) ∙ sym c.in_ok-get_str-in-run.ensures in
     rw at (name, file, script)
 
-pub returns-in_ok-get_one-in-serve-2 : goal.returns-in_ok-get_one-in-serve-2
-returns-in_ok-get_one-in-serve-2 c =
+pub returns-in_ok-service_of-in-serve : goal.returns-in_ok-service_of-in-serve
+returns-in_ok-service_of-in-serve c =
     let s = c.in-Some.ensures in
     let inner = found_of c.in-Some.inner.now in
     let at = named (out-ArgMatches c.args.matches.now).subcommand c.in-Some.name.now (rows_of inner) s.name s.rows in
     let name : c.in-Some.name.now ≡ codes "serve" = search rules in
     let file = sym (first_value-rows inner (codes "FILE")) ∙ sym c.in_ok-file.ensures in
-    let (p, port, reads-port) = one-read (λ bs r. ParsesUnsigned 16 10 bs r × ExplainsUnsignedError 10 bs r × HasUnsignedDigitsIfOk bs r) (one_text inner (codes "port"))
-    c.get_one.result c.in_ok-get_one-in-serve.field-0 c.in_ok-get_one-in-serve.was c.get_one.ensures.none c.get_one.ensures.value in
-    let (n, connections, reads-connections) = one-read (λ bs r. ParsesUnsigned 32 10 bs r × ExplainsUnsignedError 10 bs r × HasUnsignedDigitsIfOk bs r) (one_text inner (codes "connections"))
-    c.get_one-in-serve.result c.in_ok-get_one-in-serve-2.field-0 c.in_ok-get_one-in-serve-2.was c.get_one-in-serve.ensures.none c.get_one-in-serve.ensures.value in
-    rw at (
-      name,
-      file,
-      (p, sym (one_text-rows inner (codes "port")) ∙ port, reads-port.0),
-      (n, sym (one_text-rows inner (codes "connections")) ∙ connections, reads-connections.0),
-    )
+    rw at (name, file, c.in_ok-service_of-in-serve.ensures)

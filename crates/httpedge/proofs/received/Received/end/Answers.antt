@@ -1,13 +1,11 @@
-use Rattle.std.proofs.Common.{refl}
-use Rattle.httparse.specs.Spans.{span_bytes}
-use Rattle.httpedge.specs.Meaning.{Refused, Asks}
-use Rattle.httpedge.proofs.Deciding.{ends-asked, ends-refused}
+use Rattle.std.proofs.Common.{arith}
+use Rattle.httpedge.proofs.Taking.{end-refused, end-kept}
 use Rattle.httpedge.proofs.received.Received.end.Goals as goal
 
-pub returns-in-Ask-clause-ends : goal.returns-in-Ask-clause-ends
-returns-in-Ask-clause-ends c =
-    (Asks (span_bytes c.args.self.now.bytes.items c.in-Ask.field-0), ends-asked c.args.self.now.bytes.items c.args.self.now.verdict c.in-Ask.field-0 c.in-Ask.is, refl)
+pub returns-in-None-clause-ends : goal.returns-in-None-clause-ends
+returns-in-None-clause-ends c =
+    end-refused c.args.self.now.bytes.items _ _ c.args.self.now.closes c.args.self.now.decision c.is_empty.result c.in-None.is (omega arith) c.is_empty.ensures c.if-not-is_empty.true (c.requires.received.no_head c.in-None.is)
 
-pub returns-in-Refused-clause-ends : goal.returns-in-Refused-clause-ends
-returns-in-Refused-clause-ends c =
-    (Refused c.in-Refused.refusal, ends-refused c.args.self.now.bytes.items c.args.self.now.verdict c.in-Refused.refusal c.in-Refused.is, refl)
+pub returns-else-not-is_empty-clause-ends : goal.returns-else-not-is_empty-clause-ends
+returns-else-not-is_empty-clause-ends c =
+    end-kept c.args.self.now.bytes.items _ _ c.args.self.now.closes c.args.self.now.decision c.is_empty.result c.in-None.is (omega arith) c.is_empty.ensures c.if-not-is_empty.false

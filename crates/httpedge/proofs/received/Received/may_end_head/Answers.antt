@@ -9,4 +9,4 @@ returns-then-not-ends_line c is-false =
 
 pub returns-else-self : goal.returns-else-self
 returns-else-self c is-false =
-    blank-more-headless c.args.self.now.bytes.items c.args.piece.now _ (c.requires.received.blank c.if-self.false) c.is_blank.ensures is-false
+    blank-more-headless c.args.self.now.bytes.items c.args.piece.now _ (c.requires.received.blank c.requires.open c.if-self.false) c.is_blank.ensures is-false

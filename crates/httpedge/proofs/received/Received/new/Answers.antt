@@ -10,8 +10,8 @@ returns-clause-received c =
     record {
       room = omega (arith, c.in_ok-with_capacity.ensures.exact);
       limit = omega (arith, ap length none);
-      blank = λ e. ap (list_all is_newline) none;
+      blank = λ o e. ap (list_all is_newline) none;
       no_head = λ e. rw none nothing-headless;
       below = λ e. omega (arith, ap length none);
-      query = λ span e. absurd (cc);
+      query = (omega arith, omega arith);
     }

@@ -1,0 +1,95 @@
+-- What is drawn, with labels over it, is the picture; and there is one.
+use Rattle.std.proofs.Common.{◌≡◌, ◌∙◌, zero, suc, ℕ, ◌+◌, ◌*◌, ◌/◌, ◌%◌, ◌<◌, List, [], ◌++◌, length, replicate, Option, None, Some, refl, sym, arith, subst}
+use Rattle.std.proofs.lemmas.List.{same_lists}
+use Rattle.std.proofs.lemmas.Nat.{div_below}
+use Rattle.std.proofs.lemmas.Option.{get_or_from_slice_get}
+use Rattle.std.specs.List.{slice_get}
+use Rattle.labelcache.proofs.Unique.{one-placement}
+use Rattle.labelcache.specs.Candidate.{CandidateValue}
+use Rattle.labelcache.specs.Placement.{setting}
+use Rattle.labelcache.specs.declared.cache.Placed.{Placed}
+use Rattle.mapdefs.specs.declared.colour.Rgb.{Rgb}
+use Rattle.mapdefs.specs.declared.font.FontFields.{FontFields}
+use Rattle.mapdefs.specs.declared.picture.PictureFields.{PictureFields}
+use Rattle.scene.specs.Scene.{SceneValue}
+use Rattle.viewport.specs.View.{ViewValue}
+use Rattle.compose.specs.Drawn.{DrawingValue, HasLabels, IsDrawn}
+use Rattle.compose.specs.Labels.{ArePlaced, candidate_list, ink_list}
+use Rattle.compose.specs.Paint.{paint_list}
+use Rattle.compose.specs.Picture.{HasOnePicture, IsPictureOf, colour_at}
+use Rattle.compose.specs.Walk.{met_list}
+use Rattle.compose.proofs.Painting.{painted-append, painted-area, painted-pixels}
+use Rattle.compose.proofs.Walking.{paint-list-of-the-met}
+
+-- a canvas of the background, without candidates
+abbrev pub blank_of : ViewValue → Option Rgb → DrawingValue
+blank_of view background = record { canvas = record { width = view.width; height = view.height; pixels = replicate (view.width * view.height) background }; labels = [] }
+
+-- from a canvas on which all that is met was drawn, and labels of the candidates were painted
+finished-canvas : (scene : SceneValue) (chosen : List ℕ) (background : Option Rgb) (b : DrawingValue) (c : PictureFields) →
+    IsDrawn scene (blank_of scene.view background) b (met_list scene.scale scene.map chosen) → HasLabels scene b.labels b.canvas c →
+    IsPictureOf scene.map scene.view scene.scale chosen background c
+finished-canvas scene chosen background b c drawn labelled =
+    let view = scene.view in
+    let things = paint_list view scene.scale scene.map chosen in
+    let labels = rw drawn.labelled at labelled.placed in
+    let ink = rw drawn.labelled at labelled.painted in
+    let blank = (blank_of view background).canvas in
+    let painted = rw (← paint-list-of-the-met view scene.scale scene.map chosen) at drawn.painted in
+    let all = painted-append blank b.canvas c things (ink_list scene.map.font (candidate_list view scene.scale scene.map chosen) labelled.labels) painted ink in
+    record {
+      labels = labelled.labels;
+      placed = labels;
+      width = all.width;
+      height = all.height;
+      area = painted-area view background _ c all;
+      pixels = painted-pixels view background _ c all;
+    }
+
+pub finished : (scene : SceneValue) (chosen : List ℕ) (background : Option Rgb) (a b : DrawingValue) (c : PictureFields) → a ≡ blank_of scene.view background →
+    IsDrawn scene a b (met_list scene.scale scene.map chosen) → HasLabels scene b.labels b.canvas c → IsPictureOf scene.map scene.view scene.scale chosen background c
+finished scene chosen background a b c e drawn labelled =
+    finished-canvas scene chosen background b c (subst (λ (x : DrawingValue). IsDrawn scene x b (met_list scene.scale scene.map chosen)) e drawn) labelled
+
+-- candidates have one list of labels
+one-labelling : (view : ViewValue) (font : Option FontFields) (candidates : List CandidateValue) (a b : List Placed) → ArePlaced view font candidates a → ArePlaced view font candidates b → a ≡ b
+one-labelling view None candidates a b p q = p ∙ sym q
+one-labelling view (Some font) candidates a b p q = one-placement (setting (record { width = view.width; height = view.height; font = font }) candidates) a b p q
+
+-- pictures of the same sides and pixels are the same
+same-picture : (a b : PictureFields) → a.width ≡ b.width → a.height ≡ b.height → a.pixels ≡ b.pixels → a ≡ b
+same-picture a b e f g = go a.width a.height a.pixels e f g
+  where
+    go : (w h : ℕ) (pixels : List (Option Rgb)) → w ≡ b.width → h ≡ b.height → pixels ≡ b.pixels → ◌≡◌ {A = PictureFields} (record { width = w; height = h; pixels = pixels }) b
+    go w h pixels e f g = rw (e, f, g) refl
+
+column-below : (at w h : ℕ) → at < w * h → at % w < w
+column-below at zero h below = absurd (omega arith)
+column-below at (suc w) h below = omega arith
+
+row-below : (at w h : ℕ) → at < w * h → at / w < h
+row-below at zero h below = absurd (omega arith)
+row-below at (suc w) h below = div_below at (suc w) h (omega arith) (omega arith)
+
+-- an index by its row and its column
+by-row : (at w h : ℕ) → at < w * h → at / w * w + at % w ≡ at
+by-row at zero h below = absurd (omega arith)
+by-row at (suc w) h below = omega arith
+
+-- pixels that have the same colours row by row are the same
+same-pixels : (w h : ℕ) (colour : ℕ → ℕ → Option Rgb) (a b : List (Option Rgb)) → length a ≡ w * h → length b ≡ w * h →
+    ((i j : ℕ) → i < w → j < h → slice_get a (j * w + i) ≡ Some (colour i j)) → ((i j : ℕ) → i < w → j < h → slice_get b (j * w + i) ≡ Some (colour i j)) → a ≡ b
+same-pixels w h colour a b la lb p q = same_lists a b (la ∙ sym lb) (λ k d short.
+    let below : k < w * h = omega (arith, la, short) in
+    let is = by-row k w h below in
+    let pa = rw is at (p (k % w) (k / w) (column-below k w h below) (row-below k w h below)) in
+    let pb = rw is at (q (k % w) (k / w) (column-below k w h below) (row-below k w h below)) in
+    get_or_from_slice_get a k (colour (k % w) (k / w)) d pa ∙ sym (get_or_from_slice_get b k (colour (k % w) (k / w)) d pb))
+
+pub one-picture : HasOnePicture
+one-picture m view scale chosen background a b p q =
+    let candidates = candidate_list view scale m chosen in
+    let labels = one-labelling view m.font candidates p.labels q.labels p.placed q.placed in
+    let colour = λ (i j : ℕ). colour_at background (paint_list view scale m chosen ++ ink_list m.font candidates q.labels) i j in
+    same-picture a b (p.width ∙ sym q.width) (p.height ∙ sym q.height)
+    (same-pixels view.width view.height colour a.pixels b.pixels (p.area ∙ rw (p.width, p.height) refl) (q.area ∙ rw (q.width, q.height) refl) (rw labels at p.pixels) q.pixels)

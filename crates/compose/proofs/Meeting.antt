@@ -1,0 +1,38 @@
+-- Drawing one feature after another.
+use Rattle.std.proofs.Common.{◌≡◌, ◌∙◌, ℕ, ◌+◌, ◌<◌, List, [], ◌∷◌, ◌++◌, length, get_or, take, take_all, sym, ap, arith}
+use Rattle.std.proofs.lemmas.Grind.{flat_map-append}
+use Rattle.std.proofs.lemmas.List.{append-nil, append_assoc, take_more}
+use Rattle.std.specs.List.{flat_map}
+use Rattle.labelcache.specs.Candidate.{CandidateValue}
+use Rattle.scene.specs.Scene.{SceneValue}
+use Rattle.compose.specs.Drawn.{DrawingValue, IsDrawn}
+use Rattle.compose.specs.Labels.{met_candidates}
+use Rattle.compose.specs.Walk.{Met, met_things}
+use Rattle.compose.proofs.Painting.{painted-append, painted-none}
+
+-- where nothing is met all stays
+pub drawn-none : (scene : SceneValue) (a : DrawingValue) → IsDrawn scene a a []
+drawn-none scene a = record { painted = painted-none a.canvas; labelled = sym (append-nil a.labels) }
+
+-- drawing goes on
+pub drawn-append : (scene : SceneValue) (a b c : DrawingValue) (xs ys : List Met) → IsDrawn scene a b xs → IsDrawn scene b c ys → IsDrawn scene a c (xs ++ ys)
+drawn-append scene a b c xs ys p q =
+    let things = met_things scene.view scene.map.symbols in
+    let candidates = met_candidates scene.view scene.map.font in
+    record {
+      painted = rw (flat_map-append things xs ys) (painted-append a.canvas b.canvas c.canvas (flat_map things xs) (flat_map things ys) p.painted q.painted);
+      labelled = rw (flat_map-append candidates xs ys)
+          (q.labelled ∙ ap (λ (z : List CandidateValue). z ++ flat_map candidates ys) p.labelled ∙ append_assoc a.labels (flat_map candidates xs) (flat_map candidates ys));
+    }
+
+-- a loop that draws what each element meets: one element more
+pub drawn-next : {X : Type 0} (scene : SceneValue) (f : X → List Met) (xs : List X) (i : ℕ) (x : X) (a b c : DrawingValue) → i < length xs → x ≡ get_or xs i x →
+    IsDrawn scene a b (flat_map f (take i xs)) → IsDrawn scene b c (f x) → IsDrawn scene a c (flat_map f (take (i + 1) xs))
+drawn-next scene f xs i x a b c h e p q =
+    let here : get_or xs i x ∷ [] ≡ x ∷ [] = ap (λ y. y ∷ []) (sym e) in
+    rw (take_more xs i x h, here, flat_map-append f (take i xs) (x ∷ []), append-nil (f x)) (drawn-append scene a b c (flat_map f (take i xs)) (f x) p q)
+
+-- a loop over all elements has drawn what they meet
+pub drawn-end : {X : Type 0} (scene : SceneValue) (f : X → List Met) (xs : List X) (i : ℕ) (a b : DrawingValue) → i ≡ length xs →
+    IsDrawn scene a b (flat_map f (take i xs)) → IsDrawn scene a b (flat_map f xs)
+drawn-end scene f xs i a b e p = rw (take_all i xs (omega arith)) at p

@@ -1,0 +1,96 @@
+-- The candidates for a picture's labels, and their ink (docs/PROFILE.md, "Labels").
+use Rattle.std.specs.Prelude.{◌≡◌, ℕ, List, [], ◌∷◌, ◌++◌, Option, None, Some, slice_get, take}
+use Rattle.std.specs.List.{flat_map}
+use Rattle.std.specs.Option.{option_map_or}
+use Rattle.std.specs.Str.{chars, encode_utf8_all}
+use Rattle.bdffont.specs.declared.text.TheConstants.{MAX_CHARACTERS}
+use Rattle.geom.specs.Device.{PixelPlace}
+use Rattle.geom.specs.Scale.{PictureScale}
+use Rattle.geom.specs.Side.{IsPictureSide}
+use Rattle.geom.specs.World.{IsExtent}
+use Rattle.labelcache.specs.Candidate.{CandidateValue}
+use Rattle.labelcache.specs.Placement.{IsPlacement, setting}
+use Rattle.labelcache.specs.declared.cache.Placed.{Placed}
+use Rattle.mapdefs.specs.Near.{AreCandidates}
+use Rattle.mapdefs.specs.Truth.{item_value}
+use Rattle.mapdefs.specs.declared.colour.Rgb.{Rgb}
+use Rattle.mapdefs.specs.declared.feature.FeatureFields.{FeatureFields}
+use Rattle.mapdefs.specs.declared.font.FontFields.{FontFields}
+use Rattle.mapdefs.specs.declared.label.LabelFields.{LabelFields}
+use Rattle.mapdefs.specs.declared.layer.LayerFields.{LayerFields}
+use Rattle.mapdefs.specs.declared.map.MapFields.{MapFields}
+use Rattle.viewport.specs.View.{ViewValue, window}
+use Rattle.compose.specs.Anchor.{shown_anchor}
+use Rattle.compose.specs.Paint.{Thing, Written}
+use Rattle.compose.specs.Paint as paint
+use Rattle.compose.specs.Walk.{Met, given_at, met_feature, met_list}
+
+-- the first so many characters of a text
+abbrev pub first_characters : ℕ → List ℕ → List ℕ
+first_characters most text = encode_utf8_all (take most (chars text))
+
+-- the text of a feature: its own, else the value of the layer's label item
+abbrev pub feature_text : LayerFields → FeatureFields → List ℕ
+feature_text layer feature = elim feature.text [
+  | Some text ↦ text
+  | None ↦ option_map_or (item_value layer.items feature.values) layer.labelitem []
+]
+
+-- the text of its label: that, cut
+abbrev pub label_text : LayerFields → FeatureFields → List ℕ
+label_text layer feature = first_characters MAX_CHARACTERS (feature_text layer feature)
+
+-- a text that isn't empty may be placed at an anchor
+abbrev pub candidate_at : LabelFields → List ℕ → PixelPlace → List CandidateValue
+candidate_at label [] anchor = []
+candidate_at label (b ∷ bs) anchor = record { text = b ∷ bs; anchor = anchor; label = label } ∷ []
+
+-- what may be placed of a feature that is met: its text, where its class has a label and its anchor lies in the picture
+abbrev pub label_candidates : ViewValue → Met → List CandidateValue
+label_candidates view met =
+    option_map_or (λ label. option_map_or (candidate_at label (label_text met.layer met.feature)) (shown_anchor view met.layer.kind met.feature) []) met.class.label []
+
+-- the same on a map, which has no labels without a font
+abbrev pub met_candidates : ViewValue → Option FontFields → Met → List CandidateValue
+met_candidates view None met = []
+met_candidates view (Some font) met = label_candidates view met
+
+-- all candidates, by their numbers: those of the features that are met, in order
+abbrev pub candidate_list : ViewValue → PictureScale → MapFields → List ℕ → List CandidateValue
+candidate_list view scale m chosen = flat_map (met_candidates view m.font) (met_list scale m chosen)
+
+-- the law: what is found in a window of the picture, whatever its margin, gives the candidates that all features of the layer give, in the same order
+abbrev pub FoundLabelAll : Type 0
+FoundLabelAll = (view : ViewValue) (margin : ℕ) (scale : PictureScale) (font : Option FontFields) (layer : LayerFields) (found : List ℕ) →
+    IsExtent view.area → IsPictureSide view.width → IsPictureSide view.height → AreCandidates layer.features (window view margin) found →
+    flat_map (met_candidates view font) (flat_map (given_at (met_feature scale layer) layer.features) found)
+    ≡ flat_map (met_candidates view font) (flat_map (met_feature scale layer) layer.features)
+
+-- labels are the placement of candidates in a font on the picture of a view; without a font there are none
+abbrev pub ArePlaced : ViewValue → Option FontFields → List CandidateValue → List Placed → Type 0
+ArePlaced view None candidates labels = labels ≡ []
+ArePlaced view (Some font) candidates labels = IsPlacement (setting (record { width = view.width; height = view.height; font = font }) candidates) labels
+
+-- outline and glyphs are painted where there is a colour
+abbrev pub outlines : Written → Option Rgb → List Thing
+outlines w None = []
+outlines w (Some colour) = paint.Outlined w colour ∷ []
+
+abbrev pub inks : Written → Option Rgb → List Thing
+inks w None = []
+inks w (Some colour) = paint.Inked w colour ∷ []
+
+-- what is painted of a candidate whose text stands at a pixel: its outline, and then its glyphs
+abbrev pub candidate_things : FontFields → CandidateValue → PixelPlace → List Thing
+candidate_things font c at =
+    let w : Written = record { font = font; characters = chars c.text; at = at } in
+    outlines w c.label.outline ++ inks w c.label.colour
+
+-- what is painted of a label
+abbrev pub label_things : FontFields → List CandidateValue → Placed → List Thing
+label_things font candidates label = option_map_or (λ c. candidate_things font c label.at) (slice_get candidates label.number) []
+
+-- all that is painted of labels, in the order in which they were placed
+abbrev pub ink_list : Option FontFields → List CandidateValue → List Placed → List Thing
+ink_list None candidates labels = []
+ink_list (Some font) candidates labels = flat_map (label_things font candidates) labels

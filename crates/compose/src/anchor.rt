@@ -1,0 +1,121 @@
+ghost use Rattle.std.specs.Prelude.{◌≡◌, ◌^◌, ◌&&◌, pos, int_le, int_lt, IfSome, IsTrue};
+ghost use Rattle.std.specs.Int.{int_max, int_min};
+ghost use Rattle.geom.specs.Range.{IsBelow};
+ghost use Rattle.labelcache.specs.Candidate.{IsAnchor};
+ghost use Rattle.mapdefs.specs.declared.layer.Kind.TheVariants as kind;
+ghost use Rattle.compose.specs.Anchor.{anchor_on, anchor_place, halfway, is_shown, shown_anchor, shown_pixel};
+
+use geom::{Coordinate, Micro, PictureSide, Pixel, World};
+use mapdefs::{FeatureFields, Kind};
+use scene::Scene;
+
+// The lesser of two coordinates.
+fn lesser(a: Coordinate, b: Coordinate) -> Coordinate
+    ensures { result ≡ int_min a b }
+{
+    if a.get().millionths() <= b.get().millionths() {
+        a
+    } else {
+        b
+    }
+}
+
+// The greater of two coordinates.
+fn greater(a: Coordinate, b: Coordinate) -> Coordinate
+    ensures { result ≡ int_max a b }
+{
+    if a.get().millionths() <= b.get().millionths() {
+        b
+    } else {
+        a
+    }
+}
+
+// The middle between two coordinates, halved downwards.
+fn halfway(a: Coordinate, b: Coordinate) -> Coordinate
+    ensures { result ≡ halfway a b }
+{
+    let sum = a.get().millionths() + b.get().millionths();
+    Coordinate::new(Micro::new(sum.div_euclid(2)))
+}
+
+// The middle of the box of some places, if there are any.
+fn middle_of(ring: &[World]) -> Option<World>
+    ensures { result ≡ anchor_on kind.Polygon ring.now }
+{
+    let [first, rest @ ..] = ring else {
+        return None;
+    };
+    let (mut west, mut east) = (first.x(), first.x());
+    let (mut south, mut north) = (first.y(), first.y());
+    for place in rest {
+        west = lesser(west, place.x());
+        east = greater(east, place.x());
+        south = lesser(south, place.y());
+        north = greater(north, place.y());
+    }
+    Some(World::new(halfway(west, east), halfway(south, north)))
+}
+
+// Where a part of a feature has its anchor: points at the first, a line at the vertex in its middle, a ring in the
+// middle of its box.
+fn anchor_on(kind: Kind, part: &[World]) -> Option<World>
+    ensures { result ≡ anchor_on kind part.now }
+{
+    match kind {
+        Kind::Point => part.first().copied(),
+        Kind::Line => part.get(part.len() / 2).copied(),
+        Kind::Polygon => middle_of(part),
+    }
+}
+
+// Where a feature has its anchor: on its first part.
+fn anchor_place(kind: Kind, feature: &FeatureFields) -> Option<World>
+    ensures { result ≡ anchor_place kind feature.now }
+{
+    match feature.parts.as_slice().first() {
+        Some(part) => anchor_on(kind, part.as_slice()),
+        None => None,
+    }
+}
+
+// Whether the column or the row of an index is one of so many.
+fn is_among(side: PictureSide, index: i64) -> bool
+    ensures value { result ≡ (int_le (pos 0) index && int_lt index (pos side)) }
+    ensures limits { IsTrue result → IsBelow (2 ^ 32) index }
+{
+    0 <= index && index < i64::from(side.pixels())
+}
+
+// Whether a pixel lies in the scene's picture.
+fn is_shown(scene: &Scene<'_>, pixel: Pixel) -> bool
+    ensures value { result ≡ is_shown scene.now.view pixel }
+    ensures limits { IsTrue result → IsAnchor pixel }
+{
+    let projection = scene.projection();
+    is_among(projection.width(), pixel.i()) && is_among(projection.height(), pixel.j())
+}
+
+// The pixel that a place lies in, where that lies in the scene's picture.
+fn shown_pixel(scene: &Scene<'_>, place: World) -> Option<Pixel>
+    ensures value { result ≡ shown_pixel scene.now.view place }
+    ensures limits { IfSome result IsAnchor }
+{
+    let pixel = scene.pixel(place);
+    if is_shown(scene, pixel) {
+        Some(pixel)
+    } else {
+        None
+    }
+}
+
+/// The pixel of a feature's anchor, where it has one and that lies in the scene's picture.
+pub fn shown_anchor(scene: &Scene<'_>, kind: Kind, feature: &FeatureFields) -> Option<Pixel>
+    ensures value { result ≡ shown_anchor scene.now.view kind feature.now }
+    ensures limits { IfSome result IsAnchor }
+{
+    match anchor_place(kind, feature) {
+        Some(place) => shown_pixel(scene, place),
+        None => None,
+    }
+}

@@ -1,0 +1,156 @@
+ghost use Rattle.std.specs.Prelude.{◌≡◌, ◌≤◌, IfOk, OnOk, Some, length, pos};
+ghost use Rattle.std.specs.List.{flat_map, list_any};
+ghost use Rattle.std.specs.Str.{chars};
+ghost use Rattle.bdffont.specs.declared.text.TheConstants.{MAX_CHARACTERS};
+ghost use Rattle.labelink.specs.Ink.{outlines_glyph};
+ghost use Rattle.compose.specs.Drawn.{HasLabels};
+ghost use Rattle.compose.specs.Labels.{candidate_things, inks, label_things, outlines};
+ghost use Rattle.compose.specs.Painted.{IsFilled, IsPainted};
+
+use crate::canvas::Canvas;
+use crate::lines::paint_covers;
+use crate::rows::paint_cover;
+use geom::Pixel;
+use labelcache::{Cache, Candidate, Placed};
+use labelink::{GlyphOutline, GlyphPlace, text_glyphs};
+use mapdefs::{Font, Rgb};
+use scene::Scene;
+use std::alloc::{AllocError, Global};
+use std::marker::Model;
+
+// A text on the picture: its glyphs, each where it stands.
+#[derive(Drop)]
+struct WrittenText<'a> {
+    font: &'a Font,
+    text: &'a str,
+    at: Pixel,
+    glyphs: Vec<GlyphPlace<'a>>,
+}
+
+impl<'a> Model for WrittenText<'a> {
+    ghost use Rattle.std.specs.Prelude.{◌≡◌};
+    ghost use Rattle.std.specs.Str.{chars};
+    ghost use Rattle.labelink.specs.Ink.{glyphs_from};
+    ghost use Rattle.compose.specs.Paint.{Written};
+
+    ghost Value = { Written };
+
+    ghost view = { λ w. record { font = w.font.now; characters = chars w.text.now; at = w.at } };
+
+    ghost invariant = { λ w. w.glyphs.items ≡ glyphs_from w.font.now w.at 0 (chars w.text.now) };
+}
+
+impl<'a> WrittenText<'a> {
+    // The text with its upper left pixel at a pixel.
+    fn new(alloc: Global, font: &'a Font, text: &'a str, at: Pixel) -> Result<Self, AllocError>
+        requires { length (chars text.now) ≤ MAX_CHARACTERS }
+        ensures { IfOk result (λ w. w ≡ record { font = font.now; characters = chars text.now; at = at }) }
+    {
+        Ok(WrittenText {
+            font,
+            text,
+            at,
+            glyphs: text_glyphs(alloc, font, text, at)?,
+        })
+    }
+
+    // Paints the outline round all glyphs, where there is a colour.
+    fn paint_outline(&self, canvas: &mut Canvas, colour: Option<Rgb>) -> Result<(), AllocError>
+        ensures { OnOk result (IsPainted canvas.old canvas.new (outlines self.now colour)) }
+    {
+        match colour {
+            Some(colour) => paint_outlines(canvas, &self.glyphs, colour),
+            None => Ok(()),
+        }
+    }
+
+    // Paints the glyphs, where there is a colour.
+    fn paint_ink(&self, canvas: &mut Canvas, colour: Option<Rgb>) -> Result<(), AllocError>
+        ensures { OnOk result (IsPainted canvas.old canvas.new (inks self.now colour)) }
+    {
+        match colour {
+            Some(colour) => paint_covers(canvas, &self.glyphs, colour),
+            None => Ok(()),
+        }
+    }
+}
+
+// Gives the colour to the pixels that are of the outline of some glyph.
+fn paint_outlines(
+    canvas: &mut Canvas,
+    glyphs: &[GlyphPlace<'_>],
+    colour: Rgb,
+) -> Result<(), AllocError>
+    ensures { OnOk result (IsFilled (λ i j. list_any (λ g. outlines_glyph g (pos i) (pos j)) glyphs.now) (λ i j. Some colour) canvas.old canvas.new) }
+{
+    for glyph in glyphs {
+        paint_cover(canvas, &GlyphOutline::of(glyph), &colour)?;
+    }
+    Ok(())
+}
+
+// Paints a candidate's text at a pixel: its outline, and then its glyphs.
+fn paint_candidate(
+    canvas: &mut Canvas,
+    font: &Font,
+    candidate: &Candidate<'_>,
+    at: Pixel,
+) -> Result<(), AllocError>
+    ensures { OnOk result (IsPainted canvas.old canvas.new (candidate_things font.now candidate.now at)) }
+{
+    let text = WrittenText::new(canvas.alloc(), font, candidate.text(), at)?;
+    let label = candidate.label();
+    text.paint_outline(canvas, label.outline)?;
+    text.paint_ink(canvas, label.colour)
+}
+
+// Paints a label.
+fn paint_label(
+    canvas: &mut Canvas,
+    font: &Font,
+    labels: &Cache<'_>,
+    label: Placed,
+) -> Result<(), AllocError>
+    ensures { OnOk result (IsPainted canvas.old canvas.new (label_things font.now labels.now label)) }
+{
+    match labels.candidate(label.number) {
+        Some(candidate) => paint_candidate(canvas, font, candidate, label.at),
+        None => Ok(()),
+    }
+}
+
+// Paints labels, in the order in which they were placed.
+fn paint_placed(
+    canvas: &mut Canvas,
+    font: &Font,
+    labels: &Cache<'_>,
+    placed: &[Placed],
+) -> Result<(), AllocError>
+    ensures { OnOk result (IsPainted canvas.old canvas.new (flat_map (label_things font.now labels.now) placed.now)) }
+{
+    for label in placed {
+        paint_label(canvas, font, labels, *label)?;
+    }
+    Ok(())
+}
+
+/// Places labels of the candidates on the scene's picture and paints them. A map without a font has none.
+pub fn paint_labels(
+    canvas: &mut Canvas,
+    scene: &Scene<'_>,
+    labels: &Cache<'_>,
+) -> Result<(), AllocError>
+    ensures { OnOk result (HasLabels scene.now labels.now canvas.old canvas.new) }
+{
+    let Some(font) = scene.font() else {
+        return Ok(());
+    };
+    let projection = scene.projection();
+    let placed = labels.place(
+        canvas.alloc(),
+        projection.width(),
+        projection.height(),
+        font,
+    )?;
+    paint_placed(canvas, font, labels, &placed)
+}

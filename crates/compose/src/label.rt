@@ -1,0 +1,83 @@
+ghost use Rattle.std.specs.Prelude.{◌≡◌, ◌≤◌, ◌++◌, length, OnOk};
+ghost use Rattle.std.specs.Str.{chars};
+ghost use Rattle.bdffont.specs.declared.text.TheConstants.{MAX_CHARACTERS};
+ghost use Rattle.compose.specs.Labels.{feature_text, first_characters, label_text, met_candidates};
+
+use crate::anchor::shown_anchor;
+use crate::met::MetFeature;
+use bdffont::{MAX_CHARACTERS, split_char};
+use expressions::item_value;
+use labelcache::{Cache, Candidate};
+use mapdefs::{FeatureFields, LayerFields};
+use scene::Scene;
+use std::alloc::AllocError;
+
+// The text of a feature: its own, else the value of the layer's label item.
+fn feature_text<'a>(layer: &LayerFields, feature: &'a FeatureFields) -> &'a str
+    ensures { result.now ≡ feature_text layer.now feature.now }
+{
+    if let Some(text) = &feature.text {
+        return text.as_str();
+    }
+    match &layer.labelitem {
+        Some(name) => item_value(
+            layer.items.as_slice(),
+            feature.values.as_slice(),
+            name.as_str(),
+        ),
+        None => "",
+    }
+}
+
+// The first so many characters of a text.
+fn first_characters(text: &str, most: usize) -> &str
+    ensures cut { result.now ≡ first_characters most text.now }
+    ensures short { length (chars result.now) ≤ most }
+{
+    // A character has a byte at least.
+    if text.len() <= most {
+        return text;
+    }
+    let mut rest = text;
+    let mut count = 0;
+    while count < most {
+        let Some((_, after)) = split_char(rest) else {
+            return text;
+        };
+        rest = after;
+        count += 1;
+    }
+    &text[..text.len() - rest.len()]
+}
+
+// The text of a feature's label.
+fn label_text<'a>(layer: &LayerFields, feature: &'a FeatureFields) -> &'a str
+    ensures text { result.now ≡ label_text layer.now feature.now }
+    ensures short { length (chars result.now) ≤ MAX_CHARACTERS }
+{
+    first_characters(feature_text(layer, feature), MAX_CHARACTERS)
+}
+
+/// Adds what may be placed of a feature that is met.
+pub fn add_candidate<'a>(
+    labels: &mut Cache<'a>,
+    scene: &Scene<'_>,
+    met: &MetFeature<'a>,
+) -> Result<(), AllocError>
+    ensures { OnOk result (labels.new ≡ labels.old ++ met_candidates scene.now.view scene.now.map.font met.now) }
+{
+    let Some(_font) = scene.font() else {
+        return Ok(());
+    };
+    let Some(label) = &met.class().label else {
+        return Ok(());
+    };
+    let text = label_text(met.layer(), met.feature());
+    if text.is_empty() {
+        return Ok(());
+    }
+    match shown_anchor(scene, met.layer().kind, met.feature()) {
+        Some(anchor) => labels.add(Candidate::new(text, anchor, label.get())),
+        None => Ok(()),
+    }
+}

@@ -1,0 +1,14 @@
+//! Laws of the definitions. A law is a function without arguments whose contract states it.
+
+ghost use Rattle.featureinfo.specs.Nearby.{NearbyAreWithin};
+ghost use Rattle.featureinfo.specs.Reach.{NearIsNotFar};
+
+/// The pixels that are near the asked one are those of the picture within so many columns and rows of it.
+pub fn nearby()
+    ensures { NearbyAreWithin }
+{}
+
+/// A feature whose vertices all lie beyond one side of the pixels near the asked one covers none of them plainly.
+pub fn far()
+    ensures { NearIsNotFar }
+{}

@@ -1,0 +1,79 @@
+ghost use Rattle.std.specs.Prelude.{◌≡◌, ◌↔◌, ◌<◌, ◌≤◌, IfOk, IsTrue};
+ghost use Rattle.std.specs.List.{list_any};
+ghost use Rattle.geom.specs.declared.side.TheConstants.{MAX_PICTURE_SIDE};
+ghost use Rattle.featureinfo.specs.Nearby.{nearby_of, has_pixel, meets, SomeNear};
+
+use geom::{PictureSide, Pixel};
+use scanfill::{Cover, Span, Spans};
+use std::alloc::{AllocError, Global};
+
+/// The pixels of a picture that are near the asked one: columns from one to before another, and rows.
+#[derive(Clone, Copy)]
+pub struct Nearby {
+    pub left: u16,
+    pub right: u16,
+    pub top: u16,
+    pub bottom: u16,
+}
+
+impl Nearby {
+    /// Those within so many columns and rows of a pixel of the picture.
+    pub fn of(sides: (PictureSide, PictureSide), column: u16, row: u16, tolerance: u8) -> Self
+        requires column { column < sides.0 }
+        requires row { row < sides.1 }
+        ensures value { result ≡ nearby_of sides.0 sides.1 tolerance column row }
+        ensures some { result.left < result.right }
+        ensures width { result.right ≤ sides.0 }
+        ensures height { result.bottom ≤ MAX_PICTURE_SIDE }
+    {
+        let tolerance = u16::from(tolerance);
+        Nearby {
+            left: column.saturating_sub(tolerance),
+            right: (column + tolerance + 1).min(sides.0.pixels()),
+            top: row.saturating_sub(tolerance),
+            bottom: (row + tolerance + 1).min(sides.1.pixels()),
+        }
+    }
+
+    /// Whether a pixel is one of them.
+    pub fn has(self, pixel: Pixel) -> bool
+        ensures { result ≡ has_pixel self pixel }
+    {
+        let (column, row) = (pixel.i(), pixel.j());
+        i64::from(self.left) <= column
+            && column < i64::from(self.right)
+            && i64::from(self.top) <= row
+            && row < i64::from(self.bottom)
+    }
+
+    // Whether one of the spans of a row has one of the columns.
+    fn meets(self, spans: &[Span]) -> bool
+        ensures { result ≡ list_any (meets self.left self.right) spans.now }
+    {
+        spans
+            .iter()
+            .any(|span| span.from < self.right && self.left < span.to)
+    }
+
+    /// Whether a cover covers one of them, by its rows.
+    pub fn meets_cover<C: Cover>(
+        self,
+        alloc: Global,
+        cover: &C,
+        width: PictureSide,
+    ) -> Result<bool, AllocError>
+        requires some { self.left < self.right }
+        requires width { self.right ≤ width }
+        requires height { self.bottom ≤ MAX_PICTURE_SIDE }
+        ensures { IfOk result (λ hit. IsTrue hit ↔ SomeNear self (C.covered cover.now)) }
+    {
+        let mut spans = Spans::new(alloc);
+        for row in self.top..self.bottom {
+            cover.row(row, width, &mut spans)?;
+            if self.meets(spans.as_slice()) {
+                return Ok(true);
+            }
+        }
+        Ok(false)
+    }
+}

@@ -1,0 +1,8 @@
+/// A side of the pixels that are near the asked one.
+#[derive(Clone, Copy)]
+pub enum Side {
+    Right,
+    Left,
+    Bottom,
+    Top,
+}

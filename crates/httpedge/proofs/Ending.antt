@@ -1,0 +1,97 @@
+-- What the end of a stream, or of an exchange, says of the whole stream.
+use Rattle.std.proofs.Common.{◌≡◌, ℕ, suc, List, [], ◌∷◌, ◌++◌, ◌==◌, ◌+◌, inr, Bool, true, Option, None, Some, IfSome, length, refl, sym, subst, append-nil}
+use Rattle.std.specs.Io.KnownBytes.{Consumes, IsAtEnd}
+use Rattle.std.proofs.KnownBytes.{Consumes-whole}
+use Rattle.streams.specs.Sent.{IsSent, IsCutSomewhere}
+use Rattle.streams.proofs.Sending.{cut-at}
+use Rattle.httpedge.specs.Connection.{Progress, Open, Decided, LeavesOpen, Ends, ended, step_of, query_of, ends_by}
+use Rattle.httpedge.specs.Exchange.{Said, IsReply, IsExchange, IsBegun}
+use Rattle.httpedge.specs.Meaning.{meaning_of, decision_meaning}
+use Rattle.httpedge.specs.Serving.{IsOpen, HasCome, came_of}
+use Rattle.httpedge.specs.Stopped.{HasExchanged, HasPaused, HasBroken, HasStopped}
+use Rattle.httpedge.specs.declared.conn.TheConstants.{REQUESTS}
+use Rattle.httpedge.specs.declared.edge.EdgeFault.TheVariants.{Read, Write}
+use Rattle.httpedge.specs.Turn.{IsTurn, Last}
+use Rattle.httpedge.specs.declared.decision.Decision.{Decision}
+use Rattle.httpedge.proofs.Serving.{begun-nothing}
+
+-- nothing came
+pub end-nothing : {A : Type 0} (answers : A → List ℕ → Said → A → Type 0) (n : ℕ) (p q : Progress) (now : A) → IsOpen p → Ends p q → step_of q ≡ None → IsExchange answers (suc n) (came_of p) now [] now
+unfolding IsExchange
+end-nothing answers n (Open came) q now opened ends none =
+    (Last (meaning_of None (query_of q)), subst (λ (o : Option Decision). IsTurn (n == 0) came (Last (meaning_of o (query_of q)))) none (ends.0 (n == 0)), (refl, refl))
+end-nothing answers n (Decided closes decided query) q now opened ends none = absurd opened
+
+-- what is decided at the end ends the connection
+end-closes : (came : List ℕ) (q : Progress) (d : Decision) (is-last : Bool) → q ≡ ended (Open came) → step_of q ≡ Some d → ends_by is-last q ≡ true
+end-closes [] q d is-last e some = absurd (cc)
+end-closes (byte ∷ bytes) q d is-last e some = rw e refl
+
+-- bytes without a head came
+pub end-replied : {A : Type 0} (answers : A → List ℕ → Said → A → Type 0) (n : ℕ) (p q : Progress) (d : Decision) (is-last : Bool) (now last : A) (text : List ℕ) → IsOpen p → Ends p q → step_of q ≡ Some d →
+    IsReply answers (ends_by is-last q) (decision_meaning d (query_of q)) now text last → IsExchange answers (suc n) (came_of p) now text last × IsBegun answers (suc n) (came_of p) now text last
+unfolding IsExchange IsBegun
+end-replied answers n (Open came) q d is-last now last text opened ends some reply =
+    let turn : IsTurn (n == 0) came (Last (decision_meaning d (query_of q))) = subst (λ (o : Option Decision). IsTurn (n == 0) came (Last (meaning_of o (query_of q)))) some (ends.0 (n == 0)) in
+    let r : IsReply answers true (decision_meaning d (query_of q)) now text last = subst (λ (b : Bool). IsReply answers b (decision_meaning d (query_of q)) now text last) (end-closes came q d is-last ends.1 some) reply in
+    ((Last (decision_meaning d (query_of q)), turn, r), inr (Last (decision_meaning d (query_of q)), turn, r))
+end-replied answers n (Decided closes decided query) q d is-last now last text opened ends some reply = absurd opened
+
+-- what holds whatever follows the bytes that were read holds of the stream
+pub whatever-follows : (a b : Option (List ℕ)) (bytes : List ℕ) (P : List ℕ → Type 0) → Consumes a b bytes → ((more : List ℕ) → P (bytes ++ more)) → IfSome a P
+whatever-follows None b bytes P read all = tt
+whatever-follows (Some x) None bytes P read all = absurd read
+whatever-follows (Some x) (Some y) bytes P read all = subst P (sym read) (all y)
+
+-- what was said so far was begun, whatever follows
+pub come-begun : {A : Type 0} (answers : A → List ℕ → Said → A → Type 0) (n k : ℕ) (read came said : List ℕ) (first now : A) → HasCome answers n read first said k came now →
+    (more : List ℕ) → IsBegun answers n (read ++ more) first said now
+come-begun answers n k read came said first now come more =
+    subst (λ (l : List ℕ). IsBegun answers n (read ++ more) first l now) (append-nil said) (come.begun more [] now (begun-nothing answers k (came ++ more) now))
+
+-- what was said so far, and what answers the end, is all
+pub come-ended : {A : Type 0} (P : ℕ → List ℕ → A → List ℕ → A → Type 0) (n k : ℕ) (read came said text : List ℕ) (first now last : A) →
+    ((more other : List ℕ) (end : A) → P k (came ++ more) now other end → P n (read ++ more) first (said ++ other) end) → P k came now text last → P n read first (said ++ text) last
+come-ended P n k read came said text first now last leads ends =
+    subst (λ (l : List ℕ). P n l first (said ++ text) last) (append-nil read) (leads [] text last (subst (λ (l : List ℕ). P k l now text last) (sym (append-nil came)) ends))
+
+pub opened-leaves : (p : Progress) → IsOpen p → LeavesOpen (came_of p)
+opened-leaves (Open came) opened = opened
+opened-leaves (Decided closes decided query) opened = absurd opened
+
+-- the reader failed: what was said so far went out
+pub read-stopped : {A S : Type 0} (answers : A → List ℕ → Said → A → Type 0) (held : S → Option (List ℕ)) (taken : S → ℕ) (a b : Option (List ℕ)) (read came text : List ℕ) (k : ℕ) (old new : A) (x y : S) (written : ℕ) →
+    Consumes a b read → HasCome answers REQUESTS read old text k came new → IsSent held taken x text y → written ≡ length text →
+    IfSome a (λ stream. HasStopped (Read written) answers held taken stream old new x y)
+read-stopped answers held taken a b read came text k old new x y written consumed come sent count =
+    whatever-follows a b read (λ stream. HasPaused answers held taken stream old new x written y) consumed
+    (λ more. record { text = text; begun = come-begun answers REQUESTS k read came text old new come more; sent = sent; count = count })
+
+-- the writer failed in the answers to a piece
+pub piece-stopped : {A S : Type 0} (answers : A → List ℕ → Said → A → Type 0) (held : S → Option (List ℕ)) (taken : S → ℕ) (a b : Option (List ℕ)) (read text : List ℕ) (old new : A) (x y : S) (written : ℕ) →
+    Consumes a b read → ((more : List ℕ) → IsBegun answers REQUESTS (read ++ more) old text new) → IsCutSomewhere held taken x text y → taken y ≡ taken x + written →
+    IfSome a (λ stream. HasStopped (Write written) answers held taken stream old new x y)
+piece-stopped answers held taken a b read text old new x y written consumed begun cut count =
+    whatever-follows a b read (λ stream. HasBroken answers held taken stream old new x written y) consumed
+    (λ more. record { text = text; begun = begun more; cut = cut-at held taken x y text written count cut })
+
+-- or in that to the end
+pub end-stopped : {A S : Type 0} (answers : A → List ℕ → Said → A → Type 0) (held : S → Option (List ℕ)) (taken : S → ℕ) (a b : Option (List ℕ)) (read text : List ℕ) (old new : A) (x y : S) (written : ℕ) →
+    Consumes a b read → IsAtEnd b → IsBegun answers REQUESTS read old text new → IsCutSomewhere held taken x text y → taken y ≡ taken x + written →
+    IfSome a (λ stream. HasStopped (Write written) answers held taken stream old new x y)
+end-stopped answers held taken a b read text old new x y written consumed end begun cut count =
+    Consumes-whole a b read (λ stream. HasBroken answers held taken stream old new x written y) consumed end
+    (record { text = text; begun = begun; cut = cut-at held taken x y text written count cut })
+
+-- a head ended the connection: all went out
+pub piece-exchanged : {A S : Type 0} (answers : A → List ℕ → Said → A → Type 0) (held : S → Option (List ℕ)) (taken : S → ℕ) (a b : Option (List ℕ)) (read text : List ℕ) (old new : A) (x y : S) →
+    Consumes a b read → ((more : List ℕ) → IsExchange answers REQUESTS (read ++ more) old text new) → IsSent held taken x text y →
+    IfSome a (λ stream. HasExchanged answers held taken stream old new x y)
+piece-exchanged answers held taken a b read text old new x y consumed all sent =
+    whatever-follows a b read (λ stream. HasExchanged answers held taken stream old new x y) consumed (λ more. record { text = text; exchange = all more; sent = sent })
+
+-- or the stream ended
+pub end-exchanged : {A S : Type 0} (answers : A → List ℕ → Said → A → Type 0) (held : S → Option (List ℕ)) (taken : S → ℕ) (a b : Option (List ℕ)) (read text : List ℕ) (old new : A) (x y : S) →
+    Consumes a b read → IsAtEnd b → IsExchange answers REQUESTS read old text new → IsSent held taken x text y → IfSome a (λ stream. HasExchanged answers held taken stream old new x y)
+end-exchanged answers held taken a b read text old new x y consumed end all sent =
+    Consumes-whole a b read (λ stream. HasExchanged answers held taken stream old new x y) consumed end (record { text = text; exchange = all; sent = sent })

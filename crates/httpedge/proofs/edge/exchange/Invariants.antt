@@ -1,0 +1,25 @@
+use Rattle.std.proofs.Common.{◌≡◌, ◌+◌, ◌≤◌, ℕ, List}
+use Rattle.std.specs.List.{concat}
+use Rattle.streams.specs.Sent.{IsSent}
+use Rattle.httpedge.specs.Serving.{IsReading, HasCome, requests_left, came_of, missing}
+use Rattle.httpedge.specs.declared.conn.TheConstants.{REQUESTS}
+use Rattle.httpedge.proofs.Wanted.{HasGoneOn}
+use Rattle.httpedge.proofs.edge.exchange.Given as goal
+
+-- the heads of what was read so far were answered, and a further read is wanted
+abbrev pub invariant-loop-count : goal.invariant-loop-count
+invariant-loop-count g l = record {
+  pieces : List (List ℕ);
+  text : List ℕ;
+  reading : IsReading l.conn;
+  come : HasCome g.A.Asks.answers REQUESTS (concat pieces) l.fn.asks text (requests_left l.conn) (came_of l.conn.progress) l.asks;
+  sent : IsSent g.W.Sink.held g.W.Sink.taken l.fn.writer text l.writer;
+  gone : HasGoneOn g.R.Source.left g.R.Source.took pieces l.fn.reader l.reader;
+  few : g.R.Source.reads l.reader + missing l.conn ≤ g.R.Source.reads l.fn.reader + 16384000;
+  read_flag : g.R.Source.take_failed l.reader ≡ g.R.Source.take_failed l.fn.reader;
+  write_flag : g.W.Sink.put_failed l.writer ≡ g.W.Sink.put_failed l.fn.writer;
+}
+
+-- each read gives a byte at least, and a connection has a limit
+abbrev pub decreases-loop-count : goal.decreases-loop-count
+decreases-loop-count g l = missing l.conn

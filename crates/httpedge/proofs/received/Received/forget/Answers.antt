@@ -1,0 +1,17 @@
+use Rattle.std.proofs.Common.{length, ap, arith}
+use Rattle.std.specs.List.{list_all}
+use Rattle.httpedge.specs.Received.{is_newline}
+use Rattle.httpedge.proofs.Heads.{nothing-headless}
+use Rattle.httpedge.proofs.received.Received.forget.Goals as goal
+
+pub returns-clause-received : goal.returns-clause-received
+returns-clause-received c =
+    let none = c.truncate.ensures.items in
+    record {
+      room = omega (arith, c.requires.received.room, c.truncate.ensures.capacity);
+      limit = omega (arith, ap length none);
+      blank = λ o e. ap (list_all is_newline) none;
+      no_head = λ e. rw none nothing-headless;
+      below = λ e. omega (arith, ap length none);
+      query = (omega arith, omega arith);
+    }

@@ -1,0 +1,18 @@
+use Rattle.std.proofs.Common.{◌≡◌, ◌+◌, arith}
+use Rattle.std.proofs.lemmas.Int.{ints}
+use lib.IntN.{pos, ◌+ℤ◌, ◌-ℤ◌}
+use mir.Syntax.{w128}
+use mir.Val.{to_z, of_z}
+use Rattle.labelink.proofs.Boxed.{before-at, after-at}
+use Rattle.labelink.proofs.glyph_outline.span_round.Goals as goal
+
+pub returns-clause-before : goal.returns-clause-before
+returns-clause-before c = λ i h.
+    let first : to_z w128 (of_z w128 c.from.result) ≡ c.args.at -ℤ pos 1 = omega (arith, ints, c.from.ensures, c.requires) in
+    let before = before-at (c.args.at -ℤ pos 1) c.args.end i (rw (c.clamped.ensures, first) at h) in
+    omega (arith, ints, before)
+
+pub returns-clause-after : goal.returns-clause-after
+returns-clause-after c = λ i h past.
+    let last : to_z w128 (of_z w128 c.from-3.result) ≡ c.args.at +ℤ pos (c.args.side + 1) = omega (arith, ints, c.from-3.ensures, c.from-2.ensures, c.requires) in
+    after-at (c.args.at +ℤ pos (c.args.side + 1)) c.args.end i (rw (c.clamped-2.ensures, last) at h) past

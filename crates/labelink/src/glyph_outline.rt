@@ -1,0 +1,140 @@
+ghost use Rattle.std.specs.Prelude.{◌≡◌, ℕ, ◌+◌, ◌<◌, ◌≤◌, ◌^◌, [], false, ◌||◌, pos, ◌+ℤ◌, ◌-ℤ◌, ◌<ℤ◌, ◌≤ℤ◌, OnOk};
+ghost use Rattle.geom.specs.Range.{IsBelow};
+ghost use Rattle.geom.specs.declared.side.TheConstants.{MAX_PICTURE_SIDE};
+ghost use Rattle.scanfill.specs.Runs.{AreRunsFrom};
+ghost use Rattle.labelink.specs.Ink.{covers_glyph, outlines_glyph};
+
+use crate::glyph_place::GlyphPlace;
+use clip::{Rows, clamped};
+use geom::PictureSide;
+use scanfill::{Cover, Reading, Span, Spans};
+use std::alloc::AllocError;
+use std::marker::Model;
+
+/// The outline of a glyph on the picture: the pixels of which one of the eight neighbours is covered by the glyph.
+#[derive(Drop)]
+pub struct GlyphOutline<'a> {
+    glyph: GlyphPlace<'a>,
+}
+
+impl<'a> Model for GlyphOutline<'a> {
+    ghost use Rattle.labelink.specs.Ink.{GlyphValue};
+
+    ghost Value = { GlyphValue };
+
+    ghost view = { λ o. o.glyph };
+}
+
+// The columns, or the rows, of so many, that lie on a side of a glyph or next to it.
+fn span_round(side: u8, at: i64, end: u16) -> Span
+    requires { IsBelow (2 ^ 47) at }
+    ensures rising { result.from ≤ result.to }
+    ensures within { result.to ≤ end }
+    ensures before { (i : ℕ) → i < result.from → pos (i + 1) <ℤ at }
+    ensures after { (i : ℕ) → result.to ≤ i → i < end → (at +ℤ pos (side + 1)) ≤ℤ pos i }
+{
+    Span {
+        from: clamped(i128::from(at - 1), end),
+        to: clamped(i128::from(at + i64::from(side) + 1), end),
+    }
+}
+
+impl<'a> GlyphOutline<'a> {
+    /// The outline of that glyph.
+    pub fn of(glyph: &GlyphPlace<'a>) -> Self
+        ensures { result ≡ glyph.now }
+    {
+        GlyphOutline {
+            glyph: glyph.copy(),
+        }
+    }
+
+    // Whether the glyph covers the pixel before or after one of a row.
+    fn covers_beside(&self, i: u16, j: i64) -> bool
+        requires { IsBelow (2 ^ 32) j }
+        ensures { result ≡ (covers_glyph self.now (pos i -ℤ pos 1) j || covers_glyph self.now (pos (i + 1)) j) }
+    {
+        let i = i64::from(i);
+        self.glyph.inks(i - 1, j) || self.glyph.inks(i + 1, j)
+    }
+
+    // Whether it covers one of these or that pixel itself.
+    fn covers_near(&self, i: u16, j: i64) -> bool
+        requires { IsBelow (2 ^ 32) j }
+        ensures { result ≡ (covers_glyph self.now (pos i -ℤ pos 1) j || (covers_glyph self.now (pos i) j || covers_glyph self.now (pos (i + 1)) j)) }
+    {
+        self.glyph.inks(i64::from(i), j) || self.covers_beside(i, j)
+    }
+
+    // Whether it covers a neighbour in the same row or in the one below.
+    fn covers_beside_or_below(&self, i: u16, j: u16) -> bool
+        ensures { result ≡
+            ((covers_glyph self.now (pos i -ℤ pos 1) (pos j) || covers_glyph self.now (pos (i + 1)) (pos j))
+            || (covers_glyph self.now (pos i -ℤ pos 1) (pos (j + 1)) || (covers_glyph self.now (pos i) (pos (j + 1)) || covers_glyph self.now (pos (i + 1)) (pos (j + 1))))) }
+    {
+        let j = i64::from(j);
+        self.covers_beside(i, j) || self.covers_near(i, j + 1)
+    }
+
+    /// Whether the glyph covers a neighbour of the pixel in a column and a row.
+    pub fn is_outlined(&self, i: u16, j: u16) -> bool
+        ensures { result ≡ outlines_glyph self.now (pos i) (pos j) }
+    {
+        self.covers_near(i, i64::from(j) - 1) || self.covers_beside_or_below(i, j)
+    }
+
+    // The columns, of so many, that the glyph's box lies in, and one more on each side.
+    fn columns(&self, end: u16) -> Span
+        ensures rising { result.from ≤ result.to }
+        ensures within { result.to ≤ end }
+        ensures before { (i j : ℕ) → i < result.from → outlines_glyph self.now (pos i) (pos j) ≡ false }
+        ensures after { (i j : ℕ) → result.to ≤ i → i < end → outlines_glyph self.now (pos i) (pos j) ≡ false }
+    {
+        let (side, left) = self.glyph.columns_of_box();
+        span_round(side, left, end)
+    }
+
+    // Adds to the empty `out` the runs of a row.
+    fn read_row(&self, j: u16, width: PictureSide, out: &mut Spans) -> Result<(), AllocError>
+        requires row { j < MAX_PICTURE_SIDE }
+        requires empty { out.old ≡ [] }
+        ensures { OnOk result (AreRunsFrom (λ i. outlines_glyph self.now (pos i) (pos j)) 0 width out.new) }
+    {
+        let end = width.pixels();
+        let span = self.columns(end);
+        let mut reading = Reading::Outside.go_on(0, span.from, false, out)?;
+        for column in span.from..span.to {
+            reading = reading.go_on(column, column + 1, self.is_outlined(column, j), out)?;
+        }
+        let reading = reading.go_on(span.to, end, false, out)?;
+        reading.finish(end, out)
+    }
+}
+
+impl Cover for GlyphOutline<'_> {
+    ghost covered = { λ o i j. outlines_glyph o (pos i) (pos j) };
+
+    fn covers(&self, i: u16, j: u16) -> bool {
+        self.is_outlined(i, j)
+    }
+
+    fn rows(&self, _width: PictureSide, height: PictureSide) -> Rows {
+        let (side, top) = self.glyph.rows_of_box();
+        let rows = span_round(side, top, height.pixels());
+        Rows {
+            from: rows.from,
+            to: rows.to,
+        }
+    }
+
+    fn row(&self, j: u16, width: PictureSide, out: &mut Spans) -> Result<(), AllocError> {
+        out.clear();
+        match self.read_row(j, width, out) {
+            Ok(()) => Ok(()),
+            Err(error) => {
+                out.clear();
+                Err(error)
+            }
+        }
+    }
+}
