@@ -1,4 +1,4 @@
-//! Tests of the placement of labels and of their ink, by public calls alone: each test checks a value that was
+//! Tests of the placement of labels, of their ink and of pictures with labels, by public calls alone: each test checks a value that was
 //! worked by hand, or compares with a plain program that reads the rule literally.
 #![tactic(auto)]
 
@@ -8,6 +8,10 @@ mod entries;
 mod fonts;
 #[cfg(test)]
 mod inked_texts;
+#[cfg(test)]
+mod labelled_maps;
+#[cfg(test)]
+mod labelled_pictures;
 #[cfg(test)]
 mod plain_program;
 #[cfg(test)]

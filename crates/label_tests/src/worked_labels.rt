@@ -1,5 +1,6 @@
 use crate::entries::{Entry, label_of, placed_of, plain_label, side};
 use crate::fonts::font_of;
+use crate::labelled_maps::colour_of;
 use labelcache::Placed;
 use mapdefs::{LabelFields, Position, Rgb};
 use std::alloc::{AllocError, Global};
@@ -21,10 +22,14 @@ fn position_of(word: &str) -> Position {
     }
 }
 
-// Sets what a word says: `F` for FORCE, `P` for PARTIALS, `o` for an outline, `n` for no colour, a priority as
-// `p2`, a buffer as `b3`, a distance as `d5`, and else a position.
-fn set(label: &mut LabelFields, word: &str) {
-    if word == "F" {
+/// Sets what a word says: `F` for FORCE, `P` for PARTIALS, `o` for an outline, `n` for no colour, a colour as `c#`
+/// and that of an outline as `r#`, a priority as `p2`, a buffer as `b3`, a distance as `d5`, and else a position.
+pub(crate) fn set(label: &mut LabelFields, word: &str) {
+    if let Some(letter) = word.strip_prefix('c') {
+        label.colour = colour_of(letter);
+    } else if let Some(letter) = word.strip_prefix('r') {
+        label.outline = colour_of(letter);
+    } else if word == "F" {
         label.force = true;
     } else if word == "P" {
         label.partials = true;
