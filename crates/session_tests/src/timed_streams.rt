@@ -85,18 +85,39 @@ impl OpenStream for Slow<'_> {
     }
 }
 
+// What moves a byte at each call, or says that it failed: a reader, a writer, or an answer and the read after it.
+trait Moves {
+    fn moves(&mut self) -> bool;
+}
+
+impl Moves for TimedReader<'_, Slow<'_>, Times<'_>> {
+    fn moves(&mut self) -> bool {
+        self.read(&mut [0]).is_ok()
+    }
+}
+
+impl Moves for TimedWriter<'_, Slow<'_>, Times<'_>> {
+    fn moves(&mut self) -> bool {
+        self.write(&[0]).is_ok()
+    }
+}
+
+impl<R: Moves, W: Moves> Moves for (R, W) {
+    fn moves(&mut self) -> bool {
+        self.1.moves() && self.0.moves()
+    }
+}
+
 // What is told of a reader or a writer up to its first failure: for how many seconds the calls of the stream that moved a
 // byte might wait, and how many calls there were.
-fn told_of_calls<F: FnMut() -> bool>(
+fn told_of_calls<M: Moves>(
     alloc: Global,
     times: &Times<'_>,
-    mut moves: F,
-) -> Result<String, AllocError>
-    requires { F.IsAlwaysCallable moves }
-{
+    side: &mut M,
+) -> Result<String, AllocError> {
     let mut told = String::new(alloc);
     for _ in 0..10 {
-        if !moves() {
+        if !side.moves() {
             break;
         }
         let wait = format!(in alloc; "{} ", times.waits.get())?;
@@ -177,19 +198,17 @@ fn told(alloc: Global, row: &str) -> Result<String, AllocError> {
     let (call, rest) = row.split_once(' ').unwrap_or(("", ""));
     let (takes, way) = rest.split_once(' ').unwrap_or((rest, ""));
     let times = times_of(takes.parse().unwrap_or(0), way);
-    let (mut reader, mut writer) = sides(alloc, &times)?;
+    let mut both = sides(alloc, &times)?;
     match call {
-        "read" => told_of_calls(alloc, &times, || reader.read(&mut [0]).is_ok()),
-        "write" => told_of_calls(alloc, &times, || writer.write(&[0]).is_ok()),
+        "read" => told_of_calls(alloc, &times, &mut both.0),
+        "write" => told_of_calls(alloc, &times, &mut both.1),
         "rest" => {
-            let _ = writer.write(&[]);
+            let _ = both.1.write(&[]);
             times.calls.set(0);
             times.now.set(12);
-            told_of_calls(alloc, &times, || reader.read(&mut [0]).is_ok())
+            told_of_calls(alloc, &times, &mut both.0)
         }
-        _ => told_of_calls(alloc, &times, || {
-            writer.write(&[0]).is_ok() && reader.read(&mut [0]).is_ok()
-        }),
+        _ => told_of_calls(alloc, &times, &mut both),
     }
 }
 
