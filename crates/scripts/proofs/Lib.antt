@@ -1,5 +1,6 @@
 pub mod Commands
 pub mod Digits
+pub mod Filling
 pub mod HexLines
 pub mod Playing
 pub mod Rests

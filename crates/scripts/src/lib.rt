@@ -9,6 +9,7 @@
 //! they ask of the machine. The *transcript* is what is written of the replies.
 #![tactic(auto)]
 
+mod hexadecimal;
 pub mod laws;
 mod play;
 mod script;

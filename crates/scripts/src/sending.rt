@@ -1,38 +1,16 @@
-ghost use Rattle.std.specs.Prelude.{◌≡◌, ◌+◌, ◌*◌, ◌≤◌, ◌++◌, length, take, codes, OnOk, OnErr, MatchResult, true};
-ghost use Rattle.scripts.specs.declared.sending.TheConstants.{LINE};
+ghost use Rattle.std.specs.Prelude.{◌≡◌, ◌++◌, codes, OnOk, OnErr, MatchResult, true};
 ghost use Rattle.streams.specs.Sent.{IsSent, IsCutSomewhere};
-ghost use Rattle.scripts.specs.Transcript.{hex_line, hex_lines, body_text, answer_line, reply_text, script_fault};
+ghost use Rattle.scripts.specs.Transcript.{hex_lines, body_text, answer_line, reply_text, script_fault};
 
+use crate::hexadecimal::{LINE, fill_lines};
 use itoa::Buffer;
 use mapmachine::{Answer, BatchFault, Mime, PutFailed, Reply, Sink, put_all, put_pieces};
 
-// The most bytes of a picture that are written on one line.
-const LINE: usize = 32;
+// The most bytes that are put into lines at once: 63 lines of 65 bytes, 4,095 in all.
+const BLOCK: usize = 63 * LINE;
 
-// Puts a line of hexadecimal into the front of the room, and says how many bytes it has.
-fn fill_hex_line(bytes: &[u8], room: &mut [u8]) -> usize
-    requires short { length bytes.now ≤ LINE }
-    requires room { length room.old ≡ 2 * LINE + 1 }
-    ensures line { take result room.new ≡ hex_line bytes.now }
-    ensures count { result ≡ 2 * length bytes.now + 1 }
-{
-    let digits = 2 * bytes.len();
-    let _ = hex::encode_to_slice(bytes, &mut room[..digits]);
-    room[digits] = b'\n';
-    digits + 1
-}
-
-// Writes a line of hexadecimal.
-fn send_hex_line<S: Sink>(sink: &mut S, bytes: &[u8]) -> Result<(), PutFailed>
-    requires short { length bytes.now ≤ LINE }
-    ensures sent { OnOk result (IsSent S.held S.taken sink.old (hex_line bytes.now) sink.new) }
-    ensures cut { OnErr result (IsCutSomewhere S.held S.taken sink.old (hex_line bytes.now) sink.new) }
-    ensures flag { MatchResult result (λ _. S.put_failed sink.new ≡ S.put_failed sink.old) (λ _. S.put_failed sink.new ≡ true) }
-{
-    let mut line = [0; 2 * LINE + 1];
-    let count = fill_hex_line(bytes, &mut line);
-    put_all(sink, &line[..count])
-}
+// How many bytes those lines have.
+const ROOM: usize = 63 * (2 * LINE + 1);
 
 // Writes the line before the body of an answer.
 fn send_answer_line<S: Sink>(sink: &mut S, answer: &Answer) -> Result<(), PutFailed>
@@ -52,10 +30,12 @@ fn send_hex<S: Sink>(sink: &mut S, bytes: &[u8]) -> Result<(), PutFailed>
     ensures cut { OnErr result (IsCutSomewhere S.held S.taken sink.old (hex_lines bytes.now) sink.new) }
     ensures flag { MatchResult result (λ _. S.put_failed sink.new ≡ S.put_failed sink.old) (λ _. S.put_failed sink.new ≡ true) }
 {
+    let mut lines = [0; ROOM];
     let mut rest = bytes;
     while !rest.is_empty() {
-        let (line, others) = rest.split_at(rest.len().min(LINE));
-        send_hex_line(sink, line)?;
+        let (block, others) = rest.split_at(rest.len().min(BLOCK));
+        let count = fill_lines(block, &mut lines);
+        put_all(sink, &lines[..count])?;
         rest = others;
     }
     Ok(())

@@ -1,29 +1,27 @@
 use Rattle.std.proofs.Common.{◌∙◌, ◌++◌, sym, ap, append_assoc, append-nil}
-use Rattle.scripts.specs.Transcript.{hex_line, hex_within}
-use Rattle.scripts.proofs.HexLines.{hex_lines-cut}
-use Rattle.scripts.proofs.Rests.{some-left, none-left}
+use Rattle.scripts.specs.Transcript.{hex_lines, hex_within}
+use Rattle.scripts.proofs.Filling.{lines-cut}
+use Rattle.scripts.proofs.Rests.{none-left}
 use Rattle.streams.proofs.Sending.{on-err, sent-sent, sent-cut, cut-more}
 use Rattle.scripts.proofs.sending.send_hex.Goals as goal
 
-pub returns-in_err-send_hex_line-clause-cut : goal.returns-in_err-send_hex_line-clause-cut
-returns-in_err-send_hex_line-clause-cut g c =
+pub returns-in_err-put_all-clause-cut : goal.returns-in_err-put_all-clause-cut
+returns-in_err-put_all-clause-cut g c =
     let before = c.loop-rest.invariant in
-    let some = some-left _ _ c.is_empty.ensures c.loop-rest-test.true in
-    rw (← before.all, hex_lines-cut _ _ _ _ some c.min.ensures c.split_at.ensures.front c.split_at.ensures.back)
-    (on-err c.from_residual.result _ (sent-cut _ _ _ _ _ _ _ before.sent (cut-more _ _ _ _ _ _ c.in_err-send_hex_line.ensures.cut)))
+    rw (← before.all, lines-cut _ _ _ _ c.min.ensures c.split_at.ensures.front c.split_at.ensures.back)
+    (on-err c.from_residual.result _ (sent-cut _ _ _ _ _ _ _ before.sent (cut-more _ _ _ _ _ _ (rw c.fill_lines-count.ensures.lines at c.in_err-put_all.ensures.cut))))
 
 pub loop-rest-preserved : goal.loop-rest-preserved
 loop-rest-preserved g c =
     let before = c.loop-rest.invariant in
-    let some = some-left _ _ c.is_empty.ensures c.loop-rest-test.true in
     record {
-      text = before.text ++ hex_line c.split_at.result.0.now;
+      text = before.text ++ hex_lines c.split_at.result.0.now;
       all =
           append_assoc before.text _ _
-          ∙ ap (λ text. before.text ++ text) (sym (hex_lines-cut _ _ _ _ some c.min.ensures c.split_at.ensures.front c.split_at.ensures.back))
+          ∙ ap (λ text. before.text ++ text) (sym (lines-cut _ _ _ _ c.min.ensures c.split_at.ensures.front c.split_at.ensures.back))
           ∙ before.all;
-      sent = sent-sent _ _ _ _ _ _ _ before.sent c.in_ok-send_hex_line.ensures.sent;
-      flag = c.in_ok-send_hex_line.ensures.flag ∙ before.flag;
+      sent = sent-sent _ _ _ _ _ _ _ before.sent (rw c.fill_lines-count.ensures.lines at c.in_ok-put_all.ensures.sent);
+      flag = c.in_ok-put_all.ensures.flag ∙ before.flag;
     }
 
 pub returns-clause-sent : goal.returns-clause-sent

@@ -1,0 +1,18 @@
+use Rattle.std.proofs.Common.{ℕ, arith, slice_index, ap, ◌∙◌}
+use Rattle.std.proofs.lemmas.Nat.{and_mask}
+use Rattle.std.proofs.lemmas.Grind.{common_steps}
+use Rattle.hex.specs.Hex.{lower_digits}
+use Rattle.hex.proofs.Pairs.{encode_step, encode_done}
+use Rattle.scripts.proofs.hexadecimal.fill_digits.Goals as goal
+
+pub loop-i-preserved : goal.loop-i-preserved
+loop-i-preserved c =
+    let byte : ℕ = slice_index c.args.bytes.now c.loop-i.i in
+    record {
+      text = encode_step lower_digits c.args.bytes.now c.loop-i.digits c.loop-i.i _ _ (omega arith) (omega (arith, c.loop-i.invariant.count)) c.digit_of.ensures
+          (c.digit_of-in-loop-i.ensures ∙ ap (λ (k : ℕ). slice_index lower_digits k) (and_mask byte 4)) c.loop-i.invariant.text;
+      count = grind (arith, common_steps);
+    }
+
+pub returns : goal.returns
+returns c = encode_done _ _ _ c.loop-i.i (omega arith) (omega (arith, c.loop-i.invariant.count)) c.loop-i.invariant.text
