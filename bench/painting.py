@@ -81,6 +81,14 @@ class Picture:
             for point in points:
                 self.square_at(point, width, colour)
 
+    def line(self, places, colour, width):
+        """Draws the open line along places."""
+        points = [self.device(place) for place in places]
+        for a, b in zip(points, points[1:]):
+            self.segment(a, b, colour, width)
+        for point in points:
+            self.square_at(point, width, colour)
+
     def segment(self, a, b, colour, width):
         flat = abs(b[0] - a[0]) >= abs(b[1] - a[1])
         if not flat:

@@ -1,15 +1,17 @@
 #!/usr/bin/env python3
 """Measures the built program, and prints a table: processor time and peak memory of each workload.
 
-Usage: table.py PROGRAM [RUNS]
+Usage: table.py PROGRAM [RUNS] [CITIES]
 
-Everything that it reads it makes, from demo/world.map and by rule, in a folder of its own. Each picture is
+Everything that it reads it makes, from demo and by rule, in a folder of its own. CITIES is a table of cities with
+the columns name, long and lat; where it isn't given, the row of their labels is left out. Each picture is
 compared, pixel by pixel, with one that this script paints by the rules of docs/PROFILE.md, in whole numbers
 and without looking at what the program does. A time is that of the pictures without that of as many empty
 ones of the same map, so that it is the painting alone. The figures are medians of RUNS runs (7 where it
 isn't given), with the least and the greatest. All workloads are run in turn, RUNS times: what else the
 machine does shows in the least and the greatest, and not in one workload's median.
 """
+import csv
 import json
 import os
 import platform
@@ -20,7 +22,9 @@ import sys
 import tempfile
 import time
 
-from painting import Picture, read_places
+import labelling
+from labelling import Label
+from painting import Picture, micro, read_places
 
 HERE = os.path.dirname(os.path.abspath(__file__))
 SIZES = [(2048, 1024), (1024, 512), (256, 128)]
@@ -28,6 +32,11 @@ EARTH = (-180_000_000, -90_000_000, 180_000_000, 90_000_000)
 FAR = (500_000_000, 500_000_000, 501_000_000, 501_000_000)
 # A third of a degree each way, on the border of Germany and Switzerland.
 TILE = (8_000_000, 47_500_000, 8_350_000, 47_850_000)
+# Some 50 of 20,000 features that lie all over the earth are in this part of it, or of 200,000 in the next one.
+FEW = (2_000_000, 40_000_000, 15_000_000, 53_000_000)
+FEWER = (2_000_000, 40_000_000, 6_100_000, 44_100_000)
+# Some 300 of 43,645.
+LABELLED = (2_000_000, 30_000_000, 24_300_000, 52_300_000)
 STAR = ["..#..", ".###.", "#####", ".###.", "..#.."]
 COLOUR, OTHER = (10, 20, 30), (40, 50, 60)
 
@@ -105,6 +114,34 @@ class Bench:
         pixels = bytes.fromhex(body.replace("\n", ""))[len(f"P6\n{size[0]} {size[1]}\n255\n") :]
         if pixels != picture.bytes():
             sys.exit(f"failed: {name}, {size}: another picture")
+
+    def labels(self, name, font, features, labels, box, size, count):
+        """Work: one picture of labels alone, whose features are places, texts and which of the labels is theirs."""
+        number = len(self.workloads)
+        rows = "".join(f"{degrees(x)},{degrees(y)},{quoted(text)},{rank}\n" for (x, y), text, rank in features)
+        self.path(f"labels{number}.csv", "x,y,name,rank\n" + rows)
+        classes = "".join(f'CLASS\nEXPRESSION "{rank}"\n{label.words()}END\n' for rank, label in enumerate(labels))
+        text = (
+            f'MAP\nCONFIG "LABELFONT" "font.bdf"\nLAYER\nNAME "a"\nTYPE POINT\nDATA "labels{number}.csv"\n'
+            f'CLASSITEM "rank"\nLABELITEM "name"\n{classes}END\nEND\n'
+        )
+        picture = Picture(box, size)
+        anchors = labelling.anchors_in(picture, [place for place, _, _ in features])
+        shown = [(text, anchor, labels[rank]) for anchor, (_, text, rank) in zip(anchors, features) if anchor]
+        placed = labelling.place(font, size, shown)
+        labelling.paint(picture, font, placed)
+        self.pictures(f"{name}, {len(placed):,} placed", text, "a", box, size, count, picture)
+
+    def batches(self, name, mapfile, text, count):
+        """Work: one batch, of which a script has so many more than another."""
+        number = len(self.workloads)
+        command = f"BATCH {len(text)}\n{text}"
+        many = self.path(f"many{number}.script", command * (count + 1))
+        one = self.path(f"one{number}.script", command)
+        told = self.written("run", mapfile, many)
+        if told != "".join(f"PUBLISHED {k + 1}\n" for k in range(count + 1)):
+            sys.exit(f"failed: {name}: {told[:200]}")
+        self.workloads.append(Workload(name, count, ("run", mapfile, many), ("run", mapfile, one)))
 
     def reading(self, count):
         """Work: `check` of a map with so many vertices."""
@@ -243,6 +280,100 @@ def coast_rows(bench, world):
         bench.pictures(f"coasts of {count:,} vertices", text, "a", box, size, 5, picture)
 
 
+def near_rows(bench, few, many):
+    """Tiles on which a few features of many are seen."""
+    boxes, slopes = [[box_round(x, y, 60_000)] for x, y in few], [[slope(x, y, 60_000)] for x, y in few]
+    picture = Picture(FEW, (256, 256))
+    for rings in boxes:
+        picture.fill(rings, COLOUR)
+    text = layer("POLYGON", "COLOR 10 20 30", boxes)
+    bench.pictures(f"{seen(few, FEW)} of 20,000 polygons", text, "a", FEW, (256, 256), 500, picture)
+    picture = Picture(FEW, (256, 256))
+    for (line,) in slopes:
+        picture.line(line, COLOUR, 3)
+    text = layer("LINE", "COLOR 10 20 30\nWIDTH 3", slopes)
+    bench.pictures(f"{seen(few, FEW)} of 20,000 lines", text, "a", FEW, (256, 256), 500, picture)
+    picture = Picture(FEWER, (256, 256))
+    for place in many:
+        picture.square(place, 4, COLOUR)
+    text = table_layer(bench, "points.csv", many)
+    bench.pictures(f"{seen(many, FEWER)} of 200,000 points", text, "a", FEWER, (256, 256), 500, picture)
+
+
+def batch_rows(bench, places):
+    """Reading a large table, and batches beside it."""
+    path = bench.path("table.map", table_layer(bench, "all.csv", places))
+    if bench.written("check", path) != f"ok 1 layers {len(places)} features\n":
+        sys.exit("failed: another table was read")
+    bench.workloads.append(Workload("reading a table of 200,000 points", 1, ("check", path)))
+    text = table_layer(bench, "most.csv", places[:180_000])
+    path = bench.path("batches.map", text.rsplit("END", 1)[0] + 'LAYER\nNAME "b"\nTYPE POINT\nEND\nEND\n')
+    bench.batches("a batch on a layer beside 180,000 points", path, "OFF b\n", 100)
+    bench.batches("1,000 points appended to some 190,000", path, append("a", 1_000), 15)
+
+
+def label_rows(bench, cities):
+    font = labelling.Font(os.path.join(HERE, "..", "demo", "6x13.bdf"))
+    ranked = [Label(priority, COLOUR) for priority in (1, 4, 7, 10)]
+    outlined = [Label(priority, COLOUR, OTHER) for priority in (1, 4, 7, 10)]
+    apart = [Label(5, COLOUR, distance=100)]
+    world = random_labels(43_645)
+    bench.labels("43,645 labels", font, world, ranked, EARTH, SIZES[0], 5)
+    bench.labels("43,645 labels with an outline", font, world, outlined, EARTH, SIZES[0], 5)
+    count = seen([place for place, _, _ in world], LABELLED)
+    bench.labels(f"{count} of 43,645 labels", font, world, ranked, LABELLED, (256, 256), 50)
+    equal = [(place, "Springfield", 0) for place, _, _ in world[:40_000]]
+    bench.labels("40,000 equal labels 100 apart", font, equal, apart, EARTH, SIZES[0], 5)
+    point = [((3_000_000, 5_000_000), text, rank) for _, text, rank in world[:40_000]]
+    bench.labels("40,000 labels at one point", font, point, ranked, EARTH, SIZES[0], 5)
+    if cities:
+        bench.labels(f"{len(cities):,} labels of cities", font, cities, ranked[:1], EARTH, SIZES[1], 20)
+
+
+def random_labels(count):
+    """Places, texts of 4 to 20 letters, and one of four ranks."""
+    state, found = 41, []
+
+    def below(limit):
+        nonlocal state
+        state = (state * 6_364_136_223_846_793_005 + 1_442_695_040_888_963_407) % 2**64
+        return (state >> 33) * limit >> 31
+
+    for _ in range(count):
+        place = (below(360_000_000) - 180_000_000, below(180_000_000) - 90_000_000)
+        text = "".join("abcdefghijklmnopqrstuvwxyz"[below(26)] for _ in range(4 + below(17)))
+        found.append((place, text, below(4)))
+    return found
+
+
+def read_cities(path):
+    with open(path, encoding="utf-8", newline="") as file:
+        return [((micro(row["long"]), micro(row["lat"])), row["name"], 0) for row in csv.DictReader(file)]
+
+
+def seen(places, box):
+    return sum(box[0] <= x < box[2] and box[1] < y <= box[3] for x, y in places)
+
+
+def slope(x, y, half):
+    return [(x - half, y - half), (x, y + half // 2), (x + half, y)]
+
+
+def table_layer(bench, name, places):
+    """A map of one layer of points, which stand in a table."""
+    bench.path(name, "x,y\n" + "".join(f"{degrees(x)},{degrees(y)}\n" for x, y in places))
+    return layer("POINT", "COLOR 10 20 30\nSIZE 4", []).replace("CLASS", f'DATA "{name}"\nCLASS', 1)
+
+
+def quoted(text):
+    return '"' + text.replace('"', '""') + '"'
+
+
+def append(name, count):
+    table = "x,y\n" + "".join(f"{k % 360 - 180},{k % 180 - 90}\n" for k in range(count))
+    return f"APPEND {len(table)} {name}\n{table}"
+
+
 def processor():
     with open("/proc/cpuinfo") as file:
         names = re.findall(r"model name\s*: (.*)", file.read())
@@ -253,20 +384,28 @@ def main():
     with open(os.path.join(HERE, "..", "demo", "world.map"), encoding="utf-8") as file:
         world = file.read()
     runs = int(sys.argv[2]) if len(sys.argv) > 2 else 7
+    cities = read_cities(sys.argv[3]) if len(sys.argv) > 3 else []
     with tempfile.TemporaryDirectory() as folder:
         bench = Bench(sys.argv[1], folder)
         # The map of the world names a pixmap, which is looked for beside it.
         with open(os.path.join(HERE, "..", "demo", "anchor.ppm"), "rb") as file:
             bench.path("anchor.ppm", file.read())
+        with open(os.path.join(HERE, "..", "demo", "6x13.bdf"), "rb") as file:
+            bench.path("font.bdf", file.read())
         bench.reading(2_300_000)
         world_rows(bench, world)
         point_rows(bench, scattered(20_000))
         polygon_rows(bench, scattered(20_000))
         coast_rows(bench, world)
+        near_rows(bench, scattered(20_000), scattered(200_000))
+        batch_rows(bench, scattered(200_000))
+        label_rows(bench, cities)
         bench.measure(runs)
     print(f"{time.strftime('%Y-%m-%d')}, {processor()}, medians of {runs} runs\n")
     print("| Workload | ms | From, to | MB at most |\n|---|---|---|---|")
     print("\n".join(map(row, bench.workloads)))
+    if not cities:
+        print("\nNo table of cities was given, so that the row of their labels is left out.")
 
 
 if __name__ == "__main__":

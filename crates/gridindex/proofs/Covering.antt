@@ -7,7 +7,7 @@ use Rattle.std.proofs.lemmas.List.{get_or_append_left, get_or-take, get_or-drop,
 use Rattle.std.proofs.lemmas.Option.{slice_get_cases, slice_get-get_or, get_or_from_slice_get}
 use Rattle.std.proofs.Math.Nat.{div-lt_iff_lt-mul}
 use Rattle.std.proofs.Math.Seq.{get_or-append_seam}
-use Rattle.std.specs.List.{slice_get}
+use Rattle.std.specs.List.{All, slice_get}
 use Rattle.geom.specs.World.{Area, Meets}
 use Rattle.gridindex.specs.declared.groups.Groups.{Groups}
 use Rattle.gridindex.specs.declared.level.Level.{Level}
@@ -92,3 +92,19 @@ kept-more old new boxes area index small count d e f kept = record {
           let was : slice_get boxes (get_or old.order.items i 0) ≡ Some x = sym (get-left boxes (area ∷ []) (get_or old.order.items i 0) q) ∙ (rw e at box) in
           l.covers i cover x h is was;
     }
+
+-- a level of the same groups, with equal covers
+pub level-same : (boxes : List Area) (order : List ℕ) (grouped : ℕ) (old new : Level) → new.size ≡ old.size → new.covers.items ≡ old.covers.items →
+    IsLevel boxes order grouped old → IsLevel boxes order grouped new
+level-same boxes order grouped old new d e l = record { size = rw d l.size; covers = rw (d, e) l.covers }
+
+-- groups of an equal order, whose levels cover what others cover, keep what these keep
+pub kept-same : (old new : Groups) → new.order.items ≡ old.order.items → new.grouped ≡ old.grouped →
+    ((boxes : List Area) (order : List ℕ) (grouped : ℕ) → All (IsLevel boxes order grouped) old.levels.items → All (IsLevel boxes order grouped) new.levels.items) →
+    (boxes : List Area) → IsKept old boxes → IsKept new boxes
+kept-same old new d e f boxes kept = record {
+  order = rw d kept.order;
+  grouped = rw (d, e) kept.grouped;
+  levels = rw (d, e) (f boxes old.order.items old.grouped kept.levels);
+  count = kept.count;
+}

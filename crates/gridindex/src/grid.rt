@@ -1,4 +1,4 @@
-ghost use Rattle.std.specs.Prelude.{◌≡◌, ◌≤◌, ◌<◌, ◌^◌, [], ◌∷◌, ◌++◌, length, IfOk, OnOk, OnErr};
+ghost use Rattle.std.specs.Prelude.{◌≡◌, ◌≤◌, ◌<◌, ◌^◌, [], ◌∷◌, ◌++◌, ◌+◌, length, IfOk, OnOk, OnErr};
 ghost use Rattle.gridindex.specs.Window.{IsAnswer};
 
 use crate::groups::Groups;
@@ -41,6 +41,35 @@ impl Grid {
         })
     }
 
+    /// A grid of its own of these boxes and of others behind them. It takes memory for all of them, and less time
+    /// than `build` where most are of this grid: they are put in groups again only if so many were added that it is
+    /// time.
+    pub fn extended(&self, more: &[WorldBox]) -> Result<Self, AllocError>
+        requires { length self.now + length more.now ≤ 2 ^ 32 }
+        ensures { IfOk result (λ grid. grid ≡ self.now ++ more.now) }
+    {
+        let mut grid = self.copied(self.boxes.len() + more.len())?;
+        for area in more {
+            grid.push(*area)?;
+        }
+        grid.regroup()?;
+        Ok(grid)
+    }
+
+    // The same boxes again, with room for so many.
+    fn copied(&self, room: usize) -> Result<Self, AllocError>
+        ensures { IfOk result (λ grid. grid ≡ self.now) }
+    {
+        let mut boxes = Vec::with_capacity(self.alloc, room)?;
+        boxes.extend_from_slice(&self.boxes)?;
+        let groups = self.groups.copied(self.alloc, room)?;
+        Ok(Grid {
+            alloc: self.alloc,
+            boxes,
+            groups,
+        })
+    }
+
     /// Adds a box, whose index is the number of boxes before. Where memory is refused nothing
     /// changes.
     pub fn add(&mut self, area: WorldBox) -> Result<(), AllocError>
@@ -48,9 +77,26 @@ impl Grid {
         ensures ok { OnOk result (self.new ≡ self.old ++ area ∷ []) }
         ensures err { OnErr result (self.new ≡ self.old) }
     {
+        self.regroup()?;
+        self.push(area)
+    }
+
+    // Has all boxes in groups again, if it is time.
+    fn regroup(&mut self) -> Result<(), AllocError>
+        ensures { self.new ≡ self.old }
+    {
         if self.groups.is_grouping_due() {
             self.groups = Groups::of(self.alloc, &self.boxes)?;
         }
+        Ok(())
+    }
+
+    // Adds a box to those that are in no group. Where memory is refused nothing changes.
+    fn push(&mut self, area: WorldBox) -> Result<(), AllocError>
+        requires { length self.old < 2 ^ 32 }
+        ensures ok { OnOk result (self.new ≡ self.old ++ area ∷ []) }
+        ensures err { OnErr result (self.new ≡ self.old) }
+    {
         self.boxes.reserve(1)?;
         self.groups.add(self.boxes.len() as u32)?;
         self.boxes.push_reserved(area);

@@ -4,7 +4,7 @@ ghost use Rattle.geom.specs.World.{Area};
 ghost use Rattle.gridindex.specs.Groups.{HasFound, IsKept};
 ghost use Rattle.gridindex.specs.Window.{IsAnswer, MeetsAt};
 
-use crate::level::{Level, SMALLEST, levels_of, past_missed};
+use crate::level::{Level, SMALLEST, copied, levels_of, past_missed};
 use crate::order::order_of;
 use geom::WorldBox;
 use std::alloc::{AllocError, Global};
@@ -31,6 +31,19 @@ impl Groups {
             order,
             levels,
             grouped,
+        })
+    }
+
+    /// The same groups again, with room for so many boxes in all.
+    pub fn copied(&self, alloc: Global, room: usize) -> Result<Self, AllocError>
+        ensures { IfOk result (λ copy. (boxes : List Area) → IsKept self.now boxes → IsKept copy boxes) }
+    {
+        let mut order = Vec::with_capacity(alloc, room)?;
+        order.extend_from_slice(&self.order)?;
+        Ok(Groups {
+            order,
+            levels: copied(alloc, &self.levels)?,
+            grouped: self.grouped,
         })
     }
 

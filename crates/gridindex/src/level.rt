@@ -41,6 +41,19 @@ impl Level {
         Ok(Level { size, covers })
     }
 
+    /// The same groups again.
+    pub fn copied(&self, alloc: Global) -> Result<Self, AllocError>
+        ensures size { IfOk result (λ copy. copy.size ≡ self.now.size) }
+        ensures covers { IfOk result (λ copy. copy.covers.items ≡ self.now.covers.items) }
+    {
+        let mut covers = Vec::with_capacity(alloc, self.covers.len())?;
+        covers.extend_from_slice(&self.covers)?;
+        Ok(Level {
+            size: self.size,
+            covers,
+        })
+    }
+
     /// Where the group that begins at `at` ends, if its cover doesn't meet the window, else `at`.
     pub fn past_missed(&self, at: usize, window: WorldBox) -> usize
         requires { HasSize self.now }
@@ -78,6 +91,18 @@ pub fn levels_of(alloc: Global, boxes: &[WorldBox], order: &[u32]) -> Result<Vec
         size /= 16;
     }
     Ok(levels)
+}
+
+/// The same levels again.
+pub fn copied(alloc: Global, levels: &[Level]) -> Result<Vec<Level>, AllocError>
+    ensures { IfOk result (λ copies. (boxes : List Area) (order : List ℕ) (grouped : ℕ) → All (IsLevel boxes order grouped) levels.now →
+        All (IsLevel boxes order grouped) copies.items) }
+{
+    let mut copies = Vec::with_capacity(alloc, levels.len())?;
+    for level in levels {
+        copies.push(level.copied(alloc)?)?;
+    }
+    Ok(copies)
 }
 
 /// Where the largest group that begins at `at`, and whose cover doesn't meet the window, ends. It is

@@ -2,7 +2,7 @@
 //!
 //! Proved: `Grid::candidates` gives exactly the indices of the boxes that meet the window, ends
 //! included, rising and without repeats, by `IsAnswer`; `laws::answers` says that there is one such
-//! list. `build`, `add` and `clear` say which boxes the grid holds.
+//! list. `build`, `extended`, `add` and `clear` say which boxes the grid holds.
 //!
 //! Words: a *grid* is a list of boxes with an index of where they lie. Its cells are groups of boxes,
 //! not squares of the world: they are small where boxes are crowded. The *order* of a grid has the

@@ -2,11 +2,10 @@ ghost use Rattle.std.specs.Prelude.{◌≡◌, [], ◌∷◌, ◌++◌, IfOk, On
 ghost use Rattle.labelcache.specs.Placement.{IsPlacement, setting};
 
 use crate::candidate::Candidate;
-use crate::order::place_priority;
+use crate::order::place_all;
 use crate::page::Page;
-use crate::placing::Placing;
 use geom::{PictureSide, Pixel, PxBox};
-use mapdefs::{Font, MAX_PRIORITY};
+use mapdefs::Font;
 use std::alloc::{AllocError, Global};
 use std::marker::Model;
 
@@ -66,7 +65,7 @@ impl Cache<'_> {
 
     /// The placement of the candidates on a picture of that width and height, with the font.
     ///
-    /// It takes memory for the labels, and for what tests ask of them.
+    /// It takes memory for the labels, for what tests ask of them, and for some advances of the font.
     pub fn place(
         &self,
         alloc: Global,
@@ -76,14 +75,7 @@ impl Cache<'_> {
     ) -> Result<Vec<Placed>, AllocError>
         ensures { IfOk result (λ labels. IsPlacement (setting (record { width = width; height = height; font = font.now }) self.now) labels.items) }
     {
-        let page = Page::new(width, height, font);
-        let candidates = self.candidates.as_slice();
-        let mut placing = Placing::new(alloc, width, height)?;
-        let mut priority = MAX_PRIORITY;
-        while priority > 0 {
-            place_priority(&mut placing, &page, candidates, priority)?;
-            priority -= 1;
-        }
-        Ok(placing.into_labels())
+        let page = Page::new(alloc, width, height, font)?;
+        place_all(alloc, &page, &self.candidates)
     }
 }

@@ -10,6 +10,7 @@
 //! where a text stands round its anchor, and its *taken box* is the box of the text, grown by the buffer.
 #![tactic(auto)]
 
+mod advances;
 mod anchors;
 mod bucket;
 mod cache;

@@ -1,12 +1,15 @@
-ghost use Rattle.std.specs.Prelude.{◌≡◌, ◌+◌, ◌≤◌, ◌<◌, length, OnOk};
-ghost use Rattle.labelcache.specs.Placement.{setting};
+ghost use Rattle.std.specs.Prelude.{◌≡◌, ◌+◌, ◌≤◌, ◌<◌, length, IfOk, OnOk};
+ghost use Rattle.labelcache.specs.Candidate.{AreWithinPriorities};
+ghost use Rattle.labelcache.specs.Placement.{IsPlacement, setting};
 ghost use Rattle.labelcache.specs.Placing.{IsPlacedTo};
 
+use crate::cache::Placed;
 use crate::candidate::Candidate;
 use crate::page::Page;
 use crate::placing::Placing;
 use crate::trial::try_candidate;
-use std::alloc::AllocError;
+use mapdefs::MAX_PRIORITY;
+use std::alloc::{AllocError, Global};
 
 /// How far the order of trial has come: a number of a priority.
 #[derive(Clone, Copy)]
@@ -34,8 +37,8 @@ fn place_number<'a>(
     Ok(())
 }
 
-/// Tries the candidates of a priority, by falling numbers.
-pub fn place_priority<'a>(
+// Tries the candidates of a priority, by falling numbers.
+fn place_priority<'a>(
     placing: &mut Placing<'a>,
     page: &Page<'_>,
     candidates: &[Candidate<'a>],
@@ -51,4 +54,22 @@ pub fn place_priority<'a>(
         place_number(placing, page, candidates, turn)?;
     }
     Ok(())
+}
+
+/// The placement of candidates on a page.
+pub fn place_all(
+    alloc: Global,
+    page: &Page<'_>,
+    candidates: &[Candidate<'_>],
+) -> Result<Vec<Placed>, AllocError>
+    requires { AreWithinPriorities candidates.now }
+    ensures { IfOk result (λ labels. IsPlacement (setting page.now candidates.now) labels.items) }
+{
+    let mut placing = Placing::new(alloc, page.width(), page.height())?;
+    let mut priority = MAX_PRIORITY;
+    while priority > 0 {
+        place_priority(&mut placing, page, candidates, priority)?;
+        priority -= 1;
+    }
+    Ok(placing.into_labels())
 }

@@ -1,7 +1,12 @@
-ghost use Rattle.std.specs.Prelude.{◌≡◌};
+ghost use Rattle.std.specs.Prelude.{◌≡◌, IfOk};
+ghost use Rattle.labelcache.specs.LabelBox.{size_of};
 
+use crate::advances::Advances;
+use crate::candidate::Candidate;
+use crate::label_box::TextSize;
 use geom::PictureSide;
 use mapdefs::Font;
+use std::alloc::{AllocError, Global};
 use std::marker::Model;
 
 /// What labels are placed on: a picture of that width and height, and the font of its texts.
@@ -9,7 +14,7 @@ use std::marker::Model;
 pub struct Page<'a> {
     width: PictureSide,
     height: PictureSide,
-    font: &'a Font,
+    advances: Advances<'a>,
 }
 
 impl<'a> Model for Page<'a> {
@@ -17,19 +22,24 @@ impl<'a> Model for Page<'a> {
 
     ghost Value = { PageValue };
 
-    ghost view = { λ p. record { width = p.width; height = p.height; font = p.font.now } };
+    ghost view = { λ p. record { width = p.width; height = p.height; font = p.advances } };
 }
 
 impl<'a> Page<'a> {
     /// The page of that width, height and font.
-    pub fn new(width: PictureSide, height: PictureSide, font: &'a Font) -> Self
-        ensures { result ≡ record { width = width; height = height; font = font.now } }
+    pub fn new(
+        alloc: Global,
+        width: PictureSide,
+        height: PictureSide,
+        font: &'a Font,
+    ) -> Result<Self, AllocError>
+        ensures { IfOk result (λ page. page ≡ record { width = width; height = height; font = font.now }) }
     {
-        Page {
+        Ok(Page {
             width,
             height,
-            font,
-        }
+            advances: Advances::of(alloc, font)?,
+        })
     }
 
     /// How many columns the picture has.
@@ -46,10 +56,10 @@ impl<'a> Page<'a> {
         self.height
     }
 
-    /// The font.
-    pub fn font(&self) -> &Font
-        ensures { result.now ≡ self.now.font }
+    /// The sides of a candidate's text in the font.
+    pub fn size_of(&self, candidate: &Candidate<'_>) -> TextSize
+        ensures { result ≡ size_of self.now.font candidate.now.text }
     {
-        self.font
+        self.advances.size_of(candidate.text())
     }
 }

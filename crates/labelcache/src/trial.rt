@@ -6,7 +6,7 @@ ghost use Rattle.labelcache.specs.Placing.{HasNoFree, HasNoPlace, IsFar, IsFirst
 
 use crate::cache::Placed;
 use crate::candidate::Candidate;
-use crate::label_box::{AUTOMATIC, TextSize, place_at, size_of, taken_at};
+use crate::label_box::{AUTOMATIC, TextSize, place_at, taken_at};
 use crate::page::Page;
 use crate::placing::Placing;
 use geom::{Pixel, PxBox};
@@ -62,7 +62,7 @@ fn first_free(
     ensures some { IfSome result (λ spot. IsFirstFree page.now placing.now.labels candidate.now (map (place_at candidate.now.anchor (size_of page.now.font candidate.now.text)) positions.now) spot.at spot.taken) }
     ensures none { IfNone result (HasNoFree page.now placing.now.labels candidate.now (map (place_at candidate.now.anchor (size_of page.now.font candidate.now.text)) positions.now)) }
 {
-    let size = size_of(page.font(), candidate);
+    let size = page.size_of(candidate);
     let label = candidate.label();
     for position in positions {
         let spot = spot_at(page, candidate, size, *position);

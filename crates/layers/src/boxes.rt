@@ -68,17 +68,33 @@ fn add_boxes(boxes: &mut Vec<WorldBox>, features: &[Shared<Feature>]) -> Result<
     Ok(())
 }
 
-/// The grid of the boxes of some features and of others behind them.
-pub fn grid_of(
+// The boxes of some features.
+fn boxes_of(alloc: Global, features: &[Shared<Feature>]) -> Result<Vec<WorldBox>, AllocError>
+    ensures { IfOk result (λ boxes. boxes.items ≡ map box_of features.now) }
+{
+    let mut boxes = Vec::with_capacity(alloc, features.len())?;
+    add_boxes(&mut boxes, features)?;
+    Ok(boxes)
+}
+
+/// The grid of the boxes of some features.
+pub fn grid_of(alloc: Global, features: &[Shared<Feature>]) -> Result<SharedGrid, AllocError>
+    requires { length features.now ≤ MAX_FEATURES }
+    ensures { IfOk result (λ grid. grid ≡ map box_of features.now) }
+{
+    let boxes = boxes_of(alloc, features)?;
+    SharedGrid::new(alloc, Grid::build(alloc, boxes)?)
+}
+
+/// The grid of the boxes of a grid, with those of some features behind them.
+pub fn extended_grid(
     alloc: Global,
-    features: &[Shared<Feature>],
+    grid: &SharedGrid,
     more: &[Shared<Feature>],
 ) -> Result<SharedGrid, AllocError>
-    requires { length features.now + length more.now ≤ MAX_FEATURES }
-    ensures { IfOk result (λ grid. grid ≡ map box_of features.now ++ map box_of more.now) }
+    requires { length grid.now + length more.now ≤ MAX_FEATURES }
+    ensures { IfOk result (λ extended. extended ≡ grid.now ++ map box_of more.now) }
 {
-    let mut boxes = Vec::with_capacity(alloc, features.len() + more.len())?;
-    add_boxes(&mut boxes, features)?;
-    add_boxes(&mut boxes, more)?;
-    SharedGrid::new(alloc, Grid::build(alloc, boxes)?)
+    let boxes = boxes_of(alloc, more)?;
+    grid.extended(alloc, boxes)
 }

@@ -1,4 +1,4 @@
-ghost use Rattle.std.specs.Prelude.{◌≡◌, map, IfOk};
+ghost use Rattle.std.specs.Prelude.{◌≡◌, ◌≤◌, ◌+◌, ◌++◌, ◌^◌, length, map, IfOk};
 ghost use Rattle.gridindex.specs.Window.{IsAnswer};
 ghost use Rattle.layers.specs.Boxes.{boxes_of};
 
@@ -57,6 +57,17 @@ impl SharedGrid {
         }
     }
 
+    /// A grid of these boxes and of others behind them.
+    pub fn extended(&self, alloc: Global, more: Vec<WorldBox>) -> Result<Self, AllocError>
+        requires { length self.now + length more.items ≤ 2 ^ 32 }
+        ensures { IfOk result (λ g. g ≡ self.now ++ more.items) }
+    {
+        match &self.grid {
+            Some(grid) => SharedGrid::new(alloc, grid.get().extended(&more)?),
+            None => SharedGrid::new(alloc, Grid::build(alloc, more)?),
+        }
+    }
+
     /// The indices of all boxes that meet the window, ends included, rising and each once.
     pub fn candidates(&self, alloc: Global, window: WorldBox) -> Result<Vec<u32>, AllocError>
         ensures { IfOk result (λ found. IsAnswer window self.now found.items) }
@@ -74,7 +85,7 @@ pub fn grids_of(alloc: Global, layers: &[Layer]) -> Result<Vec<SharedGrid>, Allo
 {
     let mut grids = Vec::with_capacity(alloc, layers.len())?;
     for layer in layers {
-        grids.push(grid_of(alloc, layer.get().features.as_slice(), &[])?)?;
+        grids.push(grid_of(alloc, layer.get().features.as_slice())?)?;
     }
     Ok(grids)
 }

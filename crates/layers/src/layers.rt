@@ -2,7 +2,7 @@ ghost use Rattle.std.specs.Prelude.{◌≡◌, ◌<◌, length, IfOk, OnOk, IfEr
 ghost use Rattle.mapdefs.specs.Name.{index_of};
 ghost use Rattle.layers.specs.Change.{is_of_points};
 
-use crate::boxes::grid_of;
+use crate::boxes::extended_grid;
 use crate::fault::{ChangeError, Refusal};
 use crate::grids::{SharedGrid, grids_of, share_all};
 use crate::values::all_fitted;
@@ -163,7 +163,7 @@ impl Layers {
             columns.as_slice(),
             features.into_vec(),
         )?;
-        let grid = grid_of(self.alloc, layer.features.as_slice(), more.as_slice())?;
+        let grid = extended_grid(self.alloc, &self.grids[index], more.as_slice())?;
         self.served.append(self.alloc, index, more)?;
         self.grids[index] = grid;
         Ok(())

@@ -1,0 +1,134 @@
+"""Labels placed and painted by the rules of docs/PROFILE.md, "Labels": what the program's are compared with."""
+import re
+
+AUTO = ["UR", "UL", "LR", "LL", "CR", "CL", "UC", "LC"]
+CELL = 32
+ROUND = [(i, j) for i in (-1, 0, 1) for j in (-1, 0, 1) if (i, j) != (0, 0)]
+
+
+class Font:
+    """A BDF font: for each encoding how far it advances, and the pixels of its ink round the pen and the top."""
+
+    def __init__(self, path):
+        with open(path, encoding="latin-1") as file:
+            text = file.read()
+        _, self.height, _, bottom = self.box(text, "FONTBOUNDINGBOX")
+        self.glyphs = {}
+        for block in text.split("\nSTARTCHAR ")[1:]:
+            _, high, left, low = self.box(block, "BBX")
+            rows = block.split("\nBITMAP", 1)[1].split("\nENDCHAR")[0].split()
+            top = self.height + bottom - low - high
+            ink = [(left + i, top + j) for j, row in enumerate(rows) for i, bit in enumerate(self.bits(row)) if bit == "1"]
+            advance = int(re.search(r"\nDWIDTH (\d+)", block)[1])
+            self.glyphs[int(re.search(r"\nENCODING (\d+)", block)[1])] = (advance, ink)
+
+    @staticmethod
+    def box(text, word):
+        return list(map(int, re.search(rf"\n{word} (-?\d+) (-?\d+) (-?\d+) (-?\d+)", text).groups()))
+
+    @staticmethod
+    def bits(row):
+        return f"{int(row, 16):0{4 * len(row)}b}"
+
+    def glyph(self, character):
+        return self.glyphs.get(ord(character)) or self.glyphs.get(63, (0, []))
+
+    def width(self, text):
+        return sum(self.glyph(character)[0] for character in text)
+
+    def ink(self, text, left, top):
+        """The pixels that a text inks, whose upper left pixel is this one."""
+        found, pen = [], left
+        for character in text:
+            advance, pixels = self.glyph(character)
+            found += [(pen + i, top + j) for i, j in pixels]
+            pen += advance
+        return found
+
+
+class Label:
+    """What a class says of its labels. The position is AUTO."""
+
+    def __init__(self, priority, colour, outline=None, buffer=0, distance=0):
+        self.priority, self.colour, self.outline = priority, colour, outline
+        self.buffer, self.distance = buffer, distance
+
+    def words(self):
+        outline = "OUTLINECOLOR %d %d %d\n" % self.outline if self.outline else ""
+        return (
+            f"LABEL\nCOLOR %d %d %d\n{outline}POSITION AUTO\nPRIORITY {self.priority}\n" % self.colour
+            + f"BUFFER {self.buffer}\nMINDISTANCE {self.distance}\nEND\n"
+        )
+
+
+def place(font, size, candidates):
+    """The labels of candidates, each a text, its anchor and its label: texts, their upper left pixels, labels."""
+    order = sorted(range(len(candidates)), key=lambda n: (candidates[n][2].priority, n), reverse=True)
+    cells, anchors, placed = {}, {}, []
+    for number in order:
+        text, anchor, label = candidates[number]
+        others = anchors.setdefault(text, [])
+        if any(squared_distance(anchor, other) < label.distance**2 for other in others):
+            continue
+        width = font.width(text)
+        more = label.buffer + (1 if label.outline else 0)
+        for position in AUTO:
+            left, top = corner(position, anchor, width, font.height)
+            box = (left - more, top - more, left + width + more, top + font.height + more)
+            if box[0] < 0 or box[1] < 0 or box[2] > size[0] or box[3] > size[1]:
+                continue
+            if any(share(box, other) for cell in cells_of(box) for other in cells.get(cell, [])):
+                continue
+            for cell in cells_of(box):
+                cells.setdefault(cell, []).append(box)
+            others.append(anchor)
+            placed.append((text, (left, top), label))
+            break
+    return placed
+
+
+def squared_distance(a, b):
+    return (a[0] - b[0]) ** 2 + (a[1] - b[1]) ** 2
+
+
+def corner(position, anchor, width, height):
+    """The upper left pixel of a text of that size at a position."""
+    (i, j), (down, across) = anchor, position
+    left = {"L": i - width, "C": i - width // 2, "R": i + 1}[across]
+    top = {"U": j - height, "C": j - height // 2, "L": j + 1}[down]
+    return left, top
+
+
+def share(a, b):
+    """Whether some pixel lies in both boxes."""
+    return max(a[0], b[0]) < min(a[2], b[2]) and max(a[1], b[1]) < min(a[3], b[3])
+
+
+def cells_of(box):
+    """The squares of the picture that a box lies in."""
+    return [
+        (i, j)
+        for i in range(box[0] // CELL, (box[2] - 1) // CELL + 1)
+        for j in range(box[1] // CELL, (box[3] - 1) // CELL + 1)
+    ]
+
+
+def paint(picture, font, placed):
+    """Paints labels in their order: of each the outline round all its ink, and then the ink."""
+    for text, (left, top), label in placed:
+        ink = font.ink(text, left, top)
+        if label.outline:
+            for i, j in {(x + i, y + j) for x, y in ink for i, j in ROUND}:
+                picture.span(j, i, i + 1, label.outline)
+        for i, j in ink:
+            picture.span(j, i, i + 1, label.colour)
+
+
+def anchors_in(picture, places):
+    """The pixels of places, and None for those off the picture."""
+    found = []
+    for place_of in places:
+        across, down = picture.device(place_of)
+        i, j = across // 16, down // 16
+        found.append((i, j) if 0 <= i < picture.width and 0 <= j < picture.height else None)
+    return found
