@@ -9,6 +9,7 @@
 //! Words: the *openings* are the contexts that are open, with the words that opened them.
 #![tactic(auto)]
 
+mod foreign;
 mod openings;
 mod place;
 mod sentence;
