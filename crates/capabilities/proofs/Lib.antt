@@ -1,0 +1,3 @@
+pub mod Numbers
+mod Readings
+mod Tags

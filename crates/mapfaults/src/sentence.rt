@@ -1,3 +1,4 @@
+use crate::foreign::{advice, has_tilde};
 use crate::openings::Opening;
 use crate::place::Explained;
 use crate::wanted::wanted;
@@ -63,16 +64,67 @@ fn block(alloc: Global, openings: &[Opening]) -> Result<String, AllocError> {
     }
 }
 
-// The words on a token that is no keyword.
-fn unknown_word(alloc: Global, e: &Explained, token: &str) -> Result<String, AllocError> {
-    match block_in(e.openings.as_slice()) {
-        Some(opening) => {
-            let name = opener(alloc, opening.word)?;
-            format!(in alloc; "{token} is no keyword of {name}")
-        }
-        None if e.noted.begun => format!(in alloc; "{token} stands after the END of MAP"),
-        None => format!(in alloc; "{token} stands where MAP has to begin"),
+// The words on a keyword of MapServer that isn't read in a block. There are none on another token.
+fn foreign_word(
+    alloc: Global,
+    context: Context,
+    token: &Token,
+    shown: &str,
+) -> Result<Option<String>, AllocError> {
+    let (Context::Keywords(block), Shape::Word) = (context, token.shape) else {
+        return Ok(None);
+    };
+    if token.text.starts_with("/*") {
+        let words = format!(in alloc;
+            "{shown} begins a comment of MapServer, which isn't supported: begin each of its lines with #"
+        )?;
+        return Ok(Some(words));
     }
+    match advice(alloc, block, token.text)? {
+        Some(advice) => {
+            let words = format!(in alloc; "{shown} is MapServer's and isn't supported{advice}")?;
+            Ok(Some(words))
+        }
+        None => Ok(None),
+    }
+}
+
+// The words on a token that is no keyword of a block.
+fn no_keyword(alloc: Global, opening: &Opening, token: &Token) -> Result<String, AllocError> {
+    let shown = found(alloc, token)?;
+    let name = opener(alloc, opening.word)?;
+    match foreign_word(alloc, opening.context, token, shown.as_str())? {
+        Some(words) => Ok(words),
+        None => format!(in alloc; "{shown} is no keyword of {name}"),
+    }
+}
+
+// The words on a token that stands where none of its kind may.
+fn unknown_word(alloc: Global, e: &Explained, token: &Token) -> Result<String, AllocError> {
+    match block_in(e.openings.as_slice()) {
+        Some(opening) => no_keyword(alloc, opening, token),
+        None => {
+            let shown = found(alloc, token)?;
+            if e.noted.begun {
+                format!(in alloc; "{shown} stands after the END of MAP")
+            } else {
+                format!(in alloc; "{shown} stands where MAP has to begin")
+            }
+        }
+    }
+}
+
+// The words on what isn't read as a rule.
+fn no_expression(alloc: Global, token: &Token, shown: &str) -> Result<String, AllocError> {
+    if token.shape == Shape::Word {
+        return format!(in alloc;
+            "{shown} is no expression: regular expressions are MapServer's and aren't supported"
+        );
+    }
+    if has_tilde(token.text) {
+        return format!(in alloc; "{shown} is no expression: ~ is MapServer's and isn't supported");
+    }
+    format!(in alloc; "{shown} is no expression")
 }
 
 // The words on a token that is no value.
@@ -184,8 +236,8 @@ impl<'a> Explained<'a> {
                 let name = shown(alloc, self.noted.name)?;
                 format!(in alloc; "an earlier LAYER has the NAME {name}")
             }
-            ParseKind::BadExpression => format!(in alloc; "{found} is no expression"),
-            _ => unknown_word(alloc, self, found.as_str()),
+            ParseKind::BadExpression => no_expression(alloc, token, found.as_str()),
+            _ => unknown_word(alloc, self, token),
         }
     }
 
@@ -205,7 +257,7 @@ impl<'a> Explained<'a> {
         }
         match (&self.token, self.openings.as_slice()) {
             (Some(token), [.., inner]) => self.words_inside(alloc, inner, token),
-            (Some(token), []) => unknown_word(alloc, self, found(alloc, token)?.as_str()),
+            (Some(token), []) => unknown_word(alloc, self, token),
             (None, _) => self.words_after(alloc),
         }
     }

@@ -4,7 +4,8 @@ use mapwords::{Expected, OnlyWord};
 pub fn wanted(expected: Expected) -> &'static str {
     match expected {
         Expected::Kind => "POINT, LINE or POLYGON",
-        Expected::Table => "the name of a file that ends in .csv",
+        Expected::Table =>
+            "the name of a file that ends in .csv: MapServer's other sources aren't supported",
         Expected::Pixmap => "PIXMAP alone",
         Expected::Width => "a count from 1 to 32",
         Expected::Size => "a count from 1 to 256",

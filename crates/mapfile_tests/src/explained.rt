@@ -15,9 +15,10 @@ fn told(alloc: Global, source: &str) -> Result<String, AllocError> {
     }
 }
 
-// What is told of a source in which `~` stands for the end of a line and `{3*ab}` for `ababab`.
+// What is told of a source in which `~` stands for the end of a line, `^` for `~`, and `{3*ab}` for `ababab`.
 fn told_row(alloc: Global, row: &str) -> Result<String, AllocError> {
     let lines = row.replace(alloc, '~', "\n")?;
+    let lines = lines.replace(alloc, '^', "~")?;
     let source = repeated(alloc, lines.as_str())?;
     told(alloc, source.as_str())
 }
@@ -40,7 +41,7 @@ sound|MAP END
 2: 2 is no value of EXTENT, which takes a number up to 1000 that is greater than the second|MAP EXTENT 1 2 3~2
 2: x is no value of COLOR, which takes three counts from -1 to 255|MAP LAYER CLASS STYLE COLOR 1~x
 2: RASTER is no value of TYPE, which takes POINT, LINE or POLYGON|MAP LAYER TYPE~RASTER
-2: p.txt is no value of DATA, which takes the name of a file that ends in .csv|MAP LAYER DATA~p.txt
+2: p.txt is no value of DATA, which takes the name of a file that ends in .csv: MapServer's other sources aren't supported|MAP LAYER DATA~p.txt
 2: DATA needs a LAYER of TYPE POINT|MAP LAYER NAME a TYPE LINE DATA~p.csv~END END
 2: VECTOR is no value of TYPE, which takes PIXMAP alone|MAP SYMBOL TYPE~VECTOR
 2: 257 is no value of SIZE, which takes a count from 1 to 256|MAP LAYER CLASS STYLE SIZE~257
@@ -87,11 +88,34 @@ sound|MAP END
 2: \"a?b?c\" is no keyword of MAP|MAP~'a~b\tc'
 1: 1234567890123456789012345678901234567890 is no keyword of MAP|MAP 1234567890123456789012345678901234567890
 1: 1234567890123456789012345678901234567890.. is no keyword of MAP|MAP 12345678901234567890123456789012345678901
-1: éééééééééééééééééééééééééééééééééééééééé.. is no keyword of MAP|MAP ééééééééééééééééééééééééééééééééééééééééé";
+1: éééééééééééééééééééééééééééééééééééééééé.. is no keyword of MAP|MAP ééééééééééééééééééééééééééééééééééééééééé
+# what MapServer has in a block, and what it hasn't
+2: SYMBOLSET is MapServer's and isn't supported: write SYMBOL blocks into the mapfile|MAP~SYMBOLSET 'a.sym'
+2: symbolset is MapServer's and isn't supported: write SYMBOL blocks into the mapfile|map~symbolset a
+2: \"SYMBOLSET\" is no keyword of MAP|MAP~'SYMBOLSET' a
+2: SYMBOLSET is no keyword of LAYER|MAP LAYER~SYMBOLSET a
+2: include is MapServer's and isn't supported: write into the mapfile what that file has|MAP LAYER CLASS~include 'a.map'
+2: CONNECTION is MapServer's and isn't supported: write FEATURE blocks into the LAYER, or name a file that ends in .csv by DATA|MAP LAYER~CONNECTION 'a'
+2: FILTER is MapServer's and isn't supported: write an EXPRESSION into each CLASS|MAP LAYER~FILTER 'a'
+2: MINSCALE is MapServer's and isn't supported: write MINSCALEDENOM|MAP LAYER~MINSCALE 1
+2: OPACITY is MapServer's and isn't supported|MAP LAYER~OPACITY 50
+2: COLOR is MapServer's and isn't supported: write it into a STYLE of the CLASS|MAP LAYER CLASS~COLOR 1 2 3
+2: ANGLE is MapServer's and isn't supported|MAP LAYER CLASS STYLE~ANGLE 30
+2: TEXT is MapServer's and isn't supported: name an item by LABELITEM in the LAYER|MAP LAYER CLASS LABEL~TEXT 'a'
+2: FILLED is MapServer's and isn't supported|MAP SYMBOL~FILLED TRUE
+2: WKT is MapServer's and isn't supported: write POINTS blocks|MAP LAYER FEATURE~WKT 'a'
+2: TEMPPATH is MapServer's and isn't supported|MAP WEB~TEMPPATH 'a'
+2: OPAC is no keyword of LAYER|MAP LAYER~OPAC 50
+2: /* begins a comment of MapServer, which isn't supported: begin each of its lines with #|MAP~/* a */
+2: /*a*/ begins a comment of MapServer, which isn't supported: begin each of its lines with #|MAP LAYER~/*a*/
+2: /a/ is no expression: regular expressions are MapServer's and aren't supported|MAP LAYER CLASS EXPRESSION~/a/
+2: ('[a]' ~ 'b') is no expression: ~ is MapServer's and isn't supported|MAP LAYER CLASS EXPRESSION~('[a]' ^ 'b')
+2: ('[a]' ~* 'b') is no expression: ~ is MapServer's and isn't supported|MAP LAYER CLASS EXPRESSION~('[a]' ^* 'b')
+2: ('[a]' = \"'~\" = ) is no expression|MAP LAYER CLASS EXPRESSION~('[a]' = \"'^\" = )";
 
 #[test]
 fn faults_are_told_in_words(rt: HostRuntime) -> Result<(), TableFault> {
-    check_rows(rt.alloc(), ROWS, '|', 64, told_row)
+    check_rows(rt.alloc(), ROWS, '|', 86, told_row)
 }
 
 // What is told of sources with a block, a vertex or an item more than a map may have.

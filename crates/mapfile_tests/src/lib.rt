@@ -29,4 +29,6 @@ mod told;
 #[cfg(test)]
 mod unused;
 #[cfg(test)]
+mod warned;
+#[cfg(test)]
 mod words;

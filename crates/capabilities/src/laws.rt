@@ -1,0 +1,20 @@
+//! Laws of the definitions. A law is a function without arguments whose contract states it.
+
+ghost use Rattle.capabilities.specs.Texts.{TextsChangeNoTags, TitlesAreRead, NamesAreRead};
+
+/// Whatever the texts of a map are, its document has the tags and the attributes of the document of the
+/// same map with empty texts.
+pub fn texts_change_no_tags()
+    ensures { TextsChangeNoTags }
+{}
+
+/// What stands in the elements `Title` of a document, unescaped, is the title of the map, of the service
+/// and of the outermost layer, and then the title of each layer that is switched on.
+pub fn titles_are_read()
+    ensures { TitlesAreRead }
+{}
+
+/// What stands in its elements `Name` is the name of the service, and then that of each such layer.
+pub fn names_are_read()
+    ensures { NamesAreRead }
+{}

@@ -1,0 +1,184 @@
+ghost use Rattle.std.specs.Prelude.{◌≡◌, ◌++◌, IfOk, OnOk};
+ghost use Rattle.std.specs.List.{flat_map, list_any};
+ghost use Rattle.mapfaults.specs.Warning.{is_comma, is_default_address, layer_warnings, layers_warnings, marked, subject_of, warned, warning_line, warning_lines, warnings, words_of};
+
+use itoa::Buffer;
+use mapdefs::{Items, Layer, LayerFields, Map};
+use std::alloc::{AllocError, Global};
+use xmltext::has_forbidden;
+
+/// What isn't as clients need it.
+#[derive(Clone, Copy)]
+pub enum Concern {
+    /// No address is given, and the one of a map without it has no port.
+    NoAddress,
+    /// A name has a comma, which parts names in `LAYERS`.
+    CommaInName,
+    /// A name has a character that XML forbids.
+    ForbiddenInName,
+    /// A title has one.
+    ForbiddenInTitle,
+    /// The address has one.
+    ForbiddenInAddress,
+}
+
+/// That something isn't as clients need it.
+#[derive(Clone, Copy)]
+pub struct Warning {
+    /// The number of the layer that it is of, counted from 1. There is none of the service.
+    pub layer: Option<usize>,
+    /// What it is.
+    pub concern: Concern,
+}
+
+impl Concern {
+    // What is said of it, behind what it is of.
+    #[tactic(auto, unfolding(crate::specs::Warning::words_of))]
+    fn words(self) -> &'static str
+        ensures { result.now ≡ words_of self }
+    {
+        match self {
+            Concern::NoAddress => {
+                " has no wms_onlineresource, and http://localhost/wms? has no port"
+            }
+            Concern::CommaInName => " has a NAME with a comma, so that LAYERS can't ask for it",
+            Concern::ForbiddenInName => " has a NAME with a character that XML forbids",
+            Concern::ForbiddenInTitle => " has a title with a character that XML forbids",
+            Concern::ForbiddenInAddress => " has an address with a character that XML forbids",
+        }
+    }
+}
+
+// Adds a warning, where something is so.
+fn add(out: &mut Vec<Warning>, holds: bool, warning: Warning) -> Result<(), AllocError>
+    ensures { OnOk result (out.new.items ≡ out.old.items ++ warned holds warning) }
+{
+    if holds {
+        out.push(warning)?;
+    }
+    Ok(())
+}
+
+// Whether a name has a comma.
+fn has_comma(name: &str) -> bool
+    ensures { result ≡ list_any is_comma name.now }
+{
+    name.as_bytes().iter().any(|byte| *byte == b',')
+}
+
+// Whether an address is the one that a map has where none is given.
+#[tactic(auto, unfolding(crate::specs::Warning::is_default_address))]
+fn is_default_address(url: &str) -> bool
+    ensures { result ≡ is_default_address url.now }
+{
+    url == "http://localhost/wms?"
+}
+
+// Adds the warnings on a layer of a number.
+fn add_layer(out: &mut Vec<Warning>, number: usize, fields: &LayerFields) -> Result<(), AllocError>
+    ensures { OnOk result (out.new.items ≡ out.old.items ++ layer_warnings number fields.now) }
+{
+    let (name, title) = (fields.name.as_str(), fields.title.as_str());
+    let layer = Some(number);
+    let concern = Concern::CommaInName;
+    add(out, has_comma(name), Warning { layer, concern })?;
+    let concern = Concern::ForbiddenInName;
+    add(out, has_forbidden(name), Warning { layer, concern })?;
+    let concern = Concern::ForbiddenInTitle;
+    add(out, has_forbidden(title), Warning { layer, concern })
+}
+
+// Adds the warnings on layers, of which the first has the number 1.
+fn add_layers(out: &mut Vec<Warning>, layers: &[Layer]) -> Result<(), AllocError>
+    ensures { OnOk result (out.new.items ≡ out.old.items ++ layers_warnings 1 layers.now) }
+{
+    for (index, layer) in layers.iter().enumerate() {
+        add_layer(out, index + 1, layer.get())?;
+    }
+    Ok(())
+}
+
+/// The warnings on a map, those on the service first, and then those on its layers in their order. The error is that
+/// memory was refused.
+pub fn warnings(alloc: Global, map: &Map) -> Result<Vec<Warning>, AllocError>
+    ensures { IfOk result (λ found. found.items ≡ warnings map.now) }
+{
+    let map = map.get();
+    let mut out = Vec::new(alloc);
+    let layer = None;
+    let concern = Concern::NoAddress;
+    add(
+        &mut out,
+        is_default_address(map.url.as_str()),
+        Warning { layer, concern },
+    )?;
+    let concern = Concern::ForbiddenInTitle;
+    add(
+        &mut out,
+        has_forbidden(map.title.as_str()),
+        Warning { layer, concern },
+    )?;
+    let concern = Concern::ForbiddenInAddress;
+    add(
+        &mut out,
+        has_forbidden(map.url.as_str()),
+        Warning { layer, concern },
+    )?;
+    add_layers(&mut out, map.layers.as_slice())?;
+    Ok(out)
+}
+
+// Adds what a warning is on.
+#[tactic(auto, unfolding(crate::specs::Warning::subject_of))]
+fn add_subject(out: &mut Vec<u8>, layer: Option<usize>) -> Result<(), AllocError>
+    ensures { OnOk result (out.new.items ≡ out.old.items ++ subject_of layer) }
+{
+    match layer {
+        Some(number) => {
+            out.extend_from_slice(b"LAYER ")?;
+            out.extend_from_slice(Buffer::new().format(number).as_bytes())
+        }
+        None => out.extend_from_slice(b"the service"),
+    }
+}
+
+// What stands between the name of a mapfile and a warning.
+#[tactic(auto, unfolding(crate::specs::Warning::marked))]
+fn mark() -> &'static str
+    ensures { result.now ≡ marked }
+{
+    ": warning: "
+}
+
+// Adds the line of a warning.
+#[tactic(auto, unfolding(crate::specs::Warning::warning_line))]
+fn add_line(out: &mut Vec<u8>, name: &str, warning: Warning) -> Result<(), AllocError>
+    ensures { OnOk result (out.new.items ≡ out.old.items ++ warning_line name.now warning) }
+{
+    out.extend_from_slice(name.as_bytes())?;
+    out.extend_from_slice(mark().as_bytes())?;
+    add_subject(out, warning.layer)?;
+    out.extend_from_slice(warning.concern.words().as_bytes())?;
+    out.extend_from_slice(b"\n")
+}
+
+// Adds the lines of warnings.
+fn add_lines(out: &mut Vec<u8>, name: &str, warnings: &[Warning]) -> Result<(), AllocError>
+    ensures { OnOk result (out.new.items ≡ out.old.items ++ flat_map (warning_line name.now) warnings.now) }
+{
+    for warning in warnings {
+        add_line(out, name, *warning)?;
+    }
+    Ok(())
+}
+
+/// The lines of the warnings on a map, each with the name of the mapfile before it. The error is that memory was
+/// refused.
+pub fn warning_lines(alloc: Global, name: &str, map: &Map) -> Result<Items<u8>, AllocError>
+    ensures { IfOk result (λ text. text ≡ warning_lines name.now map.now) }
+{
+    let warnings = warnings(alloc, map)?;
+    let mut out = Vec::new(alloc);
+    add_lines(&mut out, name, &warnings)?;
+    Ok(Items::of(out))
+}
