@@ -1,6 +1,5 @@
 -- Each event keeps what is promised, and so does a run.
 use Rattle.std.proofs.Common.{◌≡◌, ◌∙◌, ℕ, ◌==◌, List, [], ◌∷◌, ◌++◌, All, Option, None, Some, IsSome, IfSome, is_some, refl, sym, ap, subst, append_assoc, slice_get}
-use Rattle.std.specs.Prelude.{option_and_then}
 use Rattle.std.proofs.lemmas.List.{append-nil}
 use Rattle.std.proofs.lemmas.List.Elements.{All-nil, All-append, All-push, All-weaker}
 use mathlib.Core.List.{IsPrefix}
@@ -8,18 +7,9 @@ use Rattle.sharing.specs.Sharing.{Sharing, after, opened}
 use Rattle.sharing.specs.Event.Event.{Submit, Publish, Learn, Enter, Answer, Leave}
 use Rattle.sharing.specs.Event.{Event, submit, publish, learn, enter, leave, shown, told, heard_at, step, run, heard}
 use Rattle.sharing.specs.Law.{KeepsPromises, Grows}
+use Rattle.sharing.proofs.Accepting.{front_accepted}
 use Rattle.sharing.proofs.Prefixes.{prefix_self, prefix_more, prefix_trans, all_get}
 use Rattle.sharing.proofs.Knowing.{Fits, Goes, fits_more, stays, learns, enters, leaves, one_goes, one_leaves}
-
-then_some : {S T : Type 0} (f g : S → Option T) (o : Option S) → ((t : S) → IsSome (f t) → IsSome (g t)) → IsSome (option_and_then f o) → IsSome (option_and_then g o)
-then_some f g None k h = absurd (cc h)
-then_some f g (Some t) k h = k t h
-
-module _ {S B : Type 0} (batch : S → B → Option S) where
-  -- the beginning of an accepted list is accepted
-  pub front_accepted : (s : S) (a b : List B) → IsSome (after batch s (a ++ b)) → IsSome (after batch s a)
-  front_accepted s [] b h = refl
-  front_accepted s (x ∷ a) b h = then_some (λ t. after batch t (a ++ b)) (λ t. after batch t a) (batch s x) (λ t k. front_accepted t a b k) h
 
 module _ {S B : Type 0} (start : S) (batch : S → B → Option S) where
   abbrev IsAccepted : List B → Type 0
