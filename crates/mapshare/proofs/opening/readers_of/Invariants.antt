@@ -1,0 +1,5 @@
+use Rattle.std.proofs.Common.{◌≡◌, [], All, length}
+use Rattle.mapshare.proofs.opening.readers_of.Given as goal
+
+abbrev pub invariant-loop : goal.invariant-loop
+invariant-loop g l = (length l.readers.items ≡ l.counter) × All (λ reader. reader ≡ []) l.readers.items

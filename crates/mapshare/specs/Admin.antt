@@ -1,0 +1,63 @@
+-- What an administrator does (docs/PROFILE.md, "Sharing").
+use Rattle.std.specs.Prelude.{◌≡◌, ℕ, List, [], ◌∷◌, ◌++◌, Some, IsSome, Err}
+use Rattle.batches.specs.Batch.{State, batched}
+use Rattle.batches.specs.declared.fault.BatchError.{BatchError}
+use Rattle.batches.specs.declared.fault.BatchError.TheVariants as batch_error
+use Rattle.batches.specs.declared.fault.BatchFault.{BatchFault}
+use Rattle.sharing.specs.Sharing.{after}
+use Rattle.mapshare.specs.Accepted.{accepted}
+use Rattle.mapshare.specs.declared.admin.Submitted.{Submitted}
+use Rattle.mapshare.specs.declared.admin.Submitted.TheVariants as submitted
+use Rattle.mapshare.specs.declared.admin.Retried.{Retried}
+use Rattle.mapshare.specs.declared.admin.Retried.TheVariants as retried
+
+-- the batches that are published, and those that were accepted and wait
+pub record Batches : Type 0 where
+  pub published : List (List ℕ)
+  pub pending : List (List ℕ)
+
+-- all that were accepted, in their order
+abbrev pub all_of : Batches → List (List ℕ)
+all_of batches = batches.published ++ batches.pending
+
+-- what is pending was published: the receipt stands for all batches, and nothing is pending any more
+abbrev pub IsPublished : Batches → List (List ℕ) → Batches → Type 0
+IsPublished old receipt new = (receipt ≡ all_of old) × (new ≡ record { published = receipt; pending = [] })
+
+-- one more batch is pending
+abbrev pub with_batch : List ℕ → Batches → Batches
+with_batch batch old = record { published = old.published; pending = old.pending ++ batch ∷ [] }
+
+-- there is a state after all batches
+abbrev pub IsAccepted : State → Batches → Type 0
+IsAccepted opening batches = IsSome (after accepted opening (all_of batches))
+
+-- the batch has this fault in the state after all batches
+abbrev pub IsRefused : State → Batches → List ℕ → BatchFault → Type 0
+IsRefused opening batches batch fault =
+    (state : State) × (after accepted opening (all_of batches) ≡ Some state) × (batched batch state ≡ Err fault)
+
+-- the error is such a fault, or memory was refused
+abbrev pub IsFaultOf : State → Batches → List ℕ → BatchError → Type 0
+IsFaultOf opening batches batch (batch_error.Fault fault) = IsRefused opening batches batch fault
+IsFaultOf opening batches batch batch_error.NoMemory = Unit {0}
+
+-- what a batch became that was submitted: it was accepted, and published with all that was pending or is pending; or it
+-- was refused with its first fault, or out of memory, and nothing has changed
+abbrev pub HasSubmitted : {S : Type 0} → State → Batches → List ℕ → Submitted S → Batches → Type 0
+HasSubmitted opening old batch (submitted.Published receipt) new = IsAccepted opening (with_batch batch old) × IsPublished (with_batch batch old) receipt new
+HasSubmitted opening old batch submitted.Held new = IsAccepted opening (with_batch batch old) × (new ≡ with_batch batch old)
+HasSubmitted opening old batch (submitted.Refused fault) new = IsRefused opening old batch fault × (new ≡ old)
+HasSubmitted opening old batch submitted.NoMemory new = new ≡ old
+
+-- what became of all that was pending: nothing was, or it was published, or it is held
+abbrev pub HasRetried : {S : Type 0} → Batches → Retried S → Batches → Type 0
+HasRetried old retried.Idle new = (old.pending ≡ []) × (new ≡ old)
+HasRetried old (retried.Published receipt) new = IsPublished old receipt new
+HasRetried old retried.Held new = new ≡ old
+
+-- nothing was pending
+abbrev pub IsIdle : {S : Type 0} → Retried S → Type 0
+IsIdle retried.Idle = Unit {0}
+IsIdle (retried.Published receipt) = ⊥
+IsIdle retried.Held = ⊥

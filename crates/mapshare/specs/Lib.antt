@@ -1,0 +1,4 @@
+pub mod Accepted
+pub mod Admin
+pub mod Edition
+pub mod Queue

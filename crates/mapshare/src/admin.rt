@@ -1,0 +1,291 @@
+ghost use Rattle.std.specs.Prelude.{◌≡◌, ◌↔◌, ◌++◌, [], drop, Some, IsSome, IfOk, IfErr, IsTrue, MatchBool, OnErr, OnOk};
+ghost use Rattle.sharing.specs.Sharing.{after};
+ghost use Rattle.mapshare.specs.Accepted.{accepted};
+ghost use Rattle.mapshare.specs.Admin.{HasRetried, HasSubmitted, IsAccepted, IsFaultOf, IsIdle, IsPublished, all_of, with_batch};
+ghost use Rattle.mapshare.specs.Queue.{IsChain};
+
+use crate::edition::{Edition, Noted, Shape};
+use crate::receipt::Receipt;
+use crate::rule::{MapWriter, Moves, Ruled, Sharing};
+use crossbeam_utils::rule::Protocol;
+use history::{Front, History, MAX_HISTORY};
+use left_right::Absorb;
+use mapmachine::{BatchError, BatchFault, Machine};
+use std::alloc::{AllocError, Global};
+use std::collections::VecDeque;
+use std::marker::Model;
+use std::sync::Wait;
+
+/// What a batch became that was submitted.
+#[derive(Drop)]
+pub enum Submitted<S: Sharing> {
+    /// Readers see it, with all that was pending.
+    Published(Receipt<S>),
+    /// It was accepted, and is the last that is pending: there was no memory to show it.
+    Held,
+    /// It has this first fault, and nothing has changed.
+    Refused(BatchFault),
+    /// Memory was refused, and nothing has changed.
+    NoMemory,
+}
+
+/// What became of what was pending.
+#[derive(Drop)]
+pub enum Retried<S: Sharing> {
+    /// Nothing was pending.
+    Idle,
+    /// Readers see it.
+    Published(Receipt<S>),
+    /// There was no memory to show it.
+    Held,
+}
+
+/// The administrator of a shared map. Contracts see it as the batches that are published and pending.
+pub struct Admin<S: Sharing>
+where
+    Edition<S>: Absorb<Noted<S>, State = Shape>,
+    Ruled<S>: Protocol<Edition<S>, ()>,
+{
+    writer: MapWriter<S>,
+    history: History<S>,
+    // What is pending and wasn't handed to the writer yet.
+    queue: VecDeque<Noted<S>>,
+    // The machine after all accepted batches.
+    checked: Machine,
+    published: Front<S>,
+    last: Front<S>,
+}
+
+impl<S: Sharing> Model for Admin<S>
+where
+    Edition<S>: Absorb<Noted<S>, State = Shape>,
+    Ruled<S>: Protocol<Edition<S>, ()>,
+{
+    ghost use Rattle.std.specs.Prelude.{◌≡◌, ◌++◌, Some, drop};
+    ghost use Rattle.sharing.specs.Sharing.{after};
+    ghost use Rattle.mapshare.specs.Accepted.{accepted};
+    ghost use Rattle.mapshare.specs.Admin.{Batches};
+    ghost use Rattle.mapshare.specs.Queue.{IsChain, batches_of};
+
+    ghost Value = { Batches };
+
+    ghost view = { λ a. record { published = a.published; pending = batches_of (drop a.writer.behind a.writer.log.items ++ a.queue.items) } };
+
+    ghost invariant = { λ a. (a.writer.desk.shown.value.front ≡ a.published) × IsChain a.published (drop a.writer.behind a.writer.log.items ++ a.queue.items) a.last × (after accepted S.opening a.last ≡ Some a.checked) };
+}
+
+// Shows readers all that the writer has, which ends with the last front.
+fn show_all<S: Sharing, R: Wait>(
+    rt: &R,
+    writer: MapWriter<S>,
+    last: &Front<S>,
+) -> (MapWriter<S>, Result<(), AllocError>)
+    requires chain { IsChain writer.desk.shown.value.front (drop writer.behind writer.log.items) last.now }
+    requires accepted { IsSome (after accepted S.opening last.now) }
+    ensures front { OnOk result.1 (result.0.desk.shown.value.front ≡ last.now) }
+    ensures none_left { OnOk result.1 (drop result.0.behind result.0.log.items ≡ []) }
+    ensures held { OnErr result.1 ((result.0.desk.shown.value ≡ writer.desk.shown.value) × (drop result.0.behind result.0.log.items ≡ drop writer.behind writer.log.items)) }
+{
+    let _last = last;
+    writer.publish_as::<Moves, R>(rt)
+}
+
+// Hands what waits to the writer, as long as there is memory.
+fn fill<S: Sharing>(writer: &mut MapWriter<S>, queue: &mut VecDeque<Noted<S>>) -> bool
+    ensures desk { writer.new.desk ≡ writer.old.desk }
+    ensures all { drop writer.new.behind writer.new.log.items ++ queue.new.items ≡ drop writer.old.behind writer.old.log.items ++ queue.old.items }
+    ensures empty { IsTrue result → queue.new.items ≡ [] }
+{
+    while let Some(noted) = queue.pop_front() {
+        if let Err(noted) = writer.append(noted) {
+            queue.push_front_reserved(noted);
+            return false;
+        }
+    }
+    true
+}
+
+// Shows readers all that waits, which ends with the last front, and says whether it did.
+fn show_waiting<S: Sharing, R: Wait>(
+    rt: &R,
+    mut writer: MapWriter<S>,
+    queue: &mut VecDeque<Noted<S>>,
+    last: &Front<S>,
+) -> (MapWriter<S>, bool)
+    requires chain { IsChain writer.desk.shown.value.front (drop writer.behind writer.log.items ++ queue.old.items) last.now }
+    requires accepted { IsSome (after accepted S.opening last.now) }
+    ensures { MatchBool result.1 ((result.0.desk.shown.value.front ≡ last.now) × (drop result.0.behind result.0.log.items ++ queue.new.items ≡ [])) ((result.0.desk.shown.value.front ≡ writer.desk.shown.value.front) × (drop result.0.behind result.0.log.items ++ queue.new.items ≡ drop writer.behind writer.log.items ++ queue.old.items)) }
+{
+    if !fill(&mut writer, queue) {
+        return (writer, false);
+    }
+    match show_all(rt, writer, last) {
+        (writer, Ok(())) => (writer, true),
+        (writer, Err(_)) => (writer, false),
+    }
+}
+
+impl<S: Sharing> Admin<S> {
+    // The administrator at the opening.
+    pub(crate) fn new(
+        alloc: Global,
+        writer: MapWriter<S>,
+        history: History<S>,
+        checked: Machine,
+        front: Front<S>,
+    ) -> Self
+        requires machine { checked ≡ S.opening }
+        requires empty { front ≡ [] }
+        requires shown { writer.desk.shown.value.front ≡ [] }
+        requires none_left { drop writer.behind writer.log.items ≡ [] }
+        ensures { result ≡ record { published = []; pending = [] } }
+    {
+        Admin {
+            writer,
+            history,
+            queue: VecDeque::new(alloc),
+            checked,
+            published: front.copy(),
+            last: front,
+        }
+    }
+
+    // Whether nothing is pending.
+    fn is_idle(&self) -> bool
+        ensures { IsTrue result ↔ (self.now.pending ≡ []) }
+    {
+        !self.writer.has_pending_operations() && self.queue.is_empty()
+    }
+
+    // The receipt of all that is published, where nothing is pending.
+    fn receipt(&self) -> Receipt<S>
+        requires idle { self.now.pending ≡ [] }
+        ensures { result ≡ self.now.published }
+    {
+        Receipt::new(self.published.copy(), self.checked.sequence())
+    }
+
+    // The machine after all accepted batches and this one, if it has no fault there. The batch is applied to a copy,
+    // which shares the features.
+    fn after_batch(&self, batch: &Vec<u8>) -> Result<Machine, BatchError>
+        ensures accepted { IfOk result (λ m. after accepted S.opening (all_of (with_batch batch.now.items self.now)) ≡ Some m) }
+        ensures refused { IfErr result (IsFaultOf S.opening self.now batch.now.items) }
+    {
+        let Ok(mut checked) = self.checked.copy() else {
+            return Err(BatchError::NoMemory);
+        };
+        match checked.batch(batch.as_slice()) {
+            Ok(_) => Ok(checked),
+            Err(error) => Err(error),
+        }
+    }
+
+    // Accepts a batch: it is the last that is pending then.
+    fn accept(&mut self, batch: Vec<u8>) -> Result<(), BatchError>
+        ensures accepted { OnOk result (IsAccepted S.opening self.new × (self.new ≡ with_batch batch.items self.old)) }
+        ensures refused { IfErr result (IsFaultOf S.opening self.old batch.items) }
+        ensures kept { OnErr result (self.new ≡ self.old) }
+    {
+        if self.last.len() >= MAX_HISTORY || self.queue.reserve(1).is_err() {
+            return Err(BatchError::NoMemory);
+        }
+        let checked = match self.after_batch(&batch) {
+            Ok(checked) => checked,
+            Err(error) => return Err(error),
+        };
+        let mut front = self.last.copy();
+        if !front.add(&self.history, &batch) {
+            return Err(BatchError::NoMemory);
+        }
+        let noted = Noted {
+            batch,
+            front: front.copy(),
+        };
+        self.queue.push_back_reserved(noted);
+        self.checked = checked;
+        self.last = front;
+        Ok(())
+    }
+
+    // Shows readers all that is pending, and says whether it did.
+    fn publish<R: Wait>(self, rt: &R) -> (Self, bool)
+        ensures { MatchBool result.1 (IsPublished self result.0.published result.0) (result.0 ≡ self) }
+    {
+        let Admin {
+            writer,
+            history,
+            mut queue,
+            checked,
+            published,
+            last,
+        } = self;
+        let (writer, done) = show_waiting(rt, writer, &mut queue, &last);
+        if !done {
+            let admin = Admin {
+                writer,
+                history,
+                queue,
+                checked,
+                published,
+                last,
+            };
+            return (admin, false);
+        }
+        let admin = Admin {
+            writer,
+            history,
+            queue,
+            checked,
+            published: last.copy(),
+            last,
+        };
+        (admin, true)
+    }
+
+    /// Submits a batch: it is looked at in the state after all that were accepted. One without a fault is accepted, and
+    /// then all that is pending is published at once. It waits for readers that still read the older copy.
+    pub fn submit<R: Wait>(mut self, rt: &R, batch: Vec<u8>) -> (Self, Submitted<S>)
+        ensures submitted { HasSubmitted S.opening self batch.items result.1 result.0 }
+    {
+        match self.accept(batch) {
+            Err(BatchError::Fault(fault)) => return (self, Submitted::Refused(fault)),
+            Err(BatchError::NoMemory) => return (self, Submitted::NoMemory),
+            Ok(()) => {}
+        }
+        let (admin, done) = self.publish(rt);
+        if done {
+            let receipt = admin.receipt();
+            return (admin, Submitted::Published(receipt));
+        }
+        (admin, Submitted::Held)
+    }
+
+    /// Publishes what is pending, if anything is. It waits for readers that still read the older copy.
+    pub fn retry<R: Wait>(self, rt: &R) -> (Self, Retried<S>)
+        ensures idle { self.pending ≡ [] → IsIdle result.1 }
+        ensures retried { HasRetried self result.1 result.0 }
+    {
+        if self.is_idle() {
+            return (self, Retried::Idle);
+        }
+        let (admin, done) = self.publish(rt);
+        if done {
+            let receipt = admin.receipt();
+            return (admin, Retried::Published(receipt));
+        }
+        (admin, Retried::Held)
+    }
+
+    /// Ends the sharing: no reader enters any more. What is pending is lost. It waits for readers that still read.
+    pub fn close<R: Wait>(self, rt: &R) {
+        let Admin {
+            writer,
+            history: _history,
+            queue: _queue,
+            checked: _checked,
+            published: _published,
+            last: _last,
+        } = self;
+        let _edition = writer.take(rt);
+    }
+}

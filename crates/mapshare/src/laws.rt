@@ -1,0 +1,16 @@
+//! Laws of the definitions. A law is a function without arguments whose contract states it.
+
+ghost use Rattle.std.specs.Prelude.{ℕ, List};
+ghost use Rattle.sharing.specs.Law.{AnswersAreRight, Grows, KeepsPromises};
+ghost use Rattle.batches.specs.Batch.{State};
+ghost use Rattle.mapmachine.specs.Machine.{IsAnswer};
+ghost use Rattle.mapshare.specs.Accepted.{accepted};
+
+/// Whatever happens, and from whatever state the map is opened in, each answer is one of the map machine in the
+/// state after published batches that begin with all that its reader was shown or told of; what is known
+/// begins what is published, and stays known.
+pub fn shared()
+    ensures answers { (start : State) → AnswersAreRight start accepted IsAnswer }
+    ensures keeps { (start : State) → KeepsPromises (List ℕ) start accepted }
+    ensures grows { (start : State) → Grows (List ℕ) start accepted }
+{}

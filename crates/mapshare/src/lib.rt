@@ -1,0 +1,32 @@
+//! One map for many readers, which one administrator changes.
+//!
+//! Proved: `laws::shared` says of the map machine, whatever state it is opened in and whatever an administrator
+//! and readers do, that each answer is one of the machine after published batches, accepted one after the
+//! other, which begin with all that its reader was shown or told of. The running calls keep the rows of that
+//! law: `Admin::submit` accepts a batch after all that were accepted, refuses it with its first fault there, and
+//! publishes all that is pending or holds it (`submitted`); `Admin::retry` says that nothing is pending exactly
+//! where that is so (`idle`, `retried`); `Reader::learn` takes the longer of two lists of which one begins the
+//! other (`one`, `kept`, `told`); the entry of `Reader::enter` begins with all that the reader knew (`known`),
+//! and the reader then knows it (`knows`); `Entered::answer` is an answer of the machine after just the batches
+//! that the entry shows. No clause joins the calls of two threads; the law is about lists of events.
+//!
+//! Neither `enter` nor `answer` can wait: they have no handle. `open`, `submit`, `retry` and `close` may wait
+//! for a reader that still reads the older copy.
+//!
+//! Words: a *receipt* stands for all that was published when it was made. What a reader *knows* was published at
+//! the least. An *entry* shows one state, whatever is published meanwhile. An *edition* is what is published.
+#![tactic(auto)]
+
+mod admin;
+mod edition;
+pub mod laws;
+mod opening;
+mod reader;
+mod receipt;
+mod rule;
+
+pub use admin::{Admin, Retried, Submitted};
+pub use opening::{MAX_READERS, ShareFault, open};
+pub use reader::{Closed, Entered, Reader};
+pub use receipt::Receipt;
+pub use rule::Sharing;

@@ -1,0 +1,108 @@
+ghost use Rattle.std.specs.Prelude.{◌≡◌, ◌<◌, ◌≤◌, ◌⊎◌, ◌↔◌, [], drop, All, IfOk, IsErrOf, vec_len};
+ghost use Rattle.mapshare.specs.declared.opening.TheConstants.{MAX_READERS};
+
+use crate::admin::Admin;
+use crate::edition::Edition;
+use crate::reader::Reader;
+use crate::rule::{MapWriter, Sharing};
+use history::{Blank, Front};
+use mapmachine::Machine;
+use std::alloc::{AllocError, Global};
+use std::sync::Wait;
+use thiserror::Error;
+
+/// A map has at most so many readers.
+pub const MAX_READERS: usize = 32;
+
+/// Why a map can't be shared.
+#[derive(Debug, Drop, Error)]
+pub enum ShareFault {
+    /// There would be no reader, or too many.
+    #[error("a map is shared by 1 to 32 readers")]
+    Count,
+    /// Memory was refused.
+    #[error("out of memory")]
+    NoMemory,
+}
+
+// An edition of the machine as it is, with no batch.
+fn edition_of<S: Sharing>(machine: &Machine, front: &Front<S>) -> Result<Edition<S>, AllocError>
+    ensures { IfOk result (λ edition. (edition.machine ≡ machine.now) × (edition.front ≡ front.now)) }
+{
+    Ok(Edition {
+        machine: machine.copy()?,
+        front: front.copy(),
+    })
+}
+
+// The writer of two such editions.
+fn writer_of<S: Sharing>(
+    alloc: Global,
+    machine: &Machine,
+    front: &Front<S>,
+    count: usize,
+) -> Result<MapWriter<S>, AllocError>
+    requires opening { machine.now ≡ S.opening }
+    requires empty { front.now ≡ [] }
+    requires count { (0 < count) × (count ≤ MAX_READERS) }
+    ensures shown { IfOk result (λ writer. writer.desk.shown.value.front ≡ []) }
+    ensures none_left { IfOk result (λ writer. drop writer.behind writer.log.items ≡ []) }
+{
+    let first = edition_of(machine, front)?;
+    let second = edition_of(machine, front)?;
+    MapWriter::new(alloc, first, second, count)
+}
+
+// So many readers, which know nothing.
+fn readers_of<S: Sharing>(
+    alloc: Global,
+    writer: &MapWriter<S>,
+    front: &Front<S>,
+    count: usize,
+) -> Result<Vec<Reader<S>>, AllocError>
+    requires { front.now ≡ [] }
+    ensures count { IfOk result (λ readers. vec_len readers ≡ count) }
+    ensures known { IfOk result (λ readers. All (λ reader. reader ≡ []) readers.items) }
+{
+    let mut readers = Vec::new(alloc);
+    for _ in 0..count {
+        let end = writer.factory().reader()?;
+        readers.push(Reader::new(end, front.copy()))?;
+    }
+    Ok(readers)
+}
+
+/// Shares a map: it gives the administrator and so many readers. Who calls it names the sharing, by `S`, and hands over
+/// a history of its own for it. The machine is copied three times; the copies share its features.
+pub fn open<S: Sharing, R: Wait>(
+    rt: &R,
+    alloc: Global,
+    blank: Blank,
+    machine: &Machine,
+    count: usize,
+) -> Result<(Admin<S>, Vec<Reader<S>>), ShareFault>
+    requires history { blank.seen.book ≡ S.book }
+    requires opening { machine.now ≡ S.opening }
+    ensures admin { IfOk result (λ r. r.0 ≡ record { published = []; pending = [] }) }
+    ensures readers { IfOk result (λ r. vec_len r.1 ≡ count) }
+    ensures known { IfOk result (λ r. All (λ reader. reader ≡ []) r.1.items) }
+    ensures count { IsErrOf result ShareFault.Count ↔ ((count ≡ 0) ⊎ (MAX_READERS < count)) }
+{
+    let (history, front) = blank.named::<S>();
+    if count == 0 || count > MAX_READERS {
+        return Err(ShareFault::Count);
+    }
+    let Ok(checked) = machine.copy() else {
+        return Err(ShareFault::NoMemory);
+    };
+    let Ok(writer) = writer_of(alloc, machine, &front, count) else {
+        return Err(ShareFault::NoMemory);
+    };
+    match readers_of(alloc, &writer, &front, count) {
+        Ok(readers) => Ok((Admin::new(alloc, writer, history, checked, front), readers)),
+        Err(_) => {
+            let _edition = writer.take(rt);
+            Err(ShareFault::NoMemory)
+        }
+    }
+}

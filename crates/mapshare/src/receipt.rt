@@ -1,0 +1,46 @@
+ghost use Rattle.std.specs.Prelude.{◌≡◌, ◌+◌, length};
+
+use crate::rule::Sharing;
+use history::Front;
+use std::marker::Model;
+
+/// What stands for all batches that were published when it was made. Contracts see it as these batches.
+#[derive(Drop)]
+pub struct Receipt<S: Sharing> {
+    front: Front<S>,
+    sequence: u64,
+}
+
+impl<S: Sharing> Model for Receipt<S> {
+    ghost use Rattle.std.specs.Prelude.{◌≡◌, ◌+◌, ℕ, List, length};
+
+    ghost Value = { List (List ℕ) };
+
+    ghost view = { λ r. r.front };
+
+    ghost invariant = { λ r. r.sequence ≡ S.opening.sequence + length r.front };
+}
+
+impl<S: Sharing> Receipt<S> {
+    // The receipt of a front, after which the machine has this sequence.
+    pub(crate) fn new(front: Front<S>, sequence: u64) -> Self
+        requires counted { sequence ≡ S.opening.sequence + length front }
+        ensures { result ≡ front }
+    {
+        Receipt { front, sequence }
+    }
+
+    // What the receipt stands for.
+    pub(crate) fn front(&self) -> &Front<S>
+        ensures { result.now ≡ self.now }
+    {
+        &self.front
+    }
+
+    /// The sequence after all of its batches.
+    pub fn sequence(&self) -> u64
+        ensures { result ≡ S.opening.sequence + length self.now }
+    {
+        self.sequence
+    }
+}

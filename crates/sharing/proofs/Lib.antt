@@ -1,0 +1,5 @@
+pub mod Accepting
+pub mod Answering
+pub mod Keeping
+pub mod Knowing
+pub mod Prefixes

@@ -1,0 +1,4 @@
+pub mod Event
+pub mod Law
+pub mod Reply
+pub mod Sharing
