@@ -46,7 +46,7 @@ def near(column, row):
 
 def is_point_hit(place, box, column, row):
     across, down = device(place, box)
-    return (across // 16, down // 16) in near(column, row)
+    return 0 <= across // 16 < SIDE and 0 <= down // 16 < SIDE and max(abs(across // 16 - column), abs(down // 16 - row)) <= 3
 
 
 def is_box_hit(place, box, column, row):
@@ -58,17 +58,28 @@ def is_box_hit(place, box, column, row):
     return any(left <= 16 * i + 8 < right and top <= 16 * j + 8 < bottom for i, j in near(column, row))
 
 
+def items(place):
+    """The lines of the columns of a table."""
+    return f"    x = '{degrees(place[0])}'\n    y = '{degrees(place[1])}'\n"
+
+
 def answer(places, is_hit, box, column, row):
     hit = [k for k, place in enumerate(places) if is_hit(place, box, column, row)]
-    lines = "Layer 'a'\n" + "".join(f"  Feature {k}:\n" for k in hit) if hit else ""
+    shown = items if is_hit is is_point_hit else lambda place: ""
+    lines = "Layer 'a'\n" + "".join(f"  Feature {k}:\n{shown(places[k])}" for k in hit) if hit else ""
     text = "GetFeatureInfo results:\n" + lines
     return f"ANSWER text/plain {len(text)}\n{text}", len(hit)
 
 
 def ask(counting, path, places, is_hit, box):
     """What a click on a feature of the view costs, and how many it hits."""
-    shown = next(place for place in places if box[0] < place[0] < box[2] and box[1] < place[1] < box[3])
-    column, row = (part // 16 for part in device(shown, box))
+    column, row = next(
+        pixel
+        for place in places
+        if box[0] < place[0] < box[2] and box[1] < place[1] < box[3]
+        for pixel in [tuple(part // 16 for part in device(place, box))]
+        if is_hit(place, box, *pixel)
+    )
     wanted, hit = answer(places, is_hit, box, column, row)
     cost, told = counting.each(path, information(box, column, row))
     if told != wanted or hit == 0:
