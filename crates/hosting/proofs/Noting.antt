@@ -1,8 +1,8 @@
 -- What happens at a port, call after call.
-use Rattle.std.proofs.Common.{◌≡◌, ◌≢◌, ◌⊎◌, inl, inr, ℕ, zero, suc, min, IfSome, ◌+◌, ◌-◌, ◌^◌, ◌<◌, List, [], ◌∷◌, ◌++◌, Option, None, Some, refl, sym, ap, ◌∙◌, append_assoc, append-nil, arith}
+use Rattle.std.proofs.Common.{◌≡◌, ◌≢◌, ◌⊎◌, inl, inr, ℕ, zero, suc, min, IfSome, ◌+◌, ◌-◌, ◌^◌, ◌<◌, List, [], ◌∷◌, ◌++◌, Option, None, Some, Ok, Err, refl, sym, ap, ◌∙◌, append_assoc, append-nil, arith}
 use Rattle.batches.specs.Batch.{State}
 use Rattle.httpedge.specs.declared.edge.EdgeFault.{EdgeFault}
-use Rattle.sessions.specs.declared.outcome.Outcome.TheVariants.{Served, SocketFailed}
+use Rattle.sessions.specs.declared.failure.Failure.TheVariants.{SocketFailed}
 use Rattle.hosting.specs.Ports.{PortEvent, Failed, Opened, Closed, Notes, IsAnswered, IsVisited, GoesOn, Runs, begins, fails, answers, HasRun}
 
 pub Notes-nil : (a : Option (List PortEvent)) → Notes a a []
@@ -66,7 +66,7 @@ failed-on connections calls answered failures a b c old mid new w noted same few
 -- a call failed, and was the last
 pub failed-last : (connections calls answered failures : ℕ) (a b c : Option (List PortEvent)) (old mid new : State) →
     IsUnderWay connections a b old mid calls answered failures → Notes b c (Failed ∷ []) → new ≡ mid → failures + 1 ≡ 100 →
-    HasRun connections a c SocketFailed old new
+    HasRun connections a c (Err SocketFailed) old new
 failed-last connections calls answered failures a b c old mid new w noted same all = record {
   events = w.events ++ Failed ∷ [];
   noted = Notes-trans a b c w.events (Failed ∷ []) w.noted noted;
@@ -79,7 +79,7 @@ failed-last connections calls answered failures a b c old mid new w noted same a
 
 -- all calls were made that can be counted
 pub calls-over : (connections calls answered failures : ℕ) (a b : Option (List PortEvent)) (old new : State) →
-    IsUnderWay connections a b old new calls answered failures → calls ≡ 2 ^ 64 - 1 → HasRun connections a b SocketFailed old new
+    IsUnderWay connections a b old new calls answered failures → calls ≡ 2 ^ 64 - 1 → HasRun connections a b (Err SocketFailed) old new
 calls-over connections calls answered failures a b old new w all = record {
   events = w.events;
   noted = w.noted;
@@ -139,7 +139,7 @@ visited-on connections calls answered now failures a b c old mid new w v more = 
 -- a connection was answered, and was the last
 pub visited-last : (connections calls answered failures : ℕ) (a b c : Option (List PortEvent)) (old mid new : State) →
     IsUnderWay connections a b old mid calls answered failures → IsVisited b c mid new → 0 < connections → answered + 1 ≡ connections →
-    HasRun connections a c Served old new
+    HasRun connections a c (Ok tt) old new
 visited-last connections calls answered failures a b c old mid new w v some all = record {
   events = w.events ++ Opened v.stream v.before ∷ Closed v.after v.fault ∷ [];
   noted = Notes-trans a b c w.events _ w.noted v.noted;

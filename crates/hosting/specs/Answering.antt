@@ -4,9 +4,8 @@ use Rattle.std.specs.Io.KnownBytes.{Keeps}
 use Rattle.clap.specs.Words.{subcommand_of, takes}
 use Rattle.commandline.specs.Words.{app, IsCommand}
 use Rattle.commandline.specs.declared.form.Command.{Command}
-use Rattle.sessions.specs.Session.{Streams, IsTold}
-use Rattle.sessions.specs.declared.outcome.Outcome.{Outcome}
-use Rattle.sessions.specs.declared.outcome.Outcome.TheVariants.{WordsRefused, NoMemory}
+use Rattle.sessions.specs.Session.{Outcome, Streams, IsTold}
+use Rattle.sessions.specs.declared.failure.Failure.TheVariants.{WordsRefused, NoMemory}
 use Rattle.hosting.specs.Performing.{HostView, Performs}
 use Rattle.hosting.specs.declared.words.WordsUnread.{WordsUnread}
 use Rattle.hosting.specs.declared.words.WordsUnread.TheVariants.{NoText, NoMemory as UnreadNoMemory}
@@ -18,13 +17,13 @@ pub record IsUntouched (old new : Streams) : Type 0 where
 
 -- there was no memory for the words, and nothing was told
 pub record IsWithoutMemory (outcome : Outcome) (old new : Streams) : Type 0 where
-  pub ends : outcome ≡ NoMemory
+  pub ends : outcome ≡ Err NoMemory
   pub untouched : IsUntouched old new
   pub errors : Keeps old.errors new.errors
 
 -- the words were refused, and the command line doesn't take them
 pub record IsRefused (words : List (List ℕ)) (outcome : Outcome) (old new : Streams) : Type 0 where
-  pub ends : outcome ≡ WordsRefused
+  pub ends : outcome ≡ Err WordsRefused
   pub refused : takes app words ≡ false
   pub untouched : IsUntouched old new
 
@@ -36,7 +35,7 @@ pub record IsPerformed {P : Type 0} (host : HostView P) (words : List (List ℕ)
 
 -- a word isn't text, which was told
 pub record IsNoText (outcome : Outcome) (old new : Streams) (failed : Bool) : Type 0 where
-  pub ends : outcome ≡ WordsRefused
+  pub ends : outcome ≡ Err WordsRefused
   pub untouched : IsUntouched old new
   pub told : IsTold old.errors new.errors (codes "error: a word is not UTF-8\n") failed
 

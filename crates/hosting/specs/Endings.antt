@@ -1,17 +1,15 @@
 -- How the program ends (docs/PROFILE.md, "The program").
-use Rattle.std.specs.Prelude.{ℕ}
-use Rattle.sessions.specs.declared.outcome.Outcome.{Outcome}
-use Rattle.sessions.specs.declared.outcome.Outcome.TheVariants.{Played, Checked, Served, MapfileFault, FileFailed, WordsRefused, InputFailed, OutputFailed, SocketFailed, NoMemory}
+use Rattle.std.specs.Prelude.{ℕ, Ok, Err}
+use Rattle.sessions.specs.Session.{Outcome}
+use Rattle.sessions.specs.declared.failure.Failure.TheVariants.{MapfileFault, FileFailed, WordsRefused, InputFailed, OutputFailed, SocketFailed, NoMemory}
 
--- the exit status of an outcome
+-- the exit status: 0 where all was done that was asked, else by what failed
 abbrev pub status_of : Outcome → ℕ
-status_of Played = 0
-status_of Checked = 0
-status_of Served = 0
-status_of MapfileFault = 1
-status_of FileFailed = 1
-status_of WordsRefused = 2
-status_of InputFailed = 3
-status_of OutputFailed = 3
-status_of SocketFailed = 3
-status_of NoMemory = 4
+status_of (Ok done) = 0
+status_of (Err MapfileFault) = 1
+status_of (Err FileFailed) = 1
+status_of (Err WordsRefused) = 2
+status_of (Err InputFailed) = 3
+status_of (Err OutputFailed) = 3
+status_of (Err SocketFailed) = 3
+status_of (Err NoMemory) = 4

@@ -1,9 +1,9 @@
 -- What a host gives to the program: its files, and the ports that it listens on (docs/PROFILE.md, "The program").
-use Rattle.std.specs.Prelude.{◌≡◌, ℕ, List, ◌++◌, Option, None, Some, IfSome, ⊤, take, codes}
+use Rattle.std.specs.Prelude.{◌≡◌, ℕ, List, ◌++◌, Option, None, Some, IfSome, ⊤, Ok, Err, take, codes}
 use Rattle.std.specs.Io.KnownBytes.{Keeps, Appends}
 use Rattle.sessions.specs.Folder.{Giving, path_of}
-use Rattle.sessions.specs.declared.outcome.Outcome.{Outcome}
-use Rattle.sessions.specs.declared.outcome.Outcome.TheVariants.{Served, SocketFailed, OutputFailed, NoMemory}
+use Rattle.sessions.specs.Session.{Outcome}
+use Rattle.sessions.specs.declared.failure.Failure.TheVariants.{SocketFailed, OutputFailed, NoMemory}
 
 -- what is left of a file: all of it before it is opened
 abbrev pub left_of : {F : Type 0} → Option (List ℕ) → (F → Option (List ℕ)) → Option F → Option (List ℕ)
@@ -22,10 +22,10 @@ address_line address = codes "listening " ++ (address ++ codes "\n")
 -- what the output got of that line, by how telling it ended: all of it, where the address is known that; its first bytes, or all of it where
 -- the flush failed; or nothing, where there is no address or no memory for it
 abbrev pub TellsAddress : Outcome → Option (List ℕ) → Option (List ℕ) → Option (List ℕ) → Type 0
-TellsAddress Served known before after =
+TellsAddress (Ok done) known before after =
     (address : List ℕ) × IfSome known (λ k. address ≡ k) × Appends before after (address_line address)
-TellsAddress OutputFailed known before after =
+TellsAddress (Err OutputFailed) known before after =
     (address : List ℕ) × IfSome known (λ k. address ≡ k) × (count : ℕ) × Appends before after (take count (address_line address))
-TellsAddress SocketFailed known before after = Keeps before after
-TellsAddress NoMemory known before after = Keeps before after
-TellsAddress _ known before after = ⊥
+TellsAddress (Err SocketFailed) known before after = Keeps before after
+TellsAddress (Err NoMemory) known before after = Keeps before after
+TellsAddress (Err _) known before after = ⊥

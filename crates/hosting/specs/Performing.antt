@@ -1,5 +1,5 @@
 -- What the program does for a command on a host (docs/PROFILE.md, "The program").
-use Rattle.std.specs.Prelude.{◌≡◌, ◌⊎◌, ℕ, Bool, List, [], Option}
+use Rattle.std.specs.Prelude.{◌≡◌, ◌⊎◌, ℕ, Bool, List, [], Option, Ok, Err}
 use Rattle.std.specs.Io.KnownBytes.{Keeps}
 use Rattle.commandline.specs.declared.form.Command.{Command}
 use Rattle.commandline.specs.declared.form.Command.TheVariants.{Session, Check, Run, Serve}
@@ -7,9 +7,9 @@ use Rattle.mapdefs.specs.declared.map.MapFields.{MapFields}
 use Rattle.batches.specs.Batch.{State}
 use Rattle.sessions.specs.Folder.{Giving, IsFront}
 use Rattle.sessions.specs.Forms.{HasReadMap, GivesNoMap, ChecksTo, RunsTo}
-use Rattle.sessions.specs.Session.{Streams, Tells, opened}
-use Rattle.sessions.specs.declared.outcome.Outcome.{Outcome}
-use Rattle.sessions.specs.declared.outcome.Outcome.TheVariants.{Served, SocketFailed, NoMemory}
+use Rattle.sessions.specs.Session.{Outcome, Streams, Tells, opened}
+use Rattle.sessions.specs.declared.failure.Failure.{Failure}
+use Rattle.sessions.specs.declared.failure.Failure.TheVariants.{SocketFailed, NoMemory}
 use Rattle.hosting.specs.Hosts.{gives_in, TellsAddress}
 use Rattle.hosting.specs.Ports.{PortEvent, HasRun}
 
@@ -22,12 +22,11 @@ pub record PortView (P : Type 0) : Type 0 where
   pub log : P → Option (List PortEvent)
   pub address : P → Option (List ℕ)
 
--- how serving went on after the address of a port was told with an outcome: connections were answered about a map; or with another outcome
--- than that it was told, it ended
+-- how serving went on after the address of a port was told: connections were answered about a map; or it ended as telling failed
 abbrev pub GoesOnAfter : {P : Type 0} → PortView P → P → ℕ → MapFields → Outcome → Outcome → Type 0
-GoesOnAfter {P} view port connections map Served outcome =
+GoesOnAfter {P} view port connections map (Ok done) outcome =
     (closed : P) × (state : State) × HasRun connections (view.log port) (view.log closed) outcome (opened map) state
-GoesOnAfter view port connections map told outcome = outcome ≡ told
+GoesOnAfter view port connections map (Err failure) outcome = outcome ≡ Err failure
 
 -- a port was listened on, and its address told
 pub record HasListened {P : Type 0} (view : PortView P) (listens : P → Type 0) (connections : ℕ) (map : MapFields) (outcome : Outcome) (before after : Option (List ℕ)) : Type 0 where
@@ -40,7 +39,7 @@ pub record HasListened {P : Type 0} (view : PortView P) (listens : P → Type 0)
 -- connections about a map were answered on a port, or none was listened on, since it couldn't be, or since memory was refused
 abbrev pub ListensTo : {P : Type 0} → PortView P → (P → Type 0) → ℕ → MapFields → Outcome → Option (List ℕ) → Option (List ℕ) → Type 0
 ListensTo view listens connections map outcome before after =
-    (((outcome ≡ SocketFailed) ⊎ (outcome ≡ NoMemory)) × Keeps before after) ⊎ HasListened view listens connections map outcome before after
+    (((outcome ≡ Err SocketFailed) ⊎ (outcome ≡ Err NoMemory)) × Keeps before after) ⊎ HasListened view listens connections map outcome before after
 
 -- the map of a mapfile was served
 pub record IsMapServed {P : Type 0} (view : PortView P) (listens : P → Type 0) (gives : Giving) (connections : ℕ) (outcome : Outcome) (before after : Option (List ℕ)) (old new : Streams) : Type 0 where
@@ -49,10 +48,17 @@ pub record IsMapServed {P : Type 0} (view : PortView P) (listens : P → Type 0)
   pub listens_to : ListensTo view listens connections map outcome old.output new.output
   pub errors : Keeps old.errors new.errors
 
+-- no map was served, since the mapfile gave none
+pub record IsUnserved (gives : Giving) (outcome : Outcome) (name : List ℕ) (before after : Option (List ℕ)) (old new : Streams) (failed : Bool) : Type 0 where
+  pub failure : Failure
+  pub ends : outcome ≡ Err failure
+  pub output : Keeps old.output new.output
+  pub without : GivesNoMap gives failure name before after old.errors new.errors failed
+
 -- what serving a mapfile tells of the streams by its outcome, with the name of the mapfile
 abbrev pub ServesTo : {P : Type 0} → PortView P → (P → Type 0) → Giving → ℕ → Outcome → List ℕ → Option (List ℕ) → Option (List ℕ) → Streams → Streams → Bool → Type 0
 ServesTo view listens gives connections outcome name before after old new failed =
-    (Keeps old.output new.output × GivesNoMap gives outcome name before after old.errors new.errors failed)
+    IsUnserved gives outcome name before after old new failed
     ⊎ IsMapServed view listens gives connections outcome before after old new
 
 -- what a host is known to have: the bytes of the file of a path, and which ports it gives for a number

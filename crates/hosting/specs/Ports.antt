@@ -1,10 +1,10 @@
 -- The connections that come at a port, one after the other (docs/PROFILE.md, "The program").
-use Rattle.std.specs.Prelude.{◌≡◌, ◌⊎◌, ℕ, ◌+◌, ◌-◌, ◌^◌, ◌<◌, List, [], ◌∷◌, ◌++◌, Option, None, Some, IfSome, ⊤}
+use Rattle.std.specs.Prelude.{◌≡◌, ◌⊎◌, ℕ, ◌+◌, ◌-◌, ◌^◌, ◌<◌, List, [], ◌∷◌, ◌++◌, Option, None, Some, IfSome, ⊤, Ok, Err}
 use Rattle.batches.specs.Batch.{State}
 use Rattle.httpedge.specs.declared.edge.EdgeFault.{EdgeFault}
 use Rattle.sessions.specs.Connections.{HasServed, HasLeft}
-use Rattle.sessions.specs.declared.outcome.Outcome.{Outcome}
-use Rattle.sessions.specs.declared.outcome.Outcome.TheVariants.{Served, SocketFailed}
+use Rattle.sessions.specs.Session.{Outcome}
+use Rattle.sessions.specs.declared.failure.Failure.TheVariants.{SocketFailed}
 
 -- what happens at a port: a call for a connection fails; a connection is opened, with what its reader has left and its writer holds; it is
 -- closed, with what its writer holds then and the fault of the exchange, if it had one
@@ -52,9 +52,9 @@ pub data Runs (connections : ℕ) (old : State) : List PortEvent → ℕ → ℕ
 -- a server ends: it has answered as many connections as were asked for; or 100 calls for one have failed since the last, or it has made all
 -- calls that can be counted
 abbrev pub EndsAfter : Outcome → ℕ → ℕ → ℕ → ℕ → Type 0
-EndsAfter Served connections calls answered failures = (0 < connections) × (answered ≡ connections)
-EndsAfter SocketFailed connections calls answered failures = (failures ≡ 100) ⊎ (calls ≡ 2 ^ 64 - 1)
-EndsAfter _ connections calls answered failures = ⊥
+EndsAfter (Ok done) connections calls answered failures = (0 < connections) × (answered ≡ connections)
+EndsAfter (Err SocketFailed) connections calls answered failures = (failures ≡ 100) ⊎ (calls ≡ 2 ^ 64 - 1)
+EndsAfter (Err _) connections calls answered failures = ⊥
 
 -- a server ran at a port, from a state of the machine to another, and ended
 pub record HasRun (connections : ℕ) (log_before log_after : Option (List PortEvent)) (outcome : Outcome) (old new : State) : Type 0 where

@@ -1,10 +1,9 @@
-ghost use Rattle.std.specs.Prelude.{◌≡◌, ◌≢◌, ◌||◌, ℕ, List, None, IfOk, IfErr, OnOk, false, true};
+ghost use Rattle.std.specs.Prelude.{◌≡◌, ◌≢◌, ◌||◌, ℕ, List, None, IfOk, IfErr, OnOk, MatchResult, false, true};
 ghost use Rattle.commandline.specs.declared.form.Command.TheVariants.{Session};
-ghost use Rattle.sessions.specs.declared.outcome.Outcome.TheVariants.{Played, Checked, Served};
 ghost use Rattle.sessions.specs.Folder.{IsFront};
 ghost use Rattle.sessions.specs.Forms.{ChecksTo, GivesNoMap, HasReadMap, RunsTo, has_told};
 ghost use Rattle.sessions.specs.Session.{Streams, is_output_failed};
-ghost use Rattle.hosting.specs.Hosts.{gives_in, TellsAddress};
+ghost use Rattle.hosting.specs.Hosts.{gives_in, left_of, TellsAddress};
 ghost use Rattle.hosting.specs.Performing.{HostView, Left, ListensTo, Performs, PortView, ServesTo};
 
 use crate::files::{HostFile, HostFolder};
@@ -14,26 +13,41 @@ use crate::serving::answer_connections;
 use commandline::{Command, Service};
 use mapdefs::Map;
 use mapmachine::{Flagged, Machine, Sink, Source, put_pieces};
-use sessions::{Outcome, check_file, read_map, run_files, serve_session};
+use sessions::{Failure, NamedFile, check_file, read_map, run_files, serve_session};
 use std::alloc::Global;
 
+// The file of a path, whose name is that path.
+fn named_file<'a, H: Host>(host: &'a H, path: &'a str) -> NamedFile<'a, Flagged<HostFile<'a, H>>>
+    ensures name { result.name.now ≡ path.now }
+    ensures left { left_of (H.file host.now path.now) H.File.remaining result.reader.inner.file ≡ H.file host.now path.now }
+    ensures host { result.reader.inner.host.now ≡ host.now }
+    ensures path { result.reader.inner.path.now ≡ path.now }
+{
+    NamedFile {
+        name: path,
+        reader: Flagged::new(HostFile::new(host, path)),
+    }
+}
+
 // Says where a port is, so that whoever started the program knows when to connect.
-fn tell_address<P: Port, O: Sink>(alloc: Global, port: &P, output: &mut O) -> Outcome
+fn tell_address<P: Port, O: Sink>(alloc: Global, port: &P, output: &mut O) -> Result<(), Failure>
     ensures tells { TellsAddress result (P.address port.now) (O.held output.old) (O.held output.new) }
-    ensures flushed { result ≡ Served → O.is_flushed output.new ≡ true }
-    ensures flag { O.put_failed output.new ≡ (is_output_failed result || O.put_failed output.old) }
+    ensures flushed { OnOk result (O.is_flushed output.new ≡ true) }
+    ensures flag { MatchResult result
+        (λ _. O.put_failed output.new ≡ O.put_failed output.old)
+        (λ failure. O.put_failed output.new ≡ (is_output_failed failure || O.put_failed output.old)) }
 {
     let address = match port.address(alloc) {
         Ok(address) => address,
-        Err(AddressFault::Unknown) => return Outcome::SocketFailed,
-        Err(AddressFault::NoMemory) => return Outcome::NoMemory,
+        Err(AddressFault::Unknown) => return Err(Failure::SocketFailed),
+        Err(AddressFault::NoMemory) => return Err(Failure::NoMemory),
     };
     match put_pieces(output, &[b"listening ", address.as_str().as_bytes(), b"\n"]) {
         Ok(()) => match output.flush() {
-            Ok(()) => Outcome::Served,
-            Err(_) => Outcome::OutputFailed,
+            Ok(()) => Ok(()),
+            Err(_) => Err(Failure::OutputFailed),
         },
-        Err(_) => Outcome::OutputFailed,
+        Err(_) => Err(Failure::OutputFailed),
     }
 }
 
@@ -45,40 +59,41 @@ pub fn serve_port<H: Host, O: Sink>(
     map: Map,
     service: Service,
     output: &mut O,
-) -> Outcome
+) -> Result<(), Failure>
     ensures listens { ListensTo (record { log = H.Port.log; address = H.Port.address }) (H.listens host.now service.port) service.connections map result (O.held output.old) (O.held output.new) }
-    ensures flag { O.put_failed output.new ≡ (is_output_failed result || O.put_failed output.old) }
+    ensures flushed { OnOk result (O.is_flushed output.new ≡ true) }
+    ensures flag { MatchResult result
+        (λ _. O.put_failed output.new ≡ O.put_failed output.old)
+        (λ failure. O.put_failed output.new ≡ (is_output_failed failure || O.put_failed output.old)) }
 {
     let Ok(mut machine) = Machine::open(alloc, map) else {
-        return Outcome::NoMemory;
+        return Err(Failure::NoMemory);
     };
     let Ok(mut port) = host.listen(service) else {
-        return Outcome::SocketFailed;
+        return Err(Failure::SocketFailed);
     };
-    match tell_address(alloc, &port, output) {
-        Outcome::Served => answer_connections(alloc, &mut machine, &mut port, service.connections),
-        failed => failed,
-    }
+    tell_address(alloc, &port, output)?;
+    answer_connections(alloc, &mut machine, &mut port, service.connections)
 }
 
-// The map of a mapfile, or how the program ends without it. A fault is told.
+// The map of a mapfile. A fault is told.
 fn read_host_map<H: Host, E: Sink>(
     alloc: Global,
     host: &H,
     file: &str,
     errors: &mut E,
-) -> Result<Map, Outcome>
+) -> Result<Map, Failure>
     ensures map { IfOk result (λ map. (front : List ℕ) × IsFront file.now front × (after : Left)
         × HasReadMap (gives_in (H.file host.now) front) (H.file host.now file.now) after map) }
     ensures same { OnOk result (errors.new ≡ errors.old) }
-    ensures without { IfErr result (λ outcome. (front : List ℕ) × IsFront file.now front × (after : Left)
-        × GivesNoMap (gives_in (H.file host.now) front) outcome file.now (H.file host.now file.now) after (E.held errors.old) (E.held errors.new) (E.put_failed errors.new)) }
-    ensures flushed { IfErr result (λ outcome. has_told outcome ≡ true → E.put_failed errors.new ≡ false → E.is_flushed errors.new ≡ true) }
-    ensures output { IfErr result (λ outcome. is_output_failed outcome ≡ false) }
+    ensures without { IfErr result (λ failure. (front : List ℕ) × IsFront file.now front × (after : Left)
+        × GivesNoMap (gives_in (H.file host.now) front) failure file.now (H.file host.now file.now) after (E.held errors.old) (E.held errors.new) (E.put_failed errors.new)) }
+    ensures flushed { IfErr result (λ failure. has_told failure ≡ true → E.put_failed errors.new ≡ false → E.is_flushed errors.new ≡ true) }
+    ensures output { IfErr result (λ failure. is_output_failed failure ≡ false) }
 {
     let folder = HostFolder::of(host, file);
-    let mut mapfile = Flagged::new(HostFile::new(host, file));
-    read_map(alloc, &folder, file, &mut mapfile, errors)
+    let mut mapfile = named_file(host, file);
+    read_map(alloc, &folder, &mut mapfile, errors)
 }
 
 // Answers connections about the map of a mapfile.
@@ -89,19 +104,20 @@ fn serve_file<H: Host, O: Sink, E: Sink>(
     service: Service,
     output: &mut O,
     errors: &mut E,
-) -> Outcome
+) -> Result<(), Failure>
     ensures serves { (front : List ℕ) × IsFront file.now front × (after : Left)
         × ServesTo (record { log = H.Port.log; address = H.Port.address }) (H.listens host.now service.port) (gives_in (H.file host.now) front) service.connections result file.now (H.file host.now file.now) after
         (record { input = None; output = O.held output.old; errors = E.held errors.old })
         (record { input = None; output = O.held output.new; errors = E.held errors.new })
         (E.put_failed errors.new) }
-    ensures errors_flushed { has_told result ≡ true → E.put_failed errors.new ≡ false → E.is_flushed errors.new ≡ true }
-    ensures flag { O.put_failed output.new ≡ (is_output_failed result || O.put_failed output.old) }
+    ensures flushed { OnOk result (O.is_flushed output.new ≡ true) }
+    ensures errors_flushed { IfErr result (λ failure. has_told failure ≡ true → E.put_failed errors.new ≡ false → E.is_flushed errors.new ≡ true) }
+    ensures flag { MatchResult result
+        (λ _. O.put_failed output.new ≡ O.put_failed output.old)
+        (λ failure. O.put_failed output.new ≡ (is_output_failed failure || O.put_failed output.old)) }
 {
-    match read_host_map(alloc, host, file, errors) {
-        Ok(map) => serve_port(alloc, host, map, service, output),
-        Err(outcome) => outcome,
-    }
+    let map = read_host_map(alloc, host, file, errors)?;
+    serve_port(alloc, host, map, service, output)
 }
 
 // Checks a mapfile.
@@ -112,19 +128,21 @@ fn check<H: Host, O: Sink, E: Sink>(
     explains: bool,
     output: &mut O,
     errors: &mut E,
-) -> Outcome
+) -> Result<(), Failure>
     ensures checks { (front : List ℕ) × IsFront file.now front × (after : Left)
         × ChecksTo (gives_in (H.file host.now) front) explains result file.now
         (record { input = H.file host.now file.now; output = O.held output.old; errors = E.held errors.old })
         (record { input = after; output = O.held output.new; errors = E.held errors.new })
         (E.put_failed errors.new) }
-    ensures flushed { result ≡ Checked → O.is_flushed output.new ≡ true }
-    ensures errors_flushed { has_told result ≡ true → E.put_failed errors.new ≡ false → E.is_flushed errors.new ≡ true }
-    ensures flag { O.put_failed output.new ≡ (is_output_failed result || O.put_failed output.old) }
+    ensures flushed { OnOk result (O.is_flushed output.new ≡ true) }
+    ensures errors_flushed { IfErr result (λ failure. has_told failure ≡ true → E.put_failed errors.new ≡ false → E.is_flushed errors.new ≡ true) }
+    ensures flag { MatchResult result
+        (λ _. O.put_failed output.new ≡ O.put_failed output.old)
+        (λ failure. O.put_failed output.new ≡ (is_output_failed failure || O.put_failed output.old)) }
 {
     let folder = HostFolder::of(host, file);
-    let mut mapfile = Flagged::new(HostFile::new(host, file));
-    check_file(alloc, &folder, file, &mut mapfile, explains, output, errors)
+    let mut mapfile = named_file(host, file);
+    check_file(alloc, &folder, &mut mapfile, explains, output, errors)
 }
 
 // Plays a script on the map of a mapfile.
@@ -135,25 +153,25 @@ fn run<H: Host, O: Sink, E: Sink>(
     script: &str,
     output: &mut O,
     errors: &mut E,
-) -> Outcome
+) -> Result<(), Failure>
     ensures runs { (front : List ℕ) × IsFront file.now front × (after : Left) × (script_after : Left)
         × RunsTo (gives_in (H.file host.now) front) result file.now script.now (H.file host.now file.now) after
         (record { input = H.file host.now script.now; output = O.held output.old; errors = E.held errors.old })
         (record { input = script_after; output = O.held output.new; errors = E.held errors.new })
         (E.put_failed errors.new) }
-    ensures flushed { result ≡ Played → O.is_flushed output.new ≡ true }
-    ensures errors_flushed { has_told result ≡ true → E.put_failed errors.new ≡ false → E.is_flushed errors.new ≡ true }
-    ensures flag { O.put_failed output.new ≡ (is_output_failed result || O.put_failed output.old) }
+    ensures flushed { OnOk result (O.is_flushed output.new ≡ true) }
+    ensures errors_flushed { IfErr result (λ failure. has_told failure ≡ true → E.put_failed errors.new ≡ false → E.is_flushed errors.new ≡ true) }
+    ensures flag { MatchResult result
+        (λ _. O.put_failed output.new ≡ O.put_failed output.old)
+        (λ failure. O.put_failed output.new ≡ (is_output_failed failure || O.put_failed output.old)) }
 {
     let folder = HostFolder::of(host, file);
-    let mut mapfile = Flagged::new(HostFile::new(host, file));
-    let mut commands = Flagged::new(HostFile::new(host, script));
+    let mut mapfile = named_file(host, file);
+    let mut commands = named_file(host, script);
     run_files(
         alloc,
         &folder,
-        file,
         &mut mapfile,
-        script,
         &mut commands,
         output,
         errors,
@@ -169,16 +187,17 @@ pub fn perform<H: Host, I: Source, O: Sink, E: Sink>(
     input: &mut I,
     output: &mut O,
     errors: &mut E,
-) -> Outcome
+) -> Result<(), Failure>
     ensures performs { Performs (record { file = H.file host.now; listens = H.listens host.now; ports = record { log = H.Port.log; address = H.Port.address } }) command.entry result
         (record { input = I.left input.old; output = O.held output.old; errors = E.held errors.old })
         (record { input = I.left input.new; output = O.held output.new; errors = E.held errors.new })
         (E.put_failed errors.new) }
     ensures input_kept { command.entry ≢ Session → input.new ≡ input.old }
-    ensures flushed { result ≡ Played → O.is_flushed output.new ≡ true }
-    ensures checked { result ≡ Checked → O.is_flushed output.new ≡ true }
-    ensures errors_flushed { has_told result ≡ true → E.put_failed errors.new ≡ false → E.is_flushed errors.new ≡ true }
-    ensures flag { O.put_failed output.new ≡ (is_output_failed result || O.put_failed output.old) }
+    ensures flushed { OnOk result (O.is_flushed output.new ≡ true) }
+    ensures errors_flushed { IfErr result (λ failure. has_told failure ≡ true → E.put_failed errors.new ≡ false → E.is_flushed errors.new ≡ true) }
+    ensures flag { MatchResult result
+        (λ _. O.put_failed output.new ≡ O.put_failed output.old)
+        (λ failure. O.put_failed output.new ≡ (is_output_failed failure || O.put_failed output.old)) }
 {
     match command {
         Command::Session => {

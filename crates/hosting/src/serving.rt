@@ -4,7 +4,7 @@ ghost use Rattle.hosting.specs.Ports.{Failed, Notes, IsAnswered, IsVisited, HasR
 use crate::port::{Accepted, Port};
 use httpedge::EdgeFault;
 use mapmachine::{Machine, Sink, Source};
-use sessions::{Outcome, serve_connection};
+use sessions::{Failure, serve_connection};
 use std::alloc::Global;
 
 // How many calls for a connection fail one after the other, until the port is given up.
@@ -53,7 +53,7 @@ pub fn answer_connections<P: Port>(
     machine: &mut Machine,
     port: &mut P,
     connections: u32,
-) -> Outcome
+) -> Result<(), Failure>
     ensures runs { HasRun connections (P.log port.old) (P.log port.new) result machine.old machine.new }
 {
     let (mut answered, mut failures) = (0_u32, 0_u32);
@@ -62,14 +62,14 @@ pub fn answer_connections<P: Port>(
             answered = answered.saturating_add(1);
             failures = 0;
             if is_last(answered, connections) {
-                return Outcome::Served;
+                return Ok(());
             }
         } else {
             failures += 1;
             if failures == MAX_FAILURES {
-                return Outcome::SocketFailed;
+                return Err(Failure::SocketFailed);
             }
         }
     }
-    Outcome::SocketFailed
+    Err(Failure::SocketFailed)
 }

@@ -4,7 +4,7 @@ ghost use Rattle.hosting.specs.Ports.{Notes};
 use crate::closing::hang_up;
 use crate::limits::{DRAIN_SECONDS, FAILURE_MILLISECONDS, TimeLimit, Waits};
 use crate::port::{AcceptFailed, Accepted, AddressFault, Port};
-use crate::timed::{TimedReader, TimedWriter, Turn};
+use crate::timed::{TimedReader, TimedWriter, Answered};
 use httpedge::EdgeFault;
 use mapdefs::Text;
 use mapmachine::Flagged;
@@ -40,7 +40,7 @@ impl<'a> SocketPort<'a> {
     fn open(&self) -> io::Result<Accepted<SocketReader<'a>, SocketWriter<'a>>> {
         let (stream, _) = self.listener.accept()?;
         stream.set_nodelay(true)?;
-        let Ok((read, written)) = Turn::pair(self.rt.alloc()) else {
+        let Ok((read, written)) = Answered::pair(self.rt.alloc()) else {
             return Err(io::Error::from(io::ErrorKind::OutOfMemory));
         };
         let reader = TimedReader::start(stream.try_clone()?, self.rt, self.waits, read)?;

@@ -15,16 +15,16 @@ const MAX_TRIES: u32 = 1_000;
 
 /// What the two sides of a connection share: whether an answer was written since the last read.
 #[derive(Drop)]
-pub struct Turn {
-    is_answered: Rc<Cell<bool>>,
+pub struct Answered {
+    is_set: Rc<Cell<bool>>,
 }
 
-impl Turn {
+impl Answered {
     /// Both ends of one, where nothing was written. The error is that memory was refused.
-    pub fn pair(alloc: Global) -> Result<(Turn, Turn), AllocError> {
-        let is_answered = Rc::new(alloc, Cell::new(false))?;
-        let other = is_answered.clone()?;
-        Ok((Turn { is_answered }, Turn { is_answered: other }))
+    pub fn pair(alloc: Global) -> Result<(Answered, Answered), AllocError> {
+        let is_set = Rc::new(alloc, Cell::new(false))?;
+        let other = is_set.clone()?;
+        Ok((Answered { is_set }, Answered { is_set: other }))
     }
 }
 
@@ -36,14 +36,14 @@ pub struct TimedReader<'a, S, C> {
     stream: S,
     clock: &'a C,
     waits: Waits,
-    turn: Turn,
+    answered: Answered,
     limit: TimeLimit,
     is_idle: bool,
 }
 
 impl<'a, S, C: Clock> TimedReader<'a, S, C> {
     /// A stream whose first head begins now.
-    pub fn start(stream: S, clock: &'a C, waits: Waits, turn: Turn) -> io::Result<Self>
+    pub fn start(stream: S, clock: &'a C, waits: Waits, answered: Answered) -> io::Result<Self>
     where
         S: Drop,
     {
@@ -52,21 +52,21 @@ impl<'a, S, C: Clock> TimedReader<'a, S, C> {
             stream,
             clock,
             waits,
-            turn,
+            answered,
             is_idle: false,
         })
     }
 
     /// Another time from now on, whatever was answered.
     pub fn limit(&mut self, limit: TimeLimit) {
-        self.turn.is_answered.set(false);
+        self.answered.is_set.set(false);
         self.is_idle = false;
         self.limit = limit;
     }
 
     // Begins the time of an idle connection, where an answer was written.
     fn rest(&mut self) -> io::Result<()> {
-        if self.turn.is_answered.replace(false) {
+        if self.answered.is_set.replace(false) {
             self.limit = TimeLimit::start(self.clock, self.waits.idle)?;
             self.is_idle = true;
         }
@@ -108,7 +108,7 @@ pub struct TimedWriter<'a, S, C> {
     stream: S,
     clock: &'a C,
     waits: Waits,
-    turn: Turn,
+    answered: Answered,
     limit: Option<TimeLimit>,
     // The time since bytes last went.
     still: Option<TimeLimit>,
@@ -117,12 +117,12 @@ pub struct TimedWriter<'a, S, C> {
 
 impl<'a, S, C> TimedWriter<'a, S, C> {
     /// A stream to which nothing is written yet.
-    pub fn new(stream: S, clock: &'a C, waits: Waits, turn: Turn) -> Self {
+    pub fn new(stream: S, clock: &'a C, waits: Waits, answered: Answered) -> Self {
         TimedWriter {
             stream,
             clock,
             waits,
-            turn,
+            answered,
             limit: None,
             still: None,
             is_shut: false,
@@ -155,7 +155,7 @@ impl<S, C: Clock> TimedWriter<'_, S, C> {
 
     // Begins the times of an answer, where the client was read since the last one.
     fn begin(&mut self) {
-        if !self.turn.is_answered.replace(true) {
+        if !self.answered.is_set.replace(true) {
             self.limit = None;
             self.still = None;
         }

@@ -9,7 +9,7 @@ use crate::ending::Ending;
 use crate::host::Host;
 use commandline::{WordsFault, command};
 use mapmachine::{Sink, Source};
-use sessions::{Outcome, tell};
+use sessions::{Failure, tell};
 use std::alloc::{AllocError, Global};
 use thiserror::Error;
 
@@ -43,7 +43,7 @@ fn answer_texts<H: Host, I: Source, O: Sink, E: Sink>(
     input: &mut I,
     output: &mut O,
     errors: &mut E,
-) -> Outcome
+) -> Result<(), Failure>
     ensures { Answers (record { file = H.file host.now; listens = H.listens host.now; ports = record { log = H.Port.log; address = H.Port.address } })
         (Ok (map (λ text. text.now) texts.entry.now)) result
         (record { input = I.left input.old; output = O.held output.old; errors = E.held errors.old })
@@ -54,9 +54,9 @@ fn answer_texts<H: Host, I: Source, O: Sink, E: Sink>(
         Ok(command) => perform(alloc, host, command, input, output, errors),
         Err(WordsFault::Refused { text }) => {
             tell(errors, &[text.as_bytes()]);
-            Outcome::WordsRefused
+            Err(Failure::WordsRefused)
         }
-        Err(WordsFault::NoMemory) => Outcome::NoMemory,
+        Err(WordsFault::NoMemory) => Err(Failure::NoMemory),
     }
 }
 
@@ -68,7 +68,7 @@ fn answer_words<H: Host, I: Source, O: Sink, E: Sink>(
     input: &mut I,
     output: &mut O,
     errors: &mut E,
-) -> Outcome
+) -> Result<(), Failure>
     ensures { Answers (record { file = H.file host.now; listens = H.listens host.now; ports = record { log = H.Port.log; address = H.Port.address } })
         (Ok (map string_bytes words.now)) result
         (record { input = I.left input.old; output = O.held output.old; errors = E.held errors.old })
@@ -77,7 +77,7 @@ fn answer_words<H: Host, I: Source, O: Sink, E: Sink>(
 {
     match texts_of(alloc, words) {
         Ok(texts) => answer_texts(alloc, host, &texts, input, output, errors),
-        Err(_) => Outcome::NoMemory,
+        Err(_) => Err(Failure::NoMemory),
     }
 }
 
@@ -101,9 +101,9 @@ pub fn answer<H: Host, I: Source, O: Sink, E: Sink>(
         Ok(words) => answer_words(alloc, host, &words, input, output, errors),
         Err(WordsUnread::NoText) => {
             tell(errors, &[b"error: a word is not UTF-8\n"]);
-            Outcome::WordsRefused
+            Err(Failure::WordsRefused)
         }
-        Err(WordsUnread::NoMemory) => Outcome::NoMemory,
+        Err(WordsUnread::NoMemory) => Err(Failure::NoMemory),
     };
-    Ending::with(outcome)
+    Ending::after(outcome)
 }

@@ -40,9 +40,9 @@ fn play<W: Write>(rt: &HostRuntime, name: &str, output: &mut W) -> io::Result<()
         Err(_) => output.write_all(b"not UTF-8\n")?,
     }
     output.write_all(errors.inner().as_slice())?;
-    match outcome.status() {
-        0 => Ok(()),
-        status => writeln!(output, "status {status}"),
+    match outcome {
+        Ok(()) => Ok(()),
+        Err(failure) => writeln!(output, "status {}", failure.status()),
     }
 }
 

@@ -226,8 +226,8 @@ fn has_sample(text: &str, form: &Form, row: &str) -> Option<bool> {
 // and how many of the samples it has. 17 bytes of header and 2,048 times 2,048 pixels are 12,582,929 bytes
 // in 393,217 lines, 71 and four bytes a pixel are 16,777,287 in 524,291.
 const LARGEST: &str = "\
-0 Played 25559115 true 8=pixmap
-0 Played 34078911 true 9=map";
+0 done 25559115 true 8=pixmap
+0 done 34078911 true 9=map";
 
 // What is told of the text of a picture in a form.
 fn told_of_picture(alloc: Global, form: &str) -> Result<String, AllocError> {

@@ -1,28 +1,33 @@
 use crate::memory::{Memory, SomeFiles, stream_of};
 use crate::texts::{columns, spelt};
 use mapmachine::Flagged;
-use sessions::{Outcome, ReadFault, check_file, run_files, serve_session};
+use sessions::{Failure, NamedFile, ReadFault, check_file, run_files, serve_session};
 use std::alloc::{AllocError, Global};
 use std::str;
 use test_tables::{TableFault, check_all, check_rows};
 
-// Does what a form says, after which the name of the mapfile may stand.
+// Does what a form says with its files, the mapfile or session and the script.
 fn performed(
     alloc: Global,
     form: &str,
-    input: &mut Flagged<Memory<'_>>,
-    script: &mut Flagged<Memory<'_>>,
+    file: &mut NamedFile<'_, Flagged<Memory<'_>>>,
+    script: &mut NamedFile<'_, Flagged<Memory<'_>>>,
     output: &mut Flagged<Memory<'_>>,
     errors: &mut Flagged<Memory<'_>>,
-) -> Outcome {
-    let (form, name) = form.split_once(' ').unwrap_or((form, "m.map"));
+) -> Result<(), Failure> {
     match form {
-        "session" => serve_session(alloc, &SomeFiles, input, output, errors),
-        "check" => check_file(alloc, &SomeFiles, name, input, false, output, errors),
-        "explain" => check_file(alloc, &SomeFiles, name, input, true, output, errors),
-        _ => run_files(
-            alloc, &SomeFiles, name, input, "s.txt", script, output, errors,
-        ),
+        "session" => serve_session(alloc, &SomeFiles, &mut file.reader, output, errors),
+        "check" => check_file(alloc, &SomeFiles, file, false, output, errors),
+        "explain" => check_file(alloc, &SomeFiles, file, true, output, errors),
+        _ => run_files(alloc, &SomeFiles, file, script, output, errors),
+    }
+}
+
+/// The exit status, and what failed.
+pub fn end_of(alloc: Global, outcome: Result<(), Failure>) -> Result<String, AllocError> {
+    match outcome {
+        Ok(()) => String::from_str(alloc, "0 done"),
+        Err(failure) => format!(in alloc; "{} {failure:?}", failure.status()),
     }
 }
 
@@ -35,7 +40,7 @@ fn call_of(failing: Option<(usize, usize)>, stream: usize) -> Option<usize> {
 }
 
 /// What becomes of a form over two texts, its mapfile or session and its script, with streams that move so
-/// many bytes at once: its exit status, its outcome and what the two writers hold, with bars between them;
+/// many bytes at once: its exit status with what failed, and what the two writers hold, with bars between them;
 /// and how often its first input, its output and its errors were called. Of these three streams one call
 /// may fail, that of this number.
 pub fn ended(
@@ -45,22 +50,29 @@ pub fn ended(
     at_once: usize,
     failing: Option<(usize, usize)>,
 ) -> Result<(String, [usize; 3]), AllocError> {
-    let mut input = stream_of(alloc, texts.0, at_once, call_of(failing, 0));
-    let mut script = stream_of(alloc, texts.1, at_once, None);
+    let (form, name) = form.split_once(' ').unwrap_or((form, "m.map"));
+    let mut file = NamedFile {
+        name,
+        reader: stream_of(alloc, texts.0, at_once, call_of(failing, 0)),
+    };
+    let mut script = NamedFile {
+        name: "s.txt",
+        reader: stream_of(alloc, texts.1, at_once, None),
+    };
     let mut output = stream_of(alloc, "", at_once, call_of(failing, 1));
     let mut errors = stream_of(alloc, "", at_once, call_of(failing, 2));
     let outcome = performed(
         alloc,
         form,
-        &mut input,
+        &mut file,
         &mut script,
         &mut output,
         &mut errors,
     );
-    let (input, output, errors) = (input.into_inner(), output.into_inner(), errors.into_inner());
+    let (input, output, errors) = (file.reader.into_inner(), output.into_inner(), errors.into_inner());
+    let end = end_of(alloc, outcome)?;
     let text = format!(in alloc;
-        "{} {outcome:?}|{}|{}",
-        outcome.status(),
+        "{end}|{}|{}",
         str::from_utf8(&output.held).unwrap_or("?"),
         str::from_utf8(&errors.held).unwrap_or("?")
     )?;
@@ -70,72 +82,72 @@ pub fn ended(
 /// Whether all that is written of a script is this.
 pub fn is_played(alloc: Global, map: &str, script: &str, text: &str) -> Result<bool, AllocError> {
     let (found, _) = ended(alloc, "run", (map, script), 100_000, None)?;
-    let expected = format!(in alloc; "0 Played|{text}|")?;
+    let expected = format!(in alloc; "0 done|{text}|")?;
     Ok(found.as_str() == expected.as_str())
 }
 
-// Forms with their mapfile and their script, then the exit status with the outcome, the output and the
+// Forms with their mapfile and their script, then the exit status with what failed, the output and the
 // errors. `!` is a file that can't be read, `*` the map of 2 layers, `@` the exception of a query without
 // parameters. A mapfile and a script have several faults where the first is to be told.
 const FORMS: &str = "\
-check|MAP END||0 Checked|ok 0 layers 0 features~|
-check|*||0 Checked|ok 2 layers 3 features~|
-check|*|!|0 Checked|ok 2 layers 3 features~|
+check|MAP END||0 done|ok 0 layers 0 features~|
+check|*||0 done|ok 2 layers 3 features~|
+check|*|!|0 done|ok 2 layers 3 features~|
 check|MAP~~FOO END||1 MapfileFault||fault line 3 kind 2~
 check|(||1 MapfileFault||fault line 1 kind 1~
 check|||1 MapfileFault||fault line 1 kind 4~
 check|!||1 FileFailed||fault file m.map~
-explain|*||0 Checked|ok 2 layers 3 features~|
+explain|*||0 done|ok 2 layers 3 features~|
 explain|MAP~~FOO END||1 MapfileFault||fault line 3 kind 2~m.map:3: FOO is no keyword of MAP~
 explain|MAP~LAYER NAME a~~END~END||1 MapfileFault||fault line 4 kind 5~m.map:4: LAYER of line 2 has no TYPE~
 explain|||1 MapfileFault||fault line 1 kind 4~m.map:1: the mapfile has no MAP~
 explain|!||1 FileFailed||fault file m.map~
-run|MAP END|QUERY a~|0 Played|@|
-run|*|QUERY a~QUERY b~|0 Played|@@|
-run|*||0 Played||
-run|MAP END|QUERY a~x~|0 Played|fault script 2~|
+run|MAP END|QUERY a~|0 done|@|
+run|*|QUERY a~QUERY b~|0 done|@@|
+run|*||0 done||
+run|MAP END|QUERY a~x~|0 done|fault script 2~|
 run|MAP~END~END|!|1 MapfileFault||fault line 3 kind 2~
 run|MAP END|!|1 FileFailed||fault file s.txt~
 run|!|!|1 FileFailed||fault file m.map~
 run|!|x~|1 FileFailed||fault file m.map~
 # Scripts on the map of the square: an unreadable one plays nothing.
-run|$||0 Played||
-run|$|QUERY ~|0 Played|@|
-run|$|QUERY a~QUERY b\r~|0 Played|@@|
-run|$|QUERY a~QUERY b|0 Played|fault script 2~|
-run|$|QUERY|0 Played|fault script 1~|
-run|$|QUERY~|0 Played|fault script 1~|
-run|$|query a~|0 Played|fault script 1~|
-run|$|~|0 Played|fault script 1~|
-run|$|QUERY a~BATCH 0~QUERY b~|0 Played|@PUBLISHED 1~@|
-run|$|BATCH 7~OFF zz~BATCH 0~BATCH 4~CLR~BATCH 0~|0 Played|REFUSED 1 2~PUBLISHED 1~REFUSED 1 1~PUBLISHED 2~|
-run|$|QUERY a~BATCH 8~OFF zz~|0 Played|fault script 2~|
-run|$|BATCH 0000000000~BATCH 00000000000~|0 Played|fault script 2~|
-run|$|BATCH x~|0 Played|fault script 1~|
-run|$|BATCH ~|0 Played|fault script 1~|
-run|$|BATCH 0|0 Played|fault script 1~|
-run|$|BATCH 0\r~|0 Played|fault script 1~|
-run|$|BATCH +0~|0 Played|fault script 1~|
-run|$|QUERY a~QUERY b~QUERY c~ QUERY d~|0 Played|fault script 4~|
+run|$||0 done||
+run|$|QUERY ~|0 done|@|
+run|$|QUERY a~QUERY b\r~|0 done|@@|
+run|$|QUERY a~QUERY b|0 done|fault script 2~|
+run|$|QUERY|0 done|fault script 1~|
+run|$|QUERY~|0 done|fault script 1~|
+run|$|query a~|0 done|fault script 1~|
+run|$|~|0 done|fault script 1~|
+run|$|QUERY a~BATCH 0~QUERY b~|0 done|@PUBLISHED 1~@|
+run|$|BATCH 7~OFF zz~BATCH 0~BATCH 4~CLR~BATCH 0~|0 done|REFUSED 1 2~PUBLISHED 1~REFUSED 1 1~PUBLISHED 2~|
+run|$|QUERY a~BATCH 8~OFF zz~|0 done|fault script 2~|
+run|$|BATCH 0000000000~BATCH 00000000000~|0 done|fault script 2~|
+run|$|BATCH x~|0 done|fault script 1~|
+run|$|BATCH ~|0 done|fault script 1~|
+run|$|BATCH 0|0 done|fault script 1~|
+run|$|BATCH 0\r~|0 done|fault script 1~|
+run|$|BATCH +0~|0 done|fault script 1~|
+run|$|QUERY a~QUERY b~QUERY c~ QUERY d~|0 done|fault script 4~|
 # Mapfiles with the symbol of a file. The pixmap has its corner a column to the left of the point's pixel.
-session|<p.ppm>%%~QUERY ^~||0 Played|ANSWER image/x-portable-pixmap 59~50360a3420340a3235350affffffffffffffffffffffffffffff0a141effffff~ffffffffffffffffffffffffffffffffffffffffffffffffffffff~|
+session|<p.ppm>%%~QUERY ^~||0 done|ANSWER image/x-portable-pixmap 59~50360a3420340a3235350affffffffffffffffffffffffffffff0a141effffff~ffffffffffffffffffffffffffffffffffffffffffffffffffffff~|
 session|<bad.ppm>%%~QUERY ^~||1 MapfileFault||fault line 4 kind 10~
 session|<none.ppm>%%~QUERY ^~||1 MapfileFault||fault line 4 kind 7~
 session|<P.ppm>%%~QUERY ^~||1 MapfileFault||fault line 4 kind 7~
-explain maps/m.map|MAP SYMBOL NAME s~TYPE PIXMAP~IMAGE p.ppm~END END||0 Checked|ok 0 layers 0 features~|
+explain maps/m.map|MAP SYMBOL NAME s~TYPE PIXMAP~IMAGE p.ppm~END END||0 done|ok 0 layers 0 features~|
 explain maps/m.map|MAP SYMBOL NAME s~TYPE PIXMAP~IMAGE bad.ppm~END END||1 MapfileFault||fault line 3 kind 10~maps/m.map:3: the file that IMAGE names is no pixmap in Netpbm's P6 format of at most 256 by 256 pixels~
 explain maps/m.map|MAP SYMBOL NAME s~TYPE PIXMAP~IMAGE none.ppm~END END||1 MapfileFault||fault line 3 kind 7~maps/m.map:3: the file that IMAGE names can't be read~
 # Mapfiles with the table of a file. Empty lines of a table are no rows.
-explain maps/m.map|MAP LAYER NAME a TYPE POINT~DATA p.csv~END END||0 Checked|ok 1 layers 1 features~|
+explain maps/m.map|MAP LAYER NAME a TYPE POINT~DATA p.csv~END END||0 done|ok 1 layers 1 features~|
 explain maps/m.map|MAP LAYER NAME a TYPE POINT~DATA bad.csv~END END||1 MapfileFault||fault line 2 kind 10~maps/m.map:2: the file that DATA names is no table of points: row 3: a coordinate that can't be read, or beyond 1,000 degrees~
 explain maps/m.map|MAP LAYER NAME a TYPE POINT~DATA none.csv~END END||1 MapfileFault||fault line 2 kind 7~maps/m.map:2: the file that DATA names can't be read~
 explain maps/m.map|MAP LAYER NAME a TYPE LINE~DATA p.csv~END END||1 MapfileFault||fault line 2 kind 3~maps/m.map:2: DATA needs a LAYER of TYPE POINT~";
 
 /// Sessions. The last has a fault in the mapfile and one in the script.
 pub const SESSIONS: &str = "\
-session|MAP END~%%~QUERY a~||0 Played|@|
-session|MAP END||0 Played||
-session|MAP END~%%~QUERY a~QUERY b~QUIT~||0 Played|fault script 3~|
+session|MAP END~%%~QUERY a~||0 done|@|
+session|MAP END||0 done||
+session|MAP END~%%~QUERY a~QUERY b~QUIT~||0 done|fault script 3~|
 session|MAP~~~~FOO END~%%~QUERY a~||1 MapfileFault||fault line 5 kind 2~
 session|MAP~ LAYER~ TYPE BLOB~%%~||1 MapfileFault||fault line 3 kind 3~
 session|MAP~%%~QUIT~||1 MapfileFault||fault line 2 kind 4~";
@@ -164,16 +176,16 @@ fn sessions_end_as_they_should(rt: HostRuntime) -> Result<(), TableFault> {
     check_all(rt.alloc(), SESSIONS, 6, is_ended)
 }
 
-// The statuses of some outcomes, and the messages of faults.
+// The statuses of failures, and the messages of faults.
 const TOLD: &str = "\
-Played 0, Checked 0, Served 0=ends
+SocketFailed 3, OutputFailed 3, FileFailed 1=some
 MapfileFault 1, FileFailed 1, WordsRefused 2=refusals
 InputFailed 3, OutputFailed 3, NoMemory 4=failures
 the reader failed, out of memory=messages";
 
-// The statuses of three outcomes.
-fn statuses(alloc: Global, outcomes: [Outcome; 3]) -> Result<String, AllocError> {
-    let [one, two, three] = outcomes;
+// The statuses of three failures.
+fn statuses(alloc: Global, failures: [Failure; 3]) -> Result<String, AllocError> {
+    let [one, two, three] = failures;
     format!(in alloc;
         "{one:?} {}, {two:?} {}, {three:?} {}",
         one.status(),
@@ -182,24 +194,31 @@ fn statuses(alloc: Global, outcomes: [Outcome; 3]) -> Result<String, AllocError>
     )
 }
 
-// What is told of a row's outcomes or faults.
+// What is told of a row's failures or faults.
 fn told(alloc: Global, row: &str) -> Result<String, AllocError> {
     match row {
-        "ends" => statuses(alloc, [Outcome::Played, Outcome::Checked, Outcome::Served]),
+        "some" => statuses(
+            alloc,
+            [
+                Failure::SocketFailed,
+                Failure::OutputFailed,
+                Failure::FileFailed,
+            ],
+        ),
         "refusals" => statuses(
             alloc,
             [
-                Outcome::MapfileFault,
-                Outcome::FileFailed,
-                Outcome::WordsRefused,
+                Failure::MapfileFault,
+                Failure::FileFailed,
+                Failure::WordsRefused,
             ],
         ),
         "failures" => statuses(
             alloc,
             [
-                Outcome::InputFailed,
-                Outcome::OutputFailed,
-                Outcome::NoMemory,
+                Failure::InputFailed,
+                Failure::OutputFailed,
+                Failure::NoMemory,
             ],
         ),
         _ => format!(in alloc; "{}, {}", ReadFault::Input, ReadFault::NoMemory),

@@ -1,5 +1,6 @@
 ghost use Rattle.std.specs.Prelude.{◌≡◌, None};
 
+use crate::endings::end_of;
 use crate::memory::{Memory, stream_of};
 use crate::ports::{LAST, RESPONSE};
 use crate::texts::{columns, spelt};
@@ -135,26 +136,26 @@ impl<'a> Host for Shelf<'a> {
     }
 }
 
-// Words with spaces between them, the letters of port 81, and how the program ends: its outcome, the connections that
+// Words with spaces between them, the letters of port 81, and how the program ends: its exit status with what failed, the connections that
 // were answered and those that weren't read, the output, and the errors. `~` is a line feed, `@` the exception of
 // a query without parameters. The session is `MAP END`.
 const WORDS: &str = "\
-||Played 0 0||
-check a.map||Checked 0 0|ok 0 layers 0 features~|
-check c.map||FileFailed 0 0||fault file c.map~
-check s.map||MapfileFault 0 0||fault line 2 kind 7~
-check --explain s.map||MapfileFault 0 0||fault line 2 kind 7~s.map:2: the file that IMAGE names can't be read~
-check maps/s.map||Checked 0 0|ok 0 layers 0 features~|
-run a.map b.txt||Played 0 0|@|
-run b.txt a.map||MapfileFault 0 0||fault line 1 kind 2~
-run a.map c.txt||FileFailed 0 0||fault file c.txt~
-run c.map b.txt||FileFailed 0 0||fault file c.map~
-run maps/s.map b.txt||Played 0 0|@|
-serve a.map||SocketFailed 0 0||
-serve s.map --port 81||MapfileFault 0 0||fault line 2 kind 7~
-serve maps/s.map --port 81 --connections 3|cfxffc|Served 2 1|listening a port~|
-serve a.map --port 81 --connections 1|fffc|Served 1 0|listening a port~|
-serve a.map --port 81|ccxc|SocketFailed 3 1|listening a port~|";
+||0 done 0 0||
+check a.map||0 done 0 0|ok 0 layers 0 features~|
+check c.map||1 FileFailed 0 0||fault file c.map~
+check s.map||1 MapfileFault 0 0||fault line 2 kind 7~
+check --explain s.map||1 MapfileFault 0 0||fault line 2 kind 7~s.map:2: the file that IMAGE names can't be read~
+check maps/s.map||0 done 0 0|ok 0 layers 0 features~|
+run a.map b.txt||0 done 0 0|@|
+run b.txt a.map||1 MapfileFault 0 0||fault line 1 kind 2~
+run a.map c.txt||1 FileFailed 0 0||fault file c.txt~
+run c.map b.txt||1 FileFailed 0 0||fault file c.map~
+run maps/s.map b.txt||0 done 0 0|@|
+serve a.map||3 SocketFailed 0 0||
+serve s.map --port 81||1 MapfileFault 0 0||fault line 2 kind 7~
+serve maps/s.map --port 81 --connections 3|cfxffc|0 done 2 1|listening a port~|
+serve a.map --port 81 --connections 1|fffc|0 done 1 0|listening a port~|
+serve a.map --port 81|ccxc|3 SocketFailed 3 1|listening a port~|";
 
 // The words of a line, as the program gets them.
 fn words_of(alloc: Global, line: &str) -> Result<Vec<String>, AllocError> {
@@ -184,10 +185,10 @@ fn ended(
     let mut output = stream_of(alloc, "", 7, None);
     let mut errors = stream_of(alloc, "", 7, None);
     let ending = answer(alloc, &host, words, &mut input, &mut output, &mut errors);
-    let outcome = ending.outcome();
+    let end = end_of(alloc, ending.outcome())?;
     let (output, errors) = (output.into_inner(), errors.into_inner());
     format!(in alloc;
-        "{outcome:?} {} {}|{}|{}",
+        "{end} {} {}|{}|{}",
         counts.answered.get(),
         counts.unread.get(),
         str::from_utf8(&output.held).unwrap_or("?"),
@@ -220,8 +221,8 @@ fn told(alloc: Global, row: &str) -> Result<String, AllocError> {
 }
 
 const UNREAD: &str = "\
-a word is not UTF-8: WordsRefused 0 0||error: a word is not UTF-8~=text
-out of memory: NoMemory 0 0||=memory";
+a word is not UTF-8: 2 WordsRefused 0 0||error: a word is not UTF-8~=text
+out of memory: 4 NoMemory 0 0||=memory";
 
 #[test]
 fn words_that_cant_be_read_are_refused(rt: HostRuntime) -> Result<(), TableFault> {

@@ -103,7 +103,7 @@ const TURN: &str =
 
 // Rests of sessions, and how they end.
 const RESTS: &str = "\
-$%%~QUERY ^~|0 Played|#|
+$%%~QUERY ^~|0 done|#|
 MAP~FOO END~|1 MapfileFault||fault line 1000002 kind 2~";
 
 // Whether a session ends so whose mapfile has 20,000,000 bytes and a million lines that describe nothing,

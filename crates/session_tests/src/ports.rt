@@ -2,7 +2,7 @@ use commandline::Service;
 use hosting::{Host, SystemHost, serve_port};
 use mapmachine::Flagged;
 use mapparse::{Files, parse};
-use sessions::{Outcome, read_all};
+use sessions::{Failure, read_all};
 use std::io::{self, Read, Write};
 use std::net::{Ipv4Addr, Shutdown, TcpListener, TcpStream};
 use std::test::Fail;
@@ -101,12 +101,12 @@ fn service(port: u16, connections: u32) -> Service {
     }
 }
 
-// How the connections of some texts are answered: the outcome, and all that came back.
+// How the connections of some texts are answered: whether all were, and all that came back.
 fn answered(
     rt: &HostRuntime,
     texts: &[&str],
     connections: u32,
-) -> Result<(Outcome, Vec<u8>), Fail> {
+) -> Result<(Result<(), Failure>, Vec<u8>), Fail> {
     let alloc = rt.alloc();
     let map = parse(alloc, b"MAP END", &Files::new(alloc))?;
     let mut output = Flagged::new(Clients {
@@ -127,8 +127,7 @@ fn answered(
 #[test]
 fn a_port_answers_its_connections_in_turn(rt: HostRuntime) -> Result<(), Fail> {
     let (outcome, answers) = answered(&rt, &[LAST, LAST], 3)?;
-    let is_served = matches!(outcome, Outcome::Served);
-    let told = (is_served, answers.get(..298), answers.get(298..));
+    let told = (outcome.is_ok(), answers.get(..298), answers.get(298..));
     assert_eq!(rt; told, (true, Some(RESPONSE), Some(RESPONSE)));
     Ok(())
 }
@@ -190,7 +189,7 @@ fn a_port_that_is_taken_is_told(rt: HostRuntime) -> Result<(), Fail> {
     );
     drop(listener);
     let told = (
-        matches!(outcome, Outcome::SocketFailed),
+        matches!(outcome, Err(Failure::SocketFailed)),
         output.into_inner().len(),
     );
     assert_eq!(rt; told, (true, 0));

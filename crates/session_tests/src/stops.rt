@@ -9,14 +9,14 @@ const FAILING: &str = "\
 check|0|3 OutputFailed||
 check|3|3 OutputFailed|ok 0 layers 0 f|
 check|5|3 OutputFailed|ok 0 layers 0 features~|
-check|6|0 Checked|ok 0 layers 0 features~|
+check|6|0 done|ok 0 layers 0 features~|
 explain|0|3 OutputFailed||
 explain|5|3 OutputFailed|ok 0 layers 0 features~|
-explain|6|0 Checked|ok 0 layers 0 features~|
+explain|6|0 done|ok 0 layers 0 features~|
 run|0|3 OutputFailed||
 run|2|3 OutputFailed|fault scri|
 run|3|3 OutputFailed|fault script 1~|
-run|4|0 Played|fault script 1~|";
+run|4|0 done|fault script 1~|";
 
 // Whether a form whose output fails ends as its row says.
 fn is_failed(alloc: Global, line: &str) -> Result<bool, AllocError> {

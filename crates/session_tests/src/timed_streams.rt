@@ -1,4 +1,4 @@
-use hosting::{Closing, TimedReader, TimedWriter, Turn, Waits};
+use hosting::{Closing, TimedReader, TimedWriter, Answered, Waits};
 use std::alloc::{AllocError, Global};
 use std::cell::Cell;
 use std::io::{self, Read, Write};
@@ -182,7 +182,7 @@ fn sides<'a>(
     ),
     AllocError,
 > {
-    let (read, written) = Turn::pair(alloc)?;
+    let (read, written) = Answered::pair(alloc)?;
     times.now.set(7);
     let Ok(reader) = TimedReader::start(Slow(times), times, waits(), read) else {
         return Err(AllocError);

@@ -1,5 +1,5 @@
 -- A connection that was answered, by what its writer holds.
-use Rattle.std.proofs.Common.{◌≡◌, ℕ, List, Option, None, Some, IfSome, Result, Ok, Err, OnOk, IfErr, inl}
+use Rattle.std.proofs.Common.{ℕ, List, Option, None, Some, IfSome, Result, Ok, Err, OnOk, IfErr, inl}
 use Rattle.batches.specs.Batch.{State}
 use Rattle.httpedge.specs.Asking.{machine_answers}
 use Rattle.httpedge.specs.Stopped.{HasExchanged, HasStopped}

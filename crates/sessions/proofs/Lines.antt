@@ -1,7 +1,6 @@
 -- The first line of some bytes.
-use Rattle.std.proofs.Common.{◌≡◌, ◌∙◌, ℕ, suc, ◌+◌, ◌≤◌, Bool, true, false, cond, ltb, Option, Some, None, List, [], ◌∷◌, ◌++◌, length, take, drop, inl, inr, refl, ap, arith, eqb-true}
+use Rattle.std.proofs.Common.{◌≡◌, ◌∙◌, ℕ, suc, ◌+◌, Bool, true, false, List, [], ◌∷◌, ◌++◌, take, drop, inl, inr, refl, ap, arith, eqb-true}
 use Rattle.std.specs.Prelude.{◌⊎◌}
-use Rattle.std.specs.Option.{unwrap_or}
 use Rattle.std.specs.List.{before_first, after_first, position_or_len}
 use Rattle.batches.specs.Command.{is_line_end}
 

@@ -7,11 +7,11 @@ use Rattle.batches.specs.Batch.{State}
 use Rattle.mapwords.specs.declared.fault.Fault.{Fault}
 use Rattle.mapwords.specs.Fault.{number_of}
 use Rattle.sessions.specs.Folder.{Giving, ComesTo}
-use Rattle.sessions.specs.Session.{Streams, IsTold, HasToldFault, Ends, opened}
+use Rattle.sessions.specs.Session.{Outcome, Streams, IsTold, HasToldFault, Ends, opened}
 use Rattle.sessions.specs.Summary.{summary_line, HasPartlySummed}
 use Rattle.sessions.specs.Told.{file_fault, mapfile_fault}
-use Rattle.sessions.specs.declared.outcome.Outcome.{Outcome}
-use Rattle.sessions.specs.declared.outcome.Outcome.TheVariants.{Played, Checked, MapfileFault, FileFailed, OutputFailed, NoMemory}
+use Rattle.sessions.specs.declared.failure.Failure.{Failure}
+use Rattle.sessions.specs.declared.failure.Failure.TheVariants.{MapfileFault, FileFailed, OutputFailed, NoMemory}
 
 -- all of a file was read, up to its end
 pub record HasReadFile (before after : Option (List ℕ)) (bytes : List ℕ) : Type 0 where
@@ -19,7 +19,7 @@ pub record HasReadFile (before after : Option (List ℕ)) (bytes : List ℕ) : T
   pub end : IsAtEnd after
 
 -- a file was not read: that was told to the errors by its name, or memory was refused and nothing told
-abbrev pub IsUnread : Outcome → List ℕ → Option (List ℕ) → Option (List ℕ) → Bool → Type 0
+abbrev pub IsUnread : Failure → List ℕ → Option (List ℕ) → Option (List ℕ) → Bool → Type 0
 IsUnread FileFailed name errors_before errors_after failed = IsTold errors_before errors_after (file_fault name) failed
 IsUnread NoMemory name errors_before errors_after failed = Keeps errors_before errors_after
 IsUnread _ name errors_before errors_after failed = ⊥
@@ -37,17 +37,17 @@ pub record HasReadFault (gives : Giving) (before after errors_before errors_afte
   pub told : HasToldFault gives mapfile errors_before errors_after failed
 
 -- a mapfile gave no map: it has a fault, or was not read
-abbrev pub GivesNoMap : Giving → Outcome → List ℕ → Option (List ℕ) → Option (List ℕ) → Option (List ℕ) → Option (List ℕ) → Bool → Type 0
+abbrev pub GivesNoMap : Giving → Failure → List ℕ → Option (List ℕ) → Option (List ℕ) → Option (List ℕ) → Option (List ℕ) → Bool → Type 0
 GivesNoMap gives MapfileFault name before after errors_before errors_after failed = HasReadFault gives before after errors_before errors_after failed
-GivesNoMap gives outcome name before after errors_before errors_after failed = IsUnread outcome name errors_before errors_after failed
+GivesNoMap gives failure name before after errors_before errors_after failed = IsUnread failure name errors_before errors_after failed
 
 -- what the output got of the line of a map, by the outcome: all of it; or exactly its first so many bytes, or all of them
 -- where the flush failed
 abbrev pub SumsUp : Outcome → MapFields → Option (List ℕ) → Option (List ℕ) → Type 0
-SumsUp Checked map before after = Appends before after (summary_line map)
-SumsUp OutputFailed map before after =
+SumsUp (Ok done) map before after = Appends before after (summary_line map)
+SumsUp (Err OutputFailed) map before after =
     ((written : ℕ) × HasPartlySummed map before after written) ⊎ Appends before after (summary_line map)
-SumsUp _ map before after = ⊥
+SumsUp (Err _) map before after = ⊥
 
 -- a mapfile describes a map, whose line was written with this outcome
 pub record IsChecked (gives : Giving) (outcome : Outcome) (old new : Streams) : Type 0 where
@@ -76,11 +76,11 @@ pub record HasExplainedFault (gives : Giving) (explains : Bool) (name : List ℕ
 -- what checking a mapfile tells of the streams by its outcome, with the name of the mapfile, which is their input; `explains` says
 -- whether a fault is told in words, too, and `failed` whether the writer of errors has failed
 abbrev pub ChecksTo : Giving → Bool → Outcome → List ℕ → Streams → Streams → Bool → Type 0
-ChecksTo gives explains Checked name old new failed = IsChecked gives Checked old new
-ChecksTo gives explains OutputFailed name old new failed = IsChecked gives OutputFailed old new
-ChecksTo gives explains MapfileFault name old new failed =
+ChecksTo gives explains (Ok done) name old new failed = IsChecked gives (Ok done) old new
+ChecksTo gives explains (Err OutputFailed) name old new failed = IsChecked gives (Err OutputFailed) old new
+ChecksTo gives explains (Err MapfileFault) name old new failed =
     Keeps old.output new.output × HasExplainedFault gives explains name old.input new.input old.errors new.errors failed
-ChecksTo gives explains outcome name old new failed = Keeps old.output new.output × IsUnread outcome name old.errors new.errors failed
+ChecksTo gives explains (Err failure) name old new failed = Keeps old.output new.output × IsUnread failure name old.errors new.errors failed
 
 -- a mapfile describes a map, on which a script was played with this outcome; the script is the input of the streams, and
 -- `before` and `after` are what is left of the mapfile
@@ -94,19 +94,19 @@ pub record IsRun (gives : Giving) (outcome : Outcome) (before after : Option (Li
   pub errors : Keeps old.errors new.errors
 
 -- a mapfile describes a map, but the script was not played: it was not read, or memory was refused
-pub record IsWithoutScript (gives : Giving) (outcome : Outcome) (name : List ℕ) (before after errors_before errors_after : Option (List ℕ)) (failed : Bool) : Type 0 where
+pub record IsWithoutScript (gives : Giving) (failure : Failure) (name : List ℕ) (before after errors_before errors_after : Option (List ℕ)) (failed : Bool) : Type 0 where
   pub map : MapFields
   pub read : HasReadMap gives before after map
-  pub unread : IsUnread outcome name errors_before errors_after failed
+  pub unread : IsUnread failure name errors_before errors_after failed
 
 -- what running a script tells of the streams by its outcome, with the names of the mapfile and of the script
 abbrev pub RunsTo : Giving → Outcome → List ℕ → List ℕ → Option (List ℕ) → Option (List ℕ) → Streams → Streams → Bool → Type 0
-RunsTo gives Played file script before after old new failed = IsRun gives Played before after old new
-RunsTo gives OutputFailed file script before after old new failed = IsRun gives OutputFailed before after old new
-RunsTo gives outcome file script before after old new failed =
+RunsTo gives (Ok done) file script before after old new failed = IsRun gives (Ok done) before after old new
+RunsTo gives (Err OutputFailed) file script before after old new failed = IsRun gives (Err OutputFailed) before after old new
+RunsTo gives (Err failure) file script before after old new failed =
     Keeps old.output new.output
-    × (GivesNoMap gives outcome file before after old.errors new.errors failed
-    ⊎ IsWithoutScript gives outcome script before after old.errors new.errors failed)
+    × (GivesNoMap gives failure file before after old.errors new.errors failed
+    ⊎ IsWithoutScript gives failure script before after old.errors new.errors failed)
 
 -- running a script told the errors a file that was not read. It is the mapfile: its reader has failed, and that of the script stayed
 -- as it was, which `untouched` says; or it is the script: its reader has failed, and that of the mapfile has not
@@ -116,7 +116,7 @@ TellsUnread file script errors_before errors_after failed file_failed_before fil
     ⊎ (IsTold errors_before errors_after (file_fault script) failed × (script_failed ≡ true) × (file_failed ≡ file_failed_before))
 
 -- something was told to the errors: a fault of a mapfile, or a file that was not read
-abbrev pub has_told : Outcome → Bool
+abbrev pub has_told : Failure → Bool
 has_told MapfileFault = true
 has_told FileFailed = true
 has_told _ = false

@@ -1,11 +1,10 @@
-ghost use Rattle.std.specs.Prelude.{◌≡◌, ◌||◌, None, option_map, true, false};
-ghost use Rattle.sessions.specs.declared.outcome.Outcome.TheVariants.{Checked};
+ghost use Rattle.std.specs.Prelude.{◌≡◌, ◌||◌, None, OnOk, IfErr, MatchResult, option_map, true, false};
 ghost use Rattle.sessions.specs.Session.{IsTold, is_file_failed, is_output_failed};
 ghost use Rattle.sessions.specs.Forms.{ChecksTo, told_in_words, has_told};
 
-use crate::files::{read_file, sum_up};
+use crate::failure::Failure;
+use crate::files::{NamedFile, read_file, sum_up};
 use crate::folder::{Folder, files_of};
-use crate::outcome::Outcome;
 use crate::session::{read_map_of, tell, tell_mapfile_fault};
 use itoa::Buffer;
 use mapfaults::{Finding, explain};
@@ -96,32 +95,32 @@ fn tell_in_words<E: Sink>(
 pub fn check_file<F: Folder, I: Source, O: Sink, E: Sink>(
     alloc: Global,
     folder: &F,
-    name: &str,
-    file: &mut I,
+    file: &mut NamedFile<'_, I>,
     explains: bool,
     output: &mut O,
     errors: &mut E,
-) -> Outcome
-    ensures tells { ChecksTo (F.gives folder.now) explains result name.now
-        (record { input = I.left file.old; output = O.held output.old; errors = E.held errors.old })
-        (record { input = I.left file.new; output = O.held output.new; errors = E.held errors.new })
+) -> Result<(), Failure>
+    ensures tells { ChecksTo (F.gives folder.now) explains result file.old.name.now
+        (record { input = I.left file.old.reader; output = O.held output.old; errors = E.held errors.old })
+        (record { input = I.left file.new.reader; output = O.held output.new; errors = E.held errors.new })
         (E.put_failed errors.new) }
-    ensures flushed { result ≡ Checked → O.is_flushed output.new ≡ true }
-    ensures errors_flushed { has_told result ≡ true → E.put_failed errors.new ≡ false → E.is_flushed errors.new ≡ true }
-    ensures file_flag { I.take_failed file.new ≡ (is_file_failed result || I.take_failed file.old) }
-    ensures output_flag { O.put_failed output.new ≡ (is_output_failed result || O.put_failed output.old) }
+    ensures flushed { OnOk result (O.is_flushed output.new ≡ true) }
+    ensures errors_flushed { IfErr result (λ failure. has_told failure ≡ true → E.put_failed errors.new ≡ false → E.is_flushed errors.new ≡ true) }
+    ensures file_flag { MatchResult result
+        (λ _. I.take_failed file.new.reader ≡ I.take_failed file.old.reader)
+        (λ failure. I.take_failed file.new.reader ≡ (is_file_failed failure || I.take_failed file.old.reader)) }
+    ensures output_flag { MatchResult result
+        (λ _. O.put_failed output.new ≡ O.put_failed output.old)
+        (λ failure. O.put_failed output.new ≡ (is_output_failed failure || O.put_failed output.old)) }
 {
-    let mapfile = match read_file(alloc, name, file, errors) {
-        Ok(mapfile) => mapfile,
-        Err(outcome) => return outcome,
-    };
+    let mapfile = read_file(alloc, file, errors)?;
     match read_map_of(alloc, folder, &mapfile) {
         Ok(map) => sum_up(&map, output),
         Err(ParseFault::At { line, kind }) => {
             let words = words_on(alloc, folder, &mapfile, explains);
-            tell_in_words(errors, name, line, kind, words.as_ref().map(String::as_str));
-            Outcome::MapfileFault
+            tell_in_words(errors, file.name, line, kind, words.as_ref().map(String::as_str));
+            Err(Failure::MapfileFault)
         }
-        Err(ParseFault::NoMemory) => Outcome::NoMemory,
+        Err(ParseFault::NoMemory) => Err(Failure::NoMemory),
     }
 }

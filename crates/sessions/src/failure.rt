@@ -1,14 +1,8 @@
 ghost use Rattle.std.specs.Prelude.{◌≡◌};
 
-/// How the program ended.
+/// Why the program ended without having done all that was asked.
 #[derive(Clone, Copy, Debug)]
-pub enum Outcome {
-    /// The script was played, or its fault written.
-    Played,
-    /// The mapfile has no fault, and the line of its map was written.
-    Checked,
-    /// So many connections as were asked for were answered, or given up for a fault of their own.
-    Served,
+pub enum Failure {
     /// The mapfile has a fault, which was told.
     MapfileFault,
     /// A mapfile or a script could not be read, and was told by its name.
@@ -26,26 +20,22 @@ pub enum Outcome {
     NoMemory,
 }
 
-impl Outcome {
-    /// The exit status of the program.
+impl Failure {
+    /// The exit status of the program. It is 0 where nothing failed.
     pub fn status(self) -> u8
-        ensures played { self ≡ Outcome.Played → result ≡ 0 }
-        ensures checked { self ≡ Outcome.Checked → result ≡ 0 }
-        ensures served { self ≡ Outcome.Served → result ≡ 0 }
-        ensures mapfile_fault { self ≡ Outcome.MapfileFault → result ≡ 1 }
-        ensures file_failed { self ≡ Outcome.FileFailed → result ≡ 1 }
-        ensures words_refused { self ≡ Outcome.WordsRefused → result ≡ 2 }
-        ensures input_failed { self ≡ Outcome.InputFailed → result ≡ 3 }
-        ensures output_failed { self ≡ Outcome.OutputFailed → result ≡ 3 }
-        ensures socket_failed { self ≡ Outcome.SocketFailed → result ≡ 3 }
-        ensures no_memory { self ≡ Outcome.NoMemory → result ≡ 4 }
+        ensures mapfile_fault { self ≡ Failure.MapfileFault → result ≡ 1 }
+        ensures file_failed { self ≡ Failure.FileFailed → result ≡ 1 }
+        ensures words_refused { self ≡ Failure.WordsRefused → result ≡ 2 }
+        ensures input_failed { self ≡ Failure.InputFailed → result ≡ 3 }
+        ensures output_failed { self ≡ Failure.OutputFailed → result ≡ 3 }
+        ensures socket_failed { self ≡ Failure.SocketFailed → result ≡ 3 }
+        ensures no_memory { self ≡ Failure.NoMemory → result ≡ 4 }
     {
         match self {
-            Outcome::Played | Outcome::Checked | Outcome::Served => 0,
-            Outcome::MapfileFault | Outcome::FileFailed => 1,
-            Outcome::WordsRefused => 2,
-            Outcome::InputFailed | Outcome::OutputFailed | Outcome::SocketFailed => 3,
-            Outcome::NoMemory => 4,
+            Failure::MapfileFault | Failure::FileFailed => 1,
+            Failure::WordsRefused => 2,
+            Failure::InputFailed | Failure::OutputFailed | Failure::SocketFailed => 3,
+            Failure::NoMemory => 4,
         }
     }
 }

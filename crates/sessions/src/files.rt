@@ -1,78 +1,85 @@
 ghost use Rattle.std.specs.Prelude.{◌≡◌, ◌||◌, IfOk, IfErr, OnOk, MatchResult, true, false};
-ghost use Rattle.sessions.specs.declared.outcome.Outcome.TheVariants.{Played, Checked, MapfileFault, FileFailed};
-ghost use Rattle.sessions.specs.Session.{is_file_failed, is_input_failed, is_output_failed};
+ghost use Rattle.sessions.specs.declared.failure.Failure.TheVariants.{MapfileFault, FileFailed};
+ghost use Rattle.sessions.specs.Session.{is_file_failed, is_output_failed};
 ghost use Rattle.sessions.specs.Forms.{HasReadFile, IsUnread, HasReadMap, GivesNoMap, SumsUp, RunsTo, TellsUnread, has_told};
 
+use crate::failure::Failure;
 use crate::folder::Folder;
 use crate::input::{ReadFault, read_all};
-use crate::outcome::Outcome;
 use crate::session::{open_map, play_on, tell};
 use crate::summing::summary;
 use mapdefs::Map;
 use mapmachine::{Sink, Source};
 use std::alloc::Global;
 
-/// The bytes of a file, or how the program ends without them. A file that can't be read is told by its
-/// name.
+/// A file that is read, and the name that it is told by.
+#[derive(Drop)]
+pub struct NamedFile<'a, I> {
+    /// The name, as the words of the command line have it.
+    pub name: &'a str,
+    /// The reader of its bytes.
+    pub reader: I,
+}
+
+/// The bytes of a file. One that can't be read is told by its name.
 pub fn read_file<I: Source, E: Sink>(
     alloc: Global,
-    name: &str,
-    file: &mut I,
+    file: &mut NamedFile<'_, I>,
     errors: &mut E,
-) -> Result<Vec<u8>, Outcome>
-    ensures bytes { IfOk result (λ bytes. HasReadFile (I.left file.old) (I.left file.new) bytes.items) }
+) -> Result<Vec<u8>, Failure>
+    ensures bytes { IfOk result (λ bytes. HasReadFile (I.left file.old.reader) (I.left file.new.reader) bytes.items) }
+    ensures name { file.new.name.now ≡ file.old.name.now }
     ensures same { OnOk result (errors.new ≡ errors.old) }
-    ensures unread { IfErr result (λ outcome. IsUnread outcome name.now (E.held errors.old) (E.held errors.new) (E.put_failed errors.new)) }
-    ensures flushed { IfErr result (λ outcome. has_told outcome ≡ true → E.put_failed errors.new ≡ false → E.is_flushed errors.new ≡ true) }
+    ensures unread { IfErr result (λ failure. IsUnread failure file.old.name.now (E.held errors.old) (E.held errors.new) (E.put_failed errors.new)) }
+    ensures flushed { IfErr result (λ failure. has_told failure ≡ true → E.put_failed errors.new ≡ false → E.is_flushed errors.new ≡ true) }
     ensures flag { MatchResult result
-        (λ _. I.take_failed file.new ≡ I.take_failed file.old)
-        (λ outcome. I.take_failed file.new ≡ (is_file_failed outcome || I.take_failed file.old)) }
+        (λ _. I.take_failed file.new.reader ≡ I.take_failed file.old.reader)
+        (λ failure. I.take_failed file.new.reader ≡ (is_file_failed failure || I.take_failed file.old.reader)) }
 {
-    match read_all(alloc, file) {
+    match read_all(alloc, &mut file.reader) {
         Ok(bytes) => Ok(bytes),
         Err(ReadFault::Input) => {
-            tell(errors, &[b"fault file ", name.as_bytes(), b"\n"]);
-            Err(Outcome::FileFailed)
+            tell(errors, &[b"fault file ", file.name.as_bytes(), b"\n"]);
+            Err(Failure::FileFailed)
         }
-        Err(ReadFault::NoMemory) => Err(Outcome::NoMemory),
+        Err(ReadFault::NoMemory) => Err(Failure::NoMemory),
     }
 }
 
-/// The map of a mapfile, or how the program ends without it. A fault is told.
+/// The map of a mapfile. A fault is told.
 pub fn read_map<F: Folder, I: Source, E: Sink>(
     alloc: Global,
     folder: &F,
-    name: &str,
-    file: &mut I,
+    file: &mut NamedFile<'_, I>,
     errors: &mut E,
-) -> Result<Map, Outcome>
-    ensures map { IfOk result (λ map. HasReadMap (F.gives folder.now) (I.left file.old) (I.left file.new) map) }
+) -> Result<Map, Failure>
+    ensures map { IfOk result (λ map. HasReadMap (F.gives folder.now) (I.left file.old.reader) (I.left file.new.reader) map) }
     ensures same { OnOk result (errors.new ≡ errors.old) }
-    ensures without { IfErr result (λ outcome. GivesNoMap (F.gives folder.now) outcome name.now (I.left file.old) (I.left file.new) (E.held errors.old) (E.held errors.new) (E.put_failed errors.new)) }
-    ensures flushed { IfErr result (λ outcome. has_told outcome ≡ true → E.put_failed errors.new ≡ false → E.is_flushed errors.new ≡ true) }
+    ensures without { IfErr result (λ failure. GivesNoMap (F.gives folder.now) failure file.old.name.now (I.left file.old.reader) (I.left file.new.reader) (E.held errors.old) (E.held errors.new) (E.put_failed errors.new)) }
+    ensures flushed { IfErr result (λ failure. has_told failure ≡ true → E.put_failed errors.new ≡ false → E.is_flushed errors.new ≡ true) }
     ensures flag { MatchResult result
-        (λ _. I.take_failed file.new ≡ I.take_failed file.old)
-        (λ outcome. I.take_failed file.new ≡ (is_file_failed outcome || I.take_failed file.old)) }
+        (λ _. I.take_failed file.new.reader ≡ I.take_failed file.old.reader)
+        (λ failure. I.take_failed file.new.reader ≡ (is_file_failed failure || I.take_failed file.old.reader)) }
 {
-    match read_file(alloc, name, file, errors) {
-        Ok(mapfile) => open_map(alloc, folder, &mapfile, errors),
-        Err(outcome) => Err(outcome),
-    }
+    let mapfile = read_file(alloc, file, errors)?;
+    open_map(alloc, folder, &mapfile, errors)
 }
 
 /// Writes the line of a map, and flushes it.
-pub fn sum_up<O: Sink>(map: &Map, output: &mut O) -> Outcome
+pub fn sum_up<O: Sink>(map: &Map, output: &mut O) -> Result<(), Failure>
     ensures sums { SumsUp result map.now (O.held output.old) (O.held output.new) }
-    ensures flushed { result ≡ Checked → O.is_flushed output.new ≡ true }
-    ensures flag { O.put_failed output.new ≡ (is_output_failed result || O.put_failed output.old) }
-    ensures read { is_file_failed result ≡ false }
+    ensures flushed { OnOk result (O.is_flushed output.new ≡ true) }
+    ensures flag { MatchResult result
+        (λ _. O.put_failed output.new ≡ O.put_failed output.old)
+        (λ failure. O.put_failed output.new ≡ (is_output_failed failure || O.put_failed output.old)) }
+    ensures read { IfErr result (λ failure. is_file_failed failure ≡ false) }
 {
     match summary(map, output) {
         Ok(()) => match output.flush() {
-            Ok(()) => Outcome::Checked,
-            Err(_) => Outcome::OutputFailed,
+            Ok(()) => Ok(()),
+            Err(_) => Err(Failure::OutputFailed),
         },
-        Err(_) => Outcome::OutputFailed,
+        Err(_) => Err(Failure::OutputFailed),
     }
 }
 
@@ -82,31 +89,31 @@ pub fn sum_up<O: Sink>(map: &Map, output: &mut O) -> Outcome
 pub fn run_files<F: Folder, I: Source, J: Source, O: Sink, E: Sink>(
     alloc: Global,
     folder: &F,
-    name: &str,
-    file: &mut I,
-    script_name: &str,
-    script: &mut J,
+    file: &mut NamedFile<'_, I>,
+    script: &mut NamedFile<'_, J>,
     output: &mut O,
     errors: &mut E,
-) -> Outcome
-    ensures tells { RunsTo (F.gives folder.now) result name.now script_name.now (I.left file.old) (I.left file.new)
-        (record { input = J.left script.old; output = O.held output.old; errors = E.held errors.old })
-        (record { input = J.left script.new; output = O.held output.new; errors = E.held errors.new })
+) -> Result<(), Failure>
+    ensures tells { RunsTo (F.gives folder.now) result file.old.name.now script.old.name.now (I.left file.old.reader) (I.left file.new.reader)
+        (record { input = J.left script.old.reader; output = O.held output.old; errors = E.held errors.old })
+        (record { input = J.left script.new.reader; output = O.held output.new; errors = E.held errors.new })
         (E.put_failed errors.new) }
-    ensures flushed { result ≡ Played → O.is_flushed output.new ≡ true }
-    ensures errors_flushed { has_told result ≡ true → E.put_failed errors.new ≡ false → E.is_flushed errors.new ≡ true }
-    ensures unread { result ≡ FileFailed → TellsUnread name.now script_name.now (E.held errors.old) (E.held errors.new) (E.put_failed errors.new)
-        (I.take_failed file.old) (I.take_failed file.new) (J.take_failed script.new) (script.new ≡ script.old) }
-    ensures untouched { result ≡ MapfileFault → script.new ≡ script.old }
-    ensures file_flags { (I.take_failed file.new || J.take_failed script.new) ≡ (is_file_failed result || (I.take_failed file.old || J.take_failed script.old)) }
-    ensures output_flag { O.put_failed output.new ≡ (is_output_failed result || O.put_failed output.old) }
+    ensures flushed { OnOk result (O.is_flushed output.new ≡ true) }
+    ensures errors_flushed { IfErr result (λ failure. has_told failure ≡ true → E.put_failed errors.new ≡ false → E.is_flushed errors.new ≡ true) }
+    ensures unread { IfErr result (λ failure. failure ≡ FileFailed → TellsUnread file.old.name.now script.old.name.now (E.held errors.old) (E.held errors.new) (E.put_failed errors.new)
+        (I.take_failed file.old.reader) (I.take_failed file.new.reader) (J.take_failed script.new.reader) (script.new ≡ script.old)) }
+    ensures untouched { IfErr result (λ failure. failure ≡ MapfileFault → script.new ≡ script.old) }
+    ensures file_flag { MatchResult result
+        (λ _. I.take_failed file.new.reader ≡ I.take_failed file.old.reader)
+        (λ failure. is_file_failed failure ≡ false → I.take_failed file.new.reader ≡ I.take_failed file.old.reader) }
+    ensures script_flag { MatchResult result
+        (λ _. J.take_failed script.new.reader ≡ J.take_failed script.old.reader)
+        (λ failure. is_file_failed failure ≡ false → J.take_failed script.new.reader ≡ J.take_failed script.old.reader) }
+    ensures output_flag { MatchResult result
+        (λ _. O.put_failed output.new ≡ O.put_failed output.old)
+        (λ failure. O.put_failed output.new ≡ (is_output_failed failure || O.put_failed output.old)) }
 {
-    let map = match read_map(alloc, folder, name, file, errors) {
-        Ok(map) => map,
-        Err(outcome) => return outcome,
-    };
-    match read_file(alloc, script_name, script, errors) {
-        Ok(script) => play_on(alloc, map, &script, output),
-        Err(outcome) => outcome,
-    }
+    let map = read_map(alloc, folder, file, errors)?;
+    let commands = read_file(alloc, script, errors)?;
+    play_on(alloc, map, &commands, output)
 }

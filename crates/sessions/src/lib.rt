@@ -1,7 +1,7 @@
-//! What the program does between its open streams and its outcome: it plays sessions, checks mapfiles,
+//! What the program does between its open streams and its end: it plays sessions, checks mapfiles,
 //! plays scripts on their maps, and answers connections.
 //!
-//! Proved: `serve_session` reads its input up to the end and tells by its outcome what was written: the
+//! Proved: `serve_session` reads its input up to the end and says by its result what was written: the
 //! whole transcript of the map machine's replies, or exactly the first bytes of it, or the fault of the
 //! mapfile (`tells`); `check_file` and `run_files` say the same of the files that they read.
 //! `split_session` parts a session at its first line of two percent signs. `summary` says how many bytes
@@ -10,21 +10,21 @@
 
 mod checking;
 mod connection;
+mod failure;
 mod files;
 mod folder;
 mod input;
 mod line;
-mod outcome;
 mod parts;
 mod session;
 mod summing;
 
 pub use checking::check_file;
 pub use connection::serve_connection;
-pub use files::{read_map, run_files};
+pub use failure::Failure;
+pub use files::{NamedFile, read_map, run_files};
 pub use folder::{Folder, front_of, path_of};
 pub use input::{ReadFault, read_all};
-pub use outcome::Outcome;
 pub use parts::split_session;
 pub use scripts::play_script;
 pub use session::{serve_session, tell};

@@ -1,13 +1,13 @@
-ghost use Rattle.std.specs.Prelude.{◌≡◌, ◌||◌, IfOk, IfErr, OnOk, Ok, true, false};
+ghost use Rattle.std.specs.Prelude.{◌≡◌, ◌||◌, IfOk, IfErr, OnOk, Ok, MatchResult, true, false};
 ghost use Rattle.std.specs.List.{flat_map};
 ghost use Rattle.sessions.specs.Folder.{ComesTo, ComesToFault};
-ghost use Rattle.sessions.specs.declared.outcome.Outcome.TheVariants.{Played, MapfileFault};
+ghost use Rattle.sessions.specs.declared.failure.Failure.TheVariants.{MapfileFault};
 ghost use Rattle.sessions.specs.Session.{Tells, Ends, EndsOn, IsTold, IsWithoutMap, is_input_failed, is_output_failed};
 ghost use Rattle.sessions.specs.Told.{mapfile_fault};
 
+use crate::failure::Failure;
 use crate::folder::{Folder, files_of};
 use crate::input::{ReadFault, read_all};
-use crate::outcome::Outcome;
 use crate::parts::split_session;
 use itoa::Buffer;
 use mapdefs::Map;
@@ -17,33 +17,35 @@ use scripts::play_script;
 use std::alloc::Global;
 
 /// Reads a session from the input up to its end, and plays it: the transcript goes to the output, or
-/// the fault of the mapfile to the errors. The outcome tells what the writers got.
+/// the fault of the mapfile to the errors. The result tells what the writers got.
 pub fn serve_session<F: Folder, I: Source, O: Sink, E: Sink>(
     alloc: Global,
     folder: &F,
     input: &mut I,
     output: &mut O,
     errors: &mut E,
-) -> Outcome
+) -> Result<(), Failure>
     ensures tells { Tells (F.gives folder.now) result
         (record { input = I.left input.old; output = O.held output.old; errors = E.held errors.old })
         (record { input = I.left input.new; output = O.held output.new; errors = E.held errors.new })
         (E.put_failed errors.new) }
-    ensures flushed { result ≡ Played → O.is_flushed output.new ≡ true }
-    ensures errors_flushed { result ≡ MapfileFault → E.put_failed errors.new ≡ false → E.is_flushed errors.new ≡ true }
-    ensures input_flag { I.take_failed input.new ≡ (is_input_failed result || I.take_failed input.old) }
-    ensures output_flag { O.put_failed output.new ≡ (is_output_failed result || O.put_failed output.old) }
+    ensures flushed { OnOk result (O.is_flushed output.new ≡ true) }
+    ensures errors_flushed { IfErr result (λ failure. failure ≡ MapfileFault → E.put_failed errors.new ≡ false → E.is_flushed errors.new ≡ true) }
+    ensures input_flag { MatchResult result
+        (λ _. I.take_failed input.new ≡ I.take_failed input.old)
+        (λ failure. I.take_failed input.new ≡ (is_input_failed failure || I.take_failed input.old)) }
+    ensures output_flag { MatchResult result
+        (λ _. O.put_failed output.new ≡ O.put_failed output.old)
+        (λ failure. O.put_failed output.new ≡ (is_output_failed failure || O.put_failed output.old)) }
 {
     let session = match read_all(alloc, input) {
         Ok(session) => session,
-        Err(ReadFault::Input) => return Outcome::InputFailed,
-        Err(ReadFault::NoMemory) => return Outcome::NoMemory,
+        Err(ReadFault::Input) => return Err(Failure::InputFailed),
+        Err(ReadFault::NoMemory) => return Err(Failure::NoMemory),
     };
     let (mapfile, script) = split_session(&session);
-    match open_map(alloc, folder, mapfile, errors) {
-        Ok(map) => play_on(alloc, map, script, output),
-        Err(outcome) => outcome,
-    }
+    let map = open_map(alloc, folder, mapfile, errors)?;
+    play_on(alloc, map, script, output)
 }
 
 /// The map of a mapfile with the files of its folder, or its first fault. The source is read once.
@@ -56,54 +58,58 @@ pub fn read_map_of<F: Folder>(alloc: Global, folder: &F, source: &[u8]) -> Resul
     mapfile.into_map(alloc, &files)
 }
 
-/// The map of a mapfile, or how the program ends without it. The mapfile's fault is told.
+/// The map of a mapfile. The mapfile's fault is told.
 pub fn open_map<F: Folder, E: Sink>(
     alloc: Global,
     folder: &F,
     mapfile: &[u8],
     errors: &mut E,
-) -> Result<Map, Outcome>
+) -> Result<Map, Failure>
     ensures map { IfOk result (λ map. ComesTo (F.gives folder.now) mapfile.now (Ok map)) }
     ensures same { OnOk result (errors.new ≡ errors.old) }
-    ensures without { IfErr result (λ outcome. IsWithoutMap (F.gives folder.now) outcome mapfile.now (E.held errors.old) (E.held errors.new) (E.put_failed errors.new)) }
-    ensures flushed { IfErr result (λ outcome. outcome ≡ MapfileFault → E.put_failed errors.new ≡ false → E.is_flushed errors.new ≡ true) }
+    ensures without { IfErr result (λ failure. IsWithoutMap (F.gives folder.now) failure mapfile.now (E.held errors.old) (E.held errors.new) (E.put_failed errors.new)) }
+    ensures flushed { IfErr result (λ failure. failure ≡ MapfileFault → E.put_failed errors.new ≡ false → E.is_flushed errors.new ≡ true) }
 {
     match read_map_of(alloc, folder, mapfile) {
         Ok(map) => Ok(map),
         Err(ParseFault::At { line, kind }) => {
             tell_mapfile_fault(errors, line, kind.number());
-            Err(Outcome::MapfileFault)
+            Err(Failure::MapfileFault)
         }
-        Err(ParseFault::NoMemory) => Err(Outcome::NoMemory),
+        Err(ParseFault::NoMemory) => Err(Failure::NoMemory),
     }
 }
 
 /// Plays a script on the machine as it begins with a map, and flushes what it wrote.
-pub fn play_on<O: Sink>(alloc: Global, map: Map, script: &[u8], output: &mut O) -> Outcome
+pub fn play_on<O: Sink>(alloc: Global, map: Map, script: &[u8], output: &mut O) -> Result<(), Failure>
     ensures ends { EndsOn map result script.now (O.held output.old) (O.held output.new) }
-    ensures flushed { result ≡ Played → O.is_flushed output.new ≡ true }
-    ensures flag { O.put_failed output.new ≡ (is_output_failed result || O.put_failed output.old) }
-    ensures read { is_input_failed result ≡ false }
+    ensures flushed { OnOk result (O.is_flushed output.new ≡ true) }
+    ensures flag { MatchResult result
+        (λ _. O.put_failed output.new ≡ O.put_failed output.old)
+        (λ failure. O.put_failed output.new ≡ (is_output_failed failure || O.put_failed output.old)) }
+    ensures read { IfErr result (λ failure. is_input_failed failure ≡ false) }
 {
     match Machine::open(alloc, map) {
         Ok(mut machine) => play_out(&mut machine, script, output),
-        Err(_) => Outcome::NoMemory,
+        Err(_) => Err(Failure::NoMemory),
     }
 }
 
 /// Plays a script, and flushes what it wrote.
-pub fn play_out<O: Sink>(machine: &mut Machine, script: &[u8], output: &mut O) -> Outcome
+pub fn play_out<O: Sink>(machine: &mut Machine, script: &[u8], output: &mut O) -> Result<(), Failure>
     ensures ends { Ends result machine.old script.now machine.new (O.held output.old) (O.held output.new) }
-    ensures flushed { result ≡ Played → O.is_flushed output.new ≡ true }
-    ensures flag { O.put_failed output.new ≡ (is_output_failed result || O.put_failed output.old) }
-    ensures read { is_input_failed result ≡ false }
+    ensures flushed { OnOk result (O.is_flushed output.new ≡ true) }
+    ensures flag { MatchResult result
+        (λ _. O.put_failed output.new ≡ O.put_failed output.old)
+        (λ failure. O.put_failed output.new ≡ (is_output_failed failure || O.put_failed output.old)) }
+    ensures read { IfErr result (λ failure. is_input_failed failure ≡ false) }
 {
     match play_script(machine, script, output) {
         Ok(()) => match output.flush() {
-            Ok(()) => Outcome::Played,
-            Err(_) => Outcome::OutputFailed,
+            Ok(()) => Ok(()),
+            Err(_) => Err(Failure::OutputFailed),
         },
-        Err(_) => Outcome::OutputFailed,
+        Err(_) => Err(Failure::OutputFailed),
     }
 }
 
@@ -123,7 +129,7 @@ pub fn tell<E: Sink>(errors: &mut E, pieces: &[&[u8]])
     ensures told { IsTold (E.held errors.old) (E.held errors.new) (flat_map (λ piece. piece.now) pieces.now) (E.put_failed errors.new) }
     ensures flushed { E.put_failed errors.new ≡ false → E.is_flushed errors.new ≡ true }
 {
-    // Where it can't be written, the outcome still tells.
+    // Where it can't be written, the exit status still tells.
     match put_pieces(errors, pieces) {
         Ok(()) => {
             let _ = errors.flush();

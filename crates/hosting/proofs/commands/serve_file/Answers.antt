@@ -1,17 +1,33 @@
-use Rattle.std.proofs.Common.{inr}
+use Rattle.std.proofs.Common.{◌∙◌, Err, ap, inl, inr}
 use Rattle.std.proofs.KnownBytes.{Keeps-refl}
+use Rattle.std.proofs.lemmas.Result.{err_from_is_err_and}
 use Rattle.hosting.proofs.commands.serve_file.Goals as goal
 
-pub returns-in-Ok-clause-serves : goal.returns-in-Ok-clause-serves
-returns-in-Ok-clause-serves g c =
-    let (front, is, after, read) = c.in-Ok.ensures.map in (
+pub returns-clause-serves : goal.returns-clause-serves
+returns-clause-serves g c =
+    let (front, is, after, read) = c.in_ok-map.ensures.map in (
       front,
       is,
       after,
       inr (record {
-        map = c.in-Ok.map;
+        map = c.in_ok-map.map;
         read = read;
         listens_to = c.serve_port.ensures.listens;
-        errors = rw c.in-Ok.ensures.same (Keeps-refl _);
+        errors = rw c.in_ok-map.ensures.same (Keeps-refl _);
+      }),
+    )
+
+pub returns-in_err-map-clause-serves : goal.returns-in_err-map-clause-serves
+returns-in_err-map-clause-serves g c =
+    let (failure, is_err, same) = err_from_is_err_and c.from_residual.result c.from_residual.ensures.1 in
+    let (front, is, after, without) = c.in_err-map.ensures.without in (
+      front,
+      is,
+      after,
+      inl (record {
+        failure = _;
+        ends = is_err ∙ ap (λ f. Err f) same;
+        output = Keeps-refl _;
+        without = without;
       }),
     )
