@@ -13,6 +13,9 @@
 //! Neither `enter` nor `answer` can wait: they have no handle. `open`, `submit`, `retry` and `close` may wait
 //! for a reader that still reads the older copy.
 //!
+//! `layers_cross` and `machine_crosses` ask that layers and a map machine may be sent to other threads and read from
+//! them, which is proved of each type that they are made of.
+//!
 //! Words: a *receipt* stands for all that was published when it was made. What a reader *knows* was published at
 //! the least. An *entry* shows one state, whatever is published meanwhile. An *edition* is what is published.
 #![tactic(auto)]
@@ -24,9 +27,11 @@ mod opening;
 mod reader;
 mod receipt;
 mod rule;
+mod threads;
 
 pub use admin::{Admin, Retried, Submitted};
 pub use opening::{MAX_READERS, ShareFault, open};
 pub use reader::{Closed, Entered, Reader};
 pub use receipt::Receipt;
 pub use rule::Sharing;
+pub use threads::{layers_cross, machine_crosses};

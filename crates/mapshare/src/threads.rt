@@ -1,0 +1,15 @@
+use layers::Layers;
+use mapmachine::Machine;
+
+// Takes what may be sent to other threads, and read from them.
+fn crosses<T: Send + Sync>(_value: &T) {}
+
+/// Served layers may be sent to other threads, and read from them.
+pub fn layers_cross(layers: &Layers) {
+    crosses(layers);
+}
+
+/// So may a map machine: readers and the administrator may have threads of their own.
+pub fn machine_crosses(machine: &Machine) {
+    crosses(machine);
+}
