@@ -168,14 +168,7 @@ fn run<H: Host, O: Sink, E: Sink>(
     let folder = HostFolder::of(host, file);
     let mut mapfile = named_file(host, file);
     let mut commands = named_file(host, script);
-    run_files(
-        alloc,
-        &folder,
-        &mut mapfile,
-        &mut commands,
-        output,
-        errors,
-    )
+    run_files(alloc, &folder, &mut mapfile, &mut commands, output, errors)
 }
 
 /// Does what a command asks for, with the files and the ports of a host. What a session is played from is the

@@ -39,5 +39,5 @@ pub use port::{AcceptFailed, Accepted, AddressFault, Port};
 pub use serving::answer_connections;
 pub use sockets::SocketPort;
 pub use system::{SystemHost, read_words};
-pub use timed::{TimedReader, TimedWriter, Answered};
+pub use timed::{Answered, TimedReader, TimedWriter};
 pub use words::{WordsUnread, answer};

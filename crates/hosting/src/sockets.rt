@@ -4,7 +4,7 @@ ghost use Rattle.hosting.specs.Ports.{Notes};
 use crate::closing::hang_up;
 use crate::limits::{DRAIN_SECONDS, FAILURE_MILLISECONDS, TimeLimit, Waits};
 use crate::port::{AcceptFailed, Accepted, AddressFault, Port};
-use crate::timed::{TimedReader, TimedWriter, Answered};
+use crate::timed::{Answered, TimedReader, TimedWriter};
 use httpedge::EdgeFault;
 use mapdefs::Text;
 use mapmachine::Flagged;

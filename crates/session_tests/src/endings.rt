@@ -69,7 +69,11 @@ pub fn ended(
         &mut output,
         &mut errors,
     );
-    let (input, output, errors) = (file.reader.into_inner(), output.into_inner(), errors.into_inner());
+    let (input, output, errors) = (
+        file.reader.into_inner(),
+        output.into_inner(),
+        errors.into_inner(),
+    );
     let end = end_of(alloc, outcome)?;
     let text = format!(in alloc;
         "{end}|{}|{}",

@@ -118,7 +118,13 @@ pub fn check_file<F: Folder, I: Source, O: Sink, E: Sink>(
         Ok(map) => sum_up(&map, output),
         Err(ParseFault::At { line, kind }) => {
             let words = words_on(alloc, folder, &mapfile, explains);
-            tell_in_words(errors, file.name, line, kind, words.as_ref().map(String::as_str));
+            tell_in_words(
+                errors,
+                file.name,
+                line,
+                kind,
+                words.as_ref().map(String::as_str),
+            );
             Err(Failure::MapfileFault)
         }
         Err(ParseFault::NoMemory) => Err(Failure::NoMemory),

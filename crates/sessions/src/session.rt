@@ -81,7 +81,12 @@ pub fn open_map<F: Folder, E: Sink>(
 }
 
 /// Plays a script on the machine as it begins with a map, and flushes what it wrote.
-pub fn play_on<O: Sink>(alloc: Global, map: Map, script: &[u8], output: &mut O) -> Result<(), Failure>
+pub fn play_on<O: Sink>(
+    alloc: Global,
+    map: Map,
+    script: &[u8],
+    output: &mut O,
+) -> Result<(), Failure>
     ensures ends { EndsOn map result script.now (O.held output.old) (O.held output.new) }
     ensures flushed { OnOk result (O.is_flushed output.new ≡ true) }
     ensures flag { MatchResult result
@@ -96,7 +101,11 @@ pub fn play_on<O: Sink>(alloc: Global, map: Map, script: &[u8], output: &mut O) 
 }
 
 /// Plays a script, and flushes what it wrote.
-pub fn play_out<O: Sink>(machine: &mut Machine, script: &[u8], output: &mut O) -> Result<(), Failure>
+pub fn play_out<O: Sink>(
+    machine: &mut Machine,
+    script: &[u8],
+    output: &mut O,
+) -> Result<(), Failure>
     ensures ends { Ends result machine.old script.now machine.new (O.held output.old) (O.held output.new) }
     ensures flushed { OnOk result (O.is_flushed output.new ≡ true) }
     ensures flag { MatchResult result
