@@ -39,25 +39,7 @@ fn table_fault(kind: Kind, table: &Option<Named>) -> Option<Fault>
 fn finished_layer(draft: LayerDraft, earlier: &[LayerTree], end: &Token) -> Result<LayerTree, Fault>
     ensures { result ≡ finished_layer draft.name draft.kind draft earlier.now end.now }
 {
-    let LayerDraft {
-        name,
-        kind,
-        classitem,
-        labelitem,
-        queryable,
-        tolerance,
-        min,
-        max,
-        items,
-        table,
-        csv_x,
-        csv_y,
-        wms_title,
-        ows_title,
-        classes,
-        features,
-    } = draft;
-    let (Some(name), Some(kind)) = (name, kind) else {
+    let (Some(name), Some(kind)) = (draft.name, draft.kind) else {
         return Err(fault_of(ParseKind::MissingValue, end));
     };
     if is_taken(name.text.as_str(), earlier) {
@@ -66,26 +48,26 @@ fn finished_layer(draft: LayerDraft, earlier: &[LayerTree], end: &Token) -> Resu
             kind: ParseKind::DuplicateName,
         });
     }
-    if let Some(fault) = table_fault(kind, &table) {
+    if let Some(fault) = table_fault(kind, &draft.table) {
         return Err(fault);
     }
     Ok(LayerTree {
         name: name.text,
         kind,
-        classitem,
-        labelitem,
-        queryable,
-        tolerance,
-        min,
-        max,
-        items,
-        table,
-        csv_x,
-        csv_y,
-        wms_title,
-        ows_title,
-        classes,
-        features,
+        classitem: draft.classitem,
+        labelitem: draft.labelitem,
+        queryable: draft.queryable,
+        tolerance: draft.tolerance,
+        min: draft.min,
+        max: draft.max,
+        items: draft.items,
+        table: draft.table,
+        csv_x: draft.csv_x,
+        csv_y: draft.csv_y,
+        wms_title: draft.wms_title,
+        ows_title: draft.ows_title,
+        classes: draft.classes,
+        features: draft.features,
     })
 }
 
