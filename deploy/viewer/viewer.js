@@ -198,6 +198,11 @@ function afterMove() {
     }
 }
 
+function changeLayers() {
+    map.closePopup();
+    showSoon();
+}
+
 /** Pictures of the server are in degrees, tiles in web mercator, whose levels have twice the degrees a pixel. */
 function changeSource() {
     const hasTiles = source() === "tiles";
@@ -266,7 +271,7 @@ function layerOf(element) {
     input.type = "checkbox";
     input.disabled = name.includes(",");
     input.checked = !input.disabled;
-    input.addEventListener("change", showSoon);
+    input.addEventListener("change", changeLayers);
     return {
         name,
         input,
