@@ -1,0 +1,378 @@
+// The viewer: layers by the server's capabilities, pictures by GetMap or MapProxy's tiles, features by a click.
+//
+// The server's texts go into the page by textContent, so that none of them is read as HTML.
+"use strict";
+
+const SERVER = "../wms";
+const TILES = "../tiles/wmts";
+const PICTURE = "image/x-portable-arbitrarymap";
+
+// A pixel counts as 0.28 mm, and a degree of longitude as 111,319.491 m.
+const SCALE_OF_A_DEGREE = 111319.491 / 0.00028;
+
+// What the server has: the map's title, its extent, its layers from the lowest up, and the largest picture.
+let served = { layers: [] };
+// The names of MapProxy's layers; empty where none are served.
+let tileNames = new Set();
+let map;
+// What lies on the map: a canvas, or layers of tiles.
+let overlays = [];
+// Cancels the picture that was asked for last, where the view has changed since.
+let asked = new AbortController();
+let timer;
+
+const byId = (id) => document.getElementById(id);
+const say = (text) => { byId("message").textContent = text; };
+const source = () => document.querySelector("input[name=source]:checked").value;
+const layersOn = () => served.layers.filter((layer) => layer.input.checked);
+
+// Asking
+
+/** What the front answers, which has to be a success. */
+async function get(address, signal) {
+    let response;
+    try {
+        response = await fetch(address, { cache: "no-store", signal });
+    } catch (error) {
+        throw new Error(`The server doesn't answer: ${error.message}.`);
+    }
+    if (!response.ok) {
+        throw new Error(`The server doesn't answer: ${response.status} ${response.statusText}.`);
+    }
+    return response;
+}
+
+async function xmlOf(response) {
+    const xml = new DOMParser().parseFromString(await response.text(), "text/xml");
+    if (xml.querySelector("parsererror")) {
+        throw new Error("The server's document isn't well-formed XML.");
+    }
+    return xml;
+}
+
+/** The answer to a query: a document, a text, or a picture's bytes. An exception is thrown as its text. */
+async function ask(parameters, type, signal) {
+    const query = new URLSearchParams({ SERVICE: "WMS", VERSION: "1.3.0", ...parameters });
+    const response = await get(`${SERVER}?${query}`, signal);
+    const came = (response.headers.get("Content-Type") || "no type").split(";")[0];
+    if (came === "text/xml") {
+        const xml = await xmlOf(response);
+        const exceptions = [...xml.getElementsByTagName("ServiceException")];
+        if (exceptions.length > 0) {
+            throw new Error(exceptions.map((one) => `${one.getAttribute("code")}: ${one.textContent}`).join("; "));
+        }
+        if (type === "text/xml") {
+            return xml;
+        }
+    }
+    if (came !== type) {
+        throw new Error(`The server answers with ${came} in place of ${type}.`);
+    }
+    return type === PICTURE ? response.arrayBuffer() : response.text();
+}
+
+/** The parameters of a picture of a box in degrees. Each system has its own order of the axes. */
+function pictureOf(layers, system, box, width, height) {
+    const { west, south, east, north } = box;
+    const sides = system === "EPSG:4326" ? [south, west, north, east] : [west, south, east, north];
+    return {
+        LAYERS: layers.map((layer) => layer.name).join(","),
+        STYLES: "",
+        CRS: system,
+        BBOX: sides.map((degrees) => degrees.toFixed(6)).join(","),
+        WIDTH: width,
+        HEIGHT: height,
+        FORMAT: PICTURE,
+        TRANSPARENT: "TRUE",
+    };
+}
+
+function boxOfView() {
+    const northWest = map.containerPointToLatLng([0, 0]);
+    const southEast = map.containerPointToLatLng(map.getSize());
+    return { west: northWest.lng, south: southEast.lat, east: southEast.lng, north: northWest.lat };
+}
+
+/** The parameters of a picture of the view. It has the page's pixels, but no more than the server paints. */
+function pictureOfView(layers) {
+    const size = map.getSize();
+    const width = Math.min(size.x, served.width);
+    const height = Math.min(size.y, served.height);
+    return pictureOf(layers, source(), boxOfView(), width, height);
+}
+
+function degreesOfPixel() {
+    const { west, east } = boxOfView();
+    return (east - west) / Math.min(map.getSize().x, served.width);
+}
+
+/** The pixels of a PAM, which has to be of the size that was asked for. */
+function canvasOf(bytes, width, height) {
+    const head = `P7\nWIDTH ${width}\nHEIGHT ${height}\nDEPTH 4\nMAXVAL 255\nTUPLTYPE RGB_ALPHA\nENDHDR\n`;
+    const came = new TextDecoder("latin1").decode(bytes.slice(0, head.length));
+    if (came !== head || bytes.byteLength !== head.length + 4 * width * height) {
+        throw new Error(`The server's picture isn't one of ${width} by ${height} pixels with transparency.`);
+    }
+    const canvas = document.createElement("canvas");
+    canvas.width = width;
+    canvas.height = height;
+    const pixels = new Uint8ClampedArray(bytes, head.length);
+    canvas.getContext("2d").putImageData(new ImageData(pixels, width, height), 0, 0);
+    return canvas;
+}
+
+// Showing
+
+function replaceOverlays(others) {
+    overlays.forEach((overlay) => overlay.remove());
+    overlays = others;
+    overlays.forEach((overlay) => overlay.addTo(map));
+}
+
+async function showPicture(layers) {
+    asked = new AbortController();
+    const signal = asked.signal;
+    const picture = pictureOfView(layers);
+    const { west, south, east, north } = boxOfView();
+    try {
+        const bytes = await ask({ REQUEST: "GetMap", ...picture }, PICTURE, signal);
+        const canvas = canvasOf(bytes, picture.WIDTH, picture.HEIGHT);
+        // This overlay takes any element.
+        replaceOverlays([L.svgOverlay(canvas, [[south, west], [north, east]])]);
+    } catch (error) {
+        if (!signal.aborted) {
+            replaceOverlays([]);
+            say(error.message);
+        }
+    }
+}
+
+/** Shows tiles of each layer, or where all are on those of all together, on which labels lie above everything. */
+function showTiles(layers) {
+    const every = served.layers.every((layer) => layer.input.checked || layer.input.disabled);
+    const together = every && tileNames.has(served.allTiles);
+    const names = together ? [served.allTiles] : layers.map((layer) => layer.tiles);
+    const missing = names.filter((name) => !tileNames.has(name));
+    if (missing.length > 0) {
+        say(`MapProxy has no layer ${missing.join(", ")}: write its configuration again.`);
+    }
+    replaceOverlays(names.filter((name) => tileNames.has(name)).map(tilesOf));
+}
+
+function tilesOf(name) {
+    const tiles = L.tileLayer(`${TILES}/${name}/webmercator/{z}/{x}/{y}.png`, { maxZoom: 18, noWrap: true });
+    return tiles.on("tileerror", () => say("A tile of MapProxy's didn't come."));
+}
+
+function show() {
+    say("");
+    const layers = layersOn();
+    if (layers.length === 0) {
+        replaceOverlays([]);
+        say(served.layers.length === 0 ? "The map has no layers." : "All layers are off.");
+    } else if (source() === "tiles") {
+        showTiles(layers);
+    } else {
+        showPicture(layers);
+    }
+}
+
+/** Shows what there is to be shown as soon as no further change has come for a tenth of a second. */
+function showSoon() {
+    asked.abort();
+    clearTimeout(timer);
+    timer = setTimeout(show, 100);
+}
+
+function afterMove() {
+    const scale = degreesOfPixel() * SCALE_OF_A_DEGREE;
+    for (const layer of served.layers) {
+        const visible = layer.minScale <= scale && scale < layer.maxScale;
+        layer.input.parentElement.classList.toggle("out-of-scale", !visible);
+    }
+    const center = map.getCenter();
+    const level = map.getZoom() - (source() === "tiles" ? 1 : 0);
+    history.replaceState(null, "", `#${level}/${center.lat.toFixed(5)}/${center.lng.toFixed(5)}`);
+    if (source() !== "tiles") {
+        showSoon();
+    }
+}
+
+function changeLayers() {
+    map.closePopup();
+    showSoon();
+}
+
+/** Pictures of the server are in degrees, tiles in web mercator, whose levels have twice the degrees a pixel. */
+function changeSource() {
+    const hasTiles = source() === "tiles";
+    const system = hasTiles ? L.CRS.EPSG3857 : L.CRS.EPSG4326;
+    if (map.options.crs !== system) {
+        const center = map.getCenter();
+        const level = Math.round(map.getZoom()) + (hasTiles ? 1 : -1);
+        replaceOverlays([]);
+        map.options.crs = system;
+        map.options.zoomSnap = hasTiles ? 1 : 0.5;
+        map.setView(center, level, { reset: true });
+    }
+    showSoon();
+}
+
+/** The parameters of a click: a picture, and the column and row of its pixel. */
+function clickOf(layers, latlng, point) {
+    if (source() === "tiles") {
+        // The server has no web mercator, and is asked for a small picture in degrees round the click.
+        const half = 50.5 * degreesOfPixel();
+        const { lat, lng } = latlng;
+        const box = { west: lng - half, south: lat - half, east: lng + half, north: lat + half };
+        return { ...pictureOf(layers, "CRS:84", box, 101, 101), I: 50, J: 50 };
+    }
+    const size = map.getSize();
+    const picture = pictureOfView(layers);
+    const column = Math.floor(point.x * picture.WIDTH / size.x);
+    const row = Math.floor(point.y * picture.HEIGHT / size.y);
+    return { ...picture, I: column, J: row };
+}
+
+/** Shows the features at a click, of the layers that can be asked. */
+async function showFeatures(event) {
+    const layers = layersOn().filter((layer) => layer.queryable);
+    if (layers.length === 0) {
+        say("No layer that is on can be asked for its features.");
+        return;
+    }
+    const click = clickOf(layers, event.latlng, event.containerPoint);
+    const query = { REQUEST: "GetFeatureInfo", ...click, QUERY_LAYERS: click.LAYERS, INFO_FORMAT: "text/plain" };
+    try {
+        const text = await ask({ ...query, FEATURE_COUNT: 10 }, "text/plain");
+        const lines = document.createElement("pre");
+        lines.className = "features";
+        // The first line is the title of all such answers.
+        lines.textContent = text.split("\n").slice(1).join("\n").trimEnd() || "No feature is here.";
+        L.popup({ maxWidth: 400 }).setLatLng(event.latlng).setContent(lines).openOn(map);
+    } catch (error) {
+        say(error.message);
+    }
+}
+
+// Beginning
+
+const textOf = (parent, path) => parent.querySelector(path)?.textContent ?? "";
+
+function numberOf(parent, path, otherwise) {
+    const number = Number.parseFloat(textOf(parent, path));
+    return Number.isNaN(number) ? otherwise : number;
+}
+
+/** A layer of the document, with its switch. */
+function layerOf(element) {
+    const name = textOf(element, ":scope > Name");
+    const input = document.createElement("input");
+    input.type = "checkbox";
+    input.disabled = name.includes(",");
+    input.checked = !input.disabled;
+    input.addEventListener("change", changeLayers);
+    return {
+        name,
+        input,
+        title: textOf(element, ":scope > Title") || name,
+        queryable: element.getAttribute("queryable") === "1",
+        minScale: numberOf(element, ":scope > MinScaleDenominator", 0),
+        maxScale: numberOf(element, ":scope > MaxScaleDenominator", Infinity),
+    };
+}
+
+/** The names of MapProxy's layers, as deploy/mapproxy makes them of the server's. */
+function nameTiles(layers) {
+    const taken = new Set();
+    const nameOf = (name) => {
+        let plain = name.replace(/[^A-Za-z0-9_-]/gu, "_") || "_";
+        while (taken.has(plain)) {
+            plain += "_";
+        }
+        taken.add(plain);
+        return plain;
+    };
+    layers.filter((layer) => !layer.input.disabled).forEach((layer) => { layer.tiles = nameOf(layer.name); });
+    return nameOf("all");
+}
+
+function readCapabilities(xml) {
+    const layers = [...xml.querySelectorAll("Layer")].filter((one) => one.querySelector(":scope > Name")).map(layerOf);
+    const side = (name, otherwise) => numberOf(xml, `EX_GeographicBoundingBox > ${name}`, otherwise);
+    served = {
+        title: textOf(xml, "Service > Title") || "Map",
+        extent: [
+            [side("southBoundLatitude", -90), side("westBoundLongitude", -180)],
+            [side("northBoundLatitude", 90), side("eastBoundLongitude", 180)],
+        ],
+        layers,
+        allTiles: nameTiles(layers),
+        width: numberOf(xml, "MaxWidth", 2048),
+        height: numberOf(xml, "MaxHeight", 2048),
+    };
+}
+
+/** Writes the map's title and the switches of its layers, the uppermost first. */
+function writePanel() {
+    document.title = byId("title").textContent = served.title;
+    for (const layer of served.layers) {
+        const label = document.createElement("label");
+        label.append(layer.input, ` ${layer.title}${layer.input.disabled ? " (its name has a comma)" : ""}`);
+        byId("layers").prepend(label);
+    }
+    document.querySelectorAll("input[name=source]").forEach((input) => input.addEventListener("change", changeSource));
+}
+
+/** Leaflet takes HTML for an attribution. */
+function escaped(text) {
+    const element = document.createElement("p");
+    element.textContent = text;
+    return element.innerHTML;
+}
+
+function makeMap() {
+    const maxBounds = [[-180, -360], [180, 360]];
+    map = L.map("map", { crs: L.CRS.EPSG4326, maxZoom: 18, zoomSnap: 0.5, maxBounds });
+    map.setMinZoom(map.getBoundsZoom([[-90, -180], [90, 180]]));
+    map.attributionControl.addAttribution(escaped(served.title));
+    L.control.scale({ imperial: false }).addTo(map);
+    map.on("moveend", afterMove).on("click", showFeatures);
+    const place = /^#([\d.]+)\/(-?[\d.]+)\/(-?[\d.]+)$/.exec(location.hash);
+    if (place) {
+        map.setView([Number(place[2]), Number(place[3])], Number(place[1]));
+    } else {
+        map.fitBounds(served.extent);
+    }
+}
+
+/** Lets tiles be chosen where MapProxy has some. */
+async function findTiles() {
+    const choice = document.querySelector("input[value=tiles]");
+    try {
+        const xml = await xmlOf(await get(`${TILES}/1.0.0/WMTSCapabilities.xml`));
+        const layers = [...xml.querySelectorAll("Contents > Layer")];
+        tileNames = new Set(layers.map((layer) => layer.getElementsByTagNameNS("*", "Identifier")[0].textContent));
+        choice.disabled = false;
+    } catch (error) {
+        choice.parentElement.append(" - not served here");
+    }
+}
+
+async function begin() {
+    if (!window.L) {
+        say("Leaflet is missing: apt-get install libjs-leaflet.");
+        return;
+    }
+    try {
+        readCapabilities(await ask({ REQUEST: "GetCapabilities" }, "text/xml"));
+    } catch (error) {
+        say(error.message);
+        return;
+    }
+    writePanel();
+    makeMap();
+    findTiles();
+}
+
+begin();
