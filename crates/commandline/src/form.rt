@@ -16,11 +16,15 @@ pub enum Command<'a> {
         file: &'a str,
         /// The name of the script.
         script: &'a str,
+        /// The mapfile's fault is told in words, too.
+        explains: bool,
     },
     /// To answer connections on a port, on the map of a mapfile.
     Serve {
         /// The name of the mapfile.
         file: &'a str,
+        /// The mapfile's fault is told in words, too.
+        explains: bool,
         /// How it is served.
         service: Service,
     },

@@ -78,10 +78,10 @@ Performs host Session outcome old new failed = Tells (gives_in host.file []) out
 Performs host (Check name explains) outcome old new failed =
     (front : List ℕ) × IsFront name.now front × (after : Left)
     × ChecksTo (gives_in host.file front) explains outcome name.now (with_input (host.file name.now) old) (with_input after new) failed
-Performs host (Run name script) outcome old new failed =
+Performs host (Run name script explains) outcome old new failed =
     (front : List ℕ) × IsFront name.now front × (after : Left) × (script_after : Left)
     × RunsTo (gives_in host.file front) outcome name.now script.now (host.file name.now) after
     (with_input (host.file script.now) old) (with_input script_after new) failed
-Performs host (Serve name service) outcome old new failed =
+Performs host (Serve name explains service) outcome old new failed =
     (front : List ℕ) × IsFront name.now front × (after : Left)
     × ServesTo host.ports (host.listens service.port) (gives_in host.file front) service.connections outcome name.now (host.file name.now) after old new failed

@@ -197,8 +197,8 @@ pub fn perform<H: Host, I: Source, O: Sink, E: Sink>(
             serve_session(alloc, &HostFolder::current(host), input, output, errors)
         }
         Command::Check { file, explains } => check(alloc, host, file, explains, output, errors),
-        Command::Run { file, script } => run(alloc, host, file, script, output, errors),
-        Command::Serve { file, service } => {
+        Command::Run { file, script, .. } => run(alloc, host, file, script, output, errors),
+        Command::Serve { file, service, .. } => {
             serve_file(alloc, host, file, service, output, errors)
         }
     }
