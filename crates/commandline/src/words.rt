@@ -39,7 +39,7 @@ fn file_form<'a>(
     let form = clap::Command::new(alloc, name).about(about).arg(file)?;
     let explain = Arg::new(alloc, "explain")
         .long("explain")
-        .help("Tells the mapfile's fault in words, too")
+        .help("Tells the mapfile's fault in words, too, or warnings on its map")
         .action(ArgAction::SetTrue);
     form.arg(explain)
 }

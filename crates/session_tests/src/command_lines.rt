@@ -30,7 +30,11 @@ fn told(alloc: Global, words: &[&str]) -> Result<String, AllocError> {
             },
         ) => format!(in alloc;
             "serve {file} on {} for {}, idle {} and timeout {}{}",
-            service.port, service.connections, service.idle, service.timeout, ending(explains)
+            service.port,
+            service.connections,
+            service.idle,
+            service.timeout,
+            ending(explains)
         ),
         Err(WordsFault::Refused { text }) => Ok(text),
         Err(WordsFault::NoMemory) => Err(AllocError),
@@ -76,8 +80,8 @@ serve m.map --connections 4294967296|error: invalid value '4294967296' for '--co
 draw m.map|error: unrecognized subcommand 'draw'~~Usage: mapservd [COMMAND]~~For more information, try '--help'.~
 CHECK a|error: unrecognized subcommand 'CHECK'~~Usage: mapservd [COMMAND]~~For more information, try '--help'.~
 --port 80|error: unexpected argument '--port' found~~Usage: mapservd [COMMAND]~~For more information, try '--help'.~
-check --help|Reads a mapfile, and says how many layers and features it has~~Usage: mapservd check [OPTIONS] <FILE>~~Arguments:~  <FILE>  ~~Options:~      --explain  Tells the mapfile's fault in words, too~  -h, --help     Print help~
-run --help|Plays a script on the map of a mapfile~~Usage: mapservd run [OPTIONS] <FILE> <SCRIPT>~~Arguments:~  <FILE>    ~  <SCRIPT>  ~~Options:~      --explain  Tells the mapfile's fault in words, too~  -h, --help     Print help~
+check --help|Reads a mapfile, and says how many layers and features it has~~Usage: mapservd check [OPTIONS] <FILE>~~Arguments:~  <FILE>  ~~Options:~      --explain  Tells the mapfile's fault in words, too, or warnings on its map~  -h, --help     Print help~
+run --help|Plays a script on the map of a mapfile~~Usage: mapservd run [OPTIONS] <FILE> <SCRIPT>~~Arguments:~  <FILE>    ~  <SCRIPT>  ~~Options:~      --explain  Tells the mapfile's fault in words, too, or warnings on its map~  -h, --help     Print help~
 --help|Plays map requests~~Usage: mapservd [COMMAND]~~Commands:~  check  Reads a mapfile, and says how many layers and features it has~  run    Plays a script on the map of a mapfile~  serve  Answers connections on a port of this machine~  help   Print this message or the help of the given subcommand(s)~~Options:~  -h, --help  Print help~";
 
 // Whether words have the form of their row.
