@@ -16,29 +16,36 @@ pub none : (c : Command) → May [] c → IsSession c
 unfolding clap_on_literals
 none Session h = h
 none (Check file explains) h = h
-none (Run file script) h = h
-none (Serve file service) h = h
+none (Run file script explains) h = h
+none (Serve file explains service) h = h
 
 pub check : (c : Command) → May (codes "check" ∷ codes "a.map" ∷ []) c → Checks (codes "a.map") false c
 unfolding clap_on_literals
 check Session h = h
-check (Check file explains) h = (same _ _ h.1, h.2.unset refl)
-check (Run file script) h = absurd (cc)
-check (Serve file service) h = absurd (cc)
+check (Check file explains) h = (same _ _ h.1.named, h.1.flag.unset refl)
+check (Run file script explains) h = absurd (cc)
+check (Serve file explains service) h = absurd (cc)
 
 pub explained : (c : Command) → May (codes "check" ∷ codes "--explain" ∷ codes "a.map" ∷ []) c → Checks (codes "a.map") true c
 unfolding clap_on_literals
 explained Session h = h
-explained (Check file explains) h = (same _ _ h.1, h.2.set refl)
-explained (Run file script) h = absurd (cc)
-explained (Serve file service) h = absurd (cc)
+explained (Check file explains) h = (same _ _ h.1.named, h.1.flag.set refl)
+explained (Run file script explains) h = absurd (cc)
+explained (Serve file explains service) h = absurd (cc)
 
-pub run : (c : Command) → May (codes "run" ∷ codes "a.map" ∷ codes "b.txt" ∷ []) c → Plays (codes "a.map") (codes "b.txt") c
+pub run : (c : Command) → May (codes "run" ∷ codes "a.map" ∷ codes "b.txt" ∷ []) c → Plays (codes "a.map") (codes "b.txt") false c
 unfolding clap_on_literals
 run Session h = h
 run (Check file explains) h = absurd (cc)
-run (Run file script) h = (same _ _ h.1, same _ _ h.2)
-run (Serve file service) h = absurd (cc)
+run (Run file script explains) h = (same _ _ h.1.named, same _ _ h.2, h.1.flag.unset refl)
+run (Serve file explains service) h = absurd (cc)
+
+pub run_explained : (c : Command) → May (codes "run" ∷ codes "--explain" ∷ codes "a.map" ∷ codes "b.txt" ∷ []) c → Plays (codes "a.map") (codes "b.txt") true c
+unfolding clap_on_literals
+run_explained Session h = h
+run_explained (Check file explains) h = absurd (cc)
+run_explained (Run file script explains) h = (same _ _ h.1.named, same _ _ h.2, h.1.flag.set refl)
+run_explained (Serve file explains service) h = absurd (cc)
 
 -- the texts of rows that are known are those that the numbers are of
 served-by : (rows : List Row) (service : Service) (port connections idle timeout : Text) → IsService rows service →
@@ -51,23 +58,30 @@ served-by rows service port connections idle timeout is p n i t = record {
   reads_timeout = rw (same _ _ (sym t ∙ is.timeout.1)) at is.timeout.2;
 }
 
-pub serve : (c : Command) → May (codes "serve" ∷ codes "a.map" ∷ codes "--connections" ∷ codes "2" ∷ []) c → Serves (codes "a.map") (codes "8080") (codes "2") (codes "200") (codes "30") c
+pub serve : (c : Command) → May (codes "serve" ∷ codes "a.map" ∷ codes "--connections" ∷ codes "2" ∷ []) c → Serves (codes "a.map") false (codes "8080") (codes "2") (codes "200") (codes "30") c
 unfolding clap_on_literals
 serve Session h = h
 serve (Check file explains) h = let first : 115 ≡ 99 = ap (λ t. get_or t 0 0) h.0 in absurd (omega (arith, first))
-serve (Run file script) h = let first : 115 ≡ 114 = ap (λ t. get_or t 0 0) h.0 in absurd (omega (arith, first))
-serve (Serve file service) h = (same _ _ h.1, served-by _ service _ _ _ _ h.2 refl refl refl refl)
+serve (Run file script explains) h = let first : 115 ≡ 114 = ap (λ t. get_or t 0 0) h.0 in absurd (omega (arith, first))
+serve (Serve file explains service) h = (same _ _ h.1.named, h.1.flag.unset refl, served-by _ service _ _ _ _ h.2 refl refl refl refl)
 
-pub served : (c : Command) → May (codes "serve" ∷ codes "--port" ∷ codes "81" ∷ codes "a.map" ∷ []) c → Serves (codes "a.map") (codes "81") (codes "0") (codes "200") (codes "30") c
+pub served : (c : Command) → May (codes "serve" ∷ codes "--port" ∷ codes "81" ∷ codes "a.map" ∷ []) c → Serves (codes "a.map") false (codes "81") (codes "0") (codes "200") (codes "30") c
 unfolding clap_on_literals
 served Session h = h
 served (Check file explains) h = let first : 115 ≡ 99 = ap (λ t. get_or t 0 0) h.0 in absurd (omega (arith, first))
-served (Run file script) h = let first : 115 ≡ 114 = ap (λ t. get_or t 0 0) h.0 in absurd (omega (arith, first))
-served (Serve file service) h = (same _ _ h.1, served-by _ service _ _ _ _ h.2 refl refl refl refl)
+served (Run file script explains) h = let first : 115 ≡ 114 = ap (λ t. get_or t 0 0) h.0 in absurd (omega (arith, first))
+served (Serve file explains service) h = (same _ _ h.1.named, h.1.flag.unset refl, served-by _ service _ _ _ _ h.2 refl refl refl refl)
 
-pub timed : (c : Command) → May (codes "serve" ∷ codes "a.map" ∷ codes "--timeout" ∷ codes "9" ∷ codes "--idle" ∷ codes "50" ∷ []) c → Serves (codes "a.map") (codes "8080") (codes "0") (codes "50") (codes "9") c
+pub timed : (c : Command) → May (codes "serve" ∷ codes "a.map" ∷ codes "--timeout" ∷ codes "9" ∷ codes "--idle" ∷ codes "50" ∷ []) c → Serves (codes "a.map") false (codes "8080") (codes "0") (codes "50") (codes "9") c
 unfolding clap_on_literals
 timed Session h = h
 timed (Check file explains) h = let first : 115 ≡ 99 = ap (λ t. get_or t 0 0) h.0 in absurd (omega (arith, first))
-timed (Run file script) h = let first : 115 ≡ 114 = ap (λ t. get_or t 0 0) h.0 in absurd (omega (arith, first))
-timed (Serve file service) h = (same _ _ h.1, served-by _ service _ _ _ _ h.2 refl refl refl refl)
+timed (Run file script explains) h = let first : 115 ≡ 114 = ap (λ t. get_or t 0 0) h.0 in absurd (omega (arith, first))
+timed (Serve file explains service) h = (same _ _ h.1.named, h.1.flag.unset refl, served-by _ service _ _ _ _ h.2 refl refl refl refl)
+
+pub serve_explained : (c : Command) → May (codes "serve" ∷ codes "a.map" ∷ codes "--explain" ∷ []) c → Serves (codes "a.map") true (codes "8080") (codes "0") (codes "200") (codes "30") c
+unfolding clap_on_literals
+serve_explained Session h = h
+serve_explained (Check file explains) h = let first : 115 ≡ 99 = ap (λ t. get_or t 0 0) h.0 in absurd (omega (arith, first))
+serve_explained (Run file script explains) h = let first : 115 ≡ 114 = ap (λ t. get_or t 0 0) h.0 in absurd (omega (arith, first))
+serve_explained (Serve file explains service) h = (same _ _ h.1.named, h.1.flag.set refl, served-by _ service _ _ _ _ h.2 refl refl refl refl)

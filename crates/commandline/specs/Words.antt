@@ -24,13 +24,17 @@ script_rule = record (new_rule (codes "SCRIPT")) { required = true }
 abbrev pub explain_rule : Rule
 explain_rule = record (new_rule (codes "explain")) { long = Some (codes "explain"); action = Some SetTrue }
 
+-- `NAME --explain FILE`
+abbrev pub file_app : Text → App
+file_app name = with_rule (with_rule (new_app name) file_rule) explain_rule
+
 -- `check --explain FILE`
 abbrev pub check_app : App
-check_app = with_rule (with_rule (new_app (codes "check")) file_rule) explain_rule
+check_app = file_app (codes "check")
 
--- `run FILE SCRIPT`
+-- `run --explain FILE SCRIPT`
 abbrev pub run_app : App
-run_app = with_rule (with_rule (new_app (codes "run")) file_rule) script_rule
+run_app = with_rule (file_app (codes "run")) script_rule
 
 -- an option of a number, with what it is where it isn't given
 abbrev pub number_rule : Text → ValueParser → Text → Rule
@@ -52,9 +56,9 @@ idle_rule = number_rule (codes "idle") (vp.Signed (pos 1) (pos 60000)) (codes "2
 abbrev pub timeout_rule : Rule
 timeout_rule = number_rule (codes "timeout") (vp.Signed (pos 1) (pos 3600)) (codes "30")
 
--- `serve FILE --port PORT`, and with one more option each
+-- `serve --explain FILE --port PORT`, and with one more option each
 abbrev pub port_app : App
-port_app = with_rule (with_rule (new_app (codes "serve")) file_rule) port_rule
+port_app = with_rule (file_app (codes "serve")) port_rule
 
 abbrev pub counted_app : App
 counted_app = with_rule port_app connections_rule
@@ -62,7 +66,7 @@ counted_app = with_rule port_app connections_rule
 abbrev pub idle_app : App
 idle_app = with_rule counted_app idle_rule
 
--- `serve FILE --port PORT --connections N --idle MILLISECONDS --timeout SECONDS`
+-- `serve --explain FILE --port PORT --connections N --idle MILLISECONDS --timeout SECONDS`
 abbrev pub serve_app : App
 serve_app = with_rule idle_app timeout_rule
 
@@ -93,18 +97,22 @@ pub record IsFlag (name : Text) (rows : List Row) (flag : Bool) : Type 0 where
   pub unset : one_of name rows ≡ Some (codes "false") → flag ≡ false
   pub absent : one_of name rows ≡ None → flag ≡ false
 
+-- the rows of matches name a mapfile, and say whether it is told in words what is wrong with it
+pub record IsOnFile (rows : List Row) (file : Text) (explains : Bool) : Type 0 where
+  pub named : first_of (codes "FILE") rows ≡ Some file
+  pub flag : IsFlag (codes "explain") rows explains
+
 -- a command is what matches say: none of the forms, or the name of one with its files
 abbrev pub IsCommand : Option (Text × List Row) → Command → Type 0
 IsCommand None Session = Unit {0}
 IsCommand None (Check file explains) = ⊥
-IsCommand None (Run file script) = ⊥
-IsCommand None (Serve file service) = ⊥
+IsCommand None (Run file script explains) = ⊥
+IsCommand None (Serve file explains service) = ⊥
 IsCommand (Some m) Session = ⊥
-IsCommand (Some m) (Check file explains) =
-    (m.0 ≡ codes "check") × (first_of (codes "FILE") m.1 ≡ Some file.now) × IsFlag (codes "explain") m.1 explains
-IsCommand (Some m) (Run file script) =
-    (m.0 ≡ codes "run") × (first_of (codes "FILE") m.1 ≡ Some file.now) × (first_of (codes "SCRIPT") m.1 ≡ Some script.now)
-IsCommand (Some m) (Serve file service) = (m.0 ≡ codes "serve") × (first_of (codes "FILE") m.1 ≡ Some file.now) × IsService m.1 service
+IsCommand (Some m) (Check file explains) = (m.0 ≡ codes "check") × IsOnFile m.1 file.now explains
+IsCommand (Some m) (Run file script explains) =
+    (m.0 ≡ codes "run") × IsOnFile m.1 file.now explains × (first_of (codes "SCRIPT") m.1 ≡ Some script.now)
+IsCommand (Some m) (Serve file explains service) = (m.0 ≡ codes "serve") × IsOnFile m.1 file.now explains × IsService m.1 service
 
 -- the words were refused
 abbrev pub is_refusal : WordsFault → Bool
@@ -121,45 +129,52 @@ abbrev pub Checks : Text → Bool → Command → Type 0
 Checks name in_words (Check file explains) = (file.now ≡ name) × (explains ≡ in_words)
 Checks name in_words _ = ⊥
 
--- the command plays the script of a name on the mapfile of a name
-abbrev pub Plays : Text → Text → Command → Type 0
-Plays map_name script_name (Run file script) = (file.now ≡ map_name) × (script.now ≡ script_name)
-Plays map_name script_name _ = ⊥
+-- the command plays the script of a name on the mapfile of a name, and tells a fault in words or doesn't
+abbrev pub Plays : Text → Text → Bool → Command → Type 0
+Plays map_name script_name in_words (Run file script explains) = (file.now ≡ map_name) × (script.now ≡ script_name) × (explains ≡ in_words)
+Plays map_name script_name in_words _ = ⊥
 
 -- the text is that of a number of so many bits
 abbrev pub Reads : ℕ → Text → ℕ → Type 0
 Reads bits text n = ParsesUnsigned {E = ParseIntError} bits 10 text (Ok n)
 
--- the command serves the mapfile of a name, by the texts of its options
+-- a map is served by these texts of options
 pub record IsServedBy (port connections idle timeout : Text) (service : Service) : Type 0 where
   pub reads_port : Reads 16 port service.port
   pub reads_connections : Reads 32 connections service.connections
   pub reads_idle : Reads 16 idle service.idle
   pub reads_timeout : Reads 16 timeout service.timeout
 
-abbrev pub Serves : Text → Text → Text → Text → Text → Command → Type 0
-Serves name port connections idle timeout (Serve file service) = (file.now ≡ name) × IsServedBy port connections idle timeout service
-Serves name port connections idle timeout _ = ⊥
+-- the command serves the mapfile of a name, and tells a fault in words or doesn't, by the texts of its options
+abbrev pub Serves : Text → Bool → Text → Text → Text → Text → Command → Type 0
+Serves name in_words port connections idle timeout (Serve file explains service) =
+    (file.now ≡ name) × (explains ≡ in_words) × IsServedBy port connections idle timeout service
+Serves name in_words port connections idle timeout _ = ⊥
 
 -- the commands that words may be
 abbrev pub May : List Text → Command → Type 0
 May words command = IsCommand (subcommand_of app words) command
 
--- the law on words that are written out: no words are a session; `check` has its file, and its flag where that is given; `run` has
--- the mapfile before the script; `serve` has its file, and numbers that aren't given are 8080, 0, 200 and 30
+-- the law on words that are written out: no words are a session; `check` has its file; `run` has the mapfile before the script; `serve`
+-- has its file, and numbers that aren't given are 8080, 0, 200 and 30; each of the three has its flag where that is given, and else not
 pub record FormsAreWritten : Type 0 where
   pub none : (c : Command) → May [] c → IsSession c
   pub check : (c : Command) → May (codes "check" ∷ codes "a.map" ∷ []) c → Checks (codes "a.map") false c
   pub explained : (c : Command) → May (codes "check" ∷ codes "--explain" ∷ codes "a.map" ∷ []) c → Checks (codes "a.map") true c
-  pub run : (c : Command) → May (codes "run" ∷ codes "a.map" ∷ codes "b.txt" ∷ []) c → Plays (codes "a.map") (codes "b.txt") c
-  pub serve : (c : Command) → May (codes "serve" ∷ codes "a.map" ∷ codes "--connections" ∷ codes "2" ∷ []) c → Serves (codes "a.map") (codes "8080") (codes "2") (codes "200") (codes "30") c
-  pub served : (c : Command) → May (codes "serve" ∷ codes "--port" ∷ codes "81" ∷ codes "a.map" ∷ []) c → Serves (codes "a.map") (codes "81") (codes "0") (codes "200") (codes "30") c
-  pub timed : (c : Command) → May (codes "serve" ∷ codes "a.map" ∷ codes "--timeout" ∷ codes "9" ∷ codes "--idle" ∷ codes "50" ∷ []) c → Serves (codes "a.map") (codes "8080") (codes "0") (codes "50") (codes "9") c
+  pub run : (c : Command) → May (codes "run" ∷ codes "a.map" ∷ codes "b.txt" ∷ []) c → Plays (codes "a.map") (codes "b.txt") false c
+  pub run_explained : (c : Command) → May (codes "run" ∷ codes "--explain" ∷ codes "a.map" ∷ codes "b.txt" ∷ []) c → Plays (codes "a.map") (codes "b.txt") true c
+  pub serve : (c : Command) → May (codes "serve" ∷ codes "a.map" ∷ codes "--connections" ∷ codes "2" ∷ []) c → Serves (codes "a.map") false (codes "8080") (codes "2") (codes "200") (codes "30") c
+  pub served : (c : Command) → May (codes "serve" ∷ codes "--port" ∷ codes "81" ∷ codes "a.map" ∷ []) c → Serves (codes "a.map") false (codes "81") (codes "0") (codes "200") (codes "30") c
+  pub timed : (c : Command) → May (codes "serve" ∷ codes "a.map" ∷ codes "--timeout" ∷ codes "9" ∷ codes "--idle" ∷ codes "50" ∷ []) c → Serves (codes "a.map") false (codes "8080") (codes "0") (codes "50") (codes "9") c
+  pub serve_explained : (c : Command) → May (codes "serve" ∷ codes "a.map" ∷ codes "--explain" ∷ []) c → Serves (codes "a.map") true (codes "8080") (codes "0") (codes "200") (codes "30") c
 
 -- the law on words that are taken or refused: the forms are taken; words that lack a file, begin with another word, or have a number
 -- beyond its range are refused
 pub record FormsAreTaken : Type 0 where
   pub taken : (fault_of app [] ≡ []) × (fault_of app (codes "check" ∷ codes "a.map" ∷ []) ≡ []) × (fault_of app (codes "run" ∷ codes "a.map" ∷ codes "b.txt" ∷ []) ≡ [])
+  pub explained : (fault_of app (codes "check" ∷ codes "--explain" ∷ codes "a.map" ∷ []) ≡ [])
+      × (fault_of app (codes "run" ∷ codes "a.map" ∷ codes "--explain" ∷ codes "b.txt" ∷ []) ≡ [])
+      × (fault_of app (codes "serve" ∷ codes "a.map" ∷ codes "--explain" ∷ []) ≡ [])
   pub refused : (takes app (codes "check" ∷ []) ≡ false) × (takes app (codes "run" ∷ codes "a.map" ∷ []) ≡ false) × (takes app (codes "draw" ∷ codes "a.map" ∷ []) ≡ false)
       × (takes app (codes "serve" ∷ codes "a.map" ∷ codes "--port" ∷ codes "65536" ∷ []) ≡ false)
   pub untimely : (takes app (codes "serve" ∷ codes "a.map" ∷ codes "--idle" ∷ codes "0" ∷ []) ≡ false) × (takes app (codes "serve" ∷ codes "a.map" ∷ codes "--idle" ∷ codes "60001" ∷ []) ≡ false)

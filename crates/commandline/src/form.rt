@@ -7,7 +7,7 @@ pub enum Command<'a> {
     Check {
         /// Its name.
         file: &'a str,
-        /// Its fault is told in words, too.
+        /// Its fault is told in words, too, or warnings on its map.
         explains: bool,
     },
     /// To play a script on the map of a mapfile.
@@ -16,11 +16,15 @@ pub enum Command<'a> {
         file: &'a str,
         /// The name of the script.
         script: &'a str,
+        /// The mapfile's fault is told in words, too, or warnings on its map.
+        explains: bool,
     },
     /// To answer connections on a port, on the map of a mapfile.
     Serve {
         /// The name of the mapfile.
         file: &'a str,
+        /// The mapfile's fault is told in words, too, or warnings on its map.
+        explains: bool,
         /// How it is served.
         service: Service,
     },

@@ -3,7 +3,7 @@ ghost use Rattle.clap.specs.Words.{app_of, rule_of, rows_of, found_of, fault_of,
 ghost use Rattle.clap.specs.declared.error.kind.ErrorKind.TheVariants.{OutOfMemory};
 ghost use Rattle.clap.specs.declared.builder.command.Command.TheViews.{out-Command};
 ghost use Rattle.commandline.specs.Forms.{IsWithForm};
-ghost use Rattle.commandline.specs.Words.{app, named_app, file_rule, number_rule, check_app, run_app, port_app, counted_app, idle_app, serve_app, IsCommand, IsNumber, IsService, is_refusal};
+ghost use Rattle.commandline.specs.Words.{app, named_app, file_app, number_rule, check_app, run_app, port_app, counted_app, idle_app, serve_app, IsCommand, IsFlag, IsNumber, IsService, is_refusal};
 
 use crate::form::{Command, Service};
 use clap::builder::ValueParser;
@@ -26,17 +26,22 @@ pub enum WordsFault {
     NoMemory,
 }
 
-// A form of its name, which a mapfile's name follows.
+// A form of its name: the name of a mapfile follows, and `--explain` may.
 fn file_form<'a>(
     alloc: Global,
     name: &'a str,
     about: &'a str,
 ) -> Result<clap::Command<'a>, AllocError>
-    ensures app { IfOk result (λ c. app_of c ≡ with_rule (new_app name.now) file_rule) }
+    ensures app { IfOk result (λ c. app_of c ≡ file_app name.now) }
     ensures local { IfOk result (λ c. (out-Command c).has_globals ≡ false) }
 {
     let file = Arg::new(alloc, "FILE").required(true);
-    clap::Command::new(alloc, name).about(about).arg(file)
+    let form = clap::Command::new(alloc, name).about(about).arg(file)?;
+    let explain = Arg::new(alloc, "explain")
+        .long("explain")
+        .help("Tells the mapfile's fault in words, too, or warnings on its map")
+        .action(ArgAction::SetTrue);
+    form.arg(explain)
 }
 
 // The form `check --explain FILE`.
@@ -45,15 +50,10 @@ fn check_form<'a>(alloc: Global) -> Result<clap::Command<'a>, AllocError>
     ensures local { IfOk result (λ c. (out-Command c).has_globals ≡ false) }
 {
     let about = "Reads a mapfile, and says how many layers and features it has";
-    let form = file_form(alloc, "check", about)?;
-    let explain = Arg::new(alloc, "explain")
-        .long("explain")
-        .help("Tells the mapfile's fault in words, too")
-        .action(ArgAction::SetTrue);
-    form.arg(explain)
+    file_form(alloc, "check", about)
 }
 
-// The form `run FILE SCRIPT`.
+// The form `run --explain FILE SCRIPT`.
 fn run_form<'a>(alloc: Global) -> Result<clap::Command<'a>, AllocError>
     ensures app { IfOk result (λ c. app_of c ≡ run_app) }
     ensures local { IfOk result (λ c. (out-Command c).has_globals ≡ false) }
@@ -73,7 +73,7 @@ fn number<'a>(alloc: Global, name: &'a str, parser: ValueParser<'a>, default: &'
         .default_value(default)
 }
 
-// The form `serve FILE --port PORT`, to which options are still to come.
+// The form `serve --explain FILE --port PORT`, to which options are still to come.
 fn port_form<'a>(alloc: Global) -> Result<clap::Command<'a>, AllocError>
     ensures app { IfOk result (λ c. app_of c ≡ port_app) }
     ensures local { IfOk result (λ c. (out-Command c).has_globals ≡ false) }
@@ -163,6 +163,13 @@ fn large_number_of<'a>(matches: &ArgMatches<'a>, name: &str) -> Option<u32>
     matches.get_one::<u32>(name)
 }
 
+// Whether a flag is set.
+fn flag_of<'a>(matches: &ArgMatches<'a>, name: &str) -> bool
+    ensures { IsFlag name.now (rows_of (found_of matches.now)) result }
+{
+    matches.get_flag(name)
+}
+
 // How matches say that a map is served. Times beyond their ranges don't come.
 fn service_of<'a>(matches: &ArgMatches<'a>) -> Option<Service>
     ensures { IfSome result (IsService (rows_of (found_of matches.now))) }
@@ -190,17 +197,17 @@ fn command_of<'a>(matches: &ArgMatches<'a>) -> Option<Command<'a>>
         return Some(Command::Session);
     };
     let file = inner.get_str("FILE")?;
+    let explains = flag_of(inner, "explain");
     match name {
-        "check" => Some(Command::Check {
-            file,
-            explains: inner.get_flag("explain"),
-        }),
+        "check" => Some(Command::Check { file, explains }),
         "run" => Some(Command::Run {
             file,
             script: inner.get_str("SCRIPT")?,
+            explains,
         }),
         "serve" => Some(Command::Serve {
             file,
+            explains,
             service: service_of(inner)?,
         }),
         _ => None,

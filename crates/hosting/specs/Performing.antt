@@ -6,7 +6,7 @@ use Rattle.commandline.specs.declared.form.Command.TheVariants.{Session, Check, 
 use Rattle.mapdefs.specs.declared.map.MapFields.{MapFields}
 use Rattle.batches.specs.Batch.{State}
 use Rattle.sessions.specs.Folder.{Giving, IsFront}
-use Rattle.sessions.specs.Forms.{HasReadMap, GivesNoMap, ChecksTo, RunsTo}
+use Rattle.sessions.specs.Forms.{HasReadMap, GivesNoMap, TellsWarnings, ChecksTo, RunsTo}
 use Rattle.sessions.specs.Session.{Outcome, Streams, Tells, opened}
 use Rattle.sessions.specs.declared.failure.Failure.{Failure}
 use Rattle.sessions.specs.declared.failure.Failure.TheVariants.{SocketFailed, NoMemory}
@@ -41,25 +41,25 @@ abbrev pub ListensTo : {P : Type 0} → PortView P → (P → Type 0) → ℕ �
 ListensTo view listens connections map outcome before after =
     (((outcome ≡ Err SocketFailed) ⊎ (outcome ≡ Err NoMemory)) × Keeps before after) ⊎ HasListened view listens connections map outcome before after
 
--- the map of a mapfile was served
-pub record IsMapServed {P : Type 0} (view : PortView P) (listens : P → Type 0) (gives : Giving) (connections : ℕ) (outcome : Outcome) (before after : Option (List ℕ)) (old new : Streams) : Type 0 where
+-- the warnings on the map of a mapfile were told, where `explains` says so, and the map was served
+pub record IsMapServed {P : Type 0} (view : PortView P) (listens : P → Type 0) (gives : Giving) (explains : Bool) (connections : ℕ) (outcome : Outcome) (name : List ℕ) (before after : Option (List ℕ)) (old new : Streams) (failed : Bool) : Type 0 where
   pub map : MapFields
   pub read : HasReadMap gives before after map
   pub listens_to : ListensTo view listens connections map outcome old.output new.output
-  pub errors : Keeps old.errors new.errors
+  pub warnings : TellsWarnings explains name map old.errors new.errors failed
 
 -- no map was served, since the mapfile gave none
-pub record IsUnserved (gives : Giving) (outcome : Outcome) (name : List ℕ) (before after : Option (List ℕ)) (old new : Streams) (failed : Bool) : Type 0 where
+pub record IsUnserved (gives : Giving) (explains : Bool) (outcome : Outcome) (name : List ℕ) (before after : Option (List ℕ)) (old new : Streams) (failed : Bool) : Type 0 where
   pub failure : Failure
   pub ends : outcome ≡ Err failure
   pub output : Keeps old.output new.output
-  pub without : GivesNoMap gives failure name before after old.errors new.errors failed
+  pub without : GivesNoMap gives explains failure name before after old.errors new.errors failed
 
 -- what serving a mapfile tells of the streams by its outcome, with the name of the mapfile
-abbrev pub ServesTo : {P : Type 0} → PortView P → (P → Type 0) → Giving → ℕ → Outcome → List ℕ → Option (List ℕ) → Option (List ℕ) → Streams → Streams → Bool → Type 0
-ServesTo view listens gives connections outcome name before after old new failed =
-    IsUnserved gives outcome name before after old new failed
-    ⊎ IsMapServed view listens gives connections outcome before after old new
+abbrev pub ServesTo : {P : Type 0} → PortView P → (P → Type 0) → Giving → Bool → ℕ → Outcome → List ℕ → Option (List ℕ) → Option (List ℕ) → Streams → Streams → Bool → Type 0
+ServesTo view listens gives explains connections outcome name before after old new failed =
+    IsUnserved gives explains outcome name before after old new failed
+    ⊎ IsMapServed view listens gives explains connections outcome name before after old new failed
 
 -- what a host is known to have: the bytes of the file of a path, and which ports it gives for a number
 pub record HostView (P : Type 0) : Type 1 where
@@ -78,10 +78,10 @@ Performs host Session outcome old new failed = Tells (gives_in host.file []) out
 Performs host (Check name explains) outcome old new failed =
     (front : List ℕ) × IsFront name.now front × (after : Left)
     × ChecksTo (gives_in host.file front) explains outcome name.now (with_input (host.file name.now) old) (with_input after new) failed
-Performs host (Run name script) outcome old new failed =
+Performs host (Run name script explains) outcome old new failed =
     (front : List ℕ) × IsFront name.now front × (after : Left) × (script_after : Left)
-    × RunsTo (gives_in host.file front) outcome name.now script.now (host.file name.now) after
+    × RunsTo (gives_in host.file front) explains outcome name.now script.now (host.file name.now) after
     (with_input (host.file script.now) old) (with_input script_after new) failed
-Performs host (Serve name service) outcome old new failed =
+Performs host (Serve name explains service) outcome old new failed =
     (front : List ℕ) × IsFront name.now front × (after : Left)
-    × ServesTo host.ports (host.listens service.port) (gives_in host.file front) service.connections outcome name.now (host.file name.now) after old new failed
+    × ServesTo host.ports (host.listens service.port) (gives_in host.file front) explains service.connections outcome name.now (host.file name.now) after old new failed

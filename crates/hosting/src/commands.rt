@@ -1,7 +1,7 @@
 ghost use Rattle.std.specs.Prelude.{◌≡◌, ◌≢◌, ◌||◌, ℕ, List, None, IfOk, IfErr, OnOk, MatchResult, false, true};
 ghost use Rattle.commandline.specs.declared.form.Command.TheVariants.{Session};
 ghost use Rattle.sessions.specs.Folder.{IsFront};
-ghost use Rattle.sessions.specs.Forms.{ChecksTo, GivesNoMap, HasReadMap, RunsTo, has_told};
+ghost use Rattle.sessions.specs.Forms.{ChecksTo, GivesNoMap, HasReadMap, RunsTo, TellsWarnings, has_told};
 ghost use Rattle.sessions.specs.Session.{Streams, is_output_failed};
 ghost use Rattle.hosting.specs.Hosts.{gives_in, left_of, TellsAddress};
 ghost use Rattle.hosting.specs.Performing.{HostView, Left, ListensTo, Performs, PortView, ServesTo};
@@ -76,24 +76,25 @@ pub fn serve_port<H: Host, O: Sink>(
     answer_connections(alloc, &mut machine, &mut port, service.connections)
 }
 
-// The map of a mapfile. A fault is told.
+// The map of a mapfile. A fault is told, or the warnings on the map where it `explains`.
 fn read_host_map<H: Host, E: Sink>(
     alloc: Global,
     host: &H,
     file: &str,
+    explains: bool,
     errors: &mut E,
 ) -> Result<Map, Failure>
     ensures map { IfOk result (λ map. (front : List ℕ) × IsFront file.now front × (after : Left)
         × HasReadMap (gives_in (H.file host.now) front) (H.file host.now file.now) after map) }
-    ensures same { OnOk result (errors.new ≡ errors.old) }
+    ensures warnings { IfOk result (λ map. TellsWarnings explains file.now map (E.held errors.old) (E.held errors.new) (E.put_failed errors.new)) }
     ensures without { IfErr result (λ failure. (front : List ℕ) × IsFront file.now front × (after : Left)
-        × GivesNoMap (gives_in (H.file host.now) front) failure file.now (H.file host.now file.now) after (E.held errors.old) (E.held errors.new) (E.put_failed errors.new)) }
+        × GivesNoMap (gives_in (H.file host.now) front) explains failure file.now (H.file host.now file.now) after (E.held errors.old) (E.held errors.new) (E.put_failed errors.new)) }
     ensures flushed { IfErr result (λ failure. has_told failure ≡ true → E.put_failed errors.new ≡ false → E.is_flushed errors.new ≡ true) }
     ensures output { IfErr result (λ failure. is_output_failed failure ≡ false) }
 {
     let folder = HostFolder::of(host, file);
     let mut mapfile = named_file(host, file);
-    read_map(alloc, &folder, &mut mapfile, errors)
+    read_map(alloc, &folder, &mut mapfile, explains, errors)
 }
 
 // Answers connections about the map of a mapfile.
@@ -101,12 +102,13 @@ fn serve_file<H: Host, O: Sink, E: Sink>(
     alloc: Global,
     host: &H,
     file: &str,
+    explains: bool,
     service: Service,
     output: &mut O,
     errors: &mut E,
 ) -> Result<(), Failure>
     ensures serves { (front : List ℕ) × IsFront file.now front × (after : Left)
-        × ServesTo (record { log = H.Port.log; address = H.Port.address }) (H.listens host.now service.port) (gives_in (H.file host.now) front) service.connections result file.now (H.file host.now file.now) after
+        × ServesTo (record { log = H.Port.log; address = H.Port.address }) (H.listens host.now service.port) (gives_in (H.file host.now) front) explains service.connections result file.now (H.file host.now file.now) after
         (record { input = None; output = O.held output.old; errors = E.held errors.old })
         (record { input = None; output = O.held output.new; errors = E.held errors.new })
         (E.put_failed errors.new) }
@@ -116,7 +118,7 @@ fn serve_file<H: Host, O: Sink, E: Sink>(
         (λ _. O.put_failed output.new ≡ O.put_failed output.old)
         (λ failure. O.put_failed output.new ≡ (is_output_failed failure || O.put_failed output.old)) }
 {
-    let map = read_host_map(alloc, host, file, errors)?;
+    let map = read_host_map(alloc, host, file, explains, errors)?;
     serve_port(alloc, host, map, service, output)
 }
 
@@ -151,11 +153,12 @@ fn run<H: Host, O: Sink, E: Sink>(
     host: &H,
     file: &str,
     script: &str,
+    explains: bool,
     output: &mut O,
     errors: &mut E,
 ) -> Result<(), Failure>
     ensures runs { (front : List ℕ) × IsFront file.now front × (after : Left) × (script_after : Left)
-        × RunsTo (gives_in (H.file host.now) front) result file.now script.now (H.file host.now file.now) after
+        × RunsTo (gives_in (H.file host.now) front) explains result file.now script.now (H.file host.now file.now) after
         (record { input = H.file host.now script.now; output = O.held output.old; errors = E.held errors.old })
         (record { input = script_after; output = O.held output.new; errors = E.held errors.new })
         (E.put_failed errors.new) }
@@ -168,7 +171,15 @@ fn run<H: Host, O: Sink, E: Sink>(
     let folder = HostFolder::of(host, file);
     let mut mapfile = named_file(host, file);
     let mut commands = named_file(host, script);
-    run_files(alloc, &folder, &mut mapfile, &mut commands, output, errors)
+    run_files(
+        alloc,
+        &folder,
+        &mut mapfile,
+        &mut commands,
+        explains,
+        output,
+        errors,
+    )
 }
 
 /// Does what a command asks for, with the files and the ports of a host. What a session is played from is the
@@ -197,9 +208,15 @@ pub fn perform<H: Host, I: Source, O: Sink, E: Sink>(
             serve_session(alloc, &HostFolder::current(host), input, output, errors)
         }
         Command::Check { file, explains } => check(alloc, host, file, explains, output, errors),
-        Command::Run { file, script } => run(alloc, host, file, script, output, errors),
-        Command::Serve { file, service } => {
-            serve_file(alloc, host, file, service, output, errors)
-        }
+        Command::Run {
+            file,
+            script,
+            explains,
+        } => run(alloc, host, file, script, explains, output, errors),
+        Command::Serve {
+            file,
+            explains,
+            service,
+        } => serve_file(alloc, host, file, explains, service, output, errors),
     }
 }

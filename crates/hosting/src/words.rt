@@ -81,6 +81,31 @@ fn answer_words<H: Host, I: Source, O: Sink, E: Sink>(
     }
 }
 
+// Does what words ask for, or tells why they can't be read.
+fn answer_read<H: Host, I: Source, O: Sink, E: Sink>(
+    alloc: Global,
+    host: &H,
+    words: Result<Vec<String>, WordsUnread>,
+    input: &mut I,
+    output: &mut O,
+    errors: &mut E,
+) -> Result<(), Failure>
+    ensures { Answers (record { file = H.file host.now; listens = H.listens host.now; ports = record { log = H.Port.log; address = H.Port.address } })
+        (result_map_both (λ w. map string_bytes w.items) (λ e. e) words) result
+        (record { input = I.left input.old; output = O.held output.old; errors = E.held errors.old })
+        (record { input = I.left input.new; output = O.held output.new; errors = E.held errors.new })
+        (E.put_failed errors.new) }
+{
+    match words {
+        Ok(words) => answer_words(alloc, host, &words, input, output, errors),
+        Err(WordsUnread::NoText) => {
+            tell(errors, &[b"error: a word is not UTF-8\n"]);
+            Err(Failure::WordsRefused)
+        }
+        Err(WordsUnread::NoMemory) => Err(Failure::NoMemory),
+    }
+}
+
 /// Does what the words of the command line ask for, or tells what is wrong with them, and says how the program
 /// ends.
 pub fn answer<H: Host, I: Source, O: Sink, E: Sink>(
@@ -97,13 +122,5 @@ pub fn answer<H: Host, I: Source, O: Sink, E: Sink>(
         (record { input = I.left input.new; output = O.held output.new; errors = E.held errors.new })
         (E.put_failed errors.new) }
 {
-    let outcome = match words {
-        Ok(words) => answer_words(alloc, host, &words, input, output, errors),
-        Err(WordsUnread::NoText) => {
-            tell(errors, &[b"error: a word is not UTF-8\n"]);
-            Err(Failure::WordsRefused)
-        }
-        Err(WordsUnread::NoMemory) => Err(Failure::NoMemory),
-    };
-    Ending::after(outcome)
+    Ending::after(answer_read(alloc, host, words, input, output, errors))
 }

@@ -1,7 +1,8 @@
 //! The program. Without words on its command line it plays a session from standard input: a mapfile,
 //! a line of two percent signs, and a script, whose transcript it writes. `check FILE` reads a mapfile
-//! and says how much its map has, and with `--explain` it tells a fault in words, too. `run FILE SCRIPT`
-//! plays a script on the map of a mapfile, `serve FILE` answers connections on a port.
+//! and says how much its map has, `run FILE SCRIPT` plays a script on the map of a mapfile, `serve FILE`
+//! answers connections on a port. With `--explain` each tells a fault of the mapfile in words, too, and
+//! warnings on its map.
 //!
 //! What is proved stands in the crates below: `answer` of `hosting` does what words ask for, with the files and
 //! the ports of a host, and makes the `Ending` that `main` returns. Here the words, the streams and the host are

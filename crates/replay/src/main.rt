@@ -29,6 +29,7 @@ fn play<W: Write>(rt: &HostRuntime, name: &str, output: &mut W) -> io::Result<()
         Command::Run {
             file: file.as_str(),
             script: script.as_str(),
+            explains: false,
         },
         &mut Flagged::new(rt.reader()),
         &mut transcript,

@@ -3,26 +3,38 @@ use commandline::{Command, WordsFault, command};
 use std::alloc::{AllocError, Global};
 use test_tables::{TableFault, check_all, check_rows};
 
+// What a command says of its flag.
+fn ending(explains: bool) -> &'static str {
+    if explains { " in words" } else { "" }
+}
+
 // What is told of some words: their form, or why they were refused.
 fn told(alloc: Global, words: &[&str]) -> Result<String, AllocError> {
     match command(alloc, words) {
         Ok(Command::Session) => String::from_str(alloc, "a session"),
+        Ok(Command::Check { file, explains }) => {
+            format!(in alloc; "check {file}{}", ending(explains))
+        }
         Ok(
-            Command::Check {
+            Command::Run {
                 file,
-                explains: false,
+                script,
+                explains,
             },
-        ) => format!(in alloc; "check {file}"),
+        ) => format!(in alloc; "run {file} and then {script}{}", ending(explains)),
         Ok(
-            Command::Check {
+            Command::Serve {
                 file,
-                explains: true,
+                explains,
+                service,
             },
-        ) => format!(in alloc; "check {file} in words"),
-        Ok(Command::Run { file, script }) => format!(in alloc; "run {file} and then {script}"),
-        Ok(Command::Serve { file, service }) => format!(in alloc;
-            "serve {file} on {} for {}, idle {} and timeout {}",
-            service.port, service.connections, service.idle, service.timeout
+        ) => format!(in alloc;
+            "serve {file} on {} for {}, idle {} and timeout {}{}",
+            service.port,
+            service.connections,
+            service.idle,
+            service.timeout,
+            ending(explains)
         ),
         Err(WordsFault::Refused { text }) => Ok(text),
         Err(WordsFault::NoMemory) => Err(AllocError),
@@ -42,17 +54,25 @@ check m.map --explain|check m.map in words
 check -- --explain|check --explain
 check --explain|error: the following required arguments were not provided:~  <FILE>~~Usage: mapservd check --explain <FILE>~~For more information, try '--help'.~
 check --explain=no m.map|error: unexpected value 'no' for '--explain' found; no more were expected~~Usage: mapservd check --explain <FILE>~~For more information, try '--help'.~
-run --explain a b|error: unexpected argument '--explain' found~~  tip: to pass '--explain' as a value, use '-- --explain'~~Usage: mapservd run <FILE> <SCRIPT>~~For more information, try '--help'.~
+run --explain a b|run a and then b in words
+run a --explain b|run a and then b in words
+run a b --explain|run a and then b in words
+run a -- --explain|run a and then --explain
+run --explain a|error: the following required arguments were not provided:~  <SCRIPT>~~Usage: mapservd run --explain <FILE> <SCRIPT>~~For more information, try '--help'.~
+run --verbose a b|error: unexpected argument '--verbose' found~~  tip: to pass '--verbose' as a value, use '-- --verbose'~~Usage: mapservd run [OPTIONS] <FILE> <SCRIPT>~~For more information, try '--help'.~
 check|error: the following required arguments were not provided:~  <FILE>~~Usage: mapservd check <FILE>~~For more information, try '--help'.~
 run a|error: the following required arguments were not provided:~  <SCRIPT>~~Usage: mapservd run <FILE> <SCRIPT>~~For more information, try '--help'.~
 check a b|error: unexpected argument 'b' found~~Usage: mapservd check [OPTIONS] <FILE>~~For more information, try '--help'.~
-run a b c|error: unexpected argument 'c' found~~Usage: mapservd run <FILE> <SCRIPT>~~For more information, try '--help'.~
+run a b c|error: unexpected argument 'c' found~~Usage: mapservd run [OPTIONS] <FILE> <SCRIPT>~~For more information, try '--help'.~
 m.map|error: unrecognized subcommand 'm.map'~~Usage: mapservd [COMMAND]~~For more information, try '--help'.~
 serve m.map|serve m.map on 8080 for 0, idle 200 and timeout 30
 serve m.map --port 0 --connections 4294967295|serve m.map on 0 for 4294967295, idle 200 and timeout 30
 serve --connections 2 m.map --port 65535|serve m.map on 65535 for 2, idle 200 and timeout 30
 serve m.map --timeout 3600 --idle 60000|serve m.map on 8080 for 0, idle 60000 and timeout 3600
 serve --idle 1 --timeout 1 m.map|serve m.map on 8080 for 0, idle 1 and timeout 1
+serve --explain m.map|serve m.map on 8080 for 0, idle 200 and timeout 30 in words
+serve m.map --port 0 --explain --idle 5|serve m.map on 0 for 0, idle 5 and timeout 30 in words
+serve --explain --explain m.map|error: the argument '--explain' cannot be used multiple times~~Usage: mapservd serve [OPTIONS] <FILE>~~For more information, try '--help'.~
 serve m.map --idle 0|error: invalid value '0' for '--idle <idle>': 0 is not in 1..=60000~~For more information, try '--help'.~
 serve m.map --timeout 3601|error: invalid value '3601' for '--timeout <timeout>': 3601 is not in 1..=3600~~For more information, try '--help'.~
 serve m.map --port 65536|error: invalid value '65536' for '--port <port>': 65536 is not in 0..=65535~~For more information, try '--help'.~
@@ -60,7 +80,8 @@ serve m.map --connections 4294967296|error: invalid value '4294967296' for '--co
 draw m.map|error: unrecognized subcommand 'draw'~~Usage: mapservd [COMMAND]~~For more information, try '--help'.~
 CHECK a|error: unrecognized subcommand 'CHECK'~~Usage: mapservd [COMMAND]~~For more information, try '--help'.~
 --port 80|error: unexpected argument '--port' found~~Usage: mapservd [COMMAND]~~For more information, try '--help'.~
-check --help|Reads a mapfile, and says how many layers and features it has~~Usage: mapservd check [OPTIONS] <FILE>~~Arguments:~  <FILE>  ~~Options:~      --explain  Tells the mapfile's fault in words, too~  -h, --help     Print help~
+check --help|Reads a mapfile, and says how many layers and features it has~~Usage: mapservd check [OPTIONS] <FILE>~~Arguments:~  <FILE>  ~~Options:~      --explain  Tells the mapfile's fault in words, too, or warnings on its map~  -h, --help     Print help~
+run --help|Plays a script on the map of a mapfile~~Usage: mapservd run [OPTIONS] <FILE> <SCRIPT>~~Arguments:~  <FILE>    ~  <SCRIPT>  ~~Options:~      --explain  Tells the mapfile's fault in words, too, or warnings on its map~  -h, --help     Print help~
 --help|Plays map requests~~Usage: mapservd [COMMAND]~~Commands:~  check  Reads a mapfile, and says how many layers and features it has~  run    Plays a script on the map of a mapfile~  serve  Answers connections on a port of this machine~  help   Print this message or the help of the given subcommand(s)~~Options:~  -h, --help  Print help~";
 
 // Whether words have the form of their row.
@@ -73,7 +94,7 @@ fn is_form(alloc: Global, row: &str) -> Result<bool, AllocError> {
 
 #[test]
 fn words_have_their_forms(rt: HostRuntime) -> Result<(), TableFault> {
-    check_all(rt.alloc(), WORDS, 31, is_form)
+    check_all(rt.alloc(), WORDS, 40, is_form)
 }
 
 // What is told of words that were refused with this text, and of those for which there was no memory.

@@ -19,7 +19,8 @@ fn performed(
         "session" => serve_session(alloc, &SomeFiles, &mut file.reader, output, errors),
         "check" => check_file(alloc, &SomeFiles, file, false, output, errors),
         "explain" => check_file(alloc, &SomeFiles, file, true, output, errors),
-        _ => run_files(alloc, &SomeFiles, file, script, output, errors),
+        "run" => run_files(alloc, &SomeFiles, file, script, false, output, errors),
+        _ => run_files(alloc, &SomeFiles, file, script, true, output, errors),
     }
 }
 
@@ -101,12 +102,22 @@ check|MAP~~FOO END||1 MapfileFault||fault line 3 kind 2~
 check|(||1 MapfileFault||fault line 1 kind 1~
 check|||1 MapfileFault||fault line 1 kind 4~
 check|!||1 FileFailed||fault file m.map~
-explain|*||0 done|ok 2 layers 3 features~|
+explain|*||0 done|ok 2 layers 3 features~|m.map: warning: the service has no wms_onlineresource, and http://localhost/wms? has no port~
+# Warnings: on the service, and on layers by their numbers. The title and the name of the last row have a form feed.
+explain|MAP WEB METADATA wms_onlineresource 'http://h/?' END END END||0 done|ok 0 layers 0 features~|
+check|MAP LAYER NAME 'a,b' TYPE LINE END END||0 done|ok 1 layers 0 features~|
+explain|MAP WEB METADATA wms_onlineresource 'http://h/?' END END LAYER NAME a TYPE LINE END LAYER NAME 'a,b' TYPE LINE END END||0 done|ok 2 layers 0 features~|m.map: warning: LAYER 2 has a NAME with a comma, so that LAYERS can't ask for it~
+explain|MAP WEB METADATA wms_title 'x\x0cy' END END LAYER NAME 'a\x0c' TYPE LINE END END||0 done|ok 1 layers 0 features~|m.map: warning: the service has no wms_onlineresource, and http://localhost/wms? has no port~m.map: warning: the service has a title with a character that XML forbids~m.map: warning: LAYER 1 has a NAME with a character that XML forbids~m.map: warning: LAYER 1 has a title with a character that XML forbids~
 explain|MAP~~FOO END||1 MapfileFault||fault line 3 kind 2~m.map:3: FOO is no keyword of MAP~
 explain|MAP~LAYER NAME a~~END~END||1 MapfileFault||fault line 4 kind 5~m.map:4: LAYER of line 2 has no TYPE~
 explain|||1 MapfileFault||fault line 1 kind 4~m.map:1: the mapfile has no MAP~
 explain|!||1 FileFailed||fault file m.map~
 run|MAP END|QUERY a~|0 done|@|
+run_explained|MAP END|QUERY a~|0 done|@|m.map: warning: the service has no wms_onlineresource, and http://localhost/wms? has no port~
+run_explained|MAP WEB METADATA wms_onlineresource 'http://h/?' END END END|QUERY a~|0 done|@|
+run_explained|MAP~END~END|!|1 MapfileFault||fault line 3 kind 2~m.map:3: END stands after the END of MAP~
+run_explained|MAP END|!|1 FileFailed||m.map: warning: the service has no wms_onlineresource, and http://localhost/wms? has no port~fault file s.txt~
+run_explained|!|!|1 FileFailed||fault file m.map~
 run|*|QUERY a~QUERY b~|0 done|@@|
 run|*||0 done||
 run|MAP END|QUERY a~x~|0 done|fault script 2~|
@@ -138,13 +149,21 @@ session|<p.ppm>%%~QUERY ^~||0 done|ANSWER image/x-portable-pixmap 59~50360a34203
 session|<bad.ppm>%%~QUERY ^~||1 MapfileFault||fault line 4 kind 10~
 session|<none.ppm>%%~QUERY ^~||1 MapfileFault||fault line 4 kind 7~
 session|<P.ppm>%%~QUERY ^~||1 MapfileFault||fault line 4 kind 7~
-explain maps/m.map|MAP SYMBOL NAME s~TYPE PIXMAP~IMAGE p.ppm~END END||0 done|ok 0 layers 0 features~|
+explain maps/m.map|MAP SYMBOL NAME s~TYPE PIXMAP~IMAGE p.ppm~END END||0 done|ok 0 layers 0 features~|maps/m.map: warning: the service has no wms_onlineresource, and http://localhost/wms? has no port~
 explain maps/m.map|MAP SYMBOL NAME s~TYPE PIXMAP~IMAGE bad.ppm~END END||1 MapfileFault||fault line 3 kind 10~maps/m.map:3: the file that IMAGE names is no pixmap in Netpbm's P6 format of at most 256 by 256 pixels~
-explain maps/m.map|MAP SYMBOL NAME s~TYPE PIXMAP~IMAGE none.ppm~END END||1 MapfileFault||fault line 3 kind 7~maps/m.map:3: the file that IMAGE names can't be read~
+explain maps/m.map|MAP SYMBOL NAME s~TYPE PIXMAP~IMAGE none.ppm~END END||1 MapfileFault||fault line 3 kind 7~maps/m.map:3: the file none.ppm, which IMAGE names, can't be read~
+# Of several files that can't be read the first is named, behind one that can be. A name with a control character isn't shown.
+explain|MAP SYMBOL NAME s TYPE PIXMAP~IMAGE p.ppm END~SYMBOL NAME t TYPE PIXMAP IMAGE 'one two.ppm' END~SYMBOL NAME u TYPE PIXMAP IMAGE three.ppm END END||1 MapfileFault||fault line 3 kind 7~m.map:3: the file one two.ppm, which IMAGE names, can't be read~
+explain|MAP SYMBOL NAME s TYPE PIXMAP IMAGE 'a\tb' END END||1 MapfileFault||fault line 1 kind 7~m.map:1: the file that IMAGE names can't be read~
+explain|MAP SYMBOL NAME s TYPE PIXMAP IMAGE 'a\u{9f}b' END END||1 MapfileFault||fault line 1 kind 7~m.map:1: the file that IMAGE names can't be read~
+explain|MAP SYMBOL NAME s TYPE PIXMAP IMAGE 'a\u{a0}b' END END||1 MapfileFault||fault line 1 kind 7~m.map:1: the file a\u{a0}b, which IMAGE names, can't be read~
+explain|MAP SYMBOL NAME s TYPE PIXMAP~IMAGE bad.ppm END~SYMBOL NAME t TYPE PIXMAP IMAGE none.ppm END END||1 MapfileFault||fault line 2 kind 10~m.map:2: the file that IMAGE names is no pixmap in Netpbm's P6 format of at most 256 by 256 pixels~
+check|MAP SYMBOL NAME s TYPE PIXMAP~IMAGE none.ppm END END||1 MapfileFault||fault line 2 kind 7~
 # Mapfiles with the table of a file. Empty lines of a table are no rows.
-explain maps/m.map|MAP LAYER NAME a TYPE POINT~DATA p.csv~END END||0 done|ok 1 layers 1 features~|
+explain maps/m.map|MAP LAYER NAME a TYPE POINT~DATA p.csv~END END||0 done|ok 1 layers 1 features~|maps/m.map: warning: the service has no wms_onlineresource, and http://localhost/wms? has no port~
 explain maps/m.map|MAP LAYER NAME a TYPE POINT~DATA bad.csv~END END||1 MapfileFault||fault line 2 kind 10~maps/m.map:2: the file that DATA names is no table of points: row 3: a coordinate that can't be read, or beyond 1,000 degrees~
-explain maps/m.map|MAP LAYER NAME a TYPE POINT~DATA none.csv~END END||1 MapfileFault||fault line 2 kind 7~maps/m.map:2: the file that DATA names can't be read~
+explain maps/m.map|MAP LAYER NAME a TYPE POINT~DATA none.csv~END END||1 MapfileFault||fault line 2 kind 7~maps/m.map:2: the file none.csv, which DATA names, can't be read~
+explain|MAP CONFIG LABELFONT f.bdf~END||1 MapfileFault||fault line 1 kind 7~m.map:1: the file f.bdf, which CONFIG names, can't be read~
 explain maps/m.map|MAP LAYER NAME a TYPE LINE~DATA p.csv~END END||1 MapfileFault||fault line 2 kind 3~maps/m.map:2: DATA needs a LAYER of TYPE POINT~";
 
 /// Sessions. The last has a fault in the mapfile and one in the script.
@@ -172,7 +191,7 @@ fn is_ended(alloc: Global, line: &str) -> Result<bool, AllocError> {
 
 #[test]
 fn forms_end_as_they_should(rt: HostRuntime) -> Result<(), TableFault> {
-    check_all(rt.alloc(), FORMS, 49, is_ended)
+    check_all(rt.alloc(), FORMS, 65, is_ended)
 }
 
 #[test]

@@ -144,15 +144,22 @@ const WORDS: &str = "\
 check a.map||0 done 0 0|ok 0 layers 0 features~|
 check c.map||1 FileFailed 0 0||fault file c.map~
 check s.map||1 MapfileFault 0 0||fault line 2 kind 7~
-check --explain s.map||1 MapfileFault 0 0||fault line 2 kind 7~s.map:2: the file that IMAGE names can't be read~
+check --explain s.map||1 MapfileFault 0 0||fault line 2 kind 7~s.map:2: the file p.ppm, which IMAGE names, can't be read~
+check --explain a.map||0 done 0 0|ok 0 layers 0 features~|a.map: warning: the service has no wms_onlineresource, and http://localhost/wms? has no port~
 check maps/s.map||0 done 0 0|ok 0 layers 0 features~|
 run a.map b.txt||0 done 0 0|@|
 run b.txt a.map||1 MapfileFault 0 0||fault line 1 kind 2~
+run --explain a.map b.txt||0 done 0 0|@|a.map: warning: the service has no wms_onlineresource, and http://localhost/wms? has no port~
+run --explain b.txt a.map||1 MapfileFault 0 0||fault line 1 kind 2~b.txt:1: QUERY stands where MAP has to begin~
 run a.map c.txt||1 FileFailed 0 0||fault file c.txt~
+run a.map --explain c.txt||1 FileFailed 0 0||a.map: warning: the service has no wms_onlineresource, and http://localhost/wms? has no port~fault file c.txt~
 run c.map b.txt||1 FileFailed 0 0||fault file c.map~
 run maps/s.map b.txt||0 done 0 0|@|
 serve a.map||3 SocketFailed 0 0||
 serve s.map --port 81||1 MapfileFault 0 0||fault line 2 kind 7~
+serve --explain s.map --port 81||1 MapfileFault 0 0||fault line 2 kind 7~s.map:2: the file p.ppm, which IMAGE names, can't be read~
+serve a.map --port 81 --connections 1 --explain|c|0 done 1 0|listening a port~|a.map: warning: the service has no wms_onlineresource, and http://localhost/wms? has no port~
+serve --explain a.map||3 SocketFailed 0 0||a.map: warning: the service has no wms_onlineresource, and http://localhost/wms? has no port~
 serve maps/s.map --port 81 --connections 3|cfxffc|0 done 2 1|listening a port~|
 serve a.map --port 81 --connections 1|fffc|0 done 1 0|listening a port~|
 serve a.map --port 81|ccxc|3 SocketFailed 3 1|listening a port~|";
@@ -207,7 +214,7 @@ fn is_ended(alloc: Global, line: &str) -> Result<bool, AllocError> {
 
 #[test]
 fn words_are_answered_with_the_files_of_a_host(rt: HostRuntime) -> Result<(), TableFault> {
-    check_all(rt.alloc(), WORDS, 16, is_ended)
+    check_all(rt.alloc(), WORDS, 23, is_ended)
 }
 
 // What becomes of words that can't be read, and what is said of them.

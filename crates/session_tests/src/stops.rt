@@ -12,7 +12,7 @@ check|5|3 OutputFailed|ok 0 layers 0 features~|
 check|6|0 done|ok 0 layers 0 features~|
 explain|0|3 OutputFailed||
 explain|5|3 OutputFailed|ok 0 layers 0 features~|
-explain|6|0 done|ok 0 layers 0 features~|
+explain|6|0 done|ok 0 layers 0 features~|m.map: warning: the service has no wms_onlineresource, and http://localhost/wms? has no port~
 run|0|3 OutputFailed||
 run|2|3 OutputFailed|fault scri|
 run|3|3 OutputFailed|fault script 1~|

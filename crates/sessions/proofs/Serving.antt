@@ -1,10 +1,10 @@
 -- How a session ends.
-use Rattle.std.proofs.Common.{◌≡◌, ◌||◌, inr, ℕ, Bool, List, Option, Ok, Err, length, arith, take_all}
+use Rattle.std.proofs.Common.{◌≡◌, ◌||◌, inr, ℕ, false, Bool, List, Option, Ok, Err, length, arith, take_all}
 use Rattle.std.specs.Io.KnownBytes.{Keeps}
-use Rattle.std.proofs.KnownBytes.{Appends-kept}
+use Rattle.std.proofs.KnownBytes.{Appends-kept, Keeps-refl}
 use Rattle.mapdefs.specs.declared.map.MapFields.{MapFields}
 use Rattle.sessions.specs.Folder.{Giving, ComesTo}
-use Rattle.sessions.specs.Forms.{ChecksTo, HasReadFile, HasReadMap, IsUnread, RunsTo, SumsUp, TellsUnread}
+use Rattle.sessions.specs.Forms.{ChecksTo, HasReadFile, HasReadMap, IsUnread, IsWarned, RunsTo, SumsUp, TellsUnread, TellsWarnings}
 use Rattle.streams.specs.Sent.{IsSent}
 use Rattle.batches.specs.Batch.{State}
 use Rattle.sessions.specs.Session.{Outcome, Streams, HasRead, Ends, EndsOn, IsTold, Tells, is_file_failed, opened}
@@ -35,39 +35,57 @@ served gives (Err OutputFailed) old new failed mapfile script map read is_map en
 served gives (Err NoMemory) old new failed mapfile script map read is_map ends kept = record { output = ends; errors = kept }
 
 -- what is told of a script that was read after its mapfile, by the outcome
-pub ran : (gives : Giving) (outcome : Outcome) (file script : List ℕ) (before after : Option (List ℕ)) (old new : Streams) (failed : Bool) (map : MapFields) (bytes : List ℕ) →
+pub ran : (gives : Giving) (explains : Bool) (outcome : Outcome) (file script : List ℕ) (before after : Option (List ℕ)) (old new : Streams) (failed : Bool) (map : MapFields) (bytes : List ℕ) →
     HasReadMap gives before after map → HasReadFile old.input new.input bytes → EndsOn map outcome bytes old.output new.output →
-    Keeps old.errors new.errors → RunsTo gives outcome file script before after old new failed
-ran gives (Ok done) file script before after old new failed map bytes read read_script ends kept =
-    record { map = map; read = read; script = bytes; read_script = read_script; state = ends.0; ends = ends.1; errors = kept }
-ran gives (Err OutputFailed) file script before after old new failed map bytes read read_script ends kept =
-    record { map = map; read = read; script = bytes; read_script = read_script; state = ends.0; ends = ends.1; errors = kept }
-ran gives (Err SocketFailed) file script before after old new failed map bytes read read_script ends kept = absurd ends.1
-ran gives (Err MapfileFault) file script before after old new failed map bytes read read_script ends kept = absurd ends.1
-ran gives (Err FileFailed) file script before after old new failed map bytes read read_script ends kept = absurd ends.1
-ran gives (Err WordsRefused) file script before after old new failed map bytes read read_script ends kept = absurd ends.1
-ran gives (Err InputFailed) file script before after old new failed map bytes read read_script ends kept = absurd ends.1
-ran gives (Err NoMemory) file script before after old new failed map bytes read read_script ends kept =
-    (ends, inr (record { map = map; read = read; unread = kept }))
+    TellsWarnings explains file map old.errors new.errors failed → RunsTo gives explains outcome file script before after old new failed
+ran gives explains (Ok done) file script before after old new failed map bytes read read_script ends warnings =
+    record { map = map; read = read; script = bytes; read_script = read_script; state = ends.0; ends = ends.1; warnings = warnings }
+ran gives explains (Err OutputFailed) file script before after old new failed map bytes read read_script ends warnings =
+    record { map = map; read = read; script = bytes; read_script = read_script; state = ends.0; ends = ends.1; warnings = warnings }
+ran gives explains (Err SocketFailed) file script before after old new failed map bytes read read_script ends warnings = absurd ends.1
+ran gives explains (Err MapfileFault) file script before after old new failed map bytes read read_script ends warnings = absurd ends.1
+ran gives explains (Err FileFailed) file script before after old new failed map bytes read read_script ends warnings = absurd ends.1
+ran gives explains (Err WordsRefused) file script before after old new failed map bytes read read_script ends warnings = absurd ends.1
+ran gives explains (Err InputFailed) file script before after old new failed map bytes read read_script ends warnings = absurd ends.1
+ran gives explains (Err NoMemory) file script before after old new failed map bytes read read_script ends warnings =
+    (ends, inr (record { map = map; read = read; warned = record { errors = new.errors; failed = failed; warnings = warnings }; unread = Keeps-refl new.errors }))
 
--- what is told of a map whose line was written, by the outcome
-pub checked : (gives : Giving) (explains : Bool) (outcome : Outcome) (name : List ℕ) (old new : Streams) (failed : Bool) (map : MapFields) →
-    HasReadMap gives old.input new.input map → SumsUp outcome map old.output new.output → Keeps old.errors new.errors → ChecksTo gives explains outcome name old new failed
-checked gives explains (Ok done) name old new failed map read sums kept = record { map = map; read = read; sums = sums; errors = kept }
-checked gives explains (Err OutputFailed) name old new failed map read sums kept = record { map = map; read = read; sums = sums; errors = kept }
-checked gives explains (Err MapfileFault) name old new failed map read sums kept = absurd sums
-checked gives explains (Err FileFailed) name old new failed map read sums kept = absurd sums
-checked gives explains (Err WordsRefused) name old new failed map read sums kept = absurd sums
-checked gives explains (Err InputFailed) name old new failed map read sums kept = absurd sums
-checked gives explains (Err SocketFailed) name old new failed map read sums kept = absurd sums
-checked gives explains (Err NoMemory) name old new failed map read sums kept = absurd sums
+-- what is told of a script that was not read after its mapfile
+pub unscripted : (gives : Giving) (explains : Bool) (failure : Failure) (file script : List ℕ) (before after : Option (List ℕ)) (old new : Streams) (failed : Bool) (map : MapFields) →
+    HasReadMap gives before after map → (warned : IsWarned explains file map old.errors) → IsUnread failure script warned.errors new.errors failed →
+    Keeps old.output new.output → RunsTo gives explains (Err failure) file script before after old new failed
+unscripted gives explains FileFailed file script before after old new failed map read warned unread kept =
+    (kept, inr (record { map = map; read = read; warned = warned; unread = unread }))
+unscripted gives explains NoMemory file script before after old new failed map read warned unread kept =
+    (kept, inr (record { map = map; read = read; warned = warned; unread = unread }))
+unscripted gives explains SocketFailed file script before after old new failed map read warned unread kept = absurd unread
+unscripted gives explains MapfileFault file script before after old new failed map read warned unread kept = absurd unread
+unscripted gives explains WordsRefused file script before after old new failed map read warned unread kept = absurd unread
+unscripted gives explains InputFailed file script before after old new failed map read warned unread kept = absurd unread
+unscripted gives explains OutputFailed file script before after old new failed map read warned unread kept = absurd unread
+
+-- nothing is told where no warnings are asked for
+pub unwarned : (name : List ℕ) (map : MapFields) (before after : Option (List ℕ)) (failed : Bool) → Keeps before after → TellsWarnings false name map before after failed
+unwarned name map before after failed kept = record { told = inr kept; unasked = λ e. kept }
+
+-- what is told of a map whose line was not written
+pub unsummed : (gives : Giving) (explains : Bool) (failure : Failure) (name : List ℕ) (old new : Streams) (failed : Bool) (map : MapFields) →
+    HasReadMap gives old.input new.input map → SumsUp (Err failure) map old.output new.output → Keeps old.errors new.errors → ChecksTo gives explains (Err failure) name old new failed
+unsummed gives explains OutputFailed name old new failed map read sums kept =
+    record { map = map; read = read; sums = sums; warnings = unwarned name map old.errors new.errors failed kept }
+unsummed gives explains MapfileFault name old new failed map read sums kept = absurd sums
+unsummed gives explains FileFailed name old new failed map read sums kept = absurd sums
+unsummed gives explains WordsRefused name old new failed map read sums kept = absurd sums
+unsummed gives explains InputFailed name old new failed map read sums kept = absurd sums
+unsummed gives explains SocketFailed name old new failed map read sums kept = absurd sums
+unsummed gives explains NoMemory name old new failed map read sums kept = absurd sums
 
 -- a script that was not read after its mapfile was told by its name
-pub script-told : (failure : Failure) (file script : List ℕ) (a b : Option (List ℕ)) (failed file_before file_after script_before script_after : Bool) (untouched : Type 0) →
-    IsUnread failure script a b failed → file_after ≡ file_before → script_after ≡ (is_file_failed failure || script_before) → failure ≡ FileFailed →
-    TellsUnread file script a b failed file_before file_after script_after untouched
-script-told failure file script a b failed file_before file_after script_before script_after untouched unread same flag e =
-    inr ((rw e at unread), (rw e at flag), same)
+pub script-told : (explains : Bool) (failure : Failure) (file script : List ℕ) (a b : Option (List ℕ)) (failed file_before file_after script_before script_after : Bool) (untouched : Type 0) (map : MapFields) →
+    (warned : IsWarned explains file map a) → IsUnread failure script warned.errors b failed → file_after ≡ file_before → script_after ≡ (is_file_failed failure || script_before) → failure ≡ FileFailed →
+    TellsUnread explains file script a b failed file_before file_after script_after untouched
+script-told explains failure file script a b failed file_before file_after script_before script_after untouched map warned unread same flag e =
+    inr (record { map = map; warned = warned; told = rw e at unread }, (rw e at flag), same)
 
 -- a script that was played from the machine as it begins with a map
 pub ends-on : (map : MapFields) (outcome : Outcome) (script : List ℕ) (state : State) (before after : Option (List ℕ)) →

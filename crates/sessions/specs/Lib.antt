@@ -2,6 +2,7 @@ pub mod Connections
 pub mod Folder
 pub mod Forms
 pub mod Lines
+pub mod Missing
 pub mod Parts
 pub mod Reading
 pub mod Session

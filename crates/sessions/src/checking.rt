@@ -1,69 +1,25 @@
-ghost use Rattle.std.specs.Prelude.{◌≡◌, ◌||◌, None, OnOk, IfErr, MatchResult, option_map, true, false};
+ghost use Rattle.std.specs.Prelude.{◌≡◌, ◌⊎◌, ◌||◌, None, OnOk, IfOk, IfErr, MatchResult, true, false};
 ghost use Rattle.sessions.specs.Session.{IsTold, is_file_failed, is_output_failed};
-ghost use Rattle.sessions.specs.Forms.{ChecksTo, told_in_words, has_told};
+ghost use Rattle.sessions.specs.Forms.{ChecksTo, GivesNoMap, HasReadMap, TellsWarnings, told_in_words, has_told};
 
 use crate::failure::Failure;
 use crate::files::{NamedFile, read_file, sum_up};
-use crate::folder::{Folder, files_of};
+use crate::folder::Folder;
 use crate::session::{read_map_of, tell, tell_mapfile_fault};
+use crate::words::words_on;
 use itoa::Buffer;
-use mapfaults::{Finding, explain};
+use mapdefs::{Map, Text};
+use mapfaults::warning_lines;
 use mapmachine::{Sink, Source};
-use mapparse::{FileCause, FileFault, Mapfile};
-use mapwords::{ParseFault, ParseKind};
-use std::alloc::{AllocError, Global};
-
-// The words on the fault of a mapfile, where they are asked for. There are none where memory is refused.
-fn words_on<F: Folder>(alloc: Global, folder: &F, mapfile: &[u8], explains: bool) -> Option<String>
-    ensures { explains ≡ false → result ≡ None }
-{
-    if !explains {
-        return None;
-    }
-    match explain(alloc, mapfile) {
-        Finding::Faulty(explained) => explained.words(alloc).ok(),
-        // What is written in it is right, so the fault is of a file.
-        Finding::Sound => words_on_files(alloc, folder, mapfile),
-        Finding::NoMemory => None,
-    }
-}
-
-// The words on the fault of the first used of the files that have one. They are read once more.
-fn words_on_files<F: Folder>(alloc: Global, folder: &F, mapfile: &[u8]) -> Option<String> {
-    let mapfile = Mapfile::read(alloc, mapfile).ok()?;
-    let files = files_of(alloc, folder, &mapfile).ok()?;
-    let fault = mapfile.files_fault(alloc, &files).ok()??;
-    words_on_file(alloc, fault).ok()
-}
-
-// The words on the fault of a file.
-fn words_on_file(alloc: Global, fault: FileFault) -> Result<String, AllocError> {
-    let keyword = fault.keyword.spelling();
-    match fault.cause {
-        FileCause::Missing => format!(in alloc; "the file that {keyword} names can't be read"),
-        FileCause::NoPixmap(_) => format!(in alloc;
-            "the file that {keyword} names is no pixmap in Netpbm's P6 format of at most 256 by 256 pixels"
-        ),
-        FileCause::NoTable(fault) => format!(in alloc;
-            "the file that {keyword} names is no table of points: {fault}"
-        ),
-        FileCause::NoFont(fault) => format!(in alloc;
-            "the file that {keyword} names is no font: {fault}"
-        ),
-    }
-}
+use mapwords::{Fault, ParseFault};
+use std::alloc::Global;
 
 // Tells the fault of a mapfile, and the words on it, where there are any.
-fn tell_in_words<E: Sink>(
-    errors: &mut E,
-    name: &str,
-    line: u64,
-    kind: ParseKind,
-    words: Option<&str>,
-)
-    ensures told { IsTold (E.held errors.old) (E.held errors.new) (told_in_words name.now (record { line = line; kind = kind }) (option_map (λ w. w.now) words.entry)) (E.put_failed errors.new) }
+fn tell_in_words<E: Sink>(errors: &mut E, name: &str, fault: Fault, words: &Option<Text>)
+    ensures told { IsTold (E.held errors.old) (E.held errors.new) (told_in_words name.now fault words.now) (E.put_failed errors.new) }
     ensures flushed { E.put_failed errors.new ≡ false → E.is_flushed errors.new ≡ true }
 {
+    let Fault { line, kind } = fault;
     let Some(words) = words else {
         tell_mapfile_fault(errors, line, kind.number());
         return;
@@ -83,15 +39,63 @@ fn tell_in_words<E: Sink>(
             b":",
             line,
             b": ",
-            words.as_bytes(),
+            words.as_str().as_bytes(),
             b"\n",
         ],
     );
 }
 
+/// The map of a mapfile. Its fault is told; where it `explains`, in words, too, on a second line, unless memory is
+/// refused for these.
+pub fn read_explained<F: Folder, I: Source, E: Sink>(
+    alloc: Global,
+    folder: &F,
+    file: &mut NamedFile<'_, I>,
+    explains: bool,
+    errors: &mut E,
+) -> Result<Map, Failure>
+    ensures map { IfOk result (λ map. HasReadMap (F.gives folder.now) (I.left file.old.reader) (I.left file.new.reader) map) }
+    ensures name { file.new.name.now ≡ file.old.name.now }
+    ensures same { OnOk result (errors.new ≡ errors.old) }
+    ensures without { IfErr result (λ failure. GivesNoMap (F.gives folder.now) explains failure file.old.name.now (I.left file.old.reader) (I.left file.new.reader) (E.held errors.old) (E.held errors.new) (E.put_failed errors.new)) }
+    ensures flushed { IfErr result (λ failure. has_told failure ≡ true → E.put_failed errors.new ≡ false → E.is_flushed errors.new ≡ true) }
+    ensures flag { MatchResult result
+        (λ _. I.take_failed file.new.reader ≡ I.take_failed file.old.reader)
+        (λ failure. I.take_failed file.new.reader ≡ (is_file_failed failure || I.take_failed file.old.reader)) }
+    ensures output { IfErr result (λ failure. is_output_failed failure ≡ false) }
+{
+    let mapfile = read_file(alloc, file, errors)?;
+    match read_map_of(alloc, folder, &mapfile) {
+        Ok(map) => Ok(map),
+        Err(ParseFault::At { line, kind }) => {
+            let fault = Fault { line, kind };
+            let words = words_on(alloc, folder, &mapfile, fault, explains);
+            tell_in_words(errors, file.name, fault, &words);
+            Err(Failure::MapfileFault)
+        }
+        Err(ParseFault::NoMemory) => Err(Failure::NoMemory),
+    }
+}
+
+/// Tells the warnings on the map of a mapfile, with the mapfile's name, where it `explains`. Where memory is refused
+/// for them nothing is told.
+pub fn tell_warnings<E: Sink>(alloc: Global, name: &str, map: &Map, explains: bool, errors: &mut E)
+    ensures told { TellsWarnings explains name.now map.now (E.held errors.old) (E.held errors.new) (E.put_failed errors.new) }
+    ensures same { explains ≡ false → errors.new ≡ errors.old }
+    ensures flushed { (errors.new ≡ errors.old) ⊎ (E.put_failed errors.new ≡ false → E.is_flushed errors.new ≡ true) }
+{
+    if !explains {
+        return;
+    }
+    match warning_lines(alloc, name, map) {
+        Ok(lines) => tell(errors, &[lines.as_slice()]),
+        Err(_) => {}
+    }
+}
+
 /// Reads a mapfile up to its end, and writes the line of its map to the output, or tells the errors its
-/// fault, or its name if it can't be read. Where it `explains`, the fault is told in words, too, on a second
-/// line, unless memory is refused for these.
+/// fault, or its name if it can't be read. Where it `explains`, a fault is told in words, too, and after the line
+/// of the map the warnings on it, unless memory is refused for these.
 pub fn check_file<F: Folder, I: Source, O: Sink, E: Sink>(
     alloc: Global,
     folder: &F,
@@ -105,6 +109,7 @@ pub fn check_file<F: Folder, I: Source, O: Sink, E: Sink>(
         (record { input = I.left file.new.reader; output = O.held output.new; errors = E.held errors.new })
         (E.put_failed errors.new) }
     ensures flushed { OnOk result (O.is_flushed output.new ≡ true) }
+    ensures warned { OnOk result ((errors.new ≡ errors.old) ⊎ (E.put_failed errors.new ≡ false → E.is_flushed errors.new ≡ true)) }
     ensures errors_flushed { IfErr result (λ failure. has_told failure ≡ true → E.put_failed errors.new ≡ false → E.is_flushed errors.new ≡ true) }
     ensures file_flag { MatchResult result
         (λ _. I.take_failed file.new.reader ≡ I.take_failed file.old.reader)
@@ -113,20 +118,8 @@ pub fn check_file<F: Folder, I: Source, O: Sink, E: Sink>(
         (λ _. O.put_failed output.new ≡ O.put_failed output.old)
         (λ failure. O.put_failed output.new ≡ (is_output_failed failure || O.put_failed output.old)) }
 {
-    let mapfile = read_file(alloc, file, errors)?;
-    match read_map_of(alloc, folder, &mapfile) {
-        Ok(map) => sum_up(&map, output),
-        Err(ParseFault::At { line, kind }) => {
-            let words = words_on(alloc, folder, &mapfile, explains);
-            tell_in_words(
-                errors,
-                file.name,
-                line,
-                kind,
-                words.as_ref().map(String::as_str),
-            );
-            Err(Failure::MapfileFault)
-        }
-        Err(ParseFault::NoMemory) => Err(Failure::NoMemory),
-    }
+    let map = read_explained(alloc, folder, file, explains, errors)?;
+    sum_up(&map, output)?;
+    tell_warnings(alloc, file.name, &map, explains, errors);
+    Ok(())
 }

@@ -3,7 +3,8 @@
 //!
 //! Proved: `serve_session` reads its input up to the end and says by its result what was written: the
 //! whole transcript of the map machine's replies, or exactly the first bytes of it, or the fault of the
-//! mapfile (`tells`); `check_file` and `run_files` say the same of the files that they read.
+//! mapfile (`tells`); `check_file` and `run_files` say the same of the files that they read, and which warnings
+//! are told; `words_on` names the file that can't be read (`named`).
 //! `split_session` parts a session at its first line of two percent signs. `summary` says how many bytes
 //! went out where the writer fails. `serve_connection` answers the requests of one connection.
 #![tactic(auto)]
@@ -18,6 +19,7 @@ mod line;
 mod parts;
 mod session;
 mod summing;
+mod words;
 
 pub use checking::check_file;
 pub use connection::serve_connection;

@@ -1,7 +1,6 @@
-use Rattle.std.proofs.Common.{◌≡◌, ◌∙◌, ap, ap₂, Some, [], ◌∷◌, false}
+use Rattle.std.proofs.Common.{◌∙◌, ap, ap₂, Some, [], ◌∷◌}
 use Rattle.clap.specs.Words.{Rule, rule_of}
 use Rattle.clap.specs.declared.builder.arg.Arg.{Arg}
-use Rattle.commandline.specs.Words.{number_rule}
 use Rattle.commandline.proofs.words.number.Goals as goal
 
 pub returns-clause-rule : goal.returns-clause-rule

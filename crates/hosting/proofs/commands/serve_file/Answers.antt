@@ -13,7 +13,7 @@ returns-clause-serves g c =
         map = c.in_ok-map.map;
         read = read;
         listens_to = c.serve_port.ensures.listens;
-        errors = rw c.in_ok-map.ensures.same (Keeps-refl _);
+        warnings = c.in_ok-map.ensures.warnings;
       }),
     )
 
