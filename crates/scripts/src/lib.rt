@@ -16,3 +16,4 @@ mod script;
 mod sending;
 
 pub use play::play_script;
+pub use sending::send_reply;

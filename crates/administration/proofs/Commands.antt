@@ -1,0 +1,77 @@
+-- What stands at the front of the bytes of a client.
+use Rattle.std.proofs.Common.{MatchOption, IfSome, ◌≡◌, ℕ, suc, ◌+◌, ◌-◌, ◌<◌, Bool, true, false, List, [], ◌∷◌, ◌++◌, length, take, drop, Option, None, Some, nat_le, nat_lt, refl, arith, take_all, append_assoc, length-append}
+use Rattle.std.proofs.Math.Seq.{drop-append_seam, take-append-add, take-append_seam}
+use Rattle.std.proofs.lemmas.Bool.Decides.{nat_tests}
+use Rattle.std.proofs.lemmas.List.Folds.{list_any-append}
+use Rattle.std.proofs.Common.{Vec, Global}
+use Rattle.std.proofs.KnownBytes.{Consumes-trans}
+use Rattle.std.specs.Io.KnownBytes.{Consumes}
+use Rattle.std.specs.List.{list_any}
+use Rattle.batches.specs.Command.{is_line_end}
+use Rattle.batches.proofs.Writing.{cut-after, cut-before}
+use Rattle.administration.specs.Commands.{Submit, front_command, line_of}
+use Rattle.administration.specs.Reading.{HasEnded, IsCommandOf, IsLineOf}
+use Rattle.administration.specs.declared.line.Line.TheVariants as line
+
+-- an LF stands among the first bytes of a line that is no longer than the limit
+ends-early : (text more : List ℕ) → list_any is_line_end text ≡ false → length text < 33 → list_any is_line_end (take 33 (text ++ 10 ∷ more)) ≡ true
+ends-early text more none short = go (32 - length text) (omega (arith, short))
+  where
+    go : (k : ℕ) → 33 ≡ length text + suc k → list_any is_line_end (take 33 (text ++ 10 ∷ more)) ≡ true
+    go k e = rw (e, take-append-add text (10 ∷ more) (suc k), list_any-append is_line_end text (10 ∷ take k more), none) refl
+
+-- a line is read up to its LF
+pub line-ends : (text : List ℕ) → list_any is_line_end text ≡ false → length text < 33 → IsLineOf (text ++ 10 ∷ []) (line_of text)
+unfolding front_command
+line-ends text none short more =
+    rw (append_assoc text (10 ∷ []) more, ends-early text more none short, cut-before is_line_end text 10 more none refl, cut-after is_line_end text 10 more none refl) refl
+
+-- 33 bytes without an LF are malformed
+pub line-is-long : (text : List ℕ) → list_any is_line_end text ≡ false → length text ≡ 33 → IsLineOf text line.Malformed
+unfolding front_command
+line-is-long text none long more =
+    let first : take 33 (text ++ more) ≡ text = rw (← long) (take-append_seam text more) in
+    let rest : drop 33 (text ++ more) ≡ more = rw (← long) (drop-append_seam text more) in
+    let enough : nat_le 33 (length (text ++ more)) ≡ true = grind (arith, nat_tests, length-append text more, long) in
+    rw (first, none, enough, rest) refl
+
+-- fewer without an LF are no command yet
+pub line-is-short : (text : List ℕ) → list_any is_line_end text ≡ false → length text < 33 → front_command text ≡ None
+unfolding front_command
+line-is-short text none short =
+    let all : take 33 text ≡ text = take_all 33 text (omega (arith, short)) in
+    let less : nat_le 33 (length text) ≡ false = grind (arith, nat_tests, short) in
+    rw (all, none, less) refl
+
+-- a line and the bytes of its batch are its command
+pub batch-ends : (text bytes : List ℕ) (count : ℕ) → IsLineOf text (line.Batch count) → length bytes ≡ count → IsCommandOf (text ++ bytes) (Submit bytes)
+batch-ends text bytes count is long more =
+    let enough : nat_lt (length (bytes ++ more)) (length bytes) ≡ false = grind (arith, nat_tests, length-append bytes more) in
+    rw (append_assoc text bytes more, is (bytes ++ more), ← long, enough, take-append_seam bytes more, drop-append_seam bytes more) refl
+
+-- with fewer bytes it isn't whole
+pub batch-is-short : (text bytes : List ℕ) (count : ℕ) → IsLineOf text (line.Batch count) → length bytes < count → front_command (text ++ bytes) ≡ None
+batch-is-short text bytes count is short =
+    let less : nat_lt (length bytes) count ≡ true = grind (arith, nat_tests, short) in
+    rw (is bytes, less) refl
+
+-- where there is no value
+pub at-none : {X : Type 0} (o : Option X) (P : Type 0) (Q : X → Type 0) → o ≡ None → P → MatchOption o P Q
+at-none None P Q is p = p
+at-none (Some x) P Q is p = absurd (cc)
+
+-- what follows from what is known of a value follows for it
+pub match-so : {X : Type 0} (o : Option X) (P P' : Type 0) (Q Q' : X → Type 0) → (P → P') → ((x : X) → Q x → Q' x) → MatchOption o P Q → MatchOption o P' Q'
+match-so None P P' Q Q' f g m = f m
+match-so (Some x) P P' Q Q' f g m = g x m
+
+-- the client ended later
+pub ended-after : (a b c : Option (List ℕ)) (failed : Bool) (bytes piece : List ℕ) → Consumes a b bytes → HasEnded b c failed piece → HasEnded a c failed (bytes ++ piece)
+ended-after a b c failed bytes piece came ended = record { read = Consumes-trans a b c bytes piece came ended.read; end = ended.end }
+
+-- a piece more is held, if anything is
+pub held-on : (old new : Option (Vec ℕ Global)) (bytes piece : List ℕ) → MatchOption old (new ≡ None) (λ held. IfSome new (λ more. more.items ≡ held.items ++ piece)) → IfSome old (λ held. held.items ≡ bytes) →
+    IfSome new (λ more. more.items ≡ bytes ++ piece)
+held-on None new bytes piece m held = rw m tt
+held-on (Some v) None bytes piece m held = tt
+held-on (Some v) (Some w) bytes piece m held = rw (← held) m

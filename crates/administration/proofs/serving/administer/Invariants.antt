@@ -1,0 +1,12 @@
+use Rattle.std.proofs.Common.{◌≡◌}
+use Rattle.administration.proofs.Steps.{HasCome}
+use Rattle.administration.proofs.serving.administer.Given as goal
+
+-- all that was read so far is done and told
+abbrev pub invariant-loop : goal.invariant-loop
+invariant-loop g l = record {
+  can_next : (goal.iterator-loop g).can_next l.iterator';
+  is_finite : (goal.iterator-loop g).is_finite l.iterator';
+  come : HasCome g.S.Sharing.opening g.O.Sink.held g.O.Sink.taken l.fn.admin (g.I.Source.left l.fn.reader) l.fn.writer (g.I.Source.left l.reader) l.admin l.writer;
+  flag : g.O.Sink.put_failed l.writer ≡ g.O.Sink.put_failed l.fn.writer;
+}

@@ -1,0 +1,89 @@
+-- What the client of an administrator does, and is told (docs/PROFILE.md, "Administration").
+use Rattle.std.specs.Prelude.{◌≡◌, ◌≢◌, ◌⊎◌, ℕ, ◌+◌, Bool, true, false, List, [], ◌∷◌, ◌++◌, length, Option, None, Some, codes}
+use Rattle.std.specs.List.{list_any}
+use Rattle.std.specs.Io.KnownBytes.{Consumes, IsAtEnd}
+use Rattle.streams.specs.Sent.{IsSent, IsCutSomewhere}
+use Rattle.batches.specs.Batch.{State}
+use Rattle.mapmachine.specs.declared.reply.Reply.TheVariants as reply
+use Rattle.mapshare.specs.Admin.{Batches, IsAccepted, IsRefused, all_of, with_batch}
+use Rattle.scripts.specs.Transcript.{reply_text}
+use Rattle.administration.specs.Commands.{Command, Submit, Publish, Malformed, front_command}
+use Rattle.administration.specs.declared.done.Done.{Done}
+use Rattle.administration.specs.declared.done.Done.TheVariants as done
+
+-- all of these batches are published and none is pending, and the sequence is the one after them
+abbrev pub ArePublished : State → List (List ℕ) → ℕ → Batches → Type 0
+ArePublished opening batches sequence new =
+    (new ≡ record { published = batches; pending = [] }) × (sequence ≡ opening.sequence + length batches)
+
+-- what became of a command: a batch is accepted after all batches before it, and published with all that is pending, or held; or it
+-- is refused with its first fault there, or out of memory. What is pending is published or held, if anything is.
+-- What is refused, held or malformed publishes nothing
+abbrev pub HasDone : State → Batches → Command → Done → Batches → Type 0
+HasDone opening old (Submit batch) (done.Published sequence) new =
+    IsAccepted opening (with_batch batch old) × ArePublished opening (all_of (with_batch batch old)) sequence new
+HasDone opening old (Submit batch) done.Held new = IsAccepted opening (with_batch batch old) × (new ≡ with_batch batch old)
+HasDone opening old (Submit batch) (done.Refused fault) new = IsRefused opening old batch fault × (new ≡ old)
+HasDone opening old (Submit batch) done.NoMemory new = new ≡ old
+HasDone opening old Publish (done.Published sequence) new = (old.pending ≢ []) × ArePublished opening (all_of old) sequence new
+HasDone opening old Publish done.Held new = (old.pending ≢ []) × (new ≡ old)
+HasDone opening old Publish done.Idle new = (old.pending ≡ []) × (new ≡ old)
+HasDone opening old Malformed done.Malformed new = new ≡ old
+HasDone opening old command what new = ⊥
+
+-- the line that says what became of a command
+abbrev pub done_line : Done → List ℕ
+done_line (done.Published sequence) = reply_text (reply.Published sequence)
+done_line done.Held = codes "HELD\n"
+done_line (done.Refused fault) = reply_text (reply.Refused fault)
+done_line done.NoMemory = codes "NOMEMORY\n"
+done_line done.Idle = codes "IDLE\n"
+done_line done.Malformed = codes "MALFORMED\n"
+
+-- what was asked for is none of the commands
+abbrev pub is_malformed : Command → Bool
+is_malformed (Submit batch) = false
+is_malformed Publish = false
+is_malformed Malformed = true
+
+-- so it was told, which ends the connection
+abbrev pub ends : Done → Bool
+ends done.Malformed = true
+ends what = false
+
+-- these commands stand at the front of some bytes, before a rest, and only the last may be malformed. One after the other they led from
+-- some batches to others, and these lines say so, in the same order
+abbrev pub AreDone : State → List Command → Batches → List ℕ → List ℕ → List ℕ → Batches → Type 0
+AreDone opening [] old bytes lines rest new = (rest ≡ bytes) × (lines ≡ []) × (new ≡ old)
+AreDone opening (command ∷ commands) old bytes lines rest new =
+    (what : Done) × (between : Batches) × (others after : List ℕ)
+    × (front_command bytes ≡ Some (command, after)) × (is_malformed command ≡ true → commands ≡ [])
+    × HasDone opening old command what between × AreDone opening commands between after others rest new
+    × (lines ≡ done_line what ++ others)
+
+-- these bytes came from a client, and their commands are done
+pub record HasDoneAll (opening : State) (before after : Option (List ℕ)) (commands : List Command) (old : Batches) (lines rest : List ℕ) (new : Batches) : Type 0 where
+  pub bytes : List ℕ
+  pub came : Consumes before after bytes
+  pub done : AreDone opening commands old bytes lines rest new
+
+-- a client is served: its last command was malformed; or no whole one is left, and no byte unless the reader failed
+abbrev pub IsServed : List Command → List ℕ → Option (List ℕ) → Bool → Type 0
+IsServed commands rest left failed =
+    (list_any is_malformed commands ≡ true) ⊎ ((front_command rest ≡ None) × (IsAtEnd left ⊎ (failed ≡ true)))
+
+-- the writer failed: all commands before the last are done and all of their lines went out; the last is done, too, and only the front
+-- of its line went out
+pub record IsStopped {O : Type 0} (opening : State) (before after : Option (List ℕ)) (held : O → Option (List ℕ)) (taken : O → ℕ) (old : Batches) (first : O) (new : Batches) (last : O) : Type 0 where
+  pub commands : List Command
+  pub lines : List ℕ
+  pub bytes : List ℕ
+  pub between : Batches
+  pub done : HasDoneAll opening before after commands old lines bytes between
+  pub command : Command
+  pub what : Done
+  pub front : front_command bytes ≡ Some (command, [])
+  pub then : HasDone opening between command what new
+  pub middle : O
+  pub sent : IsSent held taken first lines middle
+  pub cut : IsCutSomewhere held taken middle (done_line what) last

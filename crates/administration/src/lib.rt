@@ -1,0 +1,19 @@
+//! The administration of a shared map over a stream: a client's commands come in, and a line says what became of each.
+//!
+//! Proved: `administer` reads commands up to the client's end, to one that is malformed or to a fault, does one after the
+//! other, and writes their lines in order (`served`); where the writer fails, the command whose line it was is done all
+//! the same (`stopped`). Nothing is read beyond a command before its line is written.
+//!
+//! Words: a *command* is a line, and the bytes of a batch where it announces them. A *line* ends with an LF; one that has none within
+//! 33 bytes is *malformed*, as is any other that is no command.
+#![tactic(auto)]
+
+mod done;
+mod line;
+mod reading;
+mod serving;
+
+pub use done::Done;
+pub use line::{LINE, Line};
+pub use reading::Asked;
+pub use serving::administer;

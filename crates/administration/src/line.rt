@@ -1,0 +1,35 @@
+ghost use Rattle.std.specs.Prelude.{◌≡◌, ◌≤◌, length};
+ghost use Rattle.batches.specs.declared.fault.TheConstants.{MAX_BATCH};
+ghost use Rattle.administration.specs.Commands.{line_of};
+
+use batches::{MAX_BATCH, count_of};
+
+/// The most bytes of a line, with the LF at its end.
+pub const LINE: usize = 33;
+
+/// What a line of a client says.
+#[derive(Clone, Copy)]
+pub enum Line {
+    /// A batch of so many bytes follows.
+    Batch(usize),
+    /// What is pending is to be published.
+    Retry,
+    /// It is none of the two.
+    Malformed,
+}
+
+// What a line says, which stands without the LF at its end.
+pub(crate) fn line_of(text: &[u8]) -> Line
+    ensures { result ≡ line_of text.now }
+{
+    if text.starts_with(b"BATCH ") {
+        match count_of(&text[6..]) {
+            Some(count) if count <= MAX_BATCH as u64 => Line::Batch(count as usize),
+            _ => Line::Malformed,
+        }
+    } else if text == b"RETRY".as_slice() {
+        Line::Retry
+    } else {
+        Line::Malformed
+    }
+}
