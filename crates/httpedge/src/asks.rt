@@ -3,6 +3,7 @@ ghost use Rattle.mapmachine.specs.declared.reply.Answer.{Answer};
 ghost use Rattle.httpedge.specs.declared.asks.Busy.{Busy};
 
 use mapmachine::{Answer, Machine};
+use mapshare::{Reader, Sharing};
 use thiserror::Error;
 
 /// A query can't be answered now.
@@ -27,6 +28,23 @@ impl Asks for Machine {
 
     fn answer(&mut self, query: &[u8]) -> Result<Answer, Busy> {
         match self.reply(query) {
+            Ok(answer) => Ok(answer),
+            Err(_) => Err(Busy),
+        }
+    }
+}
+
+// A reader enters, answers and leaves for each query. It is busy where the sharing is closed, too.
+impl<S: Sharing> Asks for Reader<S> {
+    ghost use Rattle.httpedge.specs.Asking.{reader_answers};
+
+    ghost answers = { reader_answers S.opening };
+
+    fn answer(&mut self, query: &[u8]) -> Result<Answer, Busy> {
+        let Ok(entered) = self.enter() else {
+            return Err(Busy);
+        };
+        match entered.answer(query) {
             Ok(answer) => Ok(answer),
             Err(_) => Err(Busy),
         }
