@@ -2,7 +2,8 @@
 use Rattle.std.specs.Prelude.{◌≡◌, ◌⊎◌, ℕ, ◌+◌, ◌-◌, ◌^◌, ◌<◌, List, [], ◌∷◌, ◌++◌, Option, None, Some, IfSome, ⊤, Ok, Err}
 use Rattle.batches.specs.Batch.{State}
 use Rattle.httpedge.specs.declared.edge.EdgeFault.{EdgeFault}
-use Rattle.sessions.specs.Connections.{HasServed, HasLeft}
+use Rattle.httpedge.specs.Asking.{machine_answers}
+use Rattle.workers.specs.Connections.{HasServed, HasLeft}
 use Rattle.sessions.specs.Session.{Outcome}
 use Rattle.sessions.specs.declared.failure.Failure.TheVariants.{SocketFailed}
 
@@ -21,8 +22,8 @@ Notes (Some before) (Some after) events = after ≡ before ++ events
 
 -- a connection was answered; or it was given up for a fault, and the first answers, or the front of them, went out
 abbrev pub IsAnswered : Option EdgeFault → Option (List ℕ) → Option (List ℕ) → Option (List ℕ) → State → State → Type 0
-IsAnswered None stream before after old new = IfSome stream (λ s. HasServed s old new before after)
-IsAnswered (Some fault) stream before after old new = IfSome stream (λ s. HasLeft fault s old new before after)
+IsAnswered None stream before after old new = IfSome stream (λ s. HasServed machine_answers s old new before after)
+IsAnswered (Some fault) stream before after old new = IfSome stream (λ s. HasLeft fault machine_answers s old new before after)
 
 -- a connection was opened, answered or given up, and closed
 pub record IsVisited (log_before log_after : Option (List PortEvent)) (old new : State) : Type 0 where

@@ -4,8 +4,9 @@ ghost use Rattle.hosting.specs.Ports.{Failed, Notes, IsAnswered, IsVisited, HasR
 use crate::port::{Accepted, Port};
 use httpedge::EdgeFault;
 use mapmachine::{Machine, Sink, Source};
-use sessions::{Failure, serve_connection};
+use sessions::Failure;
 use std::alloc::Global;
+use workers::serve_connection;
 
 // How many calls for a connection fail one after the other, until the port is given up.
 const MAX_FAILURES: u32 = 100;

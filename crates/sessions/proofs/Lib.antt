@@ -1,4 +1,3 @@
-pub mod Answered
 pub mod Fronts
 pub mod Lines
 pub mod Parting

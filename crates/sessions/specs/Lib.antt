@@ -1,4 +1,3 @@
-pub mod Connections
 pub mod Folder
 pub mod Forms
 pub mod Lines

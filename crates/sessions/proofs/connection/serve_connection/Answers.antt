@@ -1,8 +1,0 @@
-use Rattle.sessions.proofs.Answered.{all-served, part-served}
-use Rattle.sessions.proofs.connection.serve_connection.Goals as goal
-
-pub returns-in-Ok-clause-served : goal.returns-in-Ok-clause-served
-returns-in-Ok-clause-served g c = all-served g.W.Sink.held g.W.Sink.taken _ _ _ _ _ c.exchange.result c.exchange.ensures.exchanged
-
-pub returns-in-Ok-clause-left : goal.returns-in-Ok-clause-left
-returns-in-Ok-clause-left g c = part-served g.W.Sink.held g.W.Sink.taken _ _ _ _ _ c.exchange.result c.exchange.ensures.stopped

@@ -1,0 +1,39 @@
+-- One connection that is answered (docs/PROFILE.md, "HTTP").
+use Rattle.std.specs.Prelude.{◌≡◌, ◌⊎◌, ℕ, ◌<◌, List, length, take, Option, true}
+use Rattle.std.specs.Io.KnownBytes.{Appends}
+use Rattle.httpedge.specs.Exchange.{Said, IsExchange, IsBegun}
+use Rattle.httpedge.specs.Response.{busy_text}
+use Rattle.httpedge.specs.declared.conn.TheConstants.{REQUESTS}
+use Rattle.httpedge.specs.declared.edge.EdgeFault.{EdgeFault}
+use Rattle.httpedge.specs.declared.edge.EdgeFault.TheVariants.{Read, Write}
+
+-- whoever is asked answered a stream, and all of the answers went out
+pub record HasAnswered {A : Type 0} (answers : A → List ℕ → Said → A → Type 0) (stream : List ℕ) (old new : A) (before after : Option (List ℕ)) : Type 0 where
+  pub text : List ℕ
+  pub exchange : IsExchange answers REQUESTS stream old text new
+  pub bytes : Appends before after text
+
+-- so it was, or there was no memory for a head, which was told, and nobody was asked
+abbrev pub HasServed : {A : Type 0} → (A → List ℕ → Said → A → Type 0) → List ℕ → A → A → Option (List ℕ) → Option (List ℕ) → Type 0
+HasServed answers stream old new before after = HasAnswered answers stream old new before after ⊎ (new ≡ old) × Appends before after (busy_text true)
+
+-- whoever is asked answered the first requests of a stream, and all of these answers went out, so many bytes
+pub record HasAnsweredFirst {A : Type 0} (answers : A → List ℕ → Said → A → Type 0) (stream : List ℕ) (old new : A) (before after : Option (List ℕ)) (written : ℕ) : Type 0 where
+  pub text : List ℕ
+  pub begun : IsBegun answers REQUESTS stream old text new
+  pub bytes : Appends before after text
+  pub count : written ≡ length text
+
+-- whoever is asked answered the first requests of a stream, and of these answers exactly the first so many bytes went out, and not all
+pub record HasBrokenOff {A : Type 0} (answers : A → List ℕ → Said → A → Type 0) (stream : List ℕ) (old new : A) (before after : Option (List ℕ)) (written : ℕ) : Type 0 where
+  pub text : List ℕ
+  pub begun : IsBegun answers REQUESTS stream old text new
+  pub short : written < length text
+  pub bytes : Appends before after (take written text)
+
+-- what went out before a fault; of the text that there was no memory for a head only the front may have
+abbrev pub HasLeft : {A : Type 0} → EdgeFault → (A → List ℕ → Said → A → Type 0) → List ℕ → A → A → Option (List ℕ) → Option (List ℕ) → Type 0
+HasLeft (Read written) answers stream old new before after = HasAnsweredFirst answers stream old new before after written
+HasLeft (Write written) answers stream old new before after =
+    HasBrokenOff answers stream old new before after written
+    ⊎ (new ≡ old) × (written < length (busy_text true)) × Appends before after (take written (busy_text true))

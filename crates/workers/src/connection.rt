@@ -1,0 +1,81 @@
+ghost use Rattle.std.specs.Prelude.{◌≡◌, ◌⊎◌, ◌||◌, ◌+◌, ◌≤◌, ℕ, List, not, OnOk, IfErr, IfSome, MatchResult, true};
+ghost use Rattle.std.specs.Io.KnownBytes.{Consumes};
+ghost use Rattle.httpedge.specs.Reads.{ReadsToPiece, ReadsToFault};
+ghost use Rattle.httpedge.specs.Stopped.{HasKeptUp, is_read, written_of};
+ghost use Rattle.workers.specs.Connections.{HasServed, HasLeft};
+
+use httpedge::{Asks, Conn, EdgeFault, Outcome, exchange, respond};
+use std::alloc::Global;
+use streams::{Sink, Source, WriteFault};
+
+/// The two sides of a connection.
+#[derive(Drop)]
+pub struct Sides<R, W> {
+    /// Where the bytes of the client come from.
+    pub reader: R,
+    /// Where the bytes for the client go.
+    pub writer: W,
+}
+
+/// A connection whose two sides can be opened.
+pub trait Opens {
+    /// What a client sends.
+    type Reader: Source + Drop;
+
+    /// What a client gets.
+    type Writer: Sink + Drop;
+
+    /// Begins to serve it, in the thread that does so. There are no sides where that fails: then it is dropped.
+    fn open(self, alloc: Global) -> Option<Sides<Self::Reader, Self::Writer>>;
+
+    /// Ends it, which had this fault or none.
+    fn close(sides: Sides<Self::Reader, Self::Writer>, fault: Option<EdgeFault>);
+}
+
+/// A connection that waits for a worker. Its sides stay out of sight: they are opened and closed in the worker's
+/// thread.
+pub trait Connection {
+    /// Answers it by whoever is asked, and ends it. [`serve_one`] does so for one that can be opened.
+    fn serve<A: Asks>(self, alloc: Global, asks: &mut A);
+
+    /// Tells it that the server is busy, and ends it, without waiting for its client.
+    fn turn_away(self, alloc: Global);
+}
+
+/// Answers one connection: all of its requests, one after the other. Where there is no memory for a head, it isn't
+/// read, and is told that the server is busy; else it is read no further than `exchange` does. After a fault of the
+/// reader all answers to what was read have gone out; where the writer fails, exactly the first `written` bytes of the
+/// answers went out.
+pub fn serve_connection<R: Source, W: Sink, A: Asks>(
+    alloc: Global,
+    asks: &mut A,
+    reader: &mut R,
+    writer: &mut W,
+) -> Result<(), EdgeFault>
+    ensures served { OnOk result (IfSome (R.left reader.old) (λ stream. HasServed A.answers stream asks.old asks.new (W.held writer.old) (W.held writer.new))) }
+    ensures left { IfErr result (λ fault. IfSome (R.left reader.old) (λ stream. HasLeft fault A.answers stream asks.old asks.new (W.held writer.old) (W.held writer.new))) }
+    ensures kept_up { IfErr result (λ fault. is_read fault ≡ true → (read : List ℕ) × Consumes (R.left reader.old) (R.left reader.new) read
+        × HasKeptUp A.answers W.held W.taken read asks.old asks.new writer.old writer.new) }
+    ensures written { IfErr result (λ fault. W.taken writer.new ≡ W.taken writer.old + written_of fault) }
+    ensures read_flag { MatchResult result (λ _. R.take_failed reader.new ≡ R.take_failed reader.old) (λ fault. R.take_failed reader.new ≡ (is_read fault || R.take_failed reader.old)) }
+    ensures write_flag { MatchResult result (λ _. W.put_failed writer.new ≡ W.put_failed writer.old) (λ fault. W.put_failed writer.new ≡ (not (is_read fault) || W.put_failed writer.old)) }
+    ensures reads { (reader.new ≡ reader.old) ⊎ MatchResult result (λ _. ReadsToPiece R.left R.took reader.old reader.new) (λ fault. ReadsToFault fault R.left R.took reader.old reader.new) }
+    ensures most { R.reads reader.new ≤ R.reads reader.old + 16384000 }
+{
+    match Conn::new(alloc) {
+        Ok(mut conn) => exchange(&mut conn, reader, writer, asks),
+        Err(_) => match respond(&Outcome::Busy, true, writer) {
+            Ok(()) => Ok(()),
+            Err(WriteFault { written }) => Err(EdgeFault::Write { written }),
+        },
+    }
+}
+
+/// Opens a connection, answers it by whoever is asked, and closes it.
+pub fn serve_one<C: Opens, A: Asks>(alloc: Global, asks: &mut A, connection: C) {
+    let Some(mut sides) = connection.open(alloc) else {
+        return;
+    };
+    let served = serve_connection(alloc, asks, &mut sides.reader, &mut sides.writer);
+    C::close(sides, served.err());
+}

@@ -1,0 +1,162 @@
+use crate::connection::Connection;
+use crate::gate::Gate;
+use crate::queue::{Queue, WAITING};
+use crate::worker::{Worker, run};
+use httpedge::Asks;
+use std::alloc::{AllocError, Global};
+use std::sync::{Arc, Wait};
+use std::thread::{self, JoinHandle, Threads};
+use thiserror::Error;
+
+/// The workers could not be started: a thread, or memory for them, was refused.
+#[derive(Clone, Copy, Debug, Error)]
+#[error("the workers can't be started")]
+pub struct Start;
+
+/// Where connections come from.
+pub trait Streams<C> {
+    /// The next one, or none where no more will come.
+    fn next(&mut self) -> Option<C>;
+}
+
+// The connections that wait for a worker, with their numbers.
+type Line<C> = Arc<Queue<(u64, C)>, Global>;
+
+// Workers that were started, each with its line.
+#[derive(Drop)]
+struct Crew<C: Drop> {
+    lines: Vec<Line<C>>,
+    threads: Vec<JoinHandle<()>>,
+}
+
+impl<C: Connection + Drop> Crew<C> {
+    // Nobody yet, with room for so many.
+    fn new(alloc: Global, workers: usize) -> Result<Self, AllocError> {
+        Ok(Crew {
+            lines: Vec::with_capacity(alloc, workers)?,
+            threads: Vec::with_capacity(alloc, workers)?,
+        })
+    }
+
+    // Gives a connection to its worker. Where there is no place for it, it is told that the server is busy.
+    fn give<R: Wait>(&self, rt: &R, alloc: Global, number: u64, connection: C) {
+        let worker = number.checked_rem(self.lines.len() as u64).unwrap_or(0) as usize;
+        let Some(line) = self.lines.get(worker) else {
+            return;
+        };
+        if let Err((_, connection)) = line.put(rt, (number, connection)) {
+            connection.turn_away(alloc);
+        }
+    }
+
+    // Waits until all that was given is served.
+    fn end<R: Wait + Threads>(self, rt: &R) {
+        let Crew { lines, threads } = self;
+        for line in &lines {
+            line.close(rt);
+        }
+        for thread in threads {
+            thread.join(rt);
+        }
+    }
+}
+
+// Starts one worker more, with a line of so many places.
+fn start_worker<R, A, C, G>(
+    rt: &R,
+    alloc: Global,
+    crew: &mut Crew<C>,
+    worker: Worker<A, G>,
+    places: usize,
+) -> Result<(), AllocError>
+where
+    R: Wait + Threads + Send + Copy + Drop + 'static,
+    A: Asks + Send + Drop + 'static,
+    C: Connection + Send + Drop + 'static,
+    G: Gate + Send + Sync + Drop + 'static,
+{
+    let line = Arc::new(alloc, Queue::new(alloc, places)?)?;
+    let theirs = Arc::try_clone(&line)?;
+    crew.lines.push(line)?;
+    let handle = *rt;
+    match thread::spawn(rt, move || run(&handle, alloc, worker, &theirs)) {
+        Ok(thread) => {
+            crew.threads.push(thread)?;
+            Ok(())
+        }
+        Err(_) => Err(AllocError),
+    }
+}
+
+// Starts a worker for each member.
+fn start_all<R, A, C, G>(
+    rt: &R,
+    alloc: Global,
+    crew: &mut Crew<C>,
+    members: Vec<A>,
+    gate: &Arc<G, Global>,
+) -> Result<(), AllocError>
+where
+    R: Wait + Threads + Send + Copy + Drop + 'static,
+    A: Asks + Send + Drop + 'static,
+    C: Connection + Send + Drop + 'static,
+    G: Gate + Send + Sync + Drop + 'static,
+{
+    let places = WAITING.checked_div(members.len()).unwrap_or(0).max(1);
+    for member in members {
+        let worker = Worker::new(member, Arc::try_clone(gate)?);
+        start_worker(rt, alloc, crew, worker, places)?;
+    }
+    Ok(())
+}
+
+// Gives each connection to its worker, until no more come.
+fn hand_out<R: Wait, C: Connection + Drop, T: Streams<C>>(
+    rt: &R,
+    alloc: Global,
+    crew: &Crew<C>,
+    streams: &mut T,
+) {
+    let mut number = 0_u64;
+    for _ in rt.forever() {
+        let Some(connection) = streams.next() else {
+            return;
+        };
+        number = number.saturating_add(1);
+        crew.give(rt, alloc, number, connection);
+    }
+    unreachable!()
+}
+
+/// Starts a worker for each member that may be asked, and gives them connection after connection, numbered from 1:
+/// connection c to member c mod N, of N. It returns once no more come and all are served. One that finds no place,
+/// or no memory for its head, is told that the server is busy.
+///
+/// The error is that a thread, or memory for the workers, was refused; then no connection was taken.
+pub fn work<R, A, C, T, G>(
+    rt: &R,
+    alloc: Global,
+    members: Vec<A>,
+    streams: &mut T,
+    gate: &Arc<G, Global>,
+) -> Result<(), Start>
+where
+    R: Wait + Threads + Send + Copy + Drop + 'static,
+    A: Asks + Send + Drop + 'static,
+    C: Connection + Send + Drop + 'static,
+    T: Streams<C>,
+    G: Gate + Send + Sync + Drop + 'static,
+{
+    let Ok(mut crew) = Crew::new(alloc, members.len()) else {
+        return Err(Start);
+    };
+    let started = start_all(rt, alloc, &mut crew, members, gate);
+    if started.is_ok() {
+        hand_out(rt, alloc, &crew, streams);
+    }
+    crew.end(rt);
+    match started {
+        Ok(()) => Ok(()),
+        Err(_) => Err(Start),
+    }
+}
