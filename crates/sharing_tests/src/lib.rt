@@ -1,5 +1,20 @@
-//! Tests of the shared map, by its public calls alone.
+//! Tests of the shared map, of its administration and of workers, by their public calls alone. Each test checks a value
+//! that was worked by hand, or that no clause can say. None depends on which thread runs when, and each ends by itself.
 #![tactic(auto)]
 
+#[cfg(test)]
+mod calls;
+#[cfg(test)]
+mod commands;
+#[cfg(test)]
+mod counts;
+#[cfg(test)]
+mod crews;
+#[cfg(test)]
+mod crowds;
+#[cfg(test)]
+mod maps;
+#[cfg(test)]
+mod memory;
 #[cfg(test)]
 mod told;

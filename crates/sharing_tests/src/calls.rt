@@ -1,0 +1,159 @@
+use crate::maps::shown;
+use crate::memory::{Coming, Going};
+use httpedge::{Asks, EdgeFault, Outcome, respond};
+use std::alloc::{AllocError, Global};
+use std::collections::VecDeque;
+use std::io::{self, Write};
+use std::sync::{Arc, OnceLock};
+use streams::Flagged;
+use workers::{Connection, Opens, Sides, Streams, serve_one};
+
+/// A head without a query, of 30 bytes.
+pub const HEAD: &[u8] = b"GET /wms HTTP/1.1\r\nHost: x\r\n\r\n";
+
+/// The answer to it, of 279 bytes, on a connection that goes on.
+pub const KEPT: &[u8] = b"HTTP/1.1 200 OK\r\n\
+Content-Type: text/xml\r\n\
+Content-Length: 215\r\n\
+\r\n\
+<?xml version=\"1.0\" encoding=\"UTF-8\"?>\n\
+<ServiceExceptionReport version=\"1.3.0\" xmlns=\"http://www.opengis.net/ogc\">\n\
+<ServiceException code=\"MissingParameterValue\">REQUEST</ServiceException>\n\
+</ServiceExceptionReport>\n";
+
+/// How a connection ended: what its client got, and which fault it had.
+#[derive(Drop)]
+pub struct Ended {
+    held: Vec<u8>,
+    fault: Option<EdgeFault>,
+}
+
+// Where that is told.
+type Place = Arc<OnceLock<Ended>, Global>;
+
+/// What a client gets, and where its end is told.
+#[derive(Drop)]
+pub struct Told {
+    going: Going,
+    place: Place,
+}
+
+impl Write for Told {
+    fn write(&mut self, bytes: &[u8]) -> io::Result<usize> {
+        self.going.write(bytes)
+    }
+
+    fn flush(&mut self) -> io::Result<()> {
+        self.going.flush()
+    }
+}
+
+/// A connection.
+#[derive(Drop)]
+pub struct Call {
+    coming: Coming,
+    told: Told,
+}
+
+impl Opens for Call {
+    type Reader = Flagged<Coming>;
+
+    type Writer = Flagged<Told>;
+
+    fn open(self, _alloc: Global) -> Option<Sides<Flagged<Coming>, Flagged<Told>>> {
+        let Call { coming, told } = self;
+        Some(Sides {
+            reader: Flagged::new(coming),
+            writer: Flagged::new(told),
+        })
+    }
+
+    fn close(sides: Sides<Flagged<Coming>, Flagged<Told>>, fault: Option<EdgeFault>) {
+        let Told { going, place } = sides.writer.into_inner();
+        let held = going.held;
+        let _ = place.try_set(Ended { held, fault });
+    }
+}
+
+impl Connection for Call {
+    fn serve<A: Asks>(self, alloc: Global, asks: &mut A) {
+        serve_one(alloc, asks, self);
+    }
+
+    fn turn_away(self, alloc: Global) {
+        if let Some(mut sides) = self.open(alloc) {
+            let _ = respond(&Outcome::Busy, true, &mut sides.writer);
+            Call::close(sides, None);
+        }
+    }
+}
+
+/// Connections that come one after the other, and where their ends are told.
+#[derive(Drop)]
+pub struct Calls {
+    alloc: Global,
+    waiting: VecDeque<Call>,
+    places: Vec<Place>,
+}
+
+impl Calls {
+    /// None yet.
+    pub fn new(alloc: Global) -> Self {
+        Calls {
+            alloc,
+            waiting: VecDeque::new(alloc),
+            places: Vec::new(alloc),
+        }
+    }
+
+    /// One more, on which these bytes come, so many at once. Its reader may fail after them, and its writer takes so many.
+    pub fn add(
+        &mut self,
+        bytes: &[u8],
+        at_once: usize,
+        fails: bool,
+        room: usize,
+    ) -> Result<(), AllocError> {
+        let place = Arc::new(self.alloc, OnceLock::new())?;
+        let theirs = Arc::try_clone(&place)?;
+        let told = Told {
+            going: Going::new(self.alloc, room),
+            place: theirs,
+        };
+        let bytes = Vec::from_slice(self.alloc, bytes)?;
+        let coming = Coming::new(bytes, at_once, fails);
+        self.waiting.push_back(Call { coming, told })?;
+        self.places.push(place)?;
+        Ok(())
+    }
+
+    /// How many still wait.
+    pub fn waiting(&self) -> usize {
+        self.waiting.len()
+    }
+
+    /// What became of the connection of a number, counted from 1: `kept` where the client got the answer of the head, or what it
+    /// got else, and the fault.
+    pub fn end_of(&self, number: usize) -> Result<String, AllocError> {
+        let alloc = self.alloc;
+        let place = self.places.get(number.wrapping_sub(1));
+        let Some(ended) = place.and_then(|place| place.get()) else {
+            return String::from_str(alloc, "not served");
+        };
+        let held = if ended.held.as_slice() == KEPT {
+            String::from_str(alloc, "kept")?
+        } else {
+            shown(alloc, &ended.held)?
+        };
+        match ended.fault {
+            None => Ok(held),
+            Some(fault) => format!(in alloc; "{held}, {fault}"),
+        }
+    }
+}
+
+impl Streams<Call> for Calls {
+    fn next(&mut self) -> Option<Call> {
+        self.waiting.pop_front()
+    }
+}

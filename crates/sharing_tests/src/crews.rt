@@ -1,0 +1,241 @@
+use crate::calls::{Calls, HEAD};
+use crate::maps::machine;
+use httpedge::{Asks, Busy};
+use mapmachine::{Answer, Machine};
+use std::alloc::{AllocError, Global};
+use std::str;
+use std::sync::atomic::{AtomicU64, Ordering};
+use std::sync::{Arc, Mutex, Wait};
+use std::thread::{self, Threads};
+use std::time::Duration;
+use test_tables::{TableFault, check_rows};
+use workers::{Gate, Open, work};
+
+// Queries in brackets, in the order in which they were asked.
+type Asked = Arc<Mutex<String>, Global>;
+
+// A machine that tells which queries it is asked.
+#[derive(Drop)]
+struct Member<R: Wait + Drop> {
+    rt: R,
+    machine: Machine,
+    asked: Asked,
+}
+
+// Tells of a query.
+fn tell(asked: &mut String, query: &[u8]) -> Result<(), AllocError> {
+    asked.push('[')?;
+    asked.push_str(str::from_utf8(query).unwrap_or("?"))?;
+    asked.push(']')?;
+    Ok(())
+}
+
+impl<R: Wait + Drop> Asks for Member<R> {
+    ghost answers = { λ _ _ _ _. Unit {0} };
+
+    fn answer(&mut self, query: &[u8]) -> Result<Answer, Busy> {
+        let mut asked = self.asked.lock(&self.rt);
+        if tell(&mut asked, query).is_err() {
+            return Err(Busy);
+        }
+        drop(asked);
+        self.machine.answer(query)
+    }
+}
+
+// Members, and what each is asked.
+#[derive(Drop)]
+struct Crew<R: Wait + Drop> {
+    members: Vec<Member<R>>,
+    asked: Vec<Asked>,
+}
+
+// Three members.
+fn crew_of_three<R: AllocGlobal + Wait + Copy + Drop>(rt: &R) -> Result<Crew<R>, AllocError> {
+    let alloc = rt.alloc();
+    let mut crew = Crew {
+        members: Vec::new(alloc),
+        asked: Vec::new(alloc),
+    };
+    for _ in 0..3 {
+        let asked = Arc::new(alloc, Mutex::new(String::new(alloc)))?;
+        let theirs = Arc::try_clone(&asked)?;
+        crew.asked.push(asked)?;
+        crew.members.push(Member {
+            rt: *rt,
+            machine: machine(alloc)?,
+            asked: theirs,
+        })?;
+    }
+    Ok(crew)
+}
+
+// What each was asked, with spaces between them.
+fn told_of_asked<R: AllocGlobal + Wait>(rt: &R, all: &[Asked]) -> Result<String, AllocError> {
+    let mut text = String::new(rt.alloc());
+    for asked in all {
+        let asked = asked.lock(rt);
+        text = format!(in rt.alloc(); "{text} {}", asked.as_str())?;
+    }
+    Ok(text)
+}
+
+// The first six connections of a round, of which the first has this head. Its bytes come so many at once.
+fn add_six(calls: &mut Calls, head: &[u8], long: &[u8], at_once: usize) -> Result<(), AllocError> {
+    calls.add(head, at_once, false, usize::MAX)?;
+    calls.add(long, 4_096, false, usize::MAX)?;
+    calls.add(
+        b"GET /wms HTTP/1.1\r\nHost: x\r\n\r",
+        at_once,
+        false,
+        usize::MAX,
+    )?;
+    calls.add(b"", at_once, false, usize::MAX)?;
+    calls.add(b"POST /wms HTTP/1.1\r\n\r\n", at_once, false, usize::MAX)?;
+    calls.add(b"GET /x HTTP/1.1\r\n\r\n", at_once, false, usize::MAX)
+}
+
+// Six connections, one whose reader fails, one whose writer does, and six again.
+fn fourteen(alloc: Global, at_once: usize) -> Result<Calls, AllocError> {
+    let long = "a".repeat(alloc, 16_385)?;
+    let long = long.as_str().as_bytes();
+    let mut calls = Calls::new(alloc);
+    add_six(&mut calls, HEAD, long, at_once)?;
+    calls.add(b"", at_once, true, usize::MAX)?;
+    calls.add(
+        b"GET /wms?8 HTTP/1.1\r\nHost: x\r\n\r\n",
+        at_once,
+        false,
+        10,
+    )?;
+    let head = b"GET /wms?9 HTTP/1.1\r\nHost: x\r\n\r\n";
+    add_six(&mut calls, head, long, at_once)?;
+    Ok(calls)
+}
+
+// What became of so many connections, a line each, and what the members were asked.
+fn worked<R>(rt: &R, mut calls: Calls, count: usize) -> Result<String, AllocError>
+where
+    R: AllocGlobal + Wait + Threads + Send + Copy + Drop + 'static,
+{
+    let alloc = rt.alloc();
+    let Crew { members, asked } = crew_of_three(rt)?;
+    let gate = Arc::new(alloc, Open)?;
+    let done = work(rt, alloc, members, &mut calls, &gate);
+    let mut text = format!(in alloc; "{}:{}", done.is_ok(), told_of_asked(rt, &asked)?)?;
+    for number in 1..=count {
+        text = format!(in alloc; "{text}\n{number} {}", calls.end_of(number)?)?;
+    }
+    Ok(text)
+}
+
+const NONE: &str = "true:   ";
+
+// Member 1 is asked for the first connection, member 2 for the eighth, and member 0 for the ninth.
+const FOURTEEN: &str = "true: [9] [] [8]
+1 kept
+2 HTTP/1.1 400 Bad Request^~Content-Length: 0^~Connection: close^~^~
+3 HTTP/1.1 400 Bad Request^~Content-Length: 0^~Connection: close^~^~
+4 \n\
+5 HTTP/1.1 405 Method Not Allowed^~Allow: GET^~Content-Length: 0^~^~
+6 HTTP/1.1 404 Not Found^~Content-Length: 0^~^~
+7 , the reader failed after 0 bytes were written
+8 HTTP/1.1 2, the writer failed after 10 bytes
+9 kept
+10 HTTP/1.1 400 Bad Request^~Content-Length: 0^~Connection: close^~^~
+11 HTTP/1.1 400 Bad Request^~Content-Length: 0^~Connection: close^~^~
+12 \n\
+13 HTTP/1.1 405 Method Not Allowed^~Allow: GET^~Content-Length: 0^~^~
+14 HTTP/1.1 404 Not Found^~Content-Length: 0^~^~";
+
+// What is told of fourteen connections whose bytes come so many at once, up to a number, if it isn't what is expected.
+fn told_of_rounds<R>(rt: &R, alloc: Global, row: &str) -> Result<String, AllocError>
+where
+    R: AllocGlobal + Wait + Threads + Send + Copy + Drop + 'static,
+{
+    let last = row.parse().unwrap_or(0);
+    for at_once in 1..=last {
+        let found = worked(rt, fourteen(alloc, at_once)?, 14)?;
+        if found.as_str() != FOURTEEN {
+            return Ok(found);
+        }
+    }
+    let found = worked(rt, Calls::new(alloc), 0)?;
+    format!(in alloc; "right up to {last}, {}", found.as_str() == NONE)
+}
+
+#[test]
+fn connections_go_to_their_workers(rt: HostRuntime) -> Result<(), TableFault> {
+    check_rows(
+        rt.alloc(),
+        "right up to 30, true|30",
+        '|',
+        1,
+        |alloc, row| { told_of_rounds(&rt, alloc, row) },
+    )
+}
+
+// A gate that holds the first connection until the second is answered, for ten seconds at most.
+#[derive(Drop)]
+struct Meeting {
+    rt: HostRuntime,
+    answered: AtomicU64,
+    met: AtomicU64,
+}
+
+impl Gate for Meeting {
+    fn asked(&self, number: u64) {
+        if number != 1 {
+            return;
+        }
+        for _ in 0..10_000 {
+            if self.answered.load(Ordering::SeqCst) > 0 {
+                self.met.store(1, Ordering::SeqCst);
+                return;
+            }
+            thread::sleep(&self.rt, Duration::from_millis(1));
+        }
+    }
+
+    fn answered(&self, number: u64) {
+        if number == 2 {
+            self.answered.store(1, Ordering::SeqCst);
+        }
+    }
+}
+
+// What becomes of two connections of two map machines, of which the first is held at the gate: whether they were served, whether
+// the first saw that the second was answered, and both.
+fn told_of_meeting<R>(rt: &R, system: &HostRuntime) -> Result<String, AllocError>
+where
+    R: AllocGlobal + Wait + Threads + Send + Copy + Drop + 'static,
+{
+    let alloc = rt.alloc();
+    let mut members = Vec::new(alloc);
+    members.push(machine(alloc)?)?;
+    members.push(machine(alloc)?)?;
+    let gate = Meeting {
+        rt: *system,
+        answered: AtomicU64::new(0),
+        met: AtomicU64::new(0),
+    };
+    let gate = Arc::new(alloc, gate)?;
+    let mut calls = Calls::new(alloc);
+    calls.add(HEAD, 7, false, usize::MAX)?;
+    calls.add(HEAD, 7, false, usize::MAX)?;
+    let done = work(rt, alloc, members, &mut calls, &gate);
+    format!(in alloc;
+        "{} {} {} {}",
+        done.is_ok(),
+        gate.met.load(Ordering::SeqCst),
+        calls.end_of(1)?,
+        calls.end_of(2)?
+    )
+}
+
+#[test]
+fn two_workers_answer_at_once(rt: HostRuntime) -> Result<(), TableFault> {
+    check_rows(rt.alloc(), "true 1 kept kept|", '|', 1, |_, _| {
+        told_of_meeting(&rt, &rt)
+    })
+}
