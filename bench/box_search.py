@@ -15,7 +15,7 @@ import sys
 import tempfile
 
 HERE = pathlib.Path(__file__).resolve().parent
-CRATES = """geom: thiserror
+CRATES = """geom: itoa thiserror
 collide: geom
 gridindex: geom
 boxsearch: geom collide gridindex

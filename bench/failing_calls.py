@@ -1,12 +1,17 @@
 #!/usr/bin/env python3
-"""Lets each call of the program for memory, and each for bytes, fail in turn. Usage: failing_calls.py PROGRAM
+"""Lets each call of the program for memory, and each for bytes, fail in turn.
+
+Usage: failing_calls.py PROGRAM [EVERY]
 
 A library that is loaded before the C library, built here with cc, counts the calls and fails the one of a number,
 or lets it move one byte alone. Maps of demo/ are checked and played, and one request is answered on a port. What
 comes out may be less than the right answer, never another: a reply is right or NOMEMORY; where a file or a stream
 fails, what was written is a front of the right output, with the status of that failure; words on a fault may be
-missing; where a call moves one byte, nothing changes. The script prints how many calls it let fail, and ends with
-1 where something else came out.
+missing; where a call moves one byte, nothing changes. A client whose connection ends without an answer asks again,
+since a connection for which there is no memory isn't counted, and the program waits for another.
+
+With EVERY only every so-many-th call fails. The script prints how many calls each kind has while it lets them fail,
+and at the end how many it let fail. It ends with 1 where something else came out, or a run took longer than 30 s.
 """
 import os
 import pathlib
@@ -15,7 +20,11 @@ import socket
 import subprocess
 import sys
 import tempfile
+import threading
+import time
 
+# the seconds of a run, which takes some hundredths
+LONGEST = 30
 DEMO = pathlib.Path(__file__).resolve().parent.parent / "demo"
 SHIM = r"""
 #include <errno.h>
@@ -74,27 +83,40 @@ class Run:
             words, stdin=subprocess.PIPE, stdout=subprocess.PIPE, stderr=subprocess.PIPE, cwd=DEMO, env=env, pass_fds=[into]
         ) as program:
             os.close(into)
+            watch = threading.Timer(LONGEST, program.kill)
+            watch.start()
             if "serve" in words:
                 self.ask(program)
             self.output, self.errors = program.communicate(session)
             self.status = program.returncode
+            watch.cancel()
         with os.fdopen(out, "rb") as counts:
             told = counts.read()
         self.memory, self.bytes = int.from_bytes(told[:8], "little"), int.from_bytes(told[8:], "little")
 
     def ask(self, program):
-        """One connection, if the program gets so far as to listen."""
+        """Connections until one has an answer, if the program gets so far as to listen."""
         self.line = program.stdout.readline()
         address = re.fullmatch(rb"listening 127\.0\.0\.1:(\d+)\n", self.line)
+        listens = address is not None
+        while listens and not self.got:
+            listens = self.connect(int(address[1]))
+
+    def connect(self, port):
+        """Takes what one connection is answered, and says whether there was one."""
         try:
-            if address:
-                with socket.create_connection(("127.0.0.1", int(address[1])), 20) as client:
-                    client.sendall(GET)
-                    client.shutdown(socket.SHUT_WR)
-                    for piece in iter(lambda: client.recv(65_536), b""):
-                        self.got += piece
-        except ConnectionError:
-            pass
+            client = socket.create_connection(("127.0.0.1", port), LONGEST)
+        except OSError:
+            return False
+        with client:
+            try:
+                client.sendall(GET)
+                client.shutdown(socket.SHUT_WR)
+                for piece in iter(lambda: client.recv(65_536), b""):
+                    self.got += piece
+            except OSError:
+                pass
+        return True
 
     def key(self):
         return self.status, self.output, self.errors, self.got
@@ -113,7 +135,7 @@ def may_want_memory(run, right):
     found, wanted = replies(run.output), replies(right.output)
     same = len(found) == len(wanted) and all(one in (other, b"NOMEMORY\n") for one, other in zip(found, wanted))
     words = run.errors in (right.errors, b"".join(right.errors.splitlines(True)[:1]))
-    return same and words and run.got in (right.got, BUSY, BUSY_ONCE, b"")
+    return same and words and run.got in (right.got, BUSY, BUSY_ONCE)
 
 
 def may_fail(run, right):
@@ -126,7 +148,10 @@ def may_fail(run, right):
 
 
 def main():
+    if len(sys.argv) not in (2, 3) or not all(word.isdecimal() and int(word) for word in sys.argv[2:]):
+        sys.exit(__doc__.split("\n\n")[1])
     program, tried, wrong = os.path.abspath(sys.argv[1]), 0, 0
+    every = int(sys.argv[2]) if len(sys.argv) == 3 else 1
     script = (DEMO / "harbours.script").read_bytes()
     transparent = script.replace(b"x-portable-pixmap", b"x-portable-arbitrarymap&TRANSPARENT=TRUE")
     session = (DEMO / "harbours.map").read_bytes() + b"%%\n" + script + transparent
@@ -138,15 +163,20 @@ def main():
         for words in ["", "run lakes.map lakes.script", "check harbours.map", "check --explain faulty.map", "serve square.map --port 0 --connections 1"]:
             command = [program, *words.split()]
             right = Run(shim, command, session)
+            if right.memory == 0:
+                sys.exit(f"failed: {words or 'session'} ends with {right.status}, and no call was counted")
             kinds = [("FAIL_MEMORY", right.memory, may_want_memory), ("FAIL_BYTES", right.bytes, may_fail)]
             kinds.append(("SHORT_BYTES", right.bytes, lambda run, right: run.key() == right.key()))
             for kind, count, is_right in kinds:
-                for number in range(1, count + 1):
+                print(f"{words or 'session'}, {kind}: {count} calls", end=", ", flush=True)
+                begun = time.monotonic()
+                for number in range(1, count + 1, every):
                     run = Run(shim, command, session, **{kind: number})
                     tried += 1
                     if not is_right(run, right):
                         wrong += 1
-                        print(f"{words or 'session'}, {kind} {number} of {count}: {run.key()}")
+                        print(f"\nwrong: {words or 'session'}, {kind} {number} of {count}: {run.key()}")
+                print(f"{time.monotonic() - begun:.1f} s", flush=True)
     print(f"ok: {tried} calls" if wrong == 0 else f"failed: {wrong} of {tried}")
     sys.exit(wrong > 0)
 

@@ -14,7 +14,7 @@ import sys
 import tempfile
 
 HERE = pathlib.Path(__file__).resolve().parent
-CRATES = """geom: thiserror
+CRATES = """geom: itoa thiserror
 mapdefs: geom thiserror
 bdffont: geom mapdefs thiserror
 fontreading: geom mapdefs bdffont
