@@ -35,7 +35,7 @@ use Rattle.layers.specs.contracts.layers.Layers as Layers
 use Rattle.mapmachine.specs.contracts.machine.Machine as Machine
 
 -- structures and enums whose fields may
-ruleset fielded = (as_row_send, as_row_sync, declared_send, declared_sync, variants_send, variants_sync, sendable, crosses)
+pub ruleset fielded = (as_row_send, as_row_sync, declared_send, declared_sync, variants_send, variants_sync, sendable, crosses)
 
 pub text-send : IsSend Text.the_row
 text-send = search (fielded) depth 9

@@ -14,7 +14,8 @@
 //! for a reader that still reads the older copy.
 //!
 //! `layers_cross` and `machine_crosses` ask that layers and a map machine may be sent to other threads and read from
-//! them, which is proved of each type that they are made of.
+//! them, which is proved of each type that they are made of. `reader_crosses` asks that a reader may be sent to another
+//! thread.
 //!
 //! Words: a *receipt* stands for all that was published when it was made. What a reader *knows* was published at
 //! the least. An *entry* shows one state, whatever is published meanwhile. An *edition* is what is published.
@@ -34,4 +35,4 @@ pub use opening::{MAX_READERS, ShareFault, open};
 pub use reader::{Closed, Entered, Reader};
 pub use receipt::Receipt;
 pub use rule::Sharing;
-pub use threads::{layers_cross, machine_crosses};
+pub use threads::{layers_cross, machine_crosses, reader_crosses};
