@@ -41,7 +41,8 @@ NO_PORT = b"""error: invalid value '65536' for '--port <port>': 65536 is not in 
 For more information, try '--help'.
 """
 IN_WORDS = b"fault line 3 kind 2\nbad.map:3: FOO is no keyword of MAP\n"
-NO_SYMBOL = b"fault line 2 kind 7\nmaps/symbol.map:2: the file that IMAGE names can't be read\n"
+NO_ADDRESS = b"%s.map: warning: the service has no wms_onlineresource, and http://localhost/wms? has no port\n"
+NO_SYMBOL = b"fault line 2 kind 7\nmaps/symbol.map:2: the file p.ppm, which IMAGE names, can't be read\n"
 NOT_UTF8 = b"error: a word is not UTF-8\n"
 FILES = {
     "good.map": MAP.removesuffix(b"%%\n"),
@@ -86,9 +87,11 @@ def main():
             ("check", run(b"", "check", "good.map"), (0, b"ok 1 layers 0 features\n", b"")),
             ("check many", run(b"", "check", "large.map"), (0, b"ok 1 layers 30 features\n", b"")),
             ("check faulty", run(b"", "check", "bad.map"), (1, b"", b"fault line 3 kind 2\n")),
-            ("explain", run(b"", "check", "--explain", "good.map"), (0, b"ok 1 layers 0 features\n", b"")),
+            ("explain", run(b"", "check", "--explain", "good.map"), (0, b"ok 1 layers 0 features\n", NO_ADDRESS % b"good")),
+            ("run explained", run(b"", "run", "--explain", "good.map", "none.script"), (1, b"", NO_ADDRESS % b"good" + b"fault file none.script\n")),
+            ("serve explained", run(b"", "serve", "--explain", "bad.map"), (1, b"", IN_WORDS)),
             ("explain faulty", run(b"", "check", "--explain", "bad.map"), (1, b"", IN_WORDS)),
-            ("explain a symbol", run(b"", "check", "--explain", "symbol.map"), (0, b"ok 0 layers 0 features\n", b"")),
+            ("explain a symbol", run(b"", "check", "--explain", "symbol.map"), (0, b"ok 0 layers 0 features\n", NO_ADDRESS % b"symbol")),
             ("explain no symbol", run(b"", "check", "--explain", "maps/symbol.map"), (1, b"", NO_SYMBOL)),
             ("check no file", run(b"", "check", "no.map"), (1, b"", b"fault file no.map\n")),
             ("check a folder", run(b"", "check", "."), (1, b"", b"fault file .\n")),
