@@ -4,12 +4,10 @@ use httpedge::{Asks, Busy};
 use mapmachine::{Answer, Machine};
 use std::alloc::{AllocError, Global};
 use std::str;
-use std::sync::atomic::{AtomicU64, Ordering};
 use std::sync::{Arc, Mutex, Wait};
-use std::thread::{self, Threads};
-use std::time::Duration;
+use std::thread::Threads;
 use test_tables::{TableFault, check_rows};
-use workers::{Gate, Open, work};
+use workers::{OpenGate, work};
 
 // Queries in brackets, in the order in which they were asked.
 type Asked = Arc<Mutex<String>, Global>;
@@ -120,7 +118,7 @@ where
 {
     let alloc = rt.alloc();
     let Crew { members, asked } = crew_of_three(rt)?;
-    let gate = Arc::new(alloc, Open)?;
+    let gate = Arc::new(alloc, OpenGate)?;
     let done = work(rt, alloc, members, &mut calls, &gate);
     let mut text = format!(in alloc; "{}:{}", done.is_ok(), told_of_asked(rt, &asked)?)?;
     for number in 1..=count {
@@ -175,67 +173,22 @@ fn connections_go_to_their_workers(rt: HostRuntime) -> Result<(), TableFault> {
     )
 }
 
-// A gate that holds the first connection until the second is answered, for ten seconds at most.
-#[derive(Drop)]
-struct Meeting {
-    rt: HostRuntime,
-    answered: AtomicU64,
-    met: AtomicU64,
-}
-
-impl Gate for Meeting {
-    fn asked(&self, number: u64) {
-        if number != 1 {
-            return;
-        }
-        for _ in 0..10_000 {
-            if self.answered.load(Ordering::SeqCst) > 0 {
-                self.met.store(1, Ordering::SeqCst);
-                return;
-            }
-            thread::sleep(&self.rt, Duration::from_millis(1));
-        }
-    }
-
-    fn answered(&self, number: u64) {
-        if number == 2 {
-            self.answered.store(1, Ordering::SeqCst);
-        }
-    }
-}
-
-// What becomes of two connections of two map machines, of which the first is held at the gate: whether they were served, whether
-// the first saw that the second was answered, and both.
-fn told_of_meeting<R>(rt: &R, system: &HostRuntime) -> Result<String, AllocError>
+// Whether nobody to be asked is refused, and how many of two connections still wait then.
+fn told_of_nobody<R>(rt: &R) -> Result<String, AllocError>
 where
     R: AllocGlobal + Wait + Threads + Send + Copy + Drop + 'static,
 {
     let alloc = rt.alloc();
-    let mut members = Vec::new(alloc);
-    members.push(machine(alloc)?)?;
-    members.push(machine(alloc)?)?;
-    let gate = Meeting {
-        rt: *system,
-        answered: AtomicU64::new(0),
-        met: AtomicU64::new(0),
-    };
-    let gate = Arc::new(alloc, gate)?;
     let mut calls = Calls::new(alloc);
     calls.add(HEAD, 7, false, usize::MAX)?;
     calls.add(HEAD, 7, false, usize::MAX)?;
-    let done = work(rt, alloc, members, &mut calls, &gate);
-    format!(in alloc;
-        "{} {} {} {}",
-        done.is_ok(),
-        gate.met.load(Ordering::SeqCst),
-        calls.end_of(1)?,
-        calls.end_of(2)?
-    )
+    let nobody: Vec<Machine> = Vec::new(alloc);
+    let gate = Arc::new(alloc, OpenGate)?;
+    let done = work(rt, alloc, nobody, &mut calls, &gate);
+    format!(in alloc; "{} {}", done.is_err(), calls.waiting())
 }
 
 #[test]
-fn two_workers_answer_at_once(rt: HostRuntime) -> Result<(), TableFault> {
-    check_rows(rt.alloc(), "true 1 kept kept|", '|', 1, |_, _| {
-        told_of_meeting(&rt, &rt)
-    })
+fn connections_stay_where_nobody_may_be_asked(rt: HostRuntime) -> Result<(), TableFault> {
+    check_rows(rt.alloc(), "true 2|", '|', 1, |_, _| told_of_nobody(&rt))
 }

@@ -15,6 +15,8 @@ mod crowds;
 #[cfg(test)]
 mod maps;
 #[cfg(test)]
+mod meeting;
+#[cfg(test)]
 mod memory;
 #[cfg(test)]
 mod told;

@@ -9,9 +9,9 @@ pub trait Gate {
 
 /// A gate that holds nobody.
 #[derive(Clone, Copy)]
-pub struct Open;
+pub struct OpenGate;
 
-impl Gate for Open {
+impl Gate for OpenGate {
     fn asked(&self, _number: u64) {}
 
     fn answered(&self, _number: u64) {}

@@ -16,6 +16,6 @@ mod worker;
 mod working;
 
 pub use connection::{Connection, Opens, Sides, serve_connection, serve_one};
-pub use gate::{Gate, Open};
+pub use gate::{Gate, OpenGate};
 pub use queue::WAITING;
 pub use working::{Start, Streams, work};

@@ -8,7 +8,7 @@ use std::sync::{Arc, Wait};
 use std::thread::{self, JoinHandle, Threads};
 use thiserror::Error;
 
-/// The workers could not be started: a thread, or memory for them, was refused.
+/// The workers could not be started: there was nobody to be asked, or a thread or memory for them was refused.
 #[derive(Clone, Copy, Debug, Error)]
 #[error("the workers can't be started")]
 pub struct Start;
@@ -132,7 +132,8 @@ fn hand_out<R: Wait, C: Connection + Drop, T: Streams<C>>(
 /// connection c to member c mod N, of N. It returns once no more come and all are served. One that finds no place,
 /// or no memory for its head, is told that the server is busy.
 ///
-/// The error is that a thread, or memory for the workers, was refused; then no connection was taken.
+/// The error is that there is no member, or that a thread or memory for the workers was refused; then no connection
+/// was taken.
 pub fn work<R, A, C, T, G>(
     rt: &R,
     alloc: Global,
@@ -147,6 +148,9 @@ where
     T: Streams<C>,
     G: Gate + Send + Sync + Drop + 'static,
 {
+    if members.is_empty() {
+        return Err(Start);
+    }
     let Ok(mut crew) = Crew::new(alloc, members.len()) else {
         return Err(Start);
     };
