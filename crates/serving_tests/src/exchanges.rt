@@ -1,5 +1,5 @@
 use crate::narrow::{Cut, holding_nothing};
-use httpedge::{Asks, Busy, Conn, EdgeFault, Outcome, Refusal, exchange, respond};
+use httpedge::{Asks, Conn, EdgeFault, Outcome, exchange, respond};
 use mapdefs::{Items, Map};
 use mapmachine::{Answer, Flagged, Machine, Mime};
 use std::alloc::{AllocError, Global};
@@ -11,53 +11,35 @@ fn machine(alloc: Global) -> Result<Machine, AllocError> {
     Machine::open(alloc, Map::new(map_fields(alloc, Items::new(alloc))))
 }
 
-// Who is asked, and is busy. It counts the queries.
-#[derive(Drop)]
-struct Closed {
-    asked: usize,
-}
-
-impl Asks for Closed {
-    ghost use Rattle.std.specs.Prelude.{◌≡◌, Err};
-    ghost use Rattle.httpedge.specs.declared.asks.Busy.{Busy};
-
-    ghost answers = { λ old query said new. said ≡ Err (record {}) };
-
-    fn answer(&mut self, _query: &[u8]) -> Result<Answer, Busy> {
-        self.asked = self.asked.saturating_add(1);
-        Err(Busy)
-    }
-}
-
-// How a stream is read and its response written.
+/// How a stream is read and its response written.
 #[derive(Clone, Copy)]
-struct Way {
+pub struct Way {
     reads: usize,
     failing_read: usize,
     writes: usize,
     written: usize,
 }
 
-// Nothing fails.
-const WHOLE: Way = Way {
+/// Nothing fails.
+pub const WHOLE: Way = Way {
     reads: 7,
     failing_read: 0,
     writes: 11,
     written: 1_000_000,
 };
 
-// What an exchange led to: its result, what went out in how many calls, and whether reading and writing failed.
+/// What an exchange led to: its result, what went out in how many calls, and whether reading and writing failed.
 #[derive(Drop)]
-struct Done {
-    result: Result<(), EdgeFault>,
-    held: Vec<u8>,
+pub struct Done {
+    pub result: Result<(), EdgeFault>,
+    pub held: Vec<u8>,
     calls: usize,
-    take_failed: bool,
-    put_failed: bool,
+    pub take_failed: bool,
+    pub put_failed: bool,
 }
 
-// Exchanges a stream in a way.
-fn exchanged<A: Asks>(
+/// Exchanges a stream in a way.
+pub fn exchanged<A: Asks>(
     alloc: Global,
     stream: &[u8],
     way: Way,
@@ -278,191 +260,4 @@ const CUTS: &str = "\
 #[test]
 fn streams_are_answered_or_cut_where_they_fail(rt: HostRuntime) -> Result<(), TableFault> {
     check_rows(rt.alloc(), CUTS, '|', 6, rows_of_cuts)
-}
-
-// How often it was asked, the result, whether reading and writing failed, and the response, `|` and a stream. CR
-// is written `^` and LF `~`.
-const REFUSALS: &str = "\
-0 Ok(()) false false |
-0 Ok(()) false false HTTP/1.1 400 Bad Request^~Content-Length: 0^~Connection: close^~^~|GET /wms HTTP/1.1^~Host: x^~^
-0 Ok(()) false false HTTP/1.1 405 Method Not Allowed^~Allow: GET^~Content-Length: 0^~^~|POST /wms HTTP/1.1^~^~
-0 Ok(()) false false HTTP/1.1 405 Method Not Allowed^~Allow: GET^~Content-Length: 0^~Connection: close^~^~|POST /x HTTP/1.0^~^~
-0 Ok(()) false false HTTP/1.1 404 Not Found^~Content-Length: 0^~^~|GET /x HTTP/1.1^~^~
-# a busy server, which goes on
-1 Ok(()) false false HTTP/1.1 503 Service Unavailable^~Content-Length: 0^~^~|GET /wms HTTP/1.1^~Host: x^~^~
-# what follows a refusal is answered, up to a head that closes
-1 Ok(()) false false HTTP/1.1 404 Not Found^~Content-Length: 0^~^~HTTP/1.1 503 Service Unavailable^~Content-Length: 0^~Connection: close^~^~|GET /x HTTP/1.1^~^~GET /wms HTTP/1.1^~Connection: close^~^~GET /wms HTTP/1.1^~^~
-1 Ok(()) false false HTTP/1.1 405 Method Not Allowed^~Allow: GET^~Content-Length: 0^~^~HTTP/1.1 503 Service Unavailable^~Content-Length: 0^~Connection: close^~^~|POST /wms HTTP/1.1^~Content-Length: 0^~^~GET /wms HTTP/1.0^~^~
-# a head that announces a body, before 405 and 404: no byte after it is a request
-0 Ok(()) false false HTTP/1.1 400 Bad Request^~Content-Length: 0^~Connection: close^~^~|GET /wms HTTP/1.1^~Content-Length: 5^~^~hello
-0 Ok(()) false false HTTP/1.1 400 Bad Request^~Content-Length: 0^~Connection: close^~^~|POST /x HTTP/1.1^~Transfer-Encoding: chunked^~^~GET /wms HTTP/1.1^~^~";
-
-// A text as rows write it.
-fn written(alloc: Global, bytes: &[u8]) -> Result<String, AllocError> {
-    let text = str::from_utf8(bytes).unwrap_or("bytes that are no text");
-    let text = text.replace(alloc, '\r', "^")?;
-    text.replace(alloc, '\n', "~")
-}
-
-// A stream of a text, where CR is written `^` and LF `~`, and so many further bytes.
-fn stream(alloc: Global, text: &str, more: usize) -> Result<Vec<u8>, AllocError> {
-    let text = text.replace(alloc, '^', "\r")?;
-    let text = text.replace(alloc, '~', "\n")?;
-    let mut bytes = Vec::new(alloc);
-    bytes.extend_from_slice(text.as_str().as_bytes())?;
-    for _ in 0..more {
-        bytes.push(b'x')?;
-    }
-    Ok(bytes)
-}
-
-fn rows_of_refusals(alloc: Global, row: &str) -> Result<String, AllocError> {
-    let stream = stream(alloc, row, 0)?;
-    let mut closed = Closed { asked: 0 };
-    let done = exchanged(alloc, &stream, WHOLE, &mut closed)?;
-    let (asked, result) = (closed.asked, done.result);
-    let held = written(alloc, &done.held)?;
-    format!(in alloc;
-        "{asked} {result:?} {} {} {held}",
-        done.take_failed, done.put_failed
-    )
-}
-
-#[test]
-fn streams_are_refused_without_asking_and_busy_is_told(rt: HostRuntime) -> Result<(), TableFault> {
-    check_rows(rt.alloc(), REFUSALS, '|', 10, rows_of_refusals)
-}
-
-// What is told of an exchange whose reader fails after so many reads.
-fn told_of_reads(
-    alloc: Global,
-    stream: &[u8],
-    at_once: usize,
-    calls: usize,
-) -> Result<String, AllocError> {
-    let mut conn = Conn::new(alloc)?;
-    let mut reader = Flagged::new(holding_nothing(alloc, stream, at_once, calls));
-    let mut writer = Flagged::new(Vec::new(alloc));
-    let result = exchange(
-        &mut conn,
-        &mut reader,
-        &mut writer,
-        &mut Closed { asked: 0 },
-    );
-    let left = reader.inner().calls;
-    let held = writer.into_inner();
-    let status = str::from_utf8(held.get(9..12).unwrap_or(b"none")).unwrap_or("no text");
-    format!(in alloc;
-        "{} {left} {result:?} {} {status}",
-        reader.reads(),
-        reader.take_failed()
-    )
-}
-
-// How many bytes come at once in how many reads, how many bytes follow the text, and the text.
-fn reads_of(row: &str) -> Option<(usize, usize, usize, &str)> {
-    let (at_once, rest) = row.split_once(' ')?;
-    let (calls, rest) = rest.split_once(' ')?;
-    let (more, text) = rest.split_once(' ').unwrap_or((rest, ""));
-    Some((
-        at_once.parse::<usize>().ok()?,
-        calls.parse::<usize>().ok()?,
-        more.parse::<usize>().ok()?,
-        text,
-    ))
-}
-
-fn rows_of_reads(alloc: Global, row: &str) -> Result<String, AllocError> {
-    let Some((at_once, calls, more, text)) = reads_of(row) else {
-        return String::from_str(alloc, "malformed");
-    };
-    let stream = stream(alloc, text, more.min(20_000))?;
-    told_of_reads(alloc, &stream, at_once, calls)
-}
-
-// How often it was read, how many reads wouldn't have failed yet, the result, whether reading failed, and the
-// status that went out, `|`, then how many bytes come at once, after how many reads the reader fails, how many
-// bytes follow a text, and the text. CR is written `^` and LF `~`.
-const READS: &str = "\
-# a whole head that ends the connection, in one piece: a further read would fail
-1 0 Ok(()) false 503|1000 1 0 GET /wms HTTP/1.0^~Host: x^~^~
-1 0 Ok(()) false 404|1000 1 0 GET /x HTTP/1.1^~connection: Close^~^~
-1 0 Ok(()) false 400|1000 1 0 POST /wms HTTP/1.1^~Content-Length: 5^~^~
-# bytes that begin no head
-1 0 Ok(()) false 400|1000 1 0 {}~
-# a head that goes on is answered, and then it is read on
-2 0 Err(Read { written: 55 }) true 503|1000 1 0 GET /wms HTTP/1.1^~Host: x^~^~
-2 0 Ok(()) false 503|1000 2 0 GET /wms HTTP/1.1^~Host: x^~^~
-# and two heads of one piece are, before a further read
-2 0 Err(Read { written: 100 }) true 404|1000 1 0 GET /x HTTP/1.1^~^~GET /wms HTTP/1.1^~^~
-# bytes after the last head: in its piece, and in pieces that aren't read
-1 0 Ok(()) false 404|1000 1 900 GET /x HTTP/1.0^~^~
-1 0 Ok(()) false 404|1000 1 9000 GET /x HTTP/1.0^~^~
-# 19 bytes, 7 at once
-3 0 Ok(()) false 404|7 3 0 GET /x HTTP/1.0^~^~
-3 2 Ok(()) false 404|7 5 0 GET /x HTTP/1.0^~^~
-3 0 Err(Read { written: 0 }) true none|7 2 0 GET /x HTTP/1.0^~^~
-1 0 Err(Read { written: 0 }) true none|7 0 0 GET /x HTTP/1.0^~^~
-# the end comes in the head, or at once
-2 0 Ok(()) false 400|1000 2 0 GET /x HTTP/1.1^~^
-1 0 Ok(()) false none|1000 1 0
-# a head that doesn't end: the 16,384th byte decides, or the end after one less
-16384 0 Ok(()) false 400|1 16384 20000 GET / HTTP/1.1^~A:
-16384 0 Ok(()) false 400|1 16384 16365 GET / HTTP/1.1^~A:
-16384 0 Err(Read { written: 0 }) true none|1 16383 20000 GET / HTTP/1.1^~A:
-# and in pieces of at most 4,096 bytes
-4 5 Ok(()) false 400|1000000 9 20000 GET / HTTP/1.1^~A:";
-
-#[test]
-fn streams_are_read_up_to_what_decides(rt: HostRuntime) -> Result<(), TableFault> {
-    check_rows(rt.alloc(), READS, '|', 19, rows_of_reads)
-}
-
-// What an outcome is written as.
-fn response(alloc: Global, outcome: &Outcome, closing: bool) -> Result<String, AllocError> {
-    let mut writer = Flagged::new(Vec::new(alloc));
-    match respond(outcome, closing, &mut writer) {
-        Ok(()) => written(alloc, &writer.into_inner()),
-        Err(fault) => format!(in alloc; "{fault}"),
-    }
-}
-
-// What a picture of one pixel is written as.
-fn picture(alloc: Global) -> Result<String, AllocError> {
-    let mut body = Vec::new(alloc);
-    body.extend_from_slice(b"P6\n1 1\n255\n\x0a\x14\x1e")?;
-    let outcome = Outcome::Answered(Answer {
-        mime: Mime::Pixmap,
-        body: Items::of(body),
-    });
-    response(alloc, &outcome, true)
-}
-
-// The status of a refusal, and what it is written as.
-fn refused(alloc: Global, refusal: Refusal) -> Result<String, AllocError> {
-    let closing = matches!(refusal, Refusal::BadRequest);
-    let response = response(alloc, &Outcome::Refused(refusal), closing)?;
-    format!(in alloc; "{}: {response}", refusal.status())
-}
-
-// Responses, behind their status where it is a refusal, `|` and the outcomes.
-const RESPONSES: &str = "\
-HTTP/1.1 200 OK^~Content-Type: image/x-portable-pixmap^~Content-Length: 14^~Connection: close^~^~P6~1 1~255~~\x14\x1e|picture
-400 Bad Request: HTTP/1.1 400 Bad Request^~Content-Length: 0^~Connection: close^~^~|BadRequest
-404 Not Found: HTTP/1.1 404 Not Found^~Content-Length: 0^~^~|NotFound
-405 Method Not Allowed: HTTP/1.1 405 Method Not Allowed^~Allow: GET^~Content-Length: 0^~^~|MethodNotAllowed";
-
-fn rows_of_responses(alloc: Global, row: &str) -> Result<String, AllocError> {
-    match row {
-        "picture" => picture(alloc),
-        "BadRequest" => refused(alloc, Refusal::BadRequest),
-        "NotFound" => refused(alloc, Refusal::NotFound),
-        "MethodNotAllowed" => refused(alloc, Refusal::MethodNotAllowed),
-        _ => String::from_str(alloc, "malformed"),
-    }
-}
-
-#[test]
-fn pictures_and_refusals_are_written_with_their_status(rt: HostRuntime) -> Result<(), TableFault> {
-    check_rows(rt.alloc(), RESPONSES, '|', 4, rows_of_responses)
 }

@@ -13,6 +13,8 @@ mod messages;
 #[cfg(test)]
 mod narrow;
 #[cfg(test)]
+mod refusals;
+#[cfg(test)]
 mod request_heads;
 #[cfg(test)]
 mod sinks_and_sources;
