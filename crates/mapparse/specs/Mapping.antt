@@ -1,5 +1,5 @@
 -- From a mapfile as it is written to the map that it describes (docs/MAPFILE.md, "From the file to the map", "Labels",
--- "Keys and values" and "Tables"). What no keyword gives yet has the value that it will have where its keyword isn't given.
+-- "Keys and values" and "Tables"). What a mapfile doesn't give has the value that holds where its keyword isn't given.
 use Rattle.std.specs.Prelude.{ℕ, Bool, true, false, ◌==◌, ◌-◌, List, [], ◌++◌, length, map, take, replicate, codes, pos, neg_ℤ, Option, None, Some, unwrap_or, option_map, Result, Ok, Err, zip}
 use Rattle.std.specs.Option.{option_or}
 use Rattle.std.specs.List.{slice_split}
