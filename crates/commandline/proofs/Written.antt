@@ -4,9 +4,9 @@ use Rattle.std.proofs.Math.ListN.{get_or}
 use Rattle.clap.proofs.OnLiterals.{clap_on_literals}
 use Rattle.commandline.specs.declared.form.Command.{Command}
 use Rattle.commandline.specs.declared.form.Command.TheVariants.{Session, Check, Run, Serve}
-use Rattle.clap.specs.Words.{Row, Text, one_of}
+use Rattle.clap.specs.Words.{Row, one_of}
 use Rattle.commandline.specs.declared.form.Service.{Service}
-use Rattle.commandline.specs.Words.{IsSession, Checks, Plays, IsService, IsServedBy, Serves, May}
+use Rattle.commandline.specs.Words.{IsSession, Checks, Plays, IsService, IsServedBy, OptionTexts, default_texts, Serves, May}
 
 -- two optional texts that are equal have equal texts
 same : {X : Type 0} (a b : X) → Some a ≡ Some b → b ≡ a
@@ -48,40 +48,50 @@ run_explained (Run file script explains) h = (same _ _ h.1.named, same _ _ h.2, 
 run_explained (Serve file explains service) h = absurd (cc)
 
 -- the texts of rows that are known are those that the numbers are of
-served-by : (rows : List Row) (service : Service) (port connections idle timeout : Text) → IsService rows service →
-    one_of (codes "port") rows ≡ Some port → one_of (codes "connections") rows ≡ Some connections → one_of (codes "idle") rows ≡ Some idle → one_of (codes "timeout") rows ≡ Some timeout →
-    IsServedBy port connections idle timeout service
-served-by rows service port connections idle timeout is p n i t = record {
+served-by : (rows : List Row) (service : Service) (texts : OptionTexts) → IsService rows service →
+    one_of (codes "port") rows ≡ Some texts.port → one_of (codes "connections") rows ≡ Some texts.connections → one_of (codes "idle") rows ≡ Some texts.idle → one_of (codes "timeout") rows ≡ Some texts.timeout →
+    one_of (codes "admin-port") rows ≡ Some texts.admin_port → one_of (codes "workers") rows ≡ Some texts.workers →
+    IsServedBy texts service
+served-by rows service texts is p n i t a w = record {
   reads_port = rw (same _ _ (sym p ∙ is.port.1)) at is.port.2;
   reads_connections = rw (same _ _ (sym n ∙ is.connections.1)) at is.connections.2;
   reads_idle = rw (same _ _ (sym i ∙ is.idle.1)) at is.idle.2;
   reads_timeout = rw (same _ _ (sym t ∙ is.timeout.1)) at is.timeout.2;
+  reads_admin_port = rw (same _ _ (sym a ∙ is.admin_port.1)) at is.admin_port.2;
+  reads_workers = rw (same _ _ (sym w ∙ is.workers.1)) at is.workers.2;
 }
 
-pub serve : (c : Command) → May (codes "serve" ∷ codes "a.map" ∷ codes "--connections" ∷ codes "2" ∷ []) c → Serves (codes "a.map") false (codes "8080") (codes "2") (codes "200") (codes "30") c
+pub serve : (c : Command) → May (codes "serve" ∷ codes "a.map" ∷ codes "--connections" ∷ codes "2" ∷ []) c → Serves (codes "a.map") false (record default_texts { connections = codes "2" }) c
 unfolding clap_on_literals
 serve Session h = h
 serve (Check file explains) h = let first : 115 ≡ 99 = ap (λ t. get_or t 0 0) h.0 in absurd (omega (arith, first))
 serve (Run file script explains) h = let first : 115 ≡ 114 = ap (λ t. get_or t 0 0) h.0 in absurd (omega (arith, first))
-serve (Serve file explains service) h = (same _ _ h.1.named, h.1.flag.unset refl, served-by _ service _ _ _ _ h.2 refl refl refl refl)
+serve (Serve file explains service) h = (same _ _ h.1.named, h.1.flag.unset refl, served-by _ service _ h.2 refl refl refl refl refl refl)
 
-pub served : (c : Command) → May (codes "serve" ∷ codes "--port" ∷ codes "81" ∷ codes "a.map" ∷ []) c → Serves (codes "a.map") false (codes "81") (codes "0") (codes "200") (codes "30") c
+pub served : (c : Command) → May (codes "serve" ∷ codes "--port" ∷ codes "81" ∷ codes "a.map" ∷ []) c → Serves (codes "a.map") false (record default_texts { port = codes "81" }) c
 unfolding clap_on_literals
 served Session h = h
 served (Check file explains) h = let first : 115 ≡ 99 = ap (λ t. get_or t 0 0) h.0 in absurd (omega (arith, first))
 served (Run file script explains) h = let first : 115 ≡ 114 = ap (λ t. get_or t 0 0) h.0 in absurd (omega (arith, first))
-served (Serve file explains service) h = (same _ _ h.1.named, h.1.flag.unset refl, served-by _ service _ _ _ _ h.2 refl refl refl refl)
+served (Serve file explains service) h = (same _ _ h.1.named, h.1.flag.unset refl, served-by _ service _ h.2 refl refl refl refl refl refl)
 
-pub timed : (c : Command) → May (codes "serve" ∷ codes "a.map" ∷ codes "--timeout" ∷ codes "9" ∷ codes "--idle" ∷ codes "50" ∷ []) c → Serves (codes "a.map") false (codes "8080") (codes "0") (codes "50") (codes "9") c
+pub timed : (c : Command) → May (codes "serve" ∷ codes "a.map" ∷ codes "--timeout" ∷ codes "9" ∷ codes "--idle" ∷ codes "50" ∷ []) c → Serves (codes "a.map") false (record default_texts { idle = codes "50"; timeout = codes "9" }) c
 unfolding clap_on_literals
 timed Session h = h
 timed (Check file explains) h = let first : 115 ≡ 99 = ap (λ t. get_or t 0 0) h.0 in absurd (omega (arith, first))
 timed (Run file script explains) h = let first : 115 ≡ 114 = ap (λ t. get_or t 0 0) h.0 in absurd (omega (arith, first))
-timed (Serve file explains service) h = (same _ _ h.1.named, h.1.flag.unset refl, served-by _ service _ _ _ _ h.2 refl refl refl refl)
+timed (Serve file explains service) h = (same _ _ h.1.named, h.1.flag.unset refl, served-by _ service _ h.2 refl refl refl refl refl refl)
 
-pub serve_explained : (c : Command) → May (codes "serve" ∷ codes "a.map" ∷ codes "--explain" ∷ []) c → Serves (codes "a.map") true (codes "8080") (codes "0") (codes "200") (codes "30") c
+pub administered : (c : Command) → May (codes "serve" ∷ codes "a.map" ∷ codes "--workers" ∷ codes "8" ∷ codes "--admin-port" ∷ codes "82" ∷ []) c → Serves (codes "a.map") false (record default_texts { admin_port = codes "82"; workers = codes "8" }) c
+unfolding clap_on_literals
+administered Session h = h
+administered (Check file explains) h = let first : 115 ≡ 99 = ap (λ t. get_or t 0 0) h.0 in absurd (omega (arith, first))
+administered (Run file script explains) h = let first : 115 ≡ 114 = ap (λ t. get_or t 0 0) h.0 in absurd (omega (arith, first))
+administered (Serve file explains service) h = (same _ _ h.1.named, h.1.flag.unset refl, served-by _ service _ h.2 refl refl refl refl refl refl)
+
+pub serve_explained : (c : Command) → May (codes "serve" ∷ codes "a.map" ∷ codes "--explain" ∷ []) c → Serves (codes "a.map") true default_texts c
 unfolding clap_on_literals
 serve_explained Session h = h
 serve_explained (Check file explains) h = let first : 115 ≡ 99 = ap (λ t. get_or t 0 0) h.0 in absurd (omega (arith, first))
 serve_explained (Run file script explains) h = let first : 115 ≡ 114 = ap (λ t. get_or t 0 0) h.0 in absurd (omega (arith, first))
-serve_explained (Serve file explains service) h = (same _ _ h.1.named, h.1.flag.set refl, served-by _ service _ _ _ _ h.2 refl refl refl refl)
+serve_explained (Serve file explains service) h = (same _ _ h.1.named, h.1.flag.set refl, served-by _ service _ h.2 refl refl refl refl refl refl)

@@ -56,6 +56,14 @@ idle_rule = number_rule (codes "idle") (vp.Signed (pos 1) (pos 60000)) (codes "2
 abbrev pub timeout_rule : Rule
 timeout_rule = number_rule (codes "timeout") (vp.Signed (pos 1) (pos 3600)) (codes "30")
 
+-- `--admin-port PORT`, a number of 16 bits, 8081 where it isn't given
+abbrev pub admin_port_rule : Rule
+admin_port_rule = number_rule (codes "admin-port") (vp.Signed (pos 0) (pos 65535)) (codes "8081")
+
+-- `--workers N`, 1 to 32, 4 where it isn't given
+abbrev pub workers_rule : Rule
+workers_rule = number_rule (codes "workers") (vp.Signed (pos 1) (pos 32)) (codes "4")
+
 -- `serve --explain FILE --port PORT`, and with one more option each
 abbrev pub port_app : App
 port_app = with_rule (file_app (codes "serve")) port_rule
@@ -66,9 +74,15 @@ counted_app = with_rule port_app connections_rule
 abbrev pub idle_app : App
 idle_app = with_rule counted_app idle_rule
 
--- `serve --explain FILE --port PORT --connections N --idle MILLISECONDS --timeout SECONDS`
+abbrev pub timed_app : App
+timed_app = with_rule idle_app timeout_rule
+
+abbrev pub admin_app : App
+admin_app = with_rule timed_app admin_port_rule
+
+-- `serve --explain FILE --port PORT --connections N --idle MILLISECONDS --timeout SECONDS --admin-port PORT --workers N`
 abbrev pub serve_app : App
-serve_app = with_rule idle_app timeout_rule
+serve_app = with_rule admin_app workers_rule
 
 -- the program by its name, whose words don't begin with it
 abbrev pub named_app : App
@@ -82,14 +96,21 @@ app = with_subcommand (with_subcommand (with_subcommand named_app check_app.top)
 abbrev pub IsNumber : ℕ → Text → List Row → ℕ → Type 0
 IsNumber bits name rows n = (t : Text) × (one_of name rows ≡ Some t) × ParsesUnsigned {E = ParseIntError} bits 10 t (Ok n)
 
--- the rows of matches say how a map is served, and the times lie in their ranges
+-- the times of a service, and the count of its workers, lie in their ranges
+pub record IsInRange (service : Service) : Type 0 where
+  pub idle : (1 ≤ service.idle) × (service.idle ≤ 60000)
+  pub timeout : (1 ≤ service.timeout) × (service.timeout ≤ 3600)
+  pub workers : (1 ≤ service.workers) × (service.workers ≤ 32)
+
+-- the rows of matches say how a map is served, with numbers in their ranges
 pub record IsService (rows : List Row) (service : Service) : Type 0 where
   pub port : IsNumber 16 (codes "port") rows service.port
   pub connections : IsNumber 32 (codes "connections") rows service.connections
   pub idle : IsNumber 16 (codes "idle") rows service.idle
   pub timeout : IsNumber 16 (codes "timeout") rows service.timeout
-  pub idle_range : (1 ≤ service.idle) × (service.idle ≤ 60000)
-  pub timeout_range : (1 ≤ service.timeout) × (service.timeout ≤ 3600)
+  pub admin_port : IsNumber 16 (codes "admin-port") rows service.admin_port
+  pub workers : IsNumber 16 (codes "workers") rows service.workers
+  pub ranges : IsInRange service
 
 -- a flag is set in the rows of matches, or it is not
 pub record IsFlag (name : Text) (rows : List Row) (flag : Bool) : Type 0 where
@@ -138,35 +159,57 @@ Plays map_name script_name in_words _ = ⊥
 abbrev pub Reads : ℕ → Text → ℕ → Type 0
 Reads bits text n = ParsesUnsigned {E = ParseIntError} bits 10 text (Ok n)
 
+-- the texts of the options of `serve`
+pub record OptionTexts : Type 0 where
+  pub port : Text
+  pub connections : Text
+  pub idle : Text
+  pub timeout : Text
+  pub admin_port : Text
+  pub workers : Text
+
+-- those of options that aren't given
+abbrev pub default_texts : OptionTexts
+default_texts = record {
+  port = codes "8080";
+  connections = codes "0";
+  idle = codes "200";
+  timeout = codes "30";
+  admin_port = codes "8081";
+  workers = codes "4";
+}
+
 -- a map is served by these texts of options
-pub record IsServedBy (port connections idle timeout : Text) (service : Service) : Type 0 where
-  pub reads_port : Reads 16 port service.port
-  pub reads_connections : Reads 32 connections service.connections
-  pub reads_idle : Reads 16 idle service.idle
-  pub reads_timeout : Reads 16 timeout service.timeout
+pub record IsServedBy (texts : OptionTexts) (service : Service) : Type 0 where
+  pub reads_port : Reads 16 texts.port service.port
+  pub reads_connections : Reads 32 texts.connections service.connections
+  pub reads_idle : Reads 16 texts.idle service.idle
+  pub reads_timeout : Reads 16 texts.timeout service.timeout
+  pub reads_admin_port : Reads 16 texts.admin_port service.admin_port
+  pub reads_workers : Reads 16 texts.workers service.workers
 
 -- the command serves the mapfile of a name, and tells a fault in words or doesn't, by the texts of its options
-abbrev pub Serves : Text → Bool → Text → Text → Text → Text → Command → Type 0
-Serves name in_words port connections idle timeout (Serve file explains service) =
-    (file.now ≡ name) × (explains ≡ in_words) × IsServedBy port connections idle timeout service
-Serves name in_words port connections idle timeout _ = ⊥
+abbrev pub Serves : Text → Bool → OptionTexts → Command → Type 0
+Serves name in_words texts (Serve file explains service) = (file.now ≡ name) × (explains ≡ in_words) × IsServedBy texts service
+Serves name in_words texts _ = ⊥
 
 -- the commands that words may be
 abbrev pub May : List Text → Command → Type 0
 May words command = IsCommand (subcommand_of app words) command
 
 -- the law on words that are written out: no words are a session; `check` has its file; `run` has the mapfile before the script; `serve`
--- has its file, and numbers that aren't given are 8080, 0, 200 and 30; each of the three has its flag where that is given, and else not
+-- has its file, and numbers that aren't given are 8080, 0, 200, 30, 8081 and 4; each of the three has its flag where that is given, and else not
 pub record FormsAreWritten : Type 0 where
   pub none : (c : Command) → May [] c → IsSession c
   pub check : (c : Command) → May (codes "check" ∷ codes "a.map" ∷ []) c → Checks (codes "a.map") false c
   pub explained : (c : Command) → May (codes "check" ∷ codes "--explain" ∷ codes "a.map" ∷ []) c → Checks (codes "a.map") true c
   pub run : (c : Command) → May (codes "run" ∷ codes "a.map" ∷ codes "b.txt" ∷ []) c → Plays (codes "a.map") (codes "b.txt") false c
   pub run_explained : (c : Command) → May (codes "run" ∷ codes "--explain" ∷ codes "a.map" ∷ codes "b.txt" ∷ []) c → Plays (codes "a.map") (codes "b.txt") true c
-  pub serve : (c : Command) → May (codes "serve" ∷ codes "a.map" ∷ codes "--connections" ∷ codes "2" ∷ []) c → Serves (codes "a.map") false (codes "8080") (codes "2") (codes "200") (codes "30") c
-  pub served : (c : Command) → May (codes "serve" ∷ codes "--port" ∷ codes "81" ∷ codes "a.map" ∷ []) c → Serves (codes "a.map") false (codes "81") (codes "0") (codes "200") (codes "30") c
-  pub timed : (c : Command) → May (codes "serve" ∷ codes "a.map" ∷ codes "--timeout" ∷ codes "9" ∷ codes "--idle" ∷ codes "50" ∷ []) c → Serves (codes "a.map") false (codes "8080") (codes "0") (codes "50") (codes "9") c
-  pub serve_explained : (c : Command) → May (codes "serve" ∷ codes "a.map" ∷ codes "--explain" ∷ []) c → Serves (codes "a.map") true (codes "8080") (codes "0") (codes "200") (codes "30") c
+  pub serve : (c : Command) → May (codes "serve" ∷ codes "a.map" ∷ codes "--connections" ∷ codes "2" ∷ []) c → Serves (codes "a.map") false (record default_texts { connections = codes "2" }) c
+  pub served : (c : Command) → May (codes "serve" ∷ codes "--port" ∷ codes "81" ∷ codes "a.map" ∷ []) c → Serves (codes "a.map") false (record default_texts { port = codes "81" }) c
+  pub timed : (c : Command) → May (codes "serve" ∷ codes "a.map" ∷ codes "--timeout" ∷ codes "9" ∷ codes "--idle" ∷ codes "50" ∷ []) c → Serves (codes "a.map") false (record default_texts { idle = codes "50"; timeout = codes "9" }) c
+  pub administered : (c : Command) → May (codes "serve" ∷ codes "a.map" ∷ codes "--workers" ∷ codes "8" ∷ codes "--admin-port" ∷ codes "82" ∷ []) c → Serves (codes "a.map") false (record default_texts { admin_port = codes "82"; workers = codes "8" }) c
+  pub serve_explained : (c : Command) → May (codes "serve" ∷ codes "a.map" ∷ codes "--explain" ∷ []) c → Serves (codes "a.map") true default_texts c
 
 -- the law on words that are taken or refused: the forms are taken; words that lack a file, begin with another word, or have a number
 -- beyond its range are refused
@@ -179,3 +222,5 @@ pub record FormsAreTaken : Type 0 where
       × (takes app (codes "serve" ∷ codes "a.map" ∷ codes "--port" ∷ codes "65536" ∷ []) ≡ false)
   pub untimely : (takes app (codes "serve" ∷ codes "a.map" ∷ codes "--idle" ∷ codes "0" ∷ []) ≡ false) × (takes app (codes "serve" ∷ codes "a.map" ∷ codes "--idle" ∷ codes "60001" ∷ []) ≡ false)
       × (takes app (codes "serve" ∷ codes "a.map" ∷ codes "--timeout" ∷ codes "0" ∷ []) ≡ false) × (takes app (codes "serve" ∷ codes "a.map" ∷ codes "--timeout" ∷ codes "3601" ∷ []) ≡ false)
+  pub unmanned : (takes app (codes "serve" ∷ codes "a.map" ∷ codes "--workers" ∷ codes "0" ∷ []) ≡ false) × (takes app (codes "serve" ∷ codes "a.map" ∷ codes "--workers" ∷ codes "33" ∷ []) ≡ false)
+      × (takes app (codes "serve" ∷ codes "a.map" ∷ codes "--admin-port" ∷ codes "65536" ∷ []) ≡ false)

@@ -41,4 +41,8 @@ pub struct Service {
     pub idle: u16,
     /// How many seconds a head that has begun, and an answer, may take, 1 to 3,600.
     pub timeout: u16,
+    /// The port on which batches are taken, 0 for one that is free.
+    pub admin_port: u16,
+    /// How many workers answer connections, 1 to 32.
+    pub workers: u16,
 }

@@ -3,7 +3,7 @@ ghost use Rattle.clap.specs.Words.{app_of, rule_of, rows_of, found_of, fault_of,
 ghost use Rattle.clap.specs.declared.error.kind.ErrorKind.TheVariants.{OutOfMemory};
 ghost use Rattle.clap.specs.declared.builder.command.Command.TheViews.{out-Command};
 ghost use Rattle.commandline.specs.Forms.{IsWithForm};
-ghost use Rattle.commandline.specs.Words.{app, named_app, file_app, number_rule, check_app, run_app, port_app, counted_app, idle_app, serve_app, IsCommand, IsFlag, IsNumber, IsService, is_refusal};
+ghost use Rattle.commandline.specs.Words.{app, named_app, file_app, number_rule, check_app, run_app, port_app, counted_app, idle_app, timed_app, admin_app, serve_app, IsCommand, IsFlag, IsInRange, IsNumber, IsService, is_refusal};
 
 use crate::form::{Command, Service};
 use clap::builder::ValueParser;
@@ -106,13 +106,31 @@ fn idle_form<'a>(alloc: Global) -> Result<clap::Command<'a>, AllocError>
     form.arg(number(alloc, "idle", ValueParser::signed(1, 60_000), "200"))
 }
 
-// The form `serve` with all of its options, of which the last is `--timeout SECONDS`.
-fn serve_form<'a>(alloc: Global) -> Result<clap::Command<'a>, AllocError>
-    ensures app { IfOk result (λ c. app_of c ≡ serve_app) }
+// The same with `--timeout SECONDS`.
+fn timed_form<'a>(alloc: Global) -> Result<clap::Command<'a>, AllocError>
+    ensures app { IfOk result (λ c. app_of c ≡ timed_app) }
     ensures local { IfOk result (λ c. (out-Command c).has_globals ≡ false) }
 {
     let form = idle_form(alloc)?;
     form.arg(number(alloc, "timeout", ValueParser::signed(1, 3_600), "30"))
+}
+
+// The same with `--admin-port PORT`.
+fn admin_form<'a>(alloc: Global) -> Result<clap::Command<'a>, AllocError>
+    ensures app { IfOk result (λ c. app_of c ≡ admin_app) }
+    ensures local { IfOk result (λ c. (out-Command c).has_globals ≡ false) }
+{
+    let form = timed_form(alloc)?;
+    form.arg(number(alloc, "admin-port", ValueParser::signed(0, 65_535), "8081"))
+}
+
+// The form `serve` with all of its options, of which the last is `--workers N`.
+fn serve_form<'a>(alloc: Global) -> Result<clap::Command<'a>, AllocError>
+    ensures app { IfOk result (λ c. app_of c ≡ serve_app) }
+    ensures local { IfOk result (λ c. (out-Command c).has_globals ≡ false) }
+{
+    let form = admin_form(alloc)?;
+    form.arg(number(alloc, "workers", ValueParser::signed(1, 32), "4"))
 }
 
 // The program by its name, without forms.
@@ -170,23 +188,36 @@ fn flag_of<'a>(matches: &ArgMatches<'a>, name: &str) -> bool
     matches.get_flag(name)
 }
 
-// How matches say that a map is served. Times beyond their ranges don't come.
+// Whether the times of a service and the count of its workers lie in their ranges.
+fn is_in_range(service: Service) -> bool
+    ensures { result ≡ true → IsInRange service }
+{
+    let Service {
+        idle,
+        timeout,
+        workers,
+        ..
+    } = service;
+    (1..=60_000).contains(&idle) && (1..=3_600).contains(&timeout) && (1..=32).contains(&workers)
+}
+
+// How matches say that a map is served. Numbers beyond their ranges don't come.
 fn service_of<'a>(matches: &ArgMatches<'a>) -> Option<Service>
     ensures { IfSome result (IsService (rows_of (found_of matches.now))) }
 {
-    let port = number_of(matches, "port")?;
-    let connections = large_number_of(matches, "connections")?;
-    let idle = number_of(matches, "idle")?;
-    let timeout = number_of(matches, "timeout")?;
-    if idle < 1 || idle > 60_000 || timeout < 1 || timeout > 3_600 {
-        return None;
+    let service = Service {
+        port: number_of(matches, "port")?,
+        connections: large_number_of(matches, "connections")?,
+        idle: number_of(matches, "idle")?,
+        timeout: number_of(matches, "timeout")?,
+        admin_port: number_of(matches, "admin-port")?,
+        workers: number_of(matches, "workers")?,
+    };
+    if is_in_range(service) {
+        Some(service)
+    } else {
+        None
     }
-    Some(Service {
-        port,
-        connections,
-        idle,
-        timeout,
-    })
 }
 
 // The command of matches.

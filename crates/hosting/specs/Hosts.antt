@@ -1,8 +1,9 @@
 -- What a host gives to the program: its files, and the ports that it listens on (docs/PROFILE.md, "The program").
-use Rattle.std.specs.Prelude.{◌≡◌, ℕ, List, ◌++◌, Option, None, Some, IfSome, ⊤, Ok, Err, take, codes}
+use Rattle.std.specs.Prelude.{◌≡◌, ℕ, Bool, true, false, List, ◌++◌, Option, None, Some, IfSome, ⊤, Ok, Err, take, codes}
 use Rattle.std.specs.Io.KnownBytes.{Keeps, Appends}
 use Rattle.sessions.specs.Folder.{Giving, path_of}
 use Rattle.sessions.specs.Session.{Outcome}
+use Rattle.sessions.specs.declared.failure.Failure.{Failure}
 use Rattle.sessions.specs.declared.failure.Failure.TheVariants.{SocketFailed, OutputFailed, NoMemory}
 
 -- what is left of a file: all of it before it is opened
@@ -15,17 +16,27 @@ abbrev pub gives_in : (List ℕ → Option (List ℕ)) → List ℕ → Giving
 gives_in file front name None = ⊤
 gives_in file front name (Some bytes) = IfSome (file (path_of front name)) (λ known. bytes ≡ known)
 
--- the line that says where a port is
-abbrev pub address_line : List ℕ → List ℕ
-address_line address = codes "listening " ++ (address ++ codes "\n")
+-- the line that says where the ports of a service are, that of clients first
+abbrev pub addresses_line : List ℕ → List ℕ → List ℕ
+addresses_line clients administration = codes "listening " ++ (clients ++ (codes " " ++ (administration ++ codes "\n")))
 
--- what the output got of that line, by how telling it ended: all of it, where the address is known that; its first bytes, or all of it where
--- the flush failed; or nothing, where there is no address or no memory for it
-abbrev pub TellsAddress : Outcome → Option (List ℕ) → Option (List ℕ) → Option (List ℕ) → Type 0
-TellsAddress (Ok done) known before after =
-    (address : List ℕ) × IfSome known (λ k. address ≡ k) × Appends before after (address_line address)
-TellsAddress (Err OutputFailed) known before after =
-    (address : List ℕ) × IfSome known (λ k. address ≡ k) × (count : ℕ) × Appends before after (take count (address_line address))
-TellsAddress (Err SocketFailed) known before after = Keeps before after
-TellsAddress (Err NoMemory) known before after = Keeps before after
-TellsAddress (Err _) known before after = ⊥
+-- two addresses are those of two ports, where these are known
+abbrev pub AreAddresses : Option (List ℕ) → Option (List ℕ) → List ℕ → List ℕ → Type 0
+AreAddresses clients administration first second = IfSome clients (λ known. first ≡ known) × IfSome administration (λ known. second ≡ known)
+
+-- what the output got of that line, by how telling it ended: all of it, with the addresses of both ports; its first bytes, or all of it
+-- where the flush failed; or nothing, where a port has no address or there is no memory for one
+abbrev pub TellsAddresses : Outcome → Option (List ℕ) → Option (List ℕ) → Option (List ℕ) → Option (List ℕ) → Type 0
+TellsAddresses (Ok done) clients administration before after =
+    (first second : List ℕ) × AreAddresses clients administration first second × Appends before after (addresses_line first second)
+TellsAddresses (Err OutputFailed) clients administration before after =
+    (first second : List ℕ) × AreAddresses clients administration first second × (count : ℕ) × Appends before after (take count (addresses_line first second))
+TellsAddresses (Err SocketFailed) clients administration before after = Keeps before after
+TellsAddresses (Err NoMemory) clients administration before after = Keeps before after
+TellsAddresses (Err _) clients administration before after = ⊥
+
+-- why an address can't be told: the port has none, or there is no memory for it
+abbrev pub is_address_unknown : Failure → Bool
+is_address_unknown SocketFailed = true
+is_address_unknown NoMemory = true
+is_address_unknown failure = false

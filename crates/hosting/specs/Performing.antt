@@ -2,50 +2,49 @@
 use Rattle.std.specs.Prelude.{◌≡◌, ◌⊎◌, ℕ, Bool, List, [], Option, Ok, Err}
 use Rattle.std.specs.Io.KnownBytes.{Keeps}
 use Rattle.commandline.specs.declared.form.Command.{Command}
+use Rattle.commandline.specs.declared.form.Service.{Service}
 use Rattle.commandline.specs.declared.form.Command.TheVariants.{Session, Check, Run, Serve}
 use Rattle.mapdefs.specs.declared.map.MapFields.{MapFields}
-use Rattle.batches.specs.Batch.{State}
 use Rattle.sessions.specs.Folder.{Giving, IsFront}
 use Rattle.sessions.specs.Forms.{HasReadMap, GivesNoMap, TellsWarnings, ChecksTo, RunsTo}
-use Rattle.sessions.specs.Session.{Outcome, Streams, Tells, opened}
+use Rattle.sessions.specs.Session.{Outcome, Streams, Tells}
 use Rattle.sessions.specs.declared.failure.Failure.{Failure}
 use Rattle.sessions.specs.declared.failure.Failure.TheVariants.{SocketFailed, NoMemory}
-use Rattle.hosting.specs.Hosts.{gives_in, TellsAddress}
-use Rattle.hosting.specs.Ports.{PortEvent, HasRun}
+use Rattle.hosting.specs.Hosts.{gives_in, TellsAddresses}
 
 -- the streams with another input
 abbrev pub with_input : Option (List ℕ) → Streams → Streams
 with_input input streams = record { input = input; output = streams.output; errors = streams.errors }
 
--- what is known of ports of a type: the events at one, and its address
+-- what is known of ports of a type: their addresses
 pub record PortView (P : Type 0) : Type 0 where
-  pub log : P → Option (List PortEvent)
   pub address : P → Option (List ℕ)
 
--- how serving went on after the address of a port was told: connections were answered about a map; or it ended as telling failed
-abbrev pub GoesOnAfter : {P : Type 0} → PortView P → P → ℕ → MapFields → Outcome → Outcome → Type 0
-GoesOnAfter {P} view port connections map (Ok done) outcome =
-    (closed : P) × (state : State) × HasRun connections (view.log port) (view.log closed) outcome (opened map) state
-GoesOnAfter view port connections map (Err failure) outcome = outcome ≡ Err failure
+-- how serving went on after the addresses were told: nothing is known of it, or it ended as telling failed
+abbrev pub GoesOnAfter : Outcome → Outcome → Type 0
+GoesOnAfter (Ok done) outcome = Unit {0}
+GoesOnAfter (Err failure) outcome = outcome ≡ Err failure
 
--- a port was listened on, and its address told
-pub record HasListened {P : Type 0} (view : PortView P) (listens : P → Type 0) (connections : ℕ) (map : MapFields) (outcome : Outcome) (before after : Option (List ℕ)) : Type 0 where
-  pub port : P
-  pub is_asked : listens port
+-- the two ports of a service were listened on, and their addresses told
+pub record HasListened {P : Type 0} (view : PortView P) (listens : ℕ → P → Type 0) (service : Service) (outcome : Outcome) (before after : Option (List ℕ)) : Type 0 where
+  pub clients : P
+  pub administration : P
+  pub for_clients : listens service.port clients
+  pub for_administration : listens service.admin_port administration
   pub told : Outcome
-  pub tells : TellsAddress told (view.address port) before after
-  pub goes_on : GoesOnAfter view port connections map told outcome
+  pub tells : TellsAddresses told (view.address clients) (view.address administration) before after
+  pub goes_on : GoesOnAfter told outcome
 
--- connections about a map were answered on a port, or none was listened on, since it couldn't be, or since memory was refused
-abbrev pub ListensTo : {P : Type 0} → PortView P → (P → Type 0) → ℕ → MapFields → Outcome → Option (List ℕ) → Option (List ℕ) → Type 0
-ListensTo view listens connections map outcome before after =
-    (((outcome ≡ Err SocketFailed) ⊎ (outcome ≡ Err NoMemory)) × Keeps before after) ⊎ HasListened view listens connections map outcome before after
+-- a map was shared on the two ports of a service, or one of them couldn't be listened on, or memory was refused before
+abbrev pub ListensTo : {P : Type 0} → PortView P → (ℕ → P → Type 0) → Service → Outcome → Option (List ℕ) → Option (List ℕ) → Type 0
+ListensTo view listens service outcome before after =
+    (((outcome ≡ Err SocketFailed) ⊎ (outcome ≡ Err NoMemory)) × Keeps before after) ⊎ HasListened view listens service outcome before after
 
 -- the warnings on the map of a mapfile were told, where `explains` says so, and the map was served
-pub record IsMapServed {P : Type 0} (view : PortView P) (listens : P → Type 0) (gives : Giving) (explains : Bool) (connections : ℕ) (outcome : Outcome) (name : List ℕ) (before after : Option (List ℕ)) (old new : Streams) (failed : Bool) : Type 0 where
+pub record IsMapServed {P : Type 0} (view : PortView P) (listens : ℕ → P → Type 0) (gives : Giving) (explains : Bool) (service : Service) (outcome : Outcome) (name : List ℕ) (before after : Option (List ℕ)) (old new : Streams) (failed : Bool) : Type 0 where
   pub map : MapFields
   pub read : HasReadMap gives before after map
-  pub listens_to : ListensTo view listens connections map outcome old.output new.output
+  pub listens_to : ListensTo view listens service outcome old.output new.output
   pub warnings : TellsWarnings explains name map old.errors new.errors failed
 
 -- no map was served, since the mapfile gave none
@@ -56,10 +55,10 @@ pub record IsUnserved (gives : Giving) (explains : Bool) (outcome : Outcome) (na
   pub without : GivesNoMap gives explains failure name before after old.errors new.errors failed
 
 -- what serving a mapfile tells of the streams by its outcome, with the name of the mapfile
-abbrev pub ServesTo : {P : Type 0} → PortView P → (P → Type 0) → Giving → Bool → ℕ → Outcome → List ℕ → Option (List ℕ) → Option (List ℕ) → Streams → Streams → Bool → Type 0
-ServesTo view listens gives explains connections outcome name before after old new failed =
+abbrev pub ServesTo : {P : Type 0} → PortView P → (ℕ → P → Type 0) → Giving → Bool → Service → Outcome → List ℕ → Option (List ℕ) → Option (List ℕ) → Streams → Streams → Bool → Type 0
+ServesTo view listens gives explains service outcome name before after old new failed =
     IsUnserved gives explains outcome name before after old new failed
-    ⊎ IsMapServed view listens gives explains connections outcome name before after old new failed
+    ⊎ IsMapServed view listens gives explains service outcome name before after old new failed
 
 -- what a host is known to have: the bytes of the file of a path, and which ports it gives for a number
 pub record HostView (P : Type 0) : Type 1 where
@@ -84,4 +83,4 @@ Performs host (Run name script explains) outcome old new failed =
     (with_input (host.file script.now) old) (with_input script_after new) failed
 Performs host (Serve name explains service) outcome old new failed =
     (front : List ℕ) × IsFront name.now front × (after : Left)
-    × ServesTo host.ports (host.listens service.port) (gives_in host.file front) explains service.connections outcome name.now (host.file name.now) after old new failed
+    × ServesTo host.ports host.listens (gives_in host.file front) explains service outcome name.now (host.file name.now) after old new failed

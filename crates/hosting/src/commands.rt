@@ -3,18 +3,19 @@ ghost use Rattle.commandline.specs.declared.form.Command.TheVariants.{Session};
 ghost use Rattle.sessions.specs.Folder.{IsFront};
 ghost use Rattle.sessions.specs.Forms.{ChecksTo, GivesNoMap, HasReadMap, RunsTo, TellsWarnings, has_told};
 ghost use Rattle.sessions.specs.Session.{Streams, is_output_failed};
-ghost use Rattle.hosting.specs.Hosts.{gives_in, left_of, TellsAddress};
-ghost use Rattle.hosting.specs.Performing.{HostView, Left, ListensTo, Performs, PortView, ServesTo};
+ghost use Rattle.hosting.specs.Hosts.{gives_in, left_of};
+ghost use Rattle.hosting.specs.Performing.{HostView, Left, Performs, PortView, ServesTo};
 
 use crate::files::{HostFile, HostFolder};
 use crate::host::Host;
-use crate::port::{AddressFault, Port};
-use crate::serving::answer_connections;
+use crate::serving::serve_map;
 use commandline::{Command, Service};
 use mapdefs::Map;
-use mapmachine::{Flagged, Machine, Sink, Source, put_pieces};
+use mapmachine::{Flagged, Sink, Source};
 use sessions::{Failure, NamedFile, check_file, read_map, run_files, serve_session};
 use std::alloc::Global;
+use std::sync::Wait;
+use std::thread::Threads;
 
 // The file of a path, whose name is that path.
 fn named_file<'a, H: Host>(host: &'a H, path: &'a str) -> NamedFile<'a, Flagged<HostFile<'a, H>>>
@@ -27,53 +28,6 @@ fn named_file<'a, H: Host>(host: &'a H, path: &'a str) -> NamedFile<'a, Flagged<
         name: path,
         reader: Flagged::new(HostFile::new(host, path)),
     }
-}
-
-// Says where a port is, so that whoever started the program knows when to connect.
-fn tell_address<P: Port, O: Sink>(alloc: Global, port: &P, output: &mut O) -> Result<(), Failure>
-    ensures tells { TellsAddress result (P.address port.now) (O.held output.old) (O.held output.new) }
-    ensures flushed { OnOk result (O.is_flushed output.new ≡ true) }
-    ensures flag { MatchResult result
-        (λ _. O.put_failed output.new ≡ O.put_failed output.old)
-        (λ failure. O.put_failed output.new ≡ (is_output_failed failure || O.put_failed output.old)) }
-{
-    let address = match port.address(alloc) {
-        Ok(address) => address,
-        Err(AddressFault::Unknown) => return Err(Failure::SocketFailed),
-        Err(AddressFault::NoMemory) => return Err(Failure::NoMemory),
-    };
-    match put_pieces(output, &[b"listening ", address.as_str().as_bytes(), b"\n"]) {
-        Ok(()) => match output.flush() {
-            Ok(()) => Ok(()),
-            Err(_) => Err(Failure::OutputFailed),
-        },
-        Err(_) => Err(Failure::OutputFailed),
-    }
-}
-
-/// Listens on a port, says on which address, and answers its connections about a map one after the other: so
-/// many, or without an end where that is 0.
-pub fn serve_port<H: Host, O: Sink>(
-    alloc: Global,
-    host: &H,
-    map: Map,
-    service: Service,
-    output: &mut O,
-) -> Result<(), Failure>
-    ensures listens { ListensTo (record { log = H.Port.log; address = H.Port.address }) (H.listens host.now service.port) service.connections map result (O.held output.old) (O.held output.new) }
-    ensures flushed { OnOk result (O.is_flushed output.new ≡ true) }
-    ensures flag { MatchResult result
-        (λ _. O.put_failed output.new ≡ O.put_failed output.old)
-        (λ failure. O.put_failed output.new ≡ (is_output_failed failure || O.put_failed output.old)) }
-{
-    let Ok(mut machine) = Machine::open(alloc, map) else {
-        return Err(Failure::NoMemory);
-    };
-    let Ok(mut port) = host.listen(service) else {
-        return Err(Failure::SocketFailed);
-    };
-    tell_address(alloc, &port, output)?;
-    answer_connections(alloc, &mut machine, &mut port, service.connections)
 }
 
 // The map of a mapfile. A fault is told, or the warnings on the map where it `explains`.
@@ -98,8 +52,8 @@ fn read_host_map<H: Host, E: Sink>(
 }
 
 // Answers connections about the map of a mapfile.
-fn serve_file<H: Host, O: Sink, E: Sink>(
-    alloc: Global,
+fn serve_file<R, H: Host, O: Sink, E: Sink>(
+    rt: &R,
     host: &H,
     file: &str,
     explains: bool,
@@ -107,8 +61,13 @@ fn serve_file<H: Host, O: Sink, E: Sink>(
     output: &mut O,
     errors: &mut E,
 ) -> Result<(), Failure>
+where
+    R: AllocGlobal + Wait + Threads + Send + Copy + Drop + 'static,
+    H::Connection: Send + 'static,
+    H::Port: Send + 'static,
+    H::Waker: Send + 'static,
     ensures serves { (front : List ℕ) × IsFront file.now front × (after : Left)
-        × ServesTo (record { log = H.Port.log; address = H.Port.address }) (H.listens host.now service.port) (gives_in (H.file host.now) front) explains service.connections result file.now (H.file host.now file.now) after
+        × ServesTo (record { address = H.Port.address }) (H.listens host.now) (gives_in (H.file host.now) front) explains service result file.now (H.file host.now file.now) after
         (record { input = None; output = O.held output.old; errors = E.held errors.old })
         (record { input = None; output = O.held output.new; errors = E.held errors.new })
         (E.put_failed errors.new) }
@@ -118,8 +77,8 @@ fn serve_file<H: Host, O: Sink, E: Sink>(
         (λ _. O.put_failed output.new ≡ O.put_failed output.old)
         (λ failure. O.put_failed output.new ≡ (is_output_failed failure || O.put_failed output.old)) }
 {
-    let map = read_host_map(alloc, host, file, explains, errors)?;
-    serve_port(alloc, host, map, service, output)
+    let map = read_host_map(rt.alloc(), host, file, explains, errors)?;
+    serve_map(rt, host, map, service, output)
 }
 
 // Checks a mapfile.
@@ -184,15 +143,20 @@ fn run<H: Host, O: Sink, E: Sink>(
 
 /// Does what a command asks for, with the files and the ports of a host. What a session is played from is the
 /// input; no other command reads it.
-pub fn perform<H: Host, I: Source, O: Sink, E: Sink>(
-    alloc: Global,
+pub fn perform<R, H: Host, I: Source, O: Sink, E: Sink>(
+    rt: &R,
     host: &H,
     command: Command,
     input: &mut I,
     output: &mut O,
     errors: &mut E,
 ) -> Result<(), Failure>
-    ensures performs { Performs (record { file = H.file host.now; listens = H.listens host.now; ports = record { log = H.Port.log; address = H.Port.address } }) command.entry result
+where
+    R: AllocGlobal + Wait + Threads + Send + Copy + Drop + 'static,
+    H::Connection: Send + 'static,
+    H::Port: Send + 'static,
+    H::Waker: Send + 'static,
+    ensures performs { Performs (record { file = H.file host.now; listens = H.listens host.now; ports = record { address = H.Port.address } }) command.entry result
         (record { input = I.left input.old; output = O.held output.old; errors = E.held errors.old })
         (record { input = I.left input.new; output = O.held output.new; errors = E.held errors.new })
         (E.put_failed errors.new) }
@@ -203,6 +167,7 @@ pub fn perform<H: Host, I: Source, O: Sink, E: Sink>(
         (λ _. O.put_failed output.new ≡ O.put_failed output.old)
         (λ failure. O.put_failed output.new ≡ (is_output_failed failure || O.put_failed output.old)) }
 {
+    let alloc = rt.alloc();
     match command {
         Command::Session => {
             serve_session(alloc, &HostFolder::current(host), input, output, errors)
@@ -217,6 +182,6 @@ pub fn perform<H: Host, I: Source, O: Sink, E: Sink>(
             file,
             explains,
             service,
-        } => serve_file(alloc, host, file, explains, service, output, errors),
+        } => serve_file(rt, host, file, explains, service, output, errors),
     }
 }

@@ -1,9 +1,10 @@
 ghost use Rattle.std.specs.Prelude.{◌≡◌, IfOk};
 
-use crate::port::Port;
-use commandline::Service;
+use crate::limits::Waits;
+use crate::port::{Port, Wakes};
 use std::io::{self, Read};
 use thiserror::Error;
+use workers::{Connection, Opens};
 
 /// A port can't be listened on.
 #[derive(Clone, Copy, Debug, Error)]
@@ -17,8 +18,14 @@ pub trait Host {
     /// A file that was opened.
     type File: Read + Drop;
 
+    /// A connection that comes at a port.
+    type Connection: Connection + Opens + Drop;
+
     /// A port that is listened on.
-    type Port: Port + Drop;
+    type Port: Port<Self::Connection> + Drop;
+
+    /// What ends a wait at a port.
+    type Waker: Wakes + Drop;
 
     // The bytes of the file of a path, where they are known.
     ghost file: { Self → List ℕ → Option (List ℕ) };
@@ -30,7 +37,10 @@ pub trait Host {
     fn open(&self, path: &str) -> io::Result<Self::File>
         ensures { IfOk result (λ f. Self.File.remaining f ≡ file self.now path.now) };
 
-    /// Listens on the port of a service, where 0 is one that is free.
-    fn listen(&self, service: Service) -> Result<Self::Port, ListenFailed>
-        ensures { IfOk result (λ p. listens self.now service.port p) };
+    /// Listens on a port by its number, where 0 is one that is free. The calls of its connections wait for so long.
+    fn listen(&self, number: u16, waits: Waits) -> Result<Self::Port, ListenFailed>
+        ensures { IfOk result (λ p. listens self.now number p) };
+
+    /// What ends a wait at a port, if the port tells where it is.
+    fn waker(&self, port: &Self::Port) -> Option<Self::Waker>;
 }

@@ -17,8 +17,14 @@ pub const WRITE_SECONDS: u64 = 1;
 /// For how many seconds in all is read what a client still sends after its answer.
 pub const DRAIN_SECONDS: u64 = 2;
 
+/// For how many milliseconds in all that is read of a client for whom there is no place.
+pub const TURNED_AWAY_MILLISECONDS: u64 = 20;
+
 /// How many milliseconds are waited after a call for a connection has failed.
 pub const FAILURE_MILLISECONDS: u64 = 10;
+
+/// How many seconds an administrator may be silent, and how many a command may take.
+pub const ADMINISTRATION_SECONDS: u64 = 600;
 
 /// How long the calls of a connection may wait.
 #[derive(Clone, Copy)]
@@ -39,6 +45,17 @@ impl Waits {
         Waits {
             idle: Duration::from_millis(u64::from(service.idle)),
             timeout: Duration::from_secs(u64::from(service.timeout)),
+        }
+    }
+
+    /// Those of an administrator.
+    pub fn of_administration() -> Self
+        ensures idle { as_nanos result.idle ≡ 1000000000 * 600 }
+        ensures timeout { as_nanos result.timeout ≡ 1000000000 * 600 }
+    {
+        Waits {
+            idle: Duration::from_secs(ADMINISTRATION_SECONDS),
+            timeout: Duration::from_secs(ADMINISTRATION_SECONDS),
         }
     }
 }

@@ -1,9 +1,7 @@
-ghost use Rattle.std.specs.Prelude.{◌≡◌, [], ◌∷◌, IfOk, IfSome, OnErr};
-ghost use Rattle.hosting.specs.Ports.{Failed, Opened, Closed, Notes};
+ghost use Rattle.std.specs.Prelude.{◌≡◌, [], ◌∷◌, IfOk, IfSome, OnErr, OnOk};
+ghost use Rattle.hosting.specs.Ports.{Failed, Opened, Notes};
 
-use httpedge::EdgeFault;
 use mapdefs::Text;
-use mapmachine::{Sink, Source};
 use std::alloc::Global;
 use thiserror::Error;
 
@@ -23,25 +21,16 @@ pub enum AddressFault {
     NoMemory,
 }
 
-/// A connection that was opened, as what its client sends and what it gets.
-#[derive(Drop)]
-pub struct Accepted<R, W> {
-    /// Where the bytes of the client come from.
-    pub reader: R,
-    /// Where the bytes for the client go.
-    pub writer: W,
+/// What ends a wait for a connection.
+pub trait Wakes {
+    /// Opens a connection to the port, so that whoever waits for one there goes on.
+    fn wake(&self);
 }
 
-/// Where connections come from.
-pub trait Port {
+/// Where connections come from, which are of the type C.
+pub trait Port<C> {
     ghost use Rattle.std.specs.Prelude.{ℕ, List, Option};
     ghost use Rattle.hosting.specs.Ports.{PortEvent};
-
-    /// What a client sends.
-    type Reader: Source + Drop;
-
-    /// What a client gets.
-    type Writer: Sink + Drop;
 
     // What has happened so far, where that is known.
     ghost log: { Self → Option (List PortEvent) };
@@ -53,12 +42,8 @@ pub trait Port {
     fn address(&self, alloc: Global) -> Result<Text, AddressFault>
         ensures { IfOk result (λ text. IfSome (address self.now) (λ known. text ≡ known)) };
 
-    /// Opens the next connection.
-    fn accept(&mut self) -> Result<Accepted<Self::Reader, Self::Writer>, AcceptFailed>
-        ensures opened { IfOk result (λ a. Notes (log self.old) (log self.new) (Opened (Self.Reader.left a.reader) (Self.Writer.held a.writer) ∷ [])) }
+    /// Waits for the next connection.
+    fn accept(&mut self) -> Result<C, AcceptFailed>
+        ensures opened { OnOk result (Notes (log self.old) (log self.new) (Opened ∷ [])) }
         ensures failed { OnErr result (Notes (log self.old) (log self.new) (Failed ∷ [])) };
-
-    /// Closes a connection, whose exchange ended with that fault, or without one.
-    fn close(&mut self, accepted: Accepted<Self::Reader, Self::Writer>, fault: Option<EdgeFault>)
-        ensures { Notes (log self.old) (log self.new) (Closed (Self.Writer.held accepted.writer) fault ∷ []) };
 }

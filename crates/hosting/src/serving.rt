@@ -1,76 +1,113 @@
-ghost use Rattle.std.specs.Prelude.{◌≡◌, ◌≢◌, ◌<◌, ◌⊎◌, [], ◌∷◌, MatchBool};
-ghost use Rattle.hosting.specs.Ports.{Failed, Notes, IsAnswered, IsVisited, HasRun};
+ghost use Rattle.std.specs.Prelude.{◌≡◌, ◌||◌, IfErr, IfOk, IfSome, OnOk, MatchResult, false, true};
+ghost use Rattle.sessions.specs.Forms.{has_told};
+ghost use Rattle.sessions.specs.Session.{is_output_failed};
+ghost use Rattle.sessions.specs.declared.failure.Failure.{Failure};
+ghost use Rattle.hosting.specs.Hosts.{TellsAddresses, is_address_unknown};
+ghost use Rattle.hosting.specs.Performing.{ListensTo, PortView};
 
-use crate::port::{Accepted, Port};
-use httpedge::EdgeFault;
-use mapmachine::{Machine, Sink, Source};
+use crate::host::Host;
+use crate::limits::Waits;
+use crate::port::{AddressFault, Port};
+use crate::shared_map::{Ports, share};
+use commandline::Service;
+use mapdefs::{Map, Text};
+use mapmachine::{Machine, Sink, put_pieces};
 use sessions::Failure;
 use std::alloc::Global;
-use workers::serve_connection;
+use std::sync::Wait;
+use std::thread::Threads;
 
-// How many calls for a connection fail one after the other, until the port is given up.
-const MAX_FAILURES: u32 = 100;
-
-// Whether the last of so many connections was answered. Where 0 are asked for there is no last one.
-fn is_last(answered: u32, connections: u32) -> bool
-    ensures { MatchBool result ((0 < connections) × (answered ≡ connections)) ((connections ≡ 0) ⊎ (answered ≢ connections)) }
+// Where a port is.
+fn address_of<C, P: Port<C>>(alloc: Global, port: &P) -> Result<Text, Failure>
+    ensures address { IfOk result (λ text. IfSome (P.address port.now) (λ known. text ≡ known)) }
+    ensures unknown { IfErr result (λ failure. is_address_unknown failure ≡ true) }
 {
-    connections != 0 && answered == connections
-}
-
-// Answers a connection, and says its fault, if it has one.
-fn serve_accepted<R: Source, W: Sink>(
-    alloc: Global,
-    machine: &mut Machine,
-    accepted: &mut Accepted<R, W>,
-) -> Option<EdgeFault>
-    ensures { IsAnswered result (R.left accepted.old.reader) (W.held accepted.old.writer) (W.held accepted.new.writer) machine.old machine.new }
-{
-    match serve_connection(alloc, machine, &mut accepted.reader, &mut accepted.writer) {
-        Ok(()) => None,
-        Err(fault) => Some(fault),
+    match port.address(alloc) {
+        Ok(address) => Ok(address),
+        Err(AddressFault::Unknown) => Err(Failure::SocketFailed),
+        Err(AddressFault::NoMemory) => Err(Failure::NoMemory),
     }
 }
 
-// Answers the next connection of a port and closes it, and says whether there was one.
-fn answer_next<P: Port>(alloc: Global, machine: &mut Machine, port: &mut P) -> bool
-    ensures { MatchBool result
-        (IsVisited (P.log port.old) (P.log port.new) machine.old machine.new)
-        (Notes (P.log port.old) (P.log port.new) (Failed ∷ []) × (machine.new ≡ machine.old)) }
-{
-    let Ok(mut accepted) = port.accept() else {
-        return false;
-    };
-    let fault = serve_accepted(alloc, machine, &mut accepted);
-    port.close(accepted, fault);
-    true
-}
-
-/// Answers the connections of a port one after the other: so many, or all that come where that is 0. A fault of
-/// a connection ends that one alone. A call for a connection that fails is made again, and doesn't count;
-/// where 100 of them fail with no connection between, that is the end.
-pub fn answer_connections<P: Port>(
+// Says where the two ports are, so that whoever started the program knows when to connect.
+fn tell_addresses<C, P: Port<C>, O: Sink>(
     alloc: Global,
-    machine: &mut Machine,
-    port: &mut P,
-    connections: u32,
+    ports: &Ports<P>,
+    output: &mut O,
 ) -> Result<(), Failure>
-    ensures runs { HasRun connections (P.log port.old) (P.log port.new) result machine.old machine.new }
+    ensures untold { IfErr result (λ failure. has_told failure ≡ false) }
+    ensures tells { TellsAddresses result (P.address ports.now.clients) (P.address ports.now.administration) (O.held output.old) (O.held output.new) }
+    ensures flushed { OnOk result (O.is_flushed output.new ≡ true) }
+    ensures flag { MatchResult result
+        (λ _. O.put_failed output.new ≡ O.put_failed output.old)
+        (λ failure. O.put_failed output.new ≡ (is_output_failed failure || O.put_failed output.old)) }
 {
-    let (mut answered, mut failures) = (0_u32, 0_u32);
-    for call in 0..u64::MAX {
-        if answer_next(alloc, machine, port) {
-            answered = answered.saturating_add(1);
-            failures = 0;
-            if is_last(answered, connections) {
-                return Ok(());
-            }
-        } else {
-            failures += 1;
-            if failures == MAX_FAILURES {
-                return Err(Failure::SocketFailed);
-            }
-        }
+    let clients = address_of(alloc, &ports.clients)?;
+    let administration = address_of(alloc, &ports.administration)?;
+    let (clients, administration) = (clients.as_str(), administration.as_str());
+    let told = put_pieces(
+        output,
+        &[
+            b"listening ",
+            clients.as_bytes(),
+            b" ",
+            administration.as_bytes(),
+            b"\n",
+        ],
+    );
+    match told {
+        Ok(()) => match output.flush() {
+            Ok(()) => Ok(()),
+            Err(_) => Err(Failure::OutputFailed),
+        },
+        Err(_) => Err(Failure::OutputFailed),
     }
-    Err(Failure::SocketFailed)
+}
+
+// The two ports of a service.
+fn listen<H: Host>(host: &H, service: Service) -> Result<Ports<H::Port>, Failure>
+    ensures clients { IfOk result (λ ports. H.listens host.now service.port ports.clients) }
+    ensures administration { IfOk result (λ ports. H.listens host.now service.admin_port ports.administration) }
+    ensures failed { IfErr result (λ failure. failure ≡ Failure.SocketFailed) }
+{
+    let Ok(clients) = host.listen(service.port, Waits::of(service)) else {
+        return Err(Failure::SocketFailed);
+    };
+    match host.listen(service.admin_port, Waits::of_administration()) {
+        Ok(administration) => Ok(Ports {
+            clients,
+            administration,
+        }),
+        Err(_) => Err(Failure::SocketFailed),
+    }
+}
+
+/// Listens on two ports, says on which addresses, and shares a map between workers, who answer the connections of the
+/// first, and an administrator, who takes the batches that come at the second: so many connections at each, or
+/// without an end where that is 0.
+pub fn serve_map<R, H: Host, O: Sink>(
+    rt: &R,
+    host: &H,
+    map: Map,
+    service: Service,
+    output: &mut O,
+) -> Result<(), Failure>
+where
+    R: AllocGlobal + Wait + Threads + Send + Copy + Drop + 'static,
+    H::Connection: Send + 'static,
+    H::Port: Send + 'static,
+    H::Waker: Send + 'static,
+    ensures untold { IfErr result (λ failure. has_told failure ≡ false) }
+    ensures listens { ListensTo (record { address = H.Port.address }) (H.listens host.now) service result (O.held output.old) (O.held output.new) }
+    ensures flushed { OnOk result (O.is_flushed output.new ≡ true) }
+    ensures flag { MatchResult result
+        (λ _. O.put_failed output.new ≡ O.put_failed output.old)
+        (λ failure. O.put_failed output.new ≡ (is_output_failed failure || O.put_failed output.old)) }
+{
+    let Ok(machine) = Machine::open(rt.alloc(), map) else {
+        return Err(Failure::NoMemory);
+    };
+    let ports = listen(host, service)?;
+    tell_addresses(rt.alloc(), &ports, output)?;
+    share(rt, host, machine, ports, service)
 }

@@ -1,61 +1,58 @@
-ghost use Rattle.std.specs.Prelude.{None, []};
-ghost use Rattle.hosting.specs.Ports.{Notes};
+ghost use Rattle.std.specs.Prelude.{None};
 
 use crate::closing::hang_up;
-use crate::limits::{DRAIN_SECONDS, FAILURE_MILLISECONDS, TimeLimit, Waits};
-use crate::port::{AcceptFailed, Accepted, AddressFault, Port};
+use crate::limits::{DRAIN_SECONDS, FAILURE_MILLISECONDS, TURNED_AWAY_MILLISECONDS, Waits};
+use crate::port::{AcceptFailed, AddressFault, Port, Wakes};
 use crate::timed::{Answered, TimedReader, TimedWriter};
-use httpedge::EdgeFault;
+use httpedge::{Asks, EdgeFault, Outcome, respond};
 use mapdefs::Text;
-use mapmachine::Flagged;
+use mapmachine::{Flagged, WriteFault};
 use std::alloc::Global;
-use std::net::{TcpListener, TcpStream};
+use std::net::{SocketAddr, TcpListener, TcpStream};
 use std::time::Duration;
 use std::{io, thread};
+use workers::{Connection, Opens, Sides, serve_one};
 
-type SocketReader<'a> = Flagged<TimedReader<'a, TcpStream, HostRuntime>>;
+// How often a connection that ends a wait is tried to be opened.
+const WAKE_TRIES: u32 = 6_000;
 
-type SocketWriter<'a> = Flagged<TimedWriter<'a, TcpStream, HostRuntime>>;
+type SocketReader = Flagged<TimedReader<TcpStream, HostRuntime>>;
+
+type SocketWriter = Flagged<TimedWriter<TcpStream, HostRuntime>>;
 
 /// A port of the machine that the program runs on.
 #[derive(Drop)]
-pub struct SocketPort<'a> {
-    rt: &'a HostRuntime,
+pub struct SocketPort {
+    rt: HostRuntime,
     listener: TcpListener,
     waits: Waits,
 }
 
-impl<'a> SocketPort<'a> {
+impl SocketPort {
     /// The port of a listener, with how long the calls of its connections wait.
-    pub fn new(rt: &'a HostRuntime, listener: TcpListener, waits: Waits) -> Self {
+    pub fn new(rt: &HostRuntime, listener: TcpListener, waits: Waits) -> Self {
         SocketPort {
-            rt,
+            rt: *rt,
             listener,
             waits,
         }
     }
+}
 
-    // Opens the next connection. The time of its first head begins. What is written leaves at once: an answer that
-    // waited for the client's word that it has the one before would wait for as long as that is kept back.
-    fn open(&self) -> io::Result<Accepted<SocketReader<'a>, SocketWriter<'a>>> {
-        let (stream, _) = self.listener.accept()?;
-        stream.set_nodelay(true)?;
-        let Ok((read, written)) = Answered::pair(self.rt.alloc()) else {
-            return Err(io::Error::from(io::ErrorKind::OutOfMemory));
-        };
-        let reader = TimedReader::start(stream.try_clone()?, self.rt, self.waits, read)?;
-        Ok(Accepted {
-            reader: Flagged::new(reader),
-            writer: Flagged::new(TimedWriter::new(stream, self.rt, self.waits, written)),
-        })
+impl SocketPort {
+    /// What ends a wait at the port, if its address is known.
+    pub fn waker(&self) -> Option<SocketWaker> {
+        match self.listener.local_addr() {
+            Ok(address) => Some(SocketWaker {
+                rt: self.rt,
+                address,
+            }),
+            Err(_) => None,
+        }
     }
 }
 
-impl<'a> Port for SocketPort<'a> {
-    type Reader = SocketReader<'a>;
-
-    type Writer = SocketWriter<'a>;
-
+impl Port<SocketConnection> for SocketPort {
     ghost log = { λ _. None };
 
     ghost address = { λ _. None };
@@ -70,29 +67,99 @@ impl<'a> Port for SocketPort<'a> {
         }
     }
 
-    fn accept(&mut self) -> Result<Accepted<SocketReader<'a>, SocketWriter<'a>>, AcceptFailed> {
-        match self.open() {
-            Ok(accepted) => Ok(accepted),
+    fn accept(&mut self) -> Result<SocketConnection, AcceptFailed> {
+        match self.listener.accept() {
+            Ok((stream, _)) => Ok(SocketConnection {
+                rt: self.rt,
+                stream,
+                waits: self.waits,
+            }),
             Err(_) => {
-                thread::sleep(self.rt, Duration::from_millis(FAILURE_MILLISECONDS));
+                thread::sleep(&self.rt, Duration::from_millis(FAILURE_MILLISECONDS));
                 Err(AcceptFailed)
             }
         }
     }
+}
 
-    fn close(
-        &mut self,
-        accepted: Accepted<SocketReader<'a>, SocketWriter<'a>>,
-        fault: Option<EdgeFault>,
-    )
-        ensures { Notes None None [] }
-    {
-        let Accepted { reader, writer } = accepted;
-        let (mut reader, mut writer) = (reader.into_inner(), writer.into_inner());
-        // Without a clock nothing more is read.
-        if let Ok(limit) = TimeLimit::start(self.rt, Duration::from_secs(DRAIN_SECONDS)) {
-            reader.limit(limit);
+/// What ends a wait at a port of the machine.
+#[derive(Drop)]
+pub struct SocketWaker {
+    rt: HostRuntime,
+    address: SocketAddr,
+}
+
+impl Wakes for SocketWaker {
+    // Where no descriptor is free it is tried again for a minute. Where it is refused nobody waits there.
+    fn wake(&self) {
+        for _ in 0..WAKE_TRIES {
+            match TcpStream::connect(&self.rt, self.address) {
+                Err(error) if error.kind() != io::ErrorKind::ConnectionRefused => {
+                    thread::sleep(&self.rt, Duration::from_millis(FAILURE_MILLISECONDS));
+                }
+                Ok(_) | Err(_) => return,
+            }
         }
-        hang_up(&mut Flagged::new(reader), &mut writer, fault);
+    }
+}
+
+/// A connection that was accepted.
+#[derive(Drop)]
+pub struct SocketConnection {
+    rt: HostRuntime,
+    stream: TcpStream,
+    waits: Waits,
+}
+
+// Ends a connection, which had this fault or none. What its client still sends is read for so long.
+fn end(sides: Sides<SocketReader, SocketWriter>, fault: Option<EdgeFault>, whole: Duration) {
+    let Sides { reader, writer } = sides;
+    let (mut reader, mut writer) = (reader.into_inner(), writer.into_inner());
+    reader.limit(whole);
+    hang_up(&mut Flagged::new(reader), &mut writer, fault);
+}
+
+impl Opens for SocketConnection {
+    type Reader = SocketReader;
+
+    type Writer = SocketWriter;
+
+    // The time of its first head begins. What is written leaves at once: an answer that waited for the client's word that
+    // it has the one before would wait for as long as that is kept back.
+    fn open(self, alloc: Global) -> Option<Sides<SocketReader, SocketWriter>> {
+        let SocketConnection { rt, stream, waits } = self;
+        stream.set_nodelay(true).ok()?;
+        let (read, written) = Answered::pair(alloc).ok()?;
+        let reader = TimedReader::start(stream.try_clone().ok()?, rt, waits, read).ok()?;
+        Some(Sides {
+            reader: Flagged::new(reader),
+            writer: Flagged::new(TimedWriter::new(stream, rt, waits, written)),
+        })
+    }
+
+    fn close(sides: Sides<SocketReader, SocketWriter>, fault: Option<EdgeFault>) {
+        end(sides, fault, Duration::from_secs(DRAIN_SECONDS));
+    }
+}
+
+impl Connection for SocketConnection {
+    fn serve<A: Asks>(self, alloc: Global, asks: &mut A) {
+        serve_one(alloc, asks, self);
+    }
+
+    fn turn_away(self, alloc: Global) {
+        let Some(mut sides) = self.open(alloc) else {
+            return;
+        };
+        let told = respond(&Outcome::Busy, true, &mut sides.writer);
+        let fault = match told {
+            Ok(()) => None,
+            Err(WriteFault { written }) => Some(EdgeFault::Write { written }),
+        };
+        end(
+            sides,
+            fault,
+            Duration::from_millis(TURNED_AWAY_MILLISECONDS),
+        );
     }
 }

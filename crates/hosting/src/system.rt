@@ -2,44 +2,51 @@ ghost use Rattle.std.specs.Prelude.{None};
 
 use crate::host::{Host, ListenFailed};
 use crate::limits::Waits;
-use crate::sockets::SocketPort;
+use crate::sockets::{SocketConnection, SocketPort, SocketWaker};
 use crate::words::WordsUnread;
-use commandline::Service;
 use std::fs::{self, File};
 use std::net::{Ipv4Addr, TcpListener};
 use std::{env, io};
 
 /// The machine that the program runs on: its files, and the ports of 127.0.0.1.
 #[derive(Drop)]
-pub struct SystemHost<'a> {
-    rt: &'a HostRuntime,
+pub struct SystemHost {
+    rt: HostRuntime,
 }
 
-impl<'a> SystemHost<'a> {
+impl SystemHost {
     /// The machine of a runtime.
-    pub fn new(rt: &'a HostRuntime) -> Self {
-        SystemHost { rt }
+    pub fn new(rt: &HostRuntime) -> Self {
+        SystemHost { rt: *rt }
     }
 }
 
-impl<'a> Host for SystemHost<'a> {
+impl Host for SystemHost {
     type File = File;
 
-    type Port = SocketPort<'a>;
+    type Connection = SocketConnection;
+
+    type Port = SocketPort;
+
+    type Waker = SocketWaker;
 
     ghost file = { λ _ _. None };
 
     ghost listens = { λ _ _ _. Unit {0} };
 
     fn open(&self, path: &str) -> io::Result<File> {
-        fs::open(self.rt, path)
+        fs::open(&self.rt, path)
     }
 
-    fn listen(&self, service: Service) -> Result<SocketPort<'a>, ListenFailed> {
-        match TcpListener::bind(self.rt, (Ipv4Addr::LOCALHOST, service.port)) {
-            Ok(listener) => Ok(SocketPort::new(self.rt, listener, Waits::of(service))),
+    fn listen(&self, number: u16, waits: Waits) -> Result<SocketPort, ListenFailed> {
+        match TcpListener::bind(&self.rt, (Ipv4Addr::LOCALHOST, number)) {
+            Ok(listener) => Ok(SocketPort::new(&self.rt, listener, waits)),
             Err(_) => Err(ListenFailed),
         }
+    }
+
+    fn waker(&self, port: &SocketPort) -> Option<SocketWaker> {
+        port.waker()
     }
 }
 

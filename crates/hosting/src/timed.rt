@@ -3,11 +3,11 @@ ghost use Rattle.std.specs.Prelude.{◌≡◌, true};
 use crate::closing::Closing;
 use crate::limits::{ANSWER_TIMES, TimeLimit, WRITE_SECONDS, Waits};
 use std::alloc::{AllocError, Global};
-use std::cell::Cell;
 use std::io::{self, ErrorKind, Read, Write};
 use std::net::{OpenStream, Shutdown};
-use std::rc::Rc;
 use std::rt::Clock;
+use std::sync::Arc;
+use std::sync::atomic::{AtomicBool, Ordering};
 use std::time::Duration;
 
 // How often a call is made again that a signal interrupted.
@@ -16,14 +16,14 @@ const MAX_TRIES: u32 = 1_000;
 /// What the two sides of a connection share: whether an answer was written since the last read.
 #[derive(Drop)]
 pub struct Answered {
-    is_set: Rc<Cell<bool>>,
+    is_set: Arc<AtomicBool, Global>,
 }
 
 impl Answered {
     /// Both ends of one, where nothing was written. The error is that memory was refused.
     pub fn pair(alloc: Global) -> Result<(Answered, Answered), AllocError> {
-        let is_set = Rc::new(alloc, Cell::new(false))?;
-        let other = is_set.clone()?;
+        let is_set = Arc::new(alloc, AtomicBool::new(false))?;
+        let other = Arc::try_clone(&is_set)?;
         Ok((Answered { is_set }, Answered { is_set: other }))
     }
 }
@@ -32,23 +32,24 @@ impl Answered {
 /// connection, and each read waits for what is left of it. A read that follows an answer waits for the time of an
 /// idle connection.
 #[derive(Drop)]
-pub struct TimedReader<'a, S, C> {
+pub struct TimedReader<S, C> {
     stream: S,
-    clock: &'a C,
+    clock: C,
     waits: Waits,
     answered: Answered,
     limit: TimeLimit,
     is_idle: bool,
 }
 
-impl<'a, S, C: Clock> TimedReader<'a, S, C> {
+impl<S, C: Clock> TimedReader<S, C> {
     /// A stream whose first head begins now.
-    pub fn start(stream: S, clock: &'a C, waits: Waits, answered: Answered) -> io::Result<Self>
+    pub fn start(stream: S, clock: C, waits: Waits, answered: Answered) -> io::Result<Self>
     where
         S: Drop,
+        C: Drop,
     {
         Ok(TimedReader {
-            limit: TimeLimit::start(clock, waits.timeout)?,
+            limit: TimeLimit::start(&clock, waits.timeout)?,
             stream,
             clock,
             waits,
@@ -57,17 +58,19 @@ impl<'a, S, C: Clock> TimedReader<'a, S, C> {
         })
     }
 
-    /// Another time from now on, whatever was answered.
-    pub fn limit(&mut self, limit: TimeLimit) {
-        self.answered.is_set.set(false);
-        self.is_idle = false;
-        self.limit = limit;
+    /// Another time from now on, whatever was answered. Without a clock it stays as it is.
+    pub fn limit(&mut self, whole: Duration) {
+        if let Ok(limit) = TimeLimit::start(&self.clock, whole) {
+            self.answered.is_set.store(false, Ordering::SeqCst);
+            self.is_idle = false;
+            self.limit = limit;
+        }
     }
 
     // Begins the time of an idle connection, where an answer was written.
     fn rest(&mut self) -> io::Result<()> {
-        if self.answered.is_set.replace(false) {
-            self.limit = TimeLimit::start(self.clock, self.waits.idle)?;
+        if self.answered.is_set.swap(false, Ordering::SeqCst) {
+            self.limit = TimeLimit::start(&self.clock, self.waits.idle)?;
             self.is_idle = true;
         }
         Ok(())
@@ -76,18 +79,18 @@ impl<'a, S, C: Clock> TimedReader<'a, S, C> {
     // Begins the time of a head, whose first bytes came.
     fn begin(&mut self) -> io::Result<()> {
         if self.is_idle {
-            self.limit = TimeLimit::start(self.clock, self.waits.timeout)?;
+            self.limit = TimeLimit::start(&self.clock, self.waits.timeout)?;
             self.is_idle = false;
         }
         Ok(())
     }
 }
 
-impl<S: Read + OpenStream, C: Clock> Read for TimedReader<'_, S, C> {
+impl<S: Read + OpenStream, C: Clock> Read for TimedReader<S, C> {
     fn read(&mut self, room: &mut [u8]) -> io::Result<usize> {
         self.rest()?;
         for _ in 0..MAX_TRIES {
-            let left = self.limit.left(self.clock)?;
+            let left = self.limit.left(&self.clock)?;
             self.stream.set_read_timeout(Some(left))?;
             match self.stream.read(room) {
                 Err(error) if error.kind() == ErrorKind::Interrupted => {}
@@ -104,9 +107,9 @@ impl<S: Read + OpenStream, C: Clock> Read for TimedReader<'_, S, C> {
 /// What a client gets. An answer may stand still for a time, and has another in all, which begins with the first
 /// write after a read. So a write waits for a second at most, and is made again while none of its bytes went.
 #[derive(Drop)]
-pub struct TimedWriter<'a, S, C> {
+pub struct TimedWriter<S, C> {
     stream: S,
-    clock: &'a C,
+    clock: C,
     waits: Waits,
     answered: Answered,
     limit: Option<TimeLimit>,
@@ -115,9 +118,9 @@ pub struct TimedWriter<'a, S, C> {
     is_shut: bool,
 }
 
-impl<'a, S, C> TimedWriter<'a, S, C> {
+impl<S, C> TimedWriter<S, C> {
     /// A stream to which nothing is written yet.
-    pub fn new(stream: S, clock: &'a C, waits: Waits, answered: Answered) -> Self {
+    pub fn new(stream: S, clock: C, waits: Waits, answered: Answered) -> Self {
         TimedWriter {
             stream,
             clock,
@@ -144,18 +147,18 @@ fn left_of<C: Clock>(
     begun.left(clock)
 }
 
-impl<S, C: Clock> TimedWriter<'_, S, C> {
+impl<S, C: Clock> TimedWriter<S, C> {
     // How long the next write may wait.
     fn next_wait(&mut self) -> io::Result<Duration> {
         let whole = self.waits.timeout.saturating_mul(ANSWER_TIMES);
-        let left = left_of(&mut self.limit, self.clock, whole)?;
-        let still = left_of(&mut self.still, self.clock, self.waits.timeout)?;
+        let left = left_of(&mut self.limit, &self.clock, whole)?;
+        let still = left_of(&mut self.still, &self.clock, self.waits.timeout)?;
         Ok(left.min(still).min(Duration::from_secs(WRITE_SECONDS)))
     }
 
     // Begins the times of an answer, where the client was read since the last one.
     fn begin(&mut self) {
-        if !self.answered.is_set.replace(true) {
+        if !self.answered.is_set.swap(true, Ordering::SeqCst) {
             self.limit = None;
             self.still = None;
         }
@@ -170,7 +173,7 @@ fn moved_nothing(error: &io::Error) -> bool {
     )
 }
 
-impl<S: Write + OpenStream, C: Clock> Write for TimedWriter<'_, S, C> {
+impl<S: Write + OpenStream, C: Clock> Write for TimedWriter<S, C> {
     fn write(&mut self, bytes: &[u8]) -> io::Result<usize> {
         self.begin();
         for _ in 0..MAX_TRIES {
@@ -192,7 +195,7 @@ impl<S: Write + OpenStream, C: Clock> Write for TimedWriter<'_, S, C> {
     }
 }
 
-impl<S: OpenStream, C> Closing for TimedWriter<'_, S, C> {
+impl<S: OpenStream, C> Closing for TimedWriter<S, C> {
     ghost is_shut = { λ w. w.is_shut };
 
     fn shut(&mut self) {

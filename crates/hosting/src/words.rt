@@ -11,6 +11,8 @@ use commandline::{WordsFault, command};
 use mapmachine::{Sink, Source};
 use sessions::{Failure, tell};
 use std::alloc::{AllocError, Global};
+use std::sync::Wait;
+use std::thread::Threads;
 use thiserror::Error;
 
 /// Why the words of the command line can't be read.
@@ -36,22 +38,27 @@ fn texts_of<'a>(alloc: Global, words: &'a [String]) -> Result<Vec<&'a str>, Allo
 }
 
 // Does what words ask for.
-fn answer_texts<H: Host, I: Source, O: Sink, E: Sink>(
-    alloc: Global,
+fn answer_texts<R, H: Host, I: Source, O: Sink, E: Sink>(
+    rt: &R,
     host: &H,
     texts: &[&str],
     input: &mut I,
     output: &mut O,
     errors: &mut E,
 ) -> Result<(), Failure>
-    ensures { Answers (record { file = H.file host.now; listens = H.listens host.now; ports = record { log = H.Port.log; address = H.Port.address } })
+where
+    R: AllocGlobal + Wait + Threads + Send + Copy + Drop + 'static,
+    H::Connection: Send + 'static,
+    H::Port: Send + 'static,
+    H::Waker: Send + 'static,
+    ensures { Answers (record { file = H.file host.now; listens = H.listens host.now; ports = record { address = H.Port.address } })
         (Ok (map (λ text. text.now) texts.entry.now)) result
         (record { input = I.left input.old; output = O.held output.old; errors = E.held errors.old })
         (record { input = I.left input.new; output = O.held output.new; errors = E.held errors.new })
         (E.put_failed errors.new) }
 {
-    match command(alloc, texts) {
-        Ok(command) => perform(alloc, host, command, input, output, errors),
+    match command(rt.alloc(), texts) {
+        Ok(command) => perform(rt, host, command, input, output, errors),
         Err(WordsFault::Refused { text }) => {
             tell(errors, &[text.as_bytes()]);
             Err(Failure::WordsRefused)
@@ -61,43 +68,53 @@ fn answer_texts<H: Host, I: Source, O: Sink, E: Sink>(
 }
 
 // Does what words ask for.
-fn answer_words<H: Host, I: Source, O: Sink, E: Sink>(
-    alloc: Global,
+fn answer_words<R, H: Host, I: Source, O: Sink, E: Sink>(
+    rt: &R,
     host: &H,
     words: &[String],
     input: &mut I,
     output: &mut O,
     errors: &mut E,
 ) -> Result<(), Failure>
-    ensures { Answers (record { file = H.file host.now; listens = H.listens host.now; ports = record { log = H.Port.log; address = H.Port.address } })
+where
+    R: AllocGlobal + Wait + Threads + Send + Copy + Drop + 'static,
+    H::Connection: Send + 'static,
+    H::Port: Send + 'static,
+    H::Waker: Send + 'static,
+    ensures { Answers (record { file = H.file host.now; listens = H.listens host.now; ports = record { address = H.Port.address } })
         (Ok (map string_bytes words.now)) result
         (record { input = I.left input.old; output = O.held output.old; errors = E.held errors.old })
         (record { input = I.left input.new; output = O.held output.new; errors = E.held errors.new })
         (E.put_failed errors.new) }
 {
-    match texts_of(alloc, words) {
-        Ok(texts) => answer_texts(alloc, host, &texts, input, output, errors),
+    match texts_of(rt.alloc(), words) {
+        Ok(texts) => answer_texts(rt, host, &texts, input, output, errors),
         Err(_) => Err(Failure::NoMemory),
     }
 }
 
 // Does what words ask for, or tells why they can't be read.
-fn answer_read<H: Host, I: Source, O: Sink, E: Sink>(
-    alloc: Global,
+fn answer_read<R, H: Host, I: Source, O: Sink, E: Sink>(
+    rt: &R,
     host: &H,
     words: Result<Vec<String>, WordsUnread>,
     input: &mut I,
     output: &mut O,
     errors: &mut E,
 ) -> Result<(), Failure>
-    ensures { Answers (record { file = H.file host.now; listens = H.listens host.now; ports = record { log = H.Port.log; address = H.Port.address } })
+where
+    R: AllocGlobal + Wait + Threads + Send + Copy + Drop + 'static,
+    H::Connection: Send + 'static,
+    H::Port: Send + 'static,
+    H::Waker: Send + 'static,
+    ensures { Answers (record { file = H.file host.now; listens = H.listens host.now; ports = record { address = H.Port.address } })
         (result_map_both (λ w. map string_bytes w.items) (λ e. e) words) result
         (record { input = I.left input.old; output = O.held output.old; errors = E.held errors.old })
         (record { input = I.left input.new; output = O.held output.new; errors = E.held errors.new })
         (E.put_failed errors.new) }
 {
     match words {
-        Ok(words) => answer_words(alloc, host, &words, input, output, errors),
+        Ok(words) => answer_words(rt, host, &words, input, output, errors),
         Err(WordsUnread::NoText) => {
             tell(errors, &[b"error: a word is not UTF-8\n"]);
             Err(Failure::WordsRefused)
@@ -108,19 +125,24 @@ fn answer_read<H: Host, I: Source, O: Sink, E: Sink>(
 
 /// Does what the words of the command line ask for, or tells what is wrong with them, and says how the program
 /// ends.
-pub fn answer<H: Host, I: Source, O: Sink, E: Sink>(
-    alloc: Global,
+pub fn answer<R, H: Host, I: Source, O: Sink, E: Sink>(
+    rt: &R,
     host: &H,
     words: Result<Vec<String>, WordsUnread>,
     input: &mut I,
     output: &mut O,
     errors: &mut E,
 ) -> Ending
-    ensures answers { Answers (record { file = H.file host.now; listens = H.listens host.now; ports = record { log = H.Port.log; address = H.Port.address } })
+where
+    R: AllocGlobal + Wait + Threads + Send + Copy + Drop + 'static,
+    H::Connection: Send + 'static,
+    H::Port: Send + 'static,
+    H::Waker: Send + 'static,
+    ensures answers { Answers (record { file = H.file host.now; listens = H.listens host.now; ports = record { address = H.Port.address } })
         (result_map_both (λ w. map string_bytes w.items) (λ e. e) words) result
         (record { input = I.left input.old; output = O.held output.old; errors = E.held errors.old })
         (record { input = I.left input.new; output = O.held output.new; errors = E.held errors.new })
         (E.put_failed errors.new) }
 {
-    Ending::after(answer_read(alloc, host, words, input, output, errors))
+    Ending::after(answer_read(rt, host, words, input, output, errors))
 }

@@ -1,7 +1,7 @@
 //! The program. Without words on its command line it plays a session from standard input: a mapfile,
 //! a line of two percent signs, and a script, whose transcript it writes. `check FILE` reads a mapfile
 //! and says how much its map has, `run FILE SCRIPT` plays a script on the map of a mapfile, `serve FILE`
-//! answers connections on a port. With `--explain` each tells a fault of the mapfile in words, too, and
+//! answers connections on a port, and takes batches on another. With `--explain` each tells a fault of the mapfile in words, too, and
 //! warnings on its map.
 //!
 //! What is proved stands in the crates below: `answer` of `hosting` does what words ask for, with the files and
@@ -18,7 +18,7 @@ fn main(rt: HostRuntime) -> Ending {
         return Ending::without_memory();
     };
     answer(
-        rt.alloc(),
+        &rt,
         &SystemHost::new(&rt),
         read_words(&rt),
         &mut Flagged::new(rt.reader()),

@@ -14,24 +14,29 @@ use commandline::Command;
 use hosting::{SystemHost, perform};
 use mapmachine::Flagged;
 use std::io::{self, BufWriter, Write};
+use std::sync::Wait;
+use std::thread::Threads;
 
 // Plays the case of that name, and writes what came out: the transcript, what was told of a fault, and the exit
 // status, where it isn't 0.
-fn play<W: Write>(rt: &HostRuntime, name: &str, output: &mut W) -> io::Result<()> {
+fn play<R, W: Write>(rt: &R, system: &HostRuntime, name: &str, output: &mut W) -> io::Result<()>
+where
+    R: AllocGlobal + Wait + Threads + Send + Copy + Drop + 'static,
+{
     let alloc = rt.alloc();
     let file = format!(in alloc; "{name}/map")?;
     let script = format!(in alloc; "{name}/script")?;
     let mut transcript = Flagged::new(Vec::new(alloc));
     let mut errors = Flagged::new(Vec::new(alloc));
     let outcome = perform(
-        alloc,
-        &SystemHost::new(rt),
+        rt,
+        &SystemHost::new(system),
         Command::Run {
             file: file.as_str(),
             script: script.as_str(),
             explains: false,
         },
-        &mut Flagged::new(rt.reader()),
+        &mut Flagged::new(system.reader()),
         &mut transcript,
         &mut errors,
     );
@@ -50,7 +55,7 @@ fn play<W: Write>(rt: &HostRuntime, name: &str, output: &mut W) -> io::Result<()
 fn main(rt: HostRuntime) -> io::Result<()> {
     let mut output = BufWriter::new(rt.alloc(), io::writer(&rt))?;
     for name in rt.lines(rt.alloc()) {
-        play(&rt, name?.as_str(), &mut output)?;
+        play(&rt, &rt, name?.as_str(), &mut output)?;
     }
     output.flush()
 }

@@ -1,11 +1,19 @@
 use crate::texts::columns;
-use commandline::{Command, WordsFault, command};
+use commandline::{Command, Service, WordsFault, command};
 use std::alloc::{AllocError, Global};
 use test_tables::{TableFault, check_all, check_rows};
 
 // What a command says of its flag.
 fn ending(explains: bool) -> &'static str {
     if explains { " in words" } else { "" }
+}
+
+// What a service has beside its port and its connections.
+fn rest_of(alloc: Global, service: Service) -> Result<String, AllocError> {
+    format!(in alloc;
+        ", idle {}, timeout {}, batches on {} and {} workers",
+        service.idle, service.timeout, service.admin_port, service.workers
+    )
 }
 
 // What is told of some words: their form, or why they were refused.
@@ -29,11 +37,10 @@ fn told(alloc: Global, words: &[&str]) -> Result<String, AllocError> {
                 service,
             },
         ) => format!(in alloc;
-            "serve {file} on {} for {}, idle {} and timeout {}{}",
+            "serve {file} on {} for {}{}{}",
             service.port,
             service.connections,
-            service.idle,
-            service.timeout,
+            rest_of(alloc, service)?,
             ending(explains)
         ),
         Err(WordsFault::Refused { text }) => Ok(text),
@@ -65,14 +72,19 @@ run a|error: the following required arguments were not provided:~  <SCRIPT>~~Usa
 check a b|error: unexpected argument 'b' found~~Usage: mapservd check [OPTIONS] <FILE>~~For more information, try '--help'.~
 run a b c|error: unexpected argument 'c' found~~Usage: mapservd run [OPTIONS] <FILE> <SCRIPT>~~For more information, try '--help'.~
 m.map|error: unrecognized subcommand 'm.map'~~Usage: mapservd [COMMAND]~~For more information, try '--help'.~
-serve m.map|serve m.map on 8080 for 0, idle 200 and timeout 30
-serve m.map --port 0 --connections 4294967295|serve m.map on 0 for 4294967295, idle 200 and timeout 30
-serve --connections 2 m.map --port 65535|serve m.map on 65535 for 2, idle 200 and timeout 30
-serve m.map --timeout 3600 --idle 60000|serve m.map on 8080 for 0, idle 60000 and timeout 3600
-serve --idle 1 --timeout 1 m.map|serve m.map on 8080 for 0, idle 1 and timeout 1
-serve --explain m.map|serve m.map on 8080 for 0, idle 200 and timeout 30 in words
-serve m.map --port 0 --explain --idle 5|serve m.map on 0 for 0, idle 5 and timeout 30 in words
+serve m.map|serve m.map on 8080 for 0, idle 200, timeout 30, batches on 8081 and 4 workers
+serve m.map --port 0 --connections 4294967295|serve m.map on 0 for 4294967295, idle 200, timeout 30, batches on 8081 and 4 workers
+serve --connections 2 m.map --port 65535|serve m.map on 65535 for 2, idle 200, timeout 30, batches on 8081 and 4 workers
+serve m.map --timeout 3600 --idle 60000|serve m.map on 8080 for 0, idle 60000, timeout 3600, batches on 8081 and 4 workers
+serve --idle 1 --timeout 1 m.map|serve m.map on 8080 for 0, idle 1, timeout 1, batches on 8081 and 4 workers
+serve --explain m.map|serve m.map on 8080 for 0, idle 200, timeout 30, batches on 8081 and 4 workers in words
+serve m.map --port 0 --explain --idle 5|serve m.map on 0 for 0, idle 5, timeout 30, batches on 8081 and 4 workers in words
 serve --explain --explain m.map|error: the argument '--explain' cannot be used multiple times~~Usage: mapservd serve [OPTIONS] <FILE>~~For more information, try '--help'.~
+serve m.map --admin-port 0 --workers 32|serve m.map on 8080 for 0, idle 200, timeout 30, batches on 0 and 32 workers
+serve --workers 1 --admin-port 65535 m.map|serve m.map on 8080 for 0, idle 200, timeout 30, batches on 65535 and 1 workers
+serve m.map --workers 0|error: invalid value '0' for '--workers <workers>': 0 is not in 1..=32~~For more information, try '--help'.~
+serve m.map --workers 33|error: invalid value '33' for '--workers <workers>': 33 is not in 1..=32~~For more information, try '--help'.~
+serve m.map --admin-port 65536|error: invalid value '65536' for '--admin-port <admin-port>': 65536 is not in 0..=65535~~For more information, try '--help'.~
 serve m.map --idle 0|error: invalid value '0' for '--idle <idle>': 0 is not in 1..=60000~~For more information, try '--help'.~
 serve m.map --timeout 3601|error: invalid value '3601' for '--timeout <timeout>': 3601 is not in 1..=3600~~For more information, try '--help'.~
 serve m.map --port 65536|error: invalid value '65536' for '--port <port>': 65536 is not in 0..=65535~~For more information, try '--help'.~
@@ -94,7 +106,7 @@ fn is_form(alloc: Global, row: &str) -> Result<bool, AllocError> {
 
 #[test]
 fn words_have_their_forms(rt: HostRuntime) -> Result<(), TableFault> {
-    check_all(rt.alloc(), WORDS, 40, is_form)
+    check_all(rt.alloc(), WORDS, 45, is_form)
 }
 
 // What is told of words that were refused with this text, and of those for which there was no memory.

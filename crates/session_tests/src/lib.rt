@@ -1,10 +1,12 @@
 //! Tests of what the program does for its words: of its command line, its sessions, the files that it reads,
-//! its port and its host, by public calls alone. Each test checks a value that was worked by hand, or that no clause
+//! its ports and its host, by public calls alone. Each test checks a value that was worked by hand, or that no clause
 //! can say.
 #![tactic(auto)]
 
 #[cfg(test)]
 mod answers;
+#[cfg(test)]
+mod batches_over_a_port;
 #[cfg(test)]
 mod command_lines;
 #[cfg(test)]
@@ -29,3 +31,5 @@ mod stops;
 mod texts;
 #[cfg(test)]
 mod timed_streams;
+#[cfg(test)]
+mod turned_away;

@@ -1,11 +1,13 @@
 use commandline::Service;
-use hosting::{Host, SystemHost, serve_port};
+use hosting::{Host, SystemHost, serve_map};
 use mapmachine::Flagged;
 use mapparse::{Files, parse};
 use sessions::{Failure, read_all};
 use std::io::{self, Read, Write};
 use std::net::{Ipv4Addr, Shutdown, TcpListener, TcpStream};
+use std::sync::Wait;
 use std::test::Fail;
+use std::thread::Threads;
 use std::time::{Duration, Instant};
 use std::{env, fs, str};
 
@@ -26,8 +28,8 @@ Connection: close\r\n\
 <ServiceException code=\"MissingParameterValue\">REQUEST</ServiceException>\n\
 </ServiceExceptionReport>\n";
 
-// A writer that is told where a port is. When it is flushed it opens a connection to that port and closes it, and
-// then one for each of some texts. They wait until the port answers them.
+// A writer that is told where two ports are. When it is flushed it opens a connection to each and closes them, and then one to
+// each for each of some texts, of which that to the second closes at once. They wait until the ports answer them.
 #[derive(Drop)]
 struct Clients<'a> {
     rt: &'a HostRuntime,
@@ -36,21 +38,25 @@ struct Clients<'a> {
     streams: Vec<TcpStream>,
 }
 
-impl Clients<'_> {
-    // Opens a connection. The address and its port are all that stands on the line after its first word.
-    fn connected(&self) -> io::Result<TcpStream> {
-        let line = str::from_utf8(&self.told).unwrap_or("");
-        let port = line.strip_prefix("listening 127.0.0.1:").unwrap_or("");
-        match port.strip_suffix('\n').unwrap_or("").parse() {
-            Ok(port) => TcpStream::connect(self.rt, (Ipv4Addr::LOCALHOST, port)),
-            Err(_) => Err(io::Error::from(io::ErrorKind::InvalidData)),
-        }
-    }
+/// The ports of the addresses that are all that stands on a line after its first word.
+pub fn ports_of(line: &[u8]) -> Option<(u16, u16)> {
+    let line = str::from_utf8(line).ok()?;
+    let addresses = line
+        .strip_prefix("listening 127.0.0.1:")?
+        .strip_suffix('\n')?;
+    let (clients, administration) = addresses.split_once(" 127.0.0.1:")?;
+    Some((clients.parse().ok()?, administration.parse().ok()?))
+}
 
-    // Opens a connection, and sends the pieces of a text, which bars part. It closes its writing side, but not where the
-    // last piece is `stays`.
-    fn ask(&mut self, text: &str) -> io::Result<()> {
-        let mut stream = self.connected()?;
+/// A connection to a port of this machine.
+pub fn connected(rt: &HostRuntime, port: u16) -> io::Result<TcpStream> {
+    TcpStream::connect(rt, (Ipv4Addr::LOCALHOST, port))
+}
+
+impl Clients<'_> {
+    // Sends the pieces of a text, which bars part. It closes its writing side, but not where the last piece is `stays`.
+    fn ask(&mut self, port: u16, text: &str) -> io::Result<()> {
+        let mut stream = connected(self.rt, port)?;
         let (text, stays) = match text.strip_suffix("|stays") {
             Some(text) => (text, true),
             None => (text, false),
@@ -73,9 +79,14 @@ impl Write for Clients<'_> {
     }
 
     fn flush(&mut self) -> io::Result<()> {
-        drop(self.connected()?);
+        let Some((clients, administration)) = ports_of(&self.told) else {
+            return Err(io::Error::from(io::ErrorKind::InvalidData));
+        };
+        drop(connected(self.rt, clients)?);
+        drop(connected(self.rt, administration)?);
         for text in self.texts {
-            self.ask(text)?;
+            self.ask(clients, text)?;
+            drop(connected(self.rt, administration)?);
         }
         Ok(())
     }
@@ -91,32 +102,38 @@ fn long_head(rt: &HostRuntime) -> io::Result<String> {
     Ok(head)
 }
 
-// The service on a port, for so many connections.
-fn service(port: u16, connections: u32) -> Service {
+/// The service on two ports by so many workers, for so many connections at each.
+pub fn service(ports: (u16, u16), workers: u16, connections: u32) -> Service {
     Service {
-        port,
+        port: ports.0,
         connections,
         idle: 300,
         timeout: 30,
+        admin_port: ports.1,
+        workers,
     }
 }
 
-// How the connections of some texts are answered: whether all were, and all that came back.
-fn answered(
-    rt: &HostRuntime,
+// How the connections of some texts are answered by one worker: whether all were, and all that came back.
+fn answered<R>(
+    rt: &R,
+    system: &HostRuntime,
     texts: &[&str],
     connections: u32,
-) -> Result<(Result<(), Failure>, Vec<u8>), Fail> {
+) -> Result<(Result<(), Failure>, Vec<u8>), Fail>
+where
+    R: AllocGlobal + Wait + Threads + Send + Copy + Drop + 'static,
+{
     let alloc = rt.alloc();
     let map = parse(alloc, b"MAP END", &Files::new(alloc))?;
     let mut output = Flagged::new(Clients {
-        rt,
+        rt: system,
         texts,
         told: Vec::new(alloc),
         streams: Vec::new(alloc),
     });
-    let host = SystemHost::new(rt);
-    let outcome = serve_port(alloc, &host, map, service(0, connections), &mut output);
+    let service = service((0, 0), 1, connections);
+    let outcome = serve_map(rt, &SystemHost::new(system), map, service, &mut output);
     let mut answers = Vec::new(alloc);
     for mut stream in output.into_inner().streams {
         stream.read_to_end(&mut answers)?;
@@ -126,7 +143,7 @@ fn answered(
 
 #[test]
 fn a_port_answers_its_connections_in_turn(rt: HostRuntime) -> Result<(), Fail> {
-    let (outcome, answers) = answered(&rt, &[LAST, LAST], 3)?;
+    let (outcome, answers) = answered(&rt, &rt, &[LAST, LAST], 3)?;
     let told = (outcome.is_ok(), answers.get(..298), answers.get(298..));
     assert_eq!(rt; told, (true, Some(RESPONSE), Some(RESPONSE)));
     Ok(())
@@ -138,7 +155,7 @@ fn bytes_after_a_last_head_leave_its_answer_whole(rt: HostRuntime) -> Result<(),
     let head = long_head(&rt)?;
     let body = format!(in alloc; "{head}|abc")?;
     let second = format!(in alloc; "{head}|{HEAD}")?;
-    let (_, answers) = answered(&rt, &[body.as_str(), second.as_str()], 3)?;
+    let (_, answers) = answered(&rt, &rt, &[body.as_str(), second.as_str()], 3)?;
     let told = (answers.get(..298), answers.get(298..));
     assert_eq!(rt; told, (Some(RESPONSE), Some(RESPONSE)));
     Ok(())
@@ -147,52 +164,59 @@ fn bytes_after_a_last_head_leave_its_answer_whole(rt: HostRuntime) -> Result<(),
 #[test]
 fn a_connection_has_its_requests_answered(rt: HostRuntime) -> Result<(), Fail> {
     let texts = format!(in rt.alloc(); "{HEAD}|{HEAD}|{LAST}")?;
-    let (_, answers) = answered(&rt, &[texts.as_str()], 2)?;
+    let (_, answers) = answered(&rt, &rt, &[texts.as_str()], 2)?;
     // 279 bytes twice, which lack the line of the last
     assert_eq!(rt; (answers.len(), answers.get(558..)), (856, Some(RESPONSE)));
     Ok(())
 }
 
 // For how long two connections are answered, of which the first stays, and how many bytes come back.
-fn waited(rt: &HostRuntime, first: &str) -> Result<(Duration, usize), Fail> {
+fn waited<R>(rt: &R, system: &HostRuntime, first: &str) -> Result<(Duration, usize), Fail>
+where
+    R: AllocGlobal + Wait + Threads + Send + Copy + Drop + 'static,
+{
     let stays = format!(in rt.alloc(); "{first}|stays")?;
-    let began = Instant::now(rt)?;
-    let (_, answers) = answered(rt, &[stays.as_str(), LAST], 3)?;
-    Ok((began.elapsed(rt)?, answers.len()))
+    let began = Instant::now(system)?;
+    let (_, answers) = answered(rt, system, &[stays.as_str(), LAST], 3)?;
+    Ok((began.elapsed(system)?, answers.len()))
 }
 
 #[test]
 fn a_client_that_stays_is_left(rt: HostRuntime) -> Result<(), Fail> {
     // After the last answer it is left after 2 seconds, and not when the time of its head is over.
-    let (left, count) = waited(&rt, LAST)?;
+    let (left, count) = waited(&rt, &rt, LAST)?;
     assert_eq!(rt; (count, left.as_secs() < 20), (596, true));
     // After another it may be idle for 300 milliseconds.
-    let (left, count) = waited(&rt, HEAD)?;
+    let (left, count) = waited(&rt, &rt, HEAD)?;
     let is_in_time = left.as_millis() >= 300 && left.as_millis() < 1_500;
     assert_eq!(rt; (count, is_in_time), (577, true));
     Ok(())
 }
 
-#[test]
-fn a_port_that_is_taken_is_told(rt: HostRuntime) -> Result<(), Fail> {
+// Whether serving ended since a port can't be listened on, and how many bytes were told, where these ports are asked for.
+fn told_of_taken<R>(rt: &R, system: &HostRuntime, ports: (u16, u16)) -> Result<(bool, usize), Fail>
+where
+    R: AllocGlobal + Wait + Threads + Send + Copy + Drop + 'static,
+{
     let alloc = rt.alloc();
     let map = parse(alloc, b"MAP END", &Files::new(alloc))?;
-    let listener = TcpListener::bind(&rt, (Ipv4Addr::LOCALHOST, 0))?;
-    let port = listener.local_addr()?.port();
     let mut output = Flagged::new(Vec::new(alloc));
-    let outcome = serve_port(
-        alloc,
-        &SystemHost::new(&rt),
-        map,
-        service(port, 1),
-        &mut output,
-    );
-    drop(listener);
-    let told = (
+    let service = service(ports, 1, 1);
+    let outcome = serve_map(rt, &SystemHost::new(system), map, service, &mut output);
+    Ok((
         matches!(outcome, Err(Failure::SocketFailed)),
         output.into_inner().len(),
-    );
-    assert_eq!(rt; told, (true, 0));
+    ))
+}
+
+#[test]
+fn a_port_that_is_taken_is_told(rt: HostRuntime) -> Result<(), Fail> {
+    let listener = TcpListener::bind(&rt, (Ipv4Addr::LOCALHOST, 0))?;
+    let port = listener.local_addr()?.port();
+    for ports in [(port, 0), (0, port)] {
+        assert_eq!(rt; told_of_taken(&rt, &rt, ports)?, (true, 0));
+    }
+    drop(listener);
     Ok(())
 }
 

@@ -20,9 +20,13 @@ struct Times<'a> {
     way: &'a str,
 }
 
-impl Clock for Times<'_> {
+// That clock and that stream.
+#[derive(Drop)]
+struct Slow<'a>(&'a Times<'a>);
+
+impl Clock for Slow<'_> {
     fn monotonic(&self) -> io::Result<Duration> {
-        Ok(Duration::from_secs(self.now.get()))
+        Ok(Duration::from_secs(self.0.now.get()))
     }
 
     fn since_1970(&self) -> io::Result<Duration> {
@@ -50,9 +54,6 @@ impl Times<'_> {
         Ok(())
     }
 }
-
-#[derive(Drop)]
-struct Slow<'a>(&'a Times<'a>);
 
 impl Read for Slow<'_> {
     fn read(&mut self, room: &mut [u8]) -> io::Result<usize> {
@@ -90,13 +91,13 @@ trait Moves {
     fn moves(&mut self) -> bool;
 }
 
-impl Moves for TimedReader<'_, Slow<'_>, Times<'_>> {
+impl Moves for TimedReader<Slow<'_>, Slow<'_>> {
     fn moves(&mut self) -> bool {
         self.read(&mut [0]).is_ok()
     }
 }
 
-impl Moves for TimedWriter<'_, Slow<'_>, Times<'_>> {
+impl Moves for TimedWriter<Slow<'_>, Slow<'_>> {
     fn moves(&mut self) -> bool {
         self.write(&[0]).is_ok()
     }
@@ -177,20 +178,20 @@ fn sides<'a>(
     times: &'a Times<'a>,
 ) -> Result<
     (
-        TimedReader<'a, Slow<'a>, Times<'a>>,
-        TimedWriter<'a, Slow<'a>, Times<'a>>,
+        TimedReader<Slow<'a>, Slow<'a>>,
+        TimedWriter<Slow<'a>, Slow<'a>>,
     ),
     AllocError,
 > {
     let (read, written) = Answered::pair(alloc)?;
     times.now.set(7);
-    let Ok(reader) = TimedReader::start(Slow(times), times, waits(), read) else {
+    let Ok(reader) = TimedReader::start(Slow(times), Slow(times), waits(), read) else {
         return Err(AllocError);
     };
     times.now.set(12);
     Ok((
         reader,
-        TimedWriter::new(Slow(times), times, waits(), written),
+        TimedWriter::new(Slow(times), Slow(times), waits(), written),
     ))
 }
 

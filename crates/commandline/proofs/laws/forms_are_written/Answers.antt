@@ -1,4 +1,4 @@
-use Rattle.commandline.proofs.Written.{none, check, explained, run, run_explained, serve, served, timed, serve_explained}
+use Rattle.commandline.proofs.Written.{none, check, explained, run, run_explained, serve, served, timed, administered, serve_explained}
 use Rattle.commandline.proofs.laws.forms_are_written.Goals as goal
 
 pub returns : goal.returns
@@ -11,5 +11,6 @@ returns c = record {
   serve = serve;
   served = served;
   timed = timed;
+  administered = administered;
   serve_explained = serve_explained;
 }

@@ -12,7 +12,7 @@ returns-clause-serves g c =
       inr (record {
         map = c.in_ok-map.map;
         read = read;
-        listens_to = c.serve_port.ensures.listens;
+        listens_to = c.serve_map.ensures.listens;
         warnings = c.in_ok-map.ensures.warnings;
       }),
     )

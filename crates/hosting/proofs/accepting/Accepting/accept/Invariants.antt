@@ -1,0 +1,10 @@
+use Rattle.std.proofs.Common.{◌≡◌, replicate}
+use Rattle.hosting.specs.Ports.{Failed, Notes}
+use Rattle.hosting.proofs.accepting.Accepting.accept.Given as goal
+
+-- all calls so far have failed
+abbrev pub invariant-loop : goal.invariant-loop
+invariant-loop g l = record {
+  noted : Notes (g.P.Port.log l.fn.self.port) (g.P.Port.log l.self.port) (replicate l.counter Failed);
+  wanted : l.self.wanted ≡ l.fn.self.wanted;
+}
