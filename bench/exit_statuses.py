@@ -3,7 +3,8 @@
 
 What is played or checked ends with 0, also a faulty script; a faulty mapfile with 1 and its line on standard
 error alone, a file that can't be read with 1 and its name; words that are no form with 2 and a text on standard
-error alone; a full standard output with 3, and a port that is taken; too little memory for the map with 4.
+error alone; a full standard output with 3, and a port that is taken, either of the two, also by the other; too little
+memory for the map with 4. What was served ends with 0 once so many connections as were asked for came at each port.
 """
 import os
 import resource
@@ -11,6 +12,8 @@ import socket
 import subprocess
 import sys
 import tempfile
+
+from served import come_and_go, ports_of
 
 MAP = b'MAP LAYER NAME "a" TYPE POLYGON END END\n%%\n'
 QUERY = b"QUERY a\n"
@@ -36,7 +39,7 @@ Usage: mapservd serve <FILE>
 
 For more information, try '--help'.
 """
-NO_PORT = b"""error: invalid value '65536' for '--port <port>': 65536 is not in 0..=65535
+NOT_IN_RANGE = b"""error: invalid value '%s' for '--%s <%s>': %s is not in %s
 
 For more information, try '--help'.
 """
@@ -65,6 +68,34 @@ def run(session, *words, limit=None, stdout=subprocess.PIPE):
     return done.returncode, done.stdout, done.stderr
 
 
+def not_in_range(number, name, numbers):
+    return 2, b"", NOT_IN_RANGE % (number, name, name, number, numbers)
+
+
+def free_port():
+    with socket.socket() as held:
+        held.bind(("127.0.0.1", 0))
+        return str(held.getsockname()[1])
+
+
+def served():
+    """How a server ends of which two connections at each port are wanted, and whether it still ran before the last."""
+    words = [sys.argv[1], "serve", "good.map", "--port", "0", "--admin-port", "0", "--connections", "2"]
+    with subprocess.Popen(words, stdout=subprocess.PIPE, stderr=subprocess.PIPE) as server:
+        port, admin_port = ports_of(server.stdout.readline())
+        for end in (port, port, admin_port):
+            come_and_go(end)
+        try:
+            server.wait(0.5)
+            ran = False
+        except subprocess.TimeoutExpired:
+            ran = True
+        if ran:
+            come_and_go(admin_port)
+        rest, errors = server.communicate()
+    return server.returncode, rest, errors, ran
+
+
 def main():
     wrong = 0
     answer = b"ANSWER text/xml 215\n" + MISSING
@@ -72,7 +103,7 @@ def main():
     with tempfile.TemporaryDirectory() as folder, open("/dev/full", "wb") as full, socket.socket() as held:
         held.bind(("127.0.0.1", 0))
         held.listen()
-        taken = str(held.getsockname()[1])
+        taken, free = str(held.getsockname()[1]), free_port()
         os.chdir(folder)
         os.mkdir("maps")
         for name, text in FILES.items():
@@ -103,12 +134,18 @@ def main():
             ("run no script", run(b"", "run", "good.map", "no.script"), (1, b"", b"fault file no.script\n")),
             ("run no mapfile", run(b"", "run", "no.map", "no.script"), (1, b"", b"fault file no.map\n")),
             ("run full output", run(b"", "run", "good.map", "good.script", stdout=full), (3, None, b"")),
-            ("serve taken port", run(b"", "serve", "good.map", "--port", taken), (3, b"", b"")),
-            ("serve full output", run(b"", "serve", "good.map", "--port", "0", stdout=full), (3, None, b"")),
+            ("served", served(), (0, b"", b"", True)),
+            ("serve taken port", run(b"", "serve", "good.map", "--port", taken, "--admin-port", "0"), (3, b"", b"")),
+            ("serve taken admin port", run(b"", "serve", "good.map", "--port", "0", "--admin-port", taken), (3, b"", b"")),
+            ("serve one port", run(b"", "serve", "good.map", "--port", free, "--admin-port", free), (3, b"", b"")),
+            ("serve full output", run(b"", "serve", "good.map", "--port", "0", "--admin-port", "0", stdout=full), (3, None, b"")),
             ("serve faulty mapfile", run(b"", "serve", "bad.map", "--port", taken), (1, b"", b"fault line 3 kind 2\n")),
             ("serve no mapfile", run(b"", "serve", "no.map", "--port", taken), (1, b"", b"fault file no.map\n")),
             ("serve no words", run(b"", "serve"), (2, b"", NO_FILE)),
-            ("serve no such port", run(b"", "serve", "good.map", "--port", "65536"), (2, b"", NO_PORT)),
+            ("serve no such port", run(b"", "serve", "good.map", "--port", "65536"), not_in_range(b"65536", b"port", b"0..=65535")),
+            ("serve no such admin port", run(b"", "serve", "good.map", "--admin-port", "70000"), not_in_range(b"70000", b"admin-port", b"0..=65535")),
+            ("serve no workers", run(b"", "serve", "good.map", "--workers", "0"), not_in_range(b"0", b"workers", b"1..=32")),
+            ("serve too many workers", run(b"", "serve", "good.map", "--workers", "33"), not_in_range(b"33", b"workers", b"1..=32")),
             ("words", run(MAP + QUERY, "run", "good.map"), (2, b"", REFUSED)),
             ("no text", run(MAP + QUERY, "check", b"\xff.map"), (2, b"", NOT_UTF8)),
         ]

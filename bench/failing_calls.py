@@ -1,14 +1,17 @@
 #!/usr/bin/env python3
-"""Lets each call of the program for memory, and each for bytes, fail in turn.
+"""Lets each call of the program for memory, for bytes and for a thread fail in turn.
 
 Usage: failing_calls.py PROGRAM [EVERY]
 
 A library that is loaded before the C library, built here with cc, counts the calls and fails the one of a number,
-or lets it move one byte alone. Maps of demo/ are checked and played, and one request is answered on a port. What
-comes out may be less than the right answer, never another: a reply is right or NOMEMORY; where a file or a stream
-fails, what was written is a front of the right output, with the status of that failure; words on a fault may be
-missing; where a call moves one byte, nothing changes. A client whose connection ends without an answer asks again,
-since a connection for which there is no memory isn't counted, and the program waits for another.
+or lets it move one byte alone. Maps of demo/ are checked and played, and one is served by two workers, to three clients
+and three administrators, who change it between the clients' requests. What comes out may be less than the right
+answer, never another: a reply is right or NOMEMORY; where a file or a stream fails, what was written is a front of the
+right output, with the status of that failure; words on a fault may be missing; where a call moves one byte, nothing
+changes. Of what is served each picture is, by hand, that of the state which the lines of the administration leave,
+where a line that is cut or missing leaves two or three; at most one of the six connections has less than its whole
+answer, 503, HELD or NOMEMORY; and where the service fails, nobody is answered. The program always ends by itself,
+once so many connections as were asked for came at each port.
 
 With EVERY only every so-many-th call fails. The script prints how many calls each kind has while it lets them fail,
 and at the end how many it let fail. It ends with 1 where something else came out, or a run took longer than 30 s.
@@ -23,11 +26,16 @@ import tempfile
 import threading
 import time
 
+from served import ports_of
+
 # the seconds of a run, which takes some hundredths
 LONGEST = 30
 DEMO = pathlib.Path(__file__).resolve().parent.parent / "demo"
 SHIM = r"""
+#define _GNU_SOURCE
+#include <dlfcn.h>
 #include <errno.h>
+#include <pthread.h>
 #include <stddef.h>
 #include <stdlib.h>
 #include <sys/syscall.h>
@@ -35,19 +43,22 @@ SHIM = r"""
 
 extern void *__libc_malloc(size_t size);
 extern void *__libc_realloc(void *old, size_t size);
-static long memory, bytes;
+static long memory, bytes, threads;
+static int (*start)(pthread_t *, const pthread_attr_t *, void *(*)(void *), void *);
+
+static long next(long *count) { return __atomic_add_fetch(count, 1, __ATOMIC_SEQ_CST); }
 
 static int is_it(const char *kind, long count) {
     const char *number = getenv(kind);
     return number && atol(number) == count;
 }
-void *malloc(size_t size) { return is_it("FAIL_MEMORY", ++memory) ? NULL : __libc_malloc(size); }
-void *realloc(void *old, size_t size) { return is_it("FAIL_MEMORY", ++memory) ? NULL : __libc_realloc(old, size); }
+void *malloc(size_t size) { return is_it("FAIL_MEMORY", next(&memory)) ? NULL : __libc_malloc(size); }
+void *realloc(void *old, size_t size) { return is_it("FAIL_MEMORY", next(&memory)) ? NULL : __libc_realloc(old, size); }
 
 static ssize_t moved(long call, int file, char *room, size_t count) {
-    ++bytes;
-    if (is_it("FAIL_BYTES", bytes)) { errno = EIO; return -1; }
-    if (is_it("SHORT_BYTES", bytes) && count > 1) count = 1;
+    long number = next(&bytes);
+    if (is_it("FAIL_BYTES", number)) { errno = EIO; return -1; }
+    if (is_it("SHORT_BYTES", number) && count > 1) count = 1;
     ssize_t done = syscall(call, file, room, count, 0, 0, 0);
     return done;
 }
@@ -56,17 +67,57 @@ ssize_t write(int file, const void *room, size_t count) { return moved(SYS_write
 ssize_t __write(int file, const void *room, size_t count) { return moved(SYS_write, file, (char *)room, count); }
 ssize_t recv(int file, void *room, size_t count, int flags) { return moved(SYS_recvfrom, file, room, count); }
 ssize_t send(int file, const void *room, size_t count, int flags) { return moved(SYS_sendto, file, (char *)room, count); }
+int pthread_create(pthread_t *thread, const pthread_attr_t *how, void *(*run)(void *), void *with) {
+    return is_it("FAIL_THREADS", next(&threads)) ? EAGAIN : start(thread, how, run, with);
+}
 
+__attribute__((constructor)) static void begin(void) {
+    start = (int (*)(pthread_t *, const pthread_attr_t *, void *(*)(void *), void *))dlsym(RTLD_NEXT, "pthread_create");
+}
 __attribute__((destructor)) static void tell(void) {
-    long counts[2] = {memory, bytes};
+    long counts[3] = {memory, bytes, threads};
     const char *pipe = getenv("COUNTS");
     if (pipe) syscall(SYS_write, atoi(pipe), counts, sizeof counts);
+}
+// by which a program with threads ends, and no destructor is called
+void _exit(int status) {
+    tell();
+    for (;;) syscall(SYS_exit_group, status);
 }
 """
 GET = (
     b"GET /wms?VERSION=1.3.0&REQUEST=GetMap&LAYERS=a&STYLES=&CRS=CRS:84&BBOX=0,0,4,4&WIDTH=4&HEIGHT=4"
     b"&FORMAT=image/x-portable-pixmap HTTP/1.1\r\nHost: a\r\n\r\n"
 )
+# a point in the pixel of column 0 and row 3; a batch that puts another in its place, in column 2 and row 1; and one
+# that switches the layer off
+SERVED = "MAP LAYER NAME a TYPE POINT CLASS STYLE COLOR 255 0 0 SIZE 1 END END FEATURE POINTS 0.5 0.5 END END END END\n"
+BATCHES = [b"CLEAR a\nAPPEND 12 a\nx,y\n2.5,2.5\n", b"OFF a\n"]
+BATCH_LINES = [b"BATCH %d\n%s" % (len(batch), batch) for batch in BATCHES]
+# what three clients and three administrators send by turns, each over a connection of its own, and how a command of
+# an administrator is called below: the number of its batch, or none where it is RETRY
+TURNS = [(BATCH_LINES[0], [0]), (b"RETRY\n" + BATCH_LINES[1], [None, 1]), (b"RETRY\n", [None])]
+LINES = [b"PUBLISHED 1\n", b"IDLE\nPUBLISHED 2\n", b"IDLE\n"]
+SERVE = f"serve served.map --port 0 --admin-port 0 --workers 2 --connections {len(TURNS)}"
+
+
+def answer(kind, body):
+    return b"HTTP/1.1 200 OK\r\nContent-Type: %s\r\nContent-Length: %d\r\n\r\n%s" % (kind, len(body), body)
+
+
+def point(column, row):
+    pixels = [b"\xff\xff\xff"] * 16
+    pixels[4 * row + column] = b"\xff\x00\x00"
+    return answer(b"image/x-portable-pixmap", b"P6\n4 4\n255\n" + b"".join(pixels))
+
+
+NO_LAYER = answer(b"text/xml", b"""<?xml version="1.0" encoding="UTF-8"?>
+<ServiceExceptionReport version="1.3.0" xmlns="http://www.opengis.net/ogc">
+<ServiceException code="LayerNotDefined">LAYERS</ServiceException>
+</ServiceExceptionReport>
+""")
+# before a batch, and after each of them
+ANSWERS = {None: point(0, 3), 0: point(2, 1), 1: NO_LAYER}
 # where there is no memory for a head, and where there is none for an answer, which doesn't end the connection
 BUSY = b"HTTP/1.1 503 Service Unavailable\r\nContent-Length: 0\r\nConnection: close\r\n\r\n"
 BUSY_ONCE = b"HTTP/1.1 503 Service Unavailable\r\nContent-Length: 0\r\n\r\n"
@@ -75,12 +126,12 @@ BUSY_ONCE = b"HTTP/1.1 503 Service Unavailable\r\nContent-Length: 0\r\n\r\n"
 class Run:
     """How the program ended, what it wrote, and how many calls of each kind it made."""
 
-    def __init__(self, shim, words, session, **failing):
+    def __init__(self, shim, folder, words, session, **failing):
         out, into = os.pipe()
+        self.got = []
         env = {"LD_PRELOAD": shim, "COUNTS": str(into), **{name: str(number) for name, number in failing.items()}}
-        self.got = b""
         with subprocess.Popen(
-            words, stdin=subprocess.PIPE, stdout=subprocess.PIPE, stderr=subprocess.PIPE, cwd=DEMO, env=env, pass_fds=[into]
+            words, stdin=subprocess.PIPE, stdout=subprocess.PIPE, stderr=subprocess.PIPE, cwd=folder, env=env, pass_fds=[into]
         ) as program:
             os.close(into)
             watch = threading.Timer(LONGEST, program.kill)
@@ -92,34 +143,76 @@ class Run:
             watch.cancel()
         with os.fdopen(out, "rb") as counts:
             told = counts.read()
-        self.memory, self.bytes = int.from_bytes(told[:8], "little"), int.from_bytes(told[8:], "little")
+        self.memory, self.bytes, self.threads = (int.from_bytes(told[at : at + 8], "little") for at in (0, 8, 16))
 
     def ask(self, program):
-        """Connections until one has an answer, if the program gets so far as to listen."""
-        self.line = program.stdout.readline()
-        address = re.fullmatch(rb"listening 127\.0\.0\.1:(\d+)\n", self.line)
-        listens = address is not None
-        while listens and not self.got:
-            listens = self.connect(int(address[1]))
+        """What clients and administrators are answered by turns, if the program gets so far as to listen."""
+        ports = ports_of(program.stdout.readline())
+        for commands, _ in TURNS if ports else []:
+            self.got += [self.connect(ports[0], GET), self.connect(ports[1], commands)]
 
-    def connect(self, port):
-        """Takes what one connection is answered, and says whether there was one."""
+    def connect(self, port, sent):
+        """Takes what one connection is answered."""
+        got = b""
         try:
-            client = socket.create_connection(("127.0.0.1", port), LONGEST)
+            with socket.create_connection(("127.0.0.1", port), LONGEST) as stream:
+                stream.sendall(sent)
+                stream.shutdown(socket.SHUT_WR)
+                for piece in iter(lambda: stream.recv(65_536), b""):
+                    got += piece
         except OSError:
-            return False
-        with client:
-            try:
-                client.sendall(GET)
-                client.shutdown(socket.SHUT_WR)
-                for piece in iter(lambda: client.recv(65_536), b""):
-                    self.got += piece
-            except OSError:
-                pass
-        return True
+            pass
+        return got
 
     def key(self):
         return self.status, self.output, self.errors, self.got
+
+
+def outcomes(state, command):
+    """The lines that may answer a command in a state, the batches that are published and those that are pending, each
+    with the state after it."""
+    published, pending = state
+    if command is not None:
+        after = published + pending + [command]
+        return [(b"PUBLISHED %d\n" % len(after), (after, [])), (b"HELD\n", (published, pending + [command])), (b"NOMEMORY\n", state)]
+    if not pending:
+        return [(b"IDLE\n", state)]
+    after = published + pending
+    return [(b"PUBLISHED %d\n" % len(after), (after, [])), (b"HELD\n", state)]
+
+
+def states_after(state, commands, got):
+    """The states that an administrator may leave who sent these commands and got this."""
+    if not got:
+        yield state
+    if commands:
+        for line, after in outcomes(state, commands[0]):
+            if got.startswith(line):
+                yield from states_after(after, commands[1:], got[len(line) :])
+            elif line.startswith(got):
+                yield after
+
+
+def is_history(got, is_client_right):
+    """Whether some history explains all that was got: each client's answer is right in the state of its turn."""
+    states = [([], [])]
+    for client, administrator, (_, commands) in zip(got[::2], got[1::2], TURNS):
+        states = [state for state in states if is_client_right(client, ANSWERS[state[0][-1] if state[0] else None])]
+        states = [after for state in states for after in states_after(state, commands, administrator)]
+    return bool(states)
+
+
+def lessened(got):
+    """How many of the connections have less than a whole answer."""
+    lines = [re.fullmatch(rb"((PUBLISHED \d+|IDLE)\n){%d}" % len(commands), one) for one, (_, commands) in zip(got[1::2], TURNS)]
+    return sum(one not in ANSWERS.values() for one in got[::2]) + lines.count(None)
+
+
+def may_have_served(run, statuses, is_client_right):
+    """Whether what was served is right, or less of it, as may be where one call fails; or the service failed."""
+    if run.status:
+        return run.status in statuses and (run.output, run.errors) == (b"", b"") and not any(run.got)
+    return (run.output, run.errors) == (b"", b"") and len(run.got) == 2 * len(TURNS) and lessened(run.got) <= 1 and is_history(run.got, is_client_right)
 
 
 def replies(output):
@@ -128,23 +221,32 @@ def replies(output):
 
 def may_want_memory(run, right):
     """A run of which one call for memory failed."""
+    if right.got:
+        return may_have_served(run, (3, 4), lambda got, wanted: got in (wanted, BUSY, BUSY_ONCE, b""))
     if (run.status, run.output, run.errors) == (4, b"", b""):
-        return run.got == b""
+        return True
     if run.status != right.status:
         return False
     found, wanted = replies(run.output), replies(right.output)
     same = len(found) == len(wanted) and all(one in (other, b"NOMEMORY\n") for one, other in zip(found, wanted))
     words = run.errors in (right.errors, b"".join(right.errors.splitlines(True)[:1]))
-    return same and words and run.got in (right.got, BUSY, BUSY_ONCE)
+    return same and words
 
 
 def may_fail(run, right):
     """A run of which one call for bytes failed."""
-    front = right.output.startswith(run.output) and right.errors.startswith(run.errors) and right.got.startswith(run.got)
+    if right.got and run.status in (0, 3):
+        return may_have_served(run, (3,), lambda got, wanted: wanted.startswith(got))
+    front = right.output.startswith(run.output) and right.errors.startswith(run.errors)
     if front and (run.status == 3 or (run.status == right.status and run.output == right.output)):
         return True
     no_file = re.fullmatch(rb"fault (file [a-z.]+|line \d+ kind 7)\n", run.errors)
-    return (run.status, run.output, run.got) == (1, b"", b"") and no_file is not None
+    return (run.status, run.output, run.got) == (1, b"", []) and no_file is not None
+
+
+def may_want_thread(run, right):
+    """A run of which one call for a thread failed: all of them come after the program has said that it listens."""
+    return run.status == 3 and len(run.got) == 2 * len(TURNS) and may_have_served(run, (3,), None)
 
 
 def main():
@@ -159,19 +261,26 @@ def main():
         shim = os.path.join(folder, "shim.so")
         path = pathlib.Path(folder) / "shim.c"
         path.write_text(SHIM)
-        subprocess.run(["cc", "-shared", "-fPIC", "-o", shim, path], check=True)
-        for words in ["", "run lakes.map lakes.script", "check harbours.map", "check --explain faulty.map", "serve square.map --port 0 --connections 1"]:
+        subprocess.run(["cc", "-shared", "-fPIC", "-o", shim, path, "-ldl"], check=True)
+        (pathlib.Path(folder) / "served.map").write_text(SERVED)
+        for words in ["", "run lakes.map lakes.script", "check harbours.map", "check --explain faulty.map", SERVE]:
             command = [program, *words.split()]
-            right = Run(shim, command, session)
+            at = folder if words == SERVE else DEMO
+            right = Run(shim, at, command, session)
             if right.memory == 0:
                 sys.exit(f"failed: {words or 'session'} ends with {right.status}, and no call was counted")
             kinds = [("FAIL_MEMORY", right.memory, may_want_memory), ("FAIL_BYTES", right.bytes, may_fail)]
             kinds.append(("SHORT_BYTES", right.bytes, lambda run, right: run.key() == right.key()))
+            if words == SERVE:
+                clients = [ANSWERS[after] for after in (None, 0, 1)]
+                if right.key() != (0, b"", b"", [one for both in zip(clients, LINES) for one in both]):
+                    sys.exit(f"failed: what is served is {right.key()}")
+                kinds.append(("FAIL_THREADS", right.threads, may_want_thread))
             for kind, count, is_right in kinds:
                 print(f"{words or 'session'}, {kind}: {count} calls", end=", ", flush=True)
                 begun = time.monotonic()
                 for number in range(1, count + 1, every):
-                    run = Run(shim, command, session, **{kind: number})
+                    run = Run(shim, at, command, session, **{kind: number})
                     tried += 1
                     if not is_right(run, right):
                         wrong += 1
@@ -181,4 +290,5 @@ def main():
     sys.exit(wrong > 0)
 
 
-main()
+if __name__ == "__main__":
+    main()

@@ -1,7 +1,7 @@
 #!/usr/bin/env python3
 """Serves two connections where each request for the memory of a head is refused. Usage: no_memory_for_a_head.py PROGRAM
 
-Both are to be told that the server is busy, and the program is to end with 0. The memory of a head is the only
+Both, of which each has a worker of its own, are to be told that the server is busy, and the program is to end with 0. The memory of a head is the only
 allocation of 16,384 bytes: a library that is loaded before the C library, built here with cc, refuses those.
 """
 import pathlib
@@ -9,6 +9,8 @@ import socket
 import subprocess
 import sys
 import tempfile
+
+from served import come_and_go, ports_of, read_all
 
 SHIM = """
 #define _GNU_SOURCE
@@ -30,13 +32,14 @@ def main():
         (top / "shim.c").write_text(SHIM)
         (top / "empty.map").write_text("MAP END\n")
         subprocess.run(["cc", "-shared", "-fPIC", "-o", top / "shim.so", top / "shim.c", "-ldl"], check=True)
-        words = [sys.argv[1], "serve", top / "empty.map", "--port", "0", "--connections", "2"]
+        words = [sys.argv[1], "serve", top / "empty.map", "--port", "0", "--admin-port", "0", "--workers", "2", "--connections", "2"]
         with subprocess.Popen(words, stdout=subprocess.PIPE, env={"LD_PRELOAD": str(top / "shim.so")}) as server:
-            host, port = server.stdout.readline().decode().split()[1].rsplit(":", 1)
+            port, admin_port = ports_of(server.stdout.readline())
             answers = []
             for _ in range(2):
-                with socket.create_connection((host, int(port))) as client:
-                    answers.append(b"".join(iter(lambda: client.recv(65_536), b"")))
+                with socket.create_connection(("127.0.0.1", port)) as client:
+                    answers.append(read_all(client))
+                come_and_go(admin_port)
             status = server.wait()
     if answers != [BUSY, BUSY] or status != 0:
         sys.exit(f"failed: status {status}, {answers}")

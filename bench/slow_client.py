@@ -1,16 +1,20 @@
 #!/usr/bin/env python3
 """Sends heads of 16,384 bytes a byte a read, and says how much processor time they take. Usage: slow_client.py PROGRAM
 
-Each head is sent to a server of its own, once whole and once byte by byte, each byte when the server waits again.
-A line of the table has the head, how often the server waited, and its processor time in milliseconds, whole and
+Each head is sent to a server of its own, of one worker, once whole and once byte by byte, each byte when the worker
+waits again.
+A line of the table has the head, how often the worker waited, and its processor time in milliseconds, whole and
 byte by byte. The script fails where an answer has another status than the expected one, or the two differ.
 """
+import os
 import re
 import socket
 import subprocess
 import sys
 import tempfile
 import time
+
+from served import come_and_go, ports_of, read_all
 
 LIMIT = 16_384
 FIRST = b"GET /wms?"
@@ -32,40 +36,49 @@ HEADS = [
 ]
 
 
-def waits_of(pid):
-    """How often the process has waited: once for each read that finds nothing yet."""
-    with open(f"/proc/{pid}/status") as status:
+def worker_of(pid):
+    """The folder of the worker's thread, which was started last: the one before takes connections, the first batches."""
+    threads = sorted(map(int, os.listdir(f"/proc/{pid}/task")))
+    assert len(threads) == 3
+    return f"/proc/{pid}/task/{threads[-1]}"
+
+
+def waits_of(worker):
+    """How often the thread has waited: once for each read that finds nothing yet."""
+    with open(f"{worker}/status") as status:
         return int(re.search(r"^voluntary_ctxt_switches:\s*(\d+)", status.read(), re.M).group(1))
 
 
-def nanoseconds_of(pid):
-    """The processor time of the process."""
-    with open(f"/proc/{pid}/schedstat") as stat:
+def nanoseconds_of(worker):
+    """The processor time of the thread."""
+    with open(f"{worker}/schedstat") as stat:
         return int(stat.read().split()[0])
 
 
 def answered(mapfile, head, is_slow):
-    """The response to a head, how often the server waited, and its processor time in milliseconds."""
-    words = [sys.argv[1], "serve", mapfile, "--port", "0", "--connections", "2"]
+    """The response to a head, how often the worker waited, and its processor time in milliseconds."""
+    words = [sys.argv[1], "serve", mapfile, "--port", "0", "--admin-port", "0", "--workers", "1", "--connections", "2"]
     with subprocess.Popen(words, stdout=subprocess.PIPE) as server:
-        address = server.stdout.readline().decode().split()[1]
-        host, port = address.rsplit(":", 1)
-        client = socket.create_connection((host, int(port)))
+        port, admin_port = ports_of(server.stdout.readline())
+        client = socket.create_connection(("127.0.0.1", port))
         client.setsockopt(socket.IPPROTO_TCP, socket.TCP_NODELAY, 1)
         time.sleep(0.1)
-        before, began = waits_of(server.pid), nanoseconds_of(server.pid)
+        worker = worker_of(server.pid)
+        before, began = waits_of(worker), nanoseconds_of(worker)
         if is_slow:
             for byte in head:
-                waits = waits_of(server.pid)
+                waits = waits_of(worker)
                 client.sendall(bytes([byte]))
-                while waits_of(server.pid) == waits:
+                while waits_of(worker) == waits:
                     pass
         else:
             client.sendall(head)
-        response = b"".join(iter(lambda: client.recv(65_536), b""))
-        waits, spent = waits_of(server.pid) - before, nanoseconds_of(server.pid) - began
-        # the second connection lets the server end
-        socket.create_connection((host, int(port))).close()
+        response = read_all(client)
+        waits, spent = waits_of(worker) - before, nanoseconds_of(worker) - began
+        client.close()
+        # the second connection at each port lets the server end
+        for end in (port, admin_port, admin_port):
+            come_and_go(end)
         server.wait()
     return response, waits, spent / 1_000_000
 
