@@ -1,5 +1,5 @@
 -- What is written as commands is read as these.
-use Rattle.std.proofs.Common.{◌≡◌, ◌∙◌, ℕ, suc, ◌+◌, ◌-◌, ◌*◌, ◌<◌, ◌≤◌, ◌^◌, Bool, true, false, List, [], ◌∷◌, ◌++◌, length, take, drop, Option, None, Some, Ok, All, nat_le, nat_lt, refl, sym, ap, arith, length-append}
+use Rattle.std.proofs.Common.{◌≡◌, ◌∙◌, ℕ, suc, ◌+◌, ◌-◌, ◌<◌, ◌≤◌, ◌^◌, Bool, true, false, List, [], ◌∷◌, ◌++◌, length, take, drop, Option, None, Some, Ok, All, nat_le, nat_lt, refl, sym, ap, arith, length-append}
 use Rattle.std.proofs.Math.Seq.{drop-append-add, drop-append_seam, get_or-append_right, get_or-append_seam, take-append_seam}
 use Rattle.std.proofs.lemmas.Bool.{and_parts}
 use Rattle.std.proofs.lemmas.Bool.Decides.{nat_tests}
@@ -14,7 +14,8 @@ use Rattle.std.specs.List.{after_first, before_first, fold, list_any, position_o
 use Rattle.std.specs.Prelude.{codes}
 use Rattle.std.specs.Str.{all_ascii_digits}
 use Rattle.geom.specs.Decimal.{number_of, with_digit}
-use Rattle.batches.specs.Command.{append_of, count_of, digits_of, ends_in_cr, front_command, is_line_end, is_space, line_of, reading_of, reading_within, step, with_bytes, with_command}
+use Rattle.geom.specs.Natural.{number_in}
+use Rattle.batches.specs.Command.{append_of, count_of, ends_in_cr, front_command, is_line_end, is_space, line_of, reading_of, reading_within, step, with_bytes, with_command}
 use Rattle.batches.specs.Written.{CanBeWritten, written, written_command}
 use Rattle.batches.specs.declared.command.Command.{Command}
 use Rattle.batches.specs.declared.command.Command.TheVariants.{On, Off, Clear, Append}
@@ -66,11 +67,8 @@ digits-plain (d ∷ ds) h =
     (rw (one.0, others.0) refl, rw (one.1, others.1) refl)
 
 -- the number of digits is that of their fold
-digits-counted : (n : ℕ) (ds : List ℕ) → all_ascii_digits ds ≡ true → digits_of n ds ≡ Some (fold with_digit n ds)
-digits-counted n [] h = refl
-digits-counted n (d ∷ ds) h =
-    let parts = and_parts (is_ascii_digit d) (all_ascii_digits ds) h in
-    rw parts.0 (digits-counted (n * 10 + (d - 48)) ds parts.1)
+digits-counted : (ds : List ℕ) → all_ascii_digits ds ≡ true → number_in ds ≡ Some (fold with_digit 0 ds)
+digits-counted ds h = rw h refl
 
 own : IsNumeralModel (λ ds. all_ascii_digits ds ≡ true) number_of
 own = numerals_by_fold (λ ds. all_ascii_digits ds ≡ true) tells_all_ascii_digits (λ n ds. fold with_digit n ds) (record { empty = λ n. refl; more = λ n c cs r. refl })
@@ -85,7 +83,7 @@ module _ (n : ℕ) (fits : n < 10 ^ 10) where
       let small : n < 2 ^ 64 = omega arith in
       let some : nat_le 1 (length (decimal n)) ≡ true = grind (arith, nat_tests, decimal_nonempty n small) in
       let few : nat_le (length (decimal n)) 10 ≡ true = grind (arith, nat_tests, length-decimal-le 10 n (omega arith) fits small) in
-      rw (some, few) (digits-counted 0 (decimal n) count-digits ∙ ap (λ (k : ℕ). Some k) (digits_value-decimal own n small))
+      rw (some, few) (digits-counted (decimal n) count-digits ∙ ap (λ (k : ℕ). Some k) (digits_value-decimal own n small))
 
   -- so are a count and a name
   append-read : (name : List ℕ) → append_of (decimal n ++ 32 ∷ name) ≡ Some (Wants n name)

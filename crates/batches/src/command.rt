@@ -3,6 +3,7 @@ ghost use Rattle.std.specs.List.{position_or_len};
 ghost use Rattle.batches.specs.Command.{append_of, count_of, front_command, is_line_end, is_space, line_of, with_bytes, without_cr};
 
 use crate::Bytes;
+use geom::read_digits;
 use thiserror::Error;
 
 /// A command of a batch. Names are bytes, which need not be UTF-8.
@@ -39,20 +40,15 @@ pub enum Line<'a> {
 }
 
 /// The number of a text of 1 to 10 digits.
+#[tactic(auto, using(crate::proofs::Counts::counted))]
 pub fn count_of(text: &[u8]) -> Option<u64>
     ensures { result ≡ count_of text.now }
 {
     if text.is_empty() || text.len() > 10 {
         return None;
     }
-    let mut count = 0;
-    for byte in text {
-        if !byte.is_ascii_digit() {
-            return None;
-        }
-        count = count * 10 + u64::from(*byte - 48);
-    }
-    Some(count)
+    let count = read_digits(text, 10_000_000_000)?;
+    Some(count as u64)
 }
 
 // What follows APPEND: a count, a space and a name.

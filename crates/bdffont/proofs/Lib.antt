@@ -4,7 +4,6 @@ pub mod Inking
 pub mod OneFont
 pub mod Reading
 pub mod Search
-pub mod Sizes
 pub mod Within
 pub mod Words
 pub mod Written

@@ -1,19 +1,14 @@
 -- The numbers of a line (Glyph Bitmap Distribution Format 2.1; docs/FILES.md, "Lines of a font").
-use Rattle.std.specs.Prelude.{ℕ, ◌^◌, ◌==◌, ◌&&◌, nat_lt, if◌then◌else◌, min, List, [], ◌∷◌, length, Option, None, Some, slice_get}
-use Rattle.std.specs.List.{list_all}
+use Rattle.std.specs.Prelude.{ℕ, ◌^◌, ◌==◌, ◌&&◌, nat_lt, if◌then◌else◌, List, [], ◌∷◌, length, Option, None, slice_get}
 use Rattle.std.specs.Option.{option_map, option_and_then}
-use Rattle.std.specs.Char.{is_ascii_digit}
 use Rattle.geom.specs.Decimal as decimal
+use Rattle.geom.specs.Natural.{number_in, up_to}
 use Rattle.bdffont.specs.declared.number.Number.{Number}
 use Rattle.bdffont.specs.Words.{words}
 
--- a size, or 2^32, which is past every limit of a font: so far a size is read
-abbrev pub capped : ℕ → ℕ
-capped n = min n (2 ^ 32)
-
--- the size that some digits are, one at least
+-- the size that some digits are, one at least; 2^32 is past every limit of a font, and so far a size is read
 abbrev pub size_of : List ℕ → Option ℕ
-size_of digits = if nat_lt 0 (length digits) && list_all is_ascii_digit digits then Some (capped (decimal.number_of digits)) else None
+size_of digits = if nat_lt 0 (length digits) then option_map (up_to (2 ^ 32)) (number_in digits) else None
 
 -- the digits of a word, after a minus if it begins with one
 abbrev pub digits_of : List ℕ → List ℕ

@@ -1,8 +1,11 @@
-ghost use Rattle.std.specs.Prelude.{◌≡◌, ◌≤◌, ◌^◌};
-ghost use Rattle.geom.specs.Decimal.{with_digit};
-ghost use Rattle.bdffont.specs.Number.{capped, size_of, number_of, number_at};
+ghost use Rattle.std.specs.Prelude.{◌≡◌};
+ghost use Rattle.bdffont.specs.Number.{size_of, number_of, number_at};
 
 use crate::line::word;
+use geom::read_digits;
+
+// So far a size is read: it is past every limit of a font.
+const MOST_READ: u128 = 1 << 32;
 
 /// A whole number: whether it is below 0, and its size, which counts up to 2^32 at most.
 #[derive(Clone, Copy)]
@@ -11,27 +14,15 @@ pub struct Number {
     pub size: u64,
 }
 
-// The number with a further digit.
-fn with_digit(size: u64, digit: u8) -> u64
-    requires small { size ≤ 2 ^ 32 }
-    requires digit { 48 ≤ digit }
-    ensures { result ≡ capped (with_digit size digit) }
-{
-    (size * 10 + u64::from(digit - b'0')).min(1 << 32)
-}
-
 // The size of the number that some digits are.
 fn size_of(digits: &[u8]) -> Option<u64>
     ensures { result ≡ size_of digits.now }
 {
-    let mut size = 0;
-    for digit in digits {
-        if !digit.is_ascii_digit() {
-            return None;
-        }
-        size = with_digit(size, *digit);
+    if digits.is_empty() {
+        return None;
     }
-    if digits.is_empty() { None } else { Some(size) }
+    let size = read_digits(digits, MOST_READ)?;
+    Some(size as u64)
 }
 
 // The number that a word is: digits, with a minus before them or none.

@@ -14,4 +14,5 @@ pub mod Rings
 pub mod Rounding
 pub mod Together
 pub mod Turning
+pub mod UpTo
 pub mod Written

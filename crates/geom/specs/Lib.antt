@@ -4,6 +4,7 @@ pub mod Device
 pub mod Edge
 pub mod EvenOdd
 pub mod Laws
+pub mod Natural
 pub mod Number
 pub mod PxBox
 pub mod Range

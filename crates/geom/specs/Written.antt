@@ -1,5 +1,5 @@
 -- Numbers of millionths as decimal texts (docs/MAPFILE.md, "Numbers").
-use Rattle.std.specs.Prelude.{ℕ, suc, ℤ, pos, negsuc, ◌+◌, ◌/◌, ◌%◌, ◌^◌, ◌<◌, ◌≤◌, ◌≡◌, ◌++◌, List, [], ◌∷◌, unsigned_abs, Ok, true, length, slice_index_or}
+use Rattle.std.specs.Prelude.{ℕ, suc, ℤ, pos, negsuc, ◌+◌, ◌/◌, ◌%◌, ◌^◌, ◌<◌, ◌≤◌, ◌≡◌, ◌++◌, List, [], ◌∷◌, unsigned_abs, Bool, Ok, true, false, length, slice_index_or}
 use Rattle.std.specs.Char.{is_ascii_digit}
 use Rattle.std.specs.Fmt.{decimal}
 use Rattle.std.specs.List.{list_all}
@@ -16,6 +16,11 @@ six_digits n = last_digit (n / 100000) ∷ last_digit (n / 10000) ∷ last_digit
 -- a size in millionths, written out: the whole part, a point, and six digits
 abbrev pub written_size : ℕ → List ℕ
 written_size n = decimal (n / 1000000) ++ 46 ∷ six_digits n
+
+-- a size in millionths with a minus before it, or without one
+abbrev pub signed_size : Bool → ℕ → List ℕ
+signed_size true n = 45 ∷ written_size n
+signed_size false n = written_size n
 
 -- a number of millionths, written out: a minus below 0, and its size
 abbrev pub written : ℤ → List ℕ

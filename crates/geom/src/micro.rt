@@ -1,9 +1,9 @@
-ghost use Rattle.std.specs.Prelude.{◌≡◌, ◌^◌, ◌<◌, ◌++◌, IfOk, OnOk};
+ghost use Rattle.std.specs.Prelude.{◌≡◌, ◌^◌, ◌<◌, ◌++◌, IfOk, OnErr, OnOk};
 ghost use Rattle.geom.specs.Decimal.{limited};
 ghost use Rattle.geom.specs.Range.{IsWithin};
 
 use crate::decimal::{nearest, read_decimal, split_sign, with_sign};
-use crate::writing::write_size;
+use crate::writing::write_signed;
 use std::alloc::AllocError;
 use std::marker::Model;
 use thiserror::Error;
@@ -92,14 +92,12 @@ impl Micro {
 
     /// Adds the number as a text: a minus below 0, its whole part, a point and six digits. Of the texts of
     /// that form without a needless zero before the point it is the only one that means the number
-    /// (`laws::one_text`). Where memory is refused, some front of the text may stand at the end of `out`.
+    /// (`laws::one_text`). Where memory is refused, nothing is added.
     pub fn write(self, out: &mut Vec<u8>) -> Result<(), AllocError>
-        ensures { OnOk result (out.new.items ≡ out.old.items ++ written self) }
+        ensures ok { OnOk result (out.new.items ≡ out.old.items ++ written self) }
+        ensures err { OnErr result (out.new.items ≡ out.old.items) }
     {
-        if self.millionths < 0 {
-            out.push(b'-')?;
-        }
-        write_size(out, self.millionths.unsigned_abs())
+        write_signed(out, self.millionths < 0, self.millionths.unsigned_abs())
     }
 
     /// The nearest whole number, a half away from zero.

@@ -2,6 +2,7 @@
 use Rattle.std.specs.Prelude.{◌≡◌, ℕ, ◌==◌, ◌<◌, nat_le, if◌then◌else◌, List, [], ◌∷◌, ◌++◌, codes, ℤ, pos, negsuc, Option, None, Some, option_and_then}
 use Rattle.std.specs.Result.{result_ok}
 use Rattle.hex.specs.Hex.{decode_sized, encode_lower}
+use Rattle.mapdefs.specs.Colour.{rgb_of_bytes}
 use Rattle.mapdefs.specs.declared.colour.Rgb.{Rgb}
 use Rattle.mapwords.specs.declared.colour.Component.{Component}
 use Rattle.mapwords.specs.declared.colour.Component.TheVariants.{Level, Absent}
@@ -20,11 +21,6 @@ component_of text = option_and_then component_of_count (count_of text)
 abbrev pub rgb_of : Component → Component → Component → Option Rgb
 rgb_of (Level r) (Level g) (Level b) = Some (record { red = r; green = g; blue = b })
 rgb_of _ _ _ = None
-
--- three bytes are the red, the green and the blue of a colour
-abbrev pub rgb_of_bytes : List ℕ → Option Rgb
-rgb_of_bytes (r ∷ g ∷ b ∷ []) = Some (record { red = r; green = g; blue = b })
-rgb_of_bytes _ = None
 
 -- the colour that a text `#rrggbb` stands for: after the `#`, three bytes of two hexadecimal digits each
 abbrev pub hex_colour : List ℕ → Option Rgb

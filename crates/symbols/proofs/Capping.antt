@@ -1,29 +1,9 @@
 -- Numbers that are read digit by digit, up to a cap.
-use Rattle.std.proofs.Common.{◌≡◌, ◌∙◌, ℕ, zero, suc, ◌*◌, ◌≤◌, Bool, true, false, List, [], ◌∷◌, length, take, refl, sym, ap, arith}
-use Rattle.std.specs.List.{fold, list_all, prefix_len}
-use Rattle.geom.specs.Decimal.{with_digit}
+use Rattle.std.proofs.Common.{◌≡◌, ℕ, zero, suc, ◌*◌, ◌≤◌, Bool, true, false, List, [], ◌∷◌, length, take, refl, ap, arith}
+use Rattle.std.specs.List.{list_all, prefix_len}
 use Rattle.symbols.specs.Format.{capped, colours_of}
 
--- a digit more makes the same of a capped number as of the number, up to the cap
-with_digit-capped : (n digit : ℕ) → capped (with_digit (capped n) digit) ≡ capped (with_digit n digit)
-unfolding capped
-with_digit-capped n digit = omega arith
-
--- so do further digits
-fold-capped : (n : ℕ) (digits : List ℕ) → capped (fold with_digit (capped n) digits) ≡ capped (fold with_digit n digits)
-unfolding capped
-fold-capped n [] = omega arith
-fold-capped n (d ∷ ds) = sym (fold-capped (with_digit (capped n) d) ds) ∙ (ap (λ m. capped (fold with_digit m ds)) (with_digit-capped n d) ∙ fold-capped (with_digit n d) ds)
-
--- one digit more, as at a step of a loop
-pub digit-step : (n d total : ℕ) (ds : List ℕ) → capped (fold with_digit n (d ∷ ds)) ≡ total → capped (fold with_digit (capped (with_digit n d)) ds) ≡ total
-digit-step n d total ds h = fold-capped (with_digit n d) ds ∙ h
-
--- a capped number is within the cap, and one that is within it is itself
-pub capped-most : (n : ℕ) → capped n ≤ 1000
-unfolding capped
-capped-most n = omega arith
-
+-- a capped number that is within the cap is itself
 pub capped-same : (n : ℕ) → n ≤ 1000 → capped n ≡ n
 unfolding capped
 capped-same n h = omega arith

@@ -1,26 +1,22 @@
 -- Pictures that are written as portable arbitrary maps are read.
-use Rattle.std.proofs.Common.{◌≡◌, ◌∙◌, ℕ, zero, suc, ◌+◌, ◌*◌, ◌<◌, ◌≤◌, ◌==◌, ◌&&◌, Bool, true, false, List, [], ◌∷◌, ◌++◌, length, take, drop, Option, None, Some, append_assoc, refl, sym, ap, arith}
+use Rattle.std.proofs.Common.{◌≡◌, ◌∙◌, ℕ, suc, ◌+◌, ◌*◌, ◌≤◌, ◌==◌, true, false, List, [], ◌∷◌, ◌++◌, length, take, drop, Option, None, Some, append_assoc, refl, sym, ap, arith}
 use Rattle.std.proofs.lemmas.Bool.Decides.{nat_tests}
 use Rattle.std.specs.Char.{is_ascii_digit}
 use Rattle.std.specs.Fmt.{decimal}
 use Rattle.std.proofs.lemmas.List.{drop-drop}
 use Rattle.std.proofs.Math.Seq.{drop-append_seam, take-append_seam}
 use Rattle.std.specs.List.{after_first, before_first, flat_map, list_all, list_any, position_or_len}
-use Rattle.std.specs.Option.{option_and_then}
 use Rattle.std.specs.Prelude.{codes}
 use Rattle.geom.specs.Decimal.{number_of}
-use Rattle.geom.specs.Side.{IsPictureSide}
 use Rattle.geom.proofs.Digits.{digit-range, digits-cons}
 use Rattle.geom.proofs.Written.{numeral}
-use Rattle.mapdefs.specs.PictureLimits.{IsPictureWithinLimits}
 use Rattle.mapdefs.specs.PixelBytes.{rgba_bytes}
 use Rattle.mapdefs.specs.declared.colour.Rgb.{Rgb}
-use Rattle.mapdefs.specs.declared.picture.PictureFields.{PictureFields}
 use Rattle.mapdefs.specs.Name.{is_same_name}
 use Rattle.symbols.proofs.Files.{or-left, or-right}
 use Rattle.symbols.specs.Law.{AreMapsRead}
 use Rattle.symbols.specs.Netpbm.{pam}
-use Rattle.symbols.specs.Pam.{PamHeader, is_line_feed, lines_within, no_header, picture_in, picture_of, tuples_of, with_line}
+use Rattle.symbols.specs.Pam.{PamHeader, is_line_feed, lines_within, no_header, picture_in, tuples_of, with_line}
 
 -- the bytes of pixels are four each, and are read as the pixels
 bytes-count : (pixels : List (Option Rgb)) → length (flat_map rgba_bytes pixels) ≡ 4 * length pixels

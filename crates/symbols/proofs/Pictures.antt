@@ -1,5 +1,5 @@
 -- Pictures that are written are read.
-use Rattle.std.proofs.Common.{◌≡◌, ◌∙◌, ℕ, suc, ◌*◌, ◌≤◌, Ok, List, [], ◌∷◌, ◌++◌, length, append_assoc, Option, None, Some, map, take_all, refl, ap, arith}
+use Rattle.std.proofs.Common.{◌≡◌, ◌∙◌, ℕ, suc, ◌*◌, ◌≤◌, Ok, List, [], ◌∷◌, ◌++◌, length, append_assoc, Option, map, take_all, refl, ap, arith}
 use Rattle.std.proofs.lemmas.Bool.{le-ltb}
 use Rattle.std.proofs.lemmas.List.Elements.{All-cons, All-nil}
 use Rattle.std.specs.Fmt.{decimal}

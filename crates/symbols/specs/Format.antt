@@ -1,9 +1,10 @@
 -- The pixmap that some bytes are, or their first fault (Netpbm, PPM; docs/FILES.md, "Pixmaps").
-use Rattle.std.specs.Prelude.{◌≡◌, ℕ, suc, ◌+◌, ◌*◌, ◌==◌, ◌&&◌, ◌||◌, not, Bool, true, false, if◌then◌else◌, nat_le, nat_lt, min, List, [], ◌∷◌, length, take, drop, slice_index_or, Option, None, Some, Result, Ok, Err}
+use Rattle.std.specs.Prelude.{◌≡◌, ℕ, suc, ◌+◌, ◌*◌, ◌==◌, ◌&&◌, ◌||◌, not, Bool, true, false, if◌then◌else◌, nat_le, nat_lt, List, [], ◌∷◌, length, take, drop, slice_index_or, Option, None, Some, Result, Ok, Err}
 use Rattle.std.specs.Char.{is_ascii_digit}
 use Rattle.std.specs.List.{prefix_len}
 use Rattle.std.specs.Option.{option_and_then}
 use Rattle.geom.specs.Decimal.{number_of}
+use Rattle.geom.specs.Natural.{up_to}
 use Rattle.mapdefs.specs.declared.colour.Rgb.{Rgb}
 use Rattle.mapdefs.specs.declared.limits.TheConstants.{MAX_SYMBOL_SIDE}
 use Rattle.mapdefs.specs.declared.symbol.PixmapFields.{PixmapFields}
@@ -32,7 +33,7 @@ has_space_at bytes at = nat_lt at (length bytes) && is_space (slice_index_or byt
 
 -- a number, or 1,000, which is past every limit: so far a number is read
 unfoldable pub capped : ℕ → ℕ
-capped n = min n 1000
+capped = up_to 1000
 
 -- the number after the white space and comments from an index on, and the index after its digits
 abbrev pub number_at : List ℕ → ℕ → Option Number

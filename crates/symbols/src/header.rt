@@ -1,8 +1,10 @@
 ghost use Rattle.std.specs.Prelude.{◌≡◌, ◌≤◌, false, true, length, IfSome};
 ghost use Rattle.std.specs.Char.{is_ascii_digit};
 ghost use Rattle.std.specs.List.{list_all, prefix_len};
-ghost use Rattle.geom.specs.Decimal.{number_of, with_digit};
+ghost use Rattle.geom.specs.Decimal.{number_of};
 ghost use Rattle.symbols.specs.Format.{capped, blanks_len, has_space_at, header_of, is_space, number_at};
+
+use geom::read_digits;
 
 /// A number of a header.
 #[derive(Clone, Copy)]
@@ -115,23 +117,13 @@ fn digits_len(bytes: &[u8]) -> usize
 }
 
 // The number of some digits, or 1,000 where it is greater.
+#[tactic(auto, unfolding(crate::specs::Format::capped))]
 fn value_of(digits: &[u8]) -> u16
     requires { list_all is_ascii_digit digits.now ≡ true }
     ensures { result ≡ capped (number_of digits.now) }
 {
-    let mut value = 0;
-    for digit in digits {
-        value = with_digit(value, *digit);
-    }
-    value
-}
-
-// The number with a further digit.
-#[tactic(auto, unfolding(crate::specs::Format::capped))]
-fn with_digit(value: u16, digit: u8) -> u16
-    requires small { value ≤ 1000 }
-    requires digit { is_ascii_digit digit ≡ true }
-    ensures { result ≡ capped (with_digit value digit) }
-{
-    (value * 10 + u16::from(digit - b'0')).min(1_000)
+    let Some(value) = read_digits(digits, 1_000) else {
+        unreachable!()
+    };
+    value as u16
 }

@@ -3,7 +3,6 @@ pub mod FirstFault
 pub mod FoundPairs
 pub mod Indices
 pub mod LaterParameters
-pub mod Numbers
 pub mod SameTexts
 pub mod Steps
 pub mod WrittenAreas

@@ -19,7 +19,8 @@ use Rattle.crsaxes.specs.Axes.{parts, box_of, box_of_parts, box_in, with_area}
 use Rattle.crsaxes.specs.declared.crs.Crs.{Crs}
 use Rattle.crsaxes.specs.declared.crs.Crs.TheVariants.{Crs84, Epsg4326}
 use Rattle.mapdefs.specs.declared.colour.Rgb.{Rgb}
-use Rattle.wmsquery.specs.Values.{area_of, background_of, rgb_of_bytes}
+use Rattle.mapdefs.specs.Colour.{rgb_of_bytes}
+use Rattle.wmsquery.specs.Values.{area_of, background_of}
 use Rattle.wmsquery.specs.declared.fault.Code.TheVariants as code
 use Rattle.wmsquery.specs.Written.{bbox_text, colour_text, IsColour, with_commas}
 use Rattle.wmsquery.proofs.WrittenValues.{split-joined}

@@ -1,5 +1,4 @@
 pub mod Meaning
-pub mod Number
 pub mod Order
 pub mod Pairs
 pub mod Query

@@ -3,12 +3,12 @@ use Rattle.std.specs.Prelude.{ℕ, ◌==◌, ◌&&◌, ◌||◌, Bool, true, fal
 use Rattle.std.specs.Option.{option_map_or}
 use Rattle.std.specs.Result.{result_ok}
 use Rattle.std.specs.List.{list_all, list_any}
-use Rattle.std.specs.Char.{is_ascii_digit}
 use Rattle.std.specs.Str.{str_eq_ignore_ascii_case}
 use Rattle.hex.specs.Hex.{decode_sized}
-use Rattle.geom.specs.Decimal.{number_of}
+use Rattle.geom.specs.Natural.{number_in}
 use Rattle.geom.specs.Side.{picture_side}
 use Rattle.geom.specs.World.{Area}
+use Rattle.mapdefs.specs.Colour.{rgb_of_bytes}
 use Rattle.mapdefs.specs.declared.colour.Rgb.{Rgb}
 use Rattle.mapdefs.specs.declared.layer.LayerFields.{LayerFields}
 use Rattle.mapdefs.specs.declared.map.MapFields.{MapFields}
@@ -118,10 +118,6 @@ system_of text = and_then (required text) (λ name. ok_or (crs_of name) code.Inv
 abbrev pub area_of : Crs → Option (List ℕ) → Result Area Code
 area_of crs text = and_then (required text) (λ box. ok_or (result_ok (box_of_parts crs (parts box))) code.InvalidParameterValue)
 
--- the number that digits alone are
-abbrev pub number_in : List ℕ → Option ℕ
-number_in text = if list_all is_ascii_digit text then Some (number_of text) else None
-
 -- WIDTH and HEIGHT are the number of a side that a picture may have
 abbrev pub side_of : Option (List ℕ) → Result ℕ Code
 side_of text = and_then (required text) (λ digits. ok_or (option_and_then picture_side (number_in digits)) code.InvalidParameterValue)
@@ -143,11 +139,6 @@ transparent_of None = Ok false
 transparent_of (Some text) =
     if str_eq_ignore_ascii_case text (codes "TRUE") then Ok true
     else (if str_eq_ignore_ascii_case text (codes "FALSE") then Ok false else Err code.InvalidParameterValue)
-
--- three bytes are the red, the green and the blue of a colour
-abbrev pub rgb_of_bytes : List ℕ → Option Rgb
-rgb_of_bytes (r ∷ g ∷ b ∷ []) = Some (record { red = r; green = g; blue = b })
-rgb_of_bytes _ = None
 
 -- a colour is `0x` or `0X` and three bytes of two hexadecimal digits each
 abbrev pub colour_of : List ℕ → Option Rgb

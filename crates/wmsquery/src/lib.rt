@@ -18,7 +18,6 @@ mod fault;
 mod information;
 pub mod laws;
 mod lists;
-mod number;
 mod pairs;
 mod picture;
 mod query;

@@ -1,5 +1,6 @@
-ghost use Rattle.std.specs.Prelude.{◌≡◌, ◌≤◌, ◌<◌, IfOk, IfSome};
-ghost use Rattle.std.specs.Option.{option_copied};
+ghost use Rattle.std.specs.Prelude.{◌≡◌, ◌≤◌, ◌<◌, ◌^◌, IfOk, IfSome};
+ghost use Rattle.std.specs.Option.{option_copied, option_map};
+ghost use Rattle.geom.specs.Natural.{number_in, up_to};
 ghost use Rattle.geom.specs.Side.{picture_side};
 ghost use Rattle.geom.specs.World.{IsExtent};
 ghost use Rattle.mapdefs.specs.declared.limits.TheConstants.{MAX_FEATURES};
@@ -7,13 +8,19 @@ ghost use Rattle.wmsquery.specs.Values.{fixed, service_of, operation_named, oper
 
 use crate::fault::Code;
 use crate::lists::absent;
-use crate::number::read_number;
 use crate::request::Format;
 use crsaxes::{Crs, crs_of};
-use geom::{PictureSide, WorldBox};
+use geom::{PictureSide, WorldBox, read_digits};
 use hex::FromHex;
 use mapdefs::{MAX_FEATURES, Rgb};
 use operations::Operation;
+
+// The number that digits alone are; what is more than 2^64 counts as 2^64, which is past every limit.
+fn read_number(text: &str) -> Option<u128>
+    ensures { result ≡ option_map (up_to (2 ^ 64)) (number_in text.now) }
+{
+    read_digits(text.as_bytes(), 1 << 64)
+}
 
 // A text that has to be this one.
 fn fixed(wanted: &str, refusal: Code, text: &str) -> Result<(), Code>
@@ -108,7 +115,7 @@ pub fn side(text: Option<&str>) -> Result<PictureSide, Code>
     let Some(text) = text else {
         return Err(Code::MissingParameterValue);
     };
-    let Some(pixels) = read_number(text.as_bytes()) else {
+    let Some(pixels) = read_number(text) else {
         return Err(Code::InvalidParameterValue);
     };
     side_within(pixels).ok_or(Code::InvalidParameterValue)
@@ -214,7 +221,7 @@ pub fn feature_count(text: Option<&str>) -> Result<u32, Code>
     let Some(text) = text else {
         return Ok(1);
     };
-    let Some(number) = read_number(text.as_bytes()) else {
+    let Some(number) = read_number(text) else {
         return Err(Code::InvalidParameterValue);
     };
     count_within(number).ok_or(Code::InvalidParameterValue)
@@ -240,7 +247,7 @@ pub fn pixel(side: PictureSide, text: Option<&str>) -> Result<u32, Code>
     let Some(text) = text else {
         return Err(Code::MissingParameterValue);
     };
-    let Some(number) = read_number(text.as_bytes()) else {
+    let Some(number) = read_number(text) else {
         return Err(Code::InvalidPoint);
     };
     index_below(side, number).ok_or(Code::InvalidPoint)
@@ -266,7 +273,7 @@ pub fn update_sequence(present: u64, text: Option<&str>) -> Result<(), Code>
     let Some(text) = text else {
         return Ok(());
     };
-    let Some(number) = read_number(text.as_bytes()) else {
+    let Some(number) = read_number(text) else {
         return Err(Code::InvalidUpdateSequence);
     };
     is_behind(present, number)

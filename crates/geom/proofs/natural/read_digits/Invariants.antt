@@ -1,13 +1,13 @@
-use Rattle.std.proofs.Common.{◌≡◌, ◌≤◌, ◌^◌, drop}
+use Rattle.std.proofs.Common.{◌≡◌, ◌≤◌, drop}
 use Rattle.std.specs.List.{fold, list_all}
 use Rattle.std.specs.Char.{is_ascii_digit}
 use Rattle.geom.specs.Decimal.{with_digit, number_of}
-use Rattle.bdffont.specs.Number.{capped}
-use Rattle.bdffont.proofs.number.size_of.Given as goal
+use Rattle.geom.specs.Natural.{up_to}
+use Rattle.geom.proofs.natural.read_digits.Given as goal
 
 abbrev pub invariant-loop-digit : goal.invariant-loop-digit
 invariant-loop-digit l = record {
-  within : l.size ≤ 2 ^ 32;
-  same : capped (fold with_digit l.size (drop l.digit-index l.digits)) ≡ capped (number_of l.digits);
+  within : l.number ≤ l.most;
+  same : up_to l.most (fold with_digit l.number (drop l.digit-index l.digits)) ≡ up_to l.most (number_of l.digits);
   digits : list_all is_ascii_digit (drop l.digit-index l.digits) ≡ list_all is_ascii_digit l.digits;
 }

@@ -1,7 +1,7 @@
 use Rattle.std.proofs.Common.{◌≡◌, ◌+◌, ◌<◌, ◌∷◌, length, drop, get_or, arith, add-one, drop-cons, sym, ◌∙◌, true}
 use Rattle.std.specs.Char.{is_ascii_digit}
-use Rattle.wmsquery.proofs.Numbers.{number-step, digits-step}
-use Rattle.wmsquery.proofs.number.read_number.Goals as goal
+use Rattle.geom.proofs.UpTo.{number-step, digits-step}
+use Rattle.geom.proofs.natural.read_digits.Goals as goal
 
 pub loop-digit-preserved : goal.loop-digit-preserved
 loop-digit-preserved c =
@@ -11,7 +11,7 @@ loop-digit-preserved c =
     let here : drop i digits ≡ get_or digits i 0 ∷ drop (i + 1) digits = rw (add-one, drop-cons digits i 0) in
     let is_digit : is_ascii_digit (get_or digits i 0) ≡ true = sym c.is_ascii_digit.ensures.value ∙ c.if-not-is_ascii_digit.false in
     record {
-      within = omega arith;
-      same = rw c.with_digit-number.ensures (number-step c.loop-digit.number (get_or digits i 0) _ (drop (i + 1) digits) (rw here at c.loop-digit.invariant.same));
+      within = c.with_digit-number.ensures.bound;
+      same = rw c.with_digit-number.ensures.value (number-step c.args.most c.loop-digit.number (get_or digits i 0) _ (drop (i + 1) digits) (rw here at c.loop-digit.invariant.same));
       digits = digits-step (get_or digits i 0) (drop (i + 1) digits) _ is_digit (rw here at c.loop-digit.invariant.digits);
     }
