@@ -7,7 +7,7 @@ use Rattle.compose.proofs.Finding.{first_or, here}
 use Rattle.featureinfo.specs.Hits.{AreFirstAmong}
 
 -- an element of a list has what all have
-of-all : {X : Type 0} (P : X → Type 0) (xs : List X) (x : X) → All P xs → Contains xs x → P x
+pub of-all : {X : Type 0} (P : X → Type 0) (xs : List X) (x : X) → All P xs → Contains xs x → P x
 of-all P [] x all c = absurd (omega (arith, c.1))
 of-all {X} P (y ∷ xs) x all c = ⊎_elim
     (λ (e : y ≡ x). rw e at (all 0 y (omega arith)))

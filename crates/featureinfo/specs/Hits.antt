@@ -64,3 +64,13 @@ AreFirstAmong wanted count among found = AreFirst (λ k. Contains among k × wan
 pub record IsClassedNear (scene : SceneValue) (layer : LayerFields) (n : Nearby) (feature : FeatureFields) : Type 0 where
   pub class : is_some (class_of scene.scale layer feature) ≡ true
   pub near : SomeNear n (covers_plainly scene.view layer.kind feature.parts)
+
+-- the law that a layer has one list of hits at most
+abbrev pub HasOneHitList : Type 0
+HasOneHitList = (scene : SceneValue) (layer : LayerFields) (i j count : ℕ) (a b : List ℕ) →
+    AreHits scene layer i j count a → AreHits scene layer i j count b → a ≡ b
+
+-- the law that a greater TOLERANCE only adds hits: what is hit with a lesser one is hit with it
+abbrev pub ToleranceOnlyAdds : Type 0
+ToleranceOnlyAdds = (scene : SceneValue) (layer : LayerFields) (tolerance i j : ℕ) (feature : FeatureFields) →
+    layer.tolerance ≤ tolerance → IsHit scene layer i j feature → IsHit scene (record layer { tolerance = tolerance }) i j feature

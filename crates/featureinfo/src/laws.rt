@@ -1,5 +1,6 @@
 //! Laws of the definitions. A law is a function without arguments whose contract states it.
 
+ghost use Rattle.featureinfo.specs.Hits.{HasOneHitList, ToleranceOnlyAdds};
 ghost use Rattle.featureinfo.specs.Nearby.{NearbyAreWithin};
 ghost use Rattle.featureinfo.specs.Reach.{NearIsNotFar};
 
@@ -11,4 +12,14 @@ pub fn nearby()
 /// A feature whose vertices all lie beyond one side of the pixels near the asked one covers none of them plainly.
 pub fn far()
     ensures { NearIsNotFar }
+{}
+
+/// There is one list of the hits of a layer at most.
+pub fn one_hit_list()
+    ensures { HasOneHitList }
+{}
+
+/// What is hit stays hit where the layer's TOLERANCE grows.
+pub fn tolerance_only_adds()
+    ensures { ToleranceOnlyAdds }
 {}

@@ -1,8 +1,8 @@
 -- Which labels are placed, and where (docs/PROFILE.md, "Labels").
-use Rattle.std.specs.Prelude.{◌≡◌, ℕ, ◌<◌, ◌≤◌, false, List, Some, slice_get, All}
+use Rattle.std.specs.Prelude.{◌≡◌, ℕ, ℤ, ◌<◌, ◌≤◌, false, List, Some, slice_get, All}
 use Rattle.std.specs.List.{AllPairs}
 use Rattle.geom.specs.Device.{PixelPlace}
-use Rattle.geom.specs.PxBox.{PixelBoxValue, Meets, IsInside}
+use Rattle.geom.specs.PxBox.{PixelBoxValue, HasPixel, Meets, IsInside}
 use Rattle.mapdefs.specs.declared.font.FontFields.{FontFields}
 use Rattle.labelcache.specs.declared.cache.Placed.{Placed}
 use Rattle.labelcache.specs.Candidate.{CandidateValue, IsTriedBefore, square, squared_distance}
@@ -69,3 +69,15 @@ pub record IsPlacement (s : Setting) (labels : List Placed) : Type 0 where
 -- the law that there is one placement at most
 abbrev pub HasOnePlacement : Type 0
 HasOnePlacement = (s : Setting) (a b : List Placed) → IsPlacement s a → IsPlacement s b → a ≡ b
+
+-- a label is of a candidate without FORCE
+pub record IsUnforced (s : Setting) (label : Placed) : Type 0 where
+  pub candidate : CandidateValue
+  pub is : slice_get s.candidates label.number ≡ Some candidate
+  pub unforced : candidate.label.force ≡ false
+
+-- the law that the boxes of two labels of a placement share no pixel, where the later one is placed without FORCE
+abbrev pub UnforcedShareNoPixel : Type 0
+UnforcedShareNoPixel = (s : Setting) (labels : List Placed) → IsPlacement s labels → (i k : ℕ) (a b : Placed) → i < k →
+    slice_get labels i ≡ Some a → slice_get labels k ≡ Some b → IsUnforced s b →
+    (column row : ℤ) → HasPixel a.taken column row → HasPixel b.taken column row → ⊥
