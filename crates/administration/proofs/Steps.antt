@@ -52,6 +52,7 @@ module _ {O : Type 0} (opening : State) (held : O → Option (List ℕ)) (taken 
   pub record HasCome (left : Option (List ℕ)) (now : Batches) (current : O) : Type 0 where
     pub bytes : List ℕ
     pub commands : List Command
+    pub well_formed : list_any is_malformed commands ≡ false
     pub lines : List ℕ
     pub came : Consumes start left bytes
     pub sent : IsSent held taken first lines current
@@ -63,6 +64,7 @@ module _ {O : Type 0} (opening : State) (held : O → Option (List ℕ)) (taken 
   nothing-came = record {
     bytes = [];
     commands = [];
+    well_formed = refl;
     lines = [];
     came = Consumes-nil start;
     sent = nothing-sent held taken first;
@@ -76,6 +78,9 @@ module _ {O : Type 0} (opening : State) (held : O → Option (List ℕ)) (taken 
     one-more after next last piece command what taken_in is has on sent = record {
       bytes = come.bytes ++ piece;
       commands = come.commands ++ command ∷ [];
+      well_formed =
+          let plain : is_malformed command ≡ false = others-go-on opening now next command what has on in
+          rw (list_any-append is_malformed come.commands (command ∷ []), come.well_formed, plain) refl;
       lines = come.lines ++ done_line what;
       came = Consumes-trans start left after come.bytes piece come.came taken_in;
       sent = sent-sent held taken first current last come.lines (done_line what) come.sent sent;
@@ -131,6 +136,7 @@ module _ {O : Type 0} (opening : State) (held : O → Option (List ℕ)) (taken 
       bytes = piece;
       between = now;
       done = all-done after piece taken_in;
+      well_formed = come.well_formed;
       command = command;
       what = what;
       front = rw (append-nil piece) at (is []);

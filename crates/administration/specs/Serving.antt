@@ -72,14 +72,15 @@ abbrev pub IsServed : List Command → List ℕ → Option (List ℕ) → Bool �
 IsServed commands rest left failed =
     (list_any is_malformed commands ≡ true) ⊎ ((front_command rest ≡ None) × (IsAtEnd left ⊎ (failed ≡ true)))
 
--- the writer failed: all commands before the last are done and all of their lines went out; the last is done, too, and only the front
--- of its line went out
+-- the writer failed: all commands before the last are done and all of their lines went out, and none of them is malformed, since nothing
+-- is read after such a one; the last is done, too, and only a prefix of its line went out
 pub record IsStopped {O : Type 0} (opening : State) (before after : Option (List ℕ)) (held : O → Option (List ℕ)) (taken : O → ℕ) (old : Batches) (first : O) (new : Batches) (last : O) : Type 0 where
   pub commands : List Command
   pub lines : List ℕ
   pub bytes : List ℕ
   pub between : Batches
   pub done : HasDoneAll opening before after commands old lines bytes between
+  pub well_formed : list_any is_malformed commands ≡ false
   pub command : Command
   pub what : Done
   pub front : front_command bytes ≡ Some (command, [])

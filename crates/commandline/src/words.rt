@@ -1,4 +1,4 @@
-ghost use Rattle.std.specs.Prelude.{◌≡◌, ◌≢◌, IfOk, IfErr, IfSome, OnOk, map, [], true, false};
+ghost use Rattle.std.specs.Prelude.{◌≡◌, ◌≢◌, ◌↔◌, IsTrue, IfOk, IfErr, IfSome, OnOk, map, [], true, false};
 ghost use Rattle.clap.specs.Words.{app_of, rule_of, rows_of, found_of, fault_of, kind_of, new_app, subcommand_of, subcommand_rows_of, takes, with_rule};
 ghost use Rattle.clap.specs.declared.error.kind.ErrorKind.TheVariants.{OutOfMemory};
 ghost use Rattle.clap.specs.declared.builder.command.Command.TheViews.{out-Command};
@@ -190,7 +190,7 @@ fn flag_of<'a>(matches: &ArgMatches<'a>, name: &str) -> bool
 
 // Whether the times of a service and the count of its workers lie in their ranges.
 fn is_in_range(service: Service) -> bool
-    ensures { result ≡ true → IsInRange service }
+    ensures { IsTrue result ↔ IsInRange service }
 {
     let Service {
         idle,

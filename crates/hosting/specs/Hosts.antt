@@ -35,8 +35,8 @@ TellsAddresses (Err SocketFailed) clients administration before after = Keeps be
 TellsAddresses (Err NoMemory) clients administration before after = Keeps before after
 TellsAddresses (Err _) clients administration before after = ⊥
 
--- why an address can't be told: the port has none, or there is no memory for it
-abbrev pub is_address_unknown : Failure → Bool
-is_address_unknown SocketFailed = true
-is_address_unknown NoMemory = true
-is_address_unknown failure = false
+-- why there is no service, or it ended early: a port or a thread failed, or memory was refused
+abbrev pub is_service_failure : Failure → Bool
+is_service_failure SocketFailed = true
+is_service_failure NoMemory = true
+is_service_failure failure = false

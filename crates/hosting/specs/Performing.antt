@@ -1,5 +1,5 @@
 -- What the program does for a command on a host (docs/PROFILE.md, "The program").
-use Rattle.std.specs.Prelude.{◌≡◌, ◌⊎◌, ℕ, Bool, List, [], Option, Ok, Err}
+use Rattle.std.specs.Prelude.{◌≡◌, ◌⊎◌, ℕ, Bool, true, List, [], Option, Ok, Err, MatchResult}
 use Rattle.std.specs.Io.KnownBytes.{Keeps}
 use Rattle.commandline.specs.declared.form.Command.{Command}
 use Rattle.commandline.specs.declared.form.Service.{Service}
@@ -10,7 +10,7 @@ use Rattle.sessions.specs.Forms.{HasReadMap, GivesNoMap, TellsWarnings, ChecksTo
 use Rattle.sessions.specs.Session.{Outcome, Streams, Tells}
 use Rattle.sessions.specs.declared.failure.Failure.{Failure}
 use Rattle.sessions.specs.declared.failure.Failure.TheVariants.{SocketFailed, NoMemory}
-use Rattle.hosting.specs.Hosts.{gives_in, TellsAddresses}
+use Rattle.hosting.specs.Hosts.{gives_in, TellsAddresses, is_service_failure}
 
 -- the streams with another input
 abbrev pub with_input : Option (List ℕ) → Streams → Streams
@@ -20,9 +20,10 @@ with_input input streams = record { input = input; output = streams.output; erro
 pub record PortView (P : Type 0) : Type 0 where
   pub address : P → Option (List ℕ)
 
--- how serving went on after the addresses were told: nothing is known of it, or it ended as telling failed
+-- how serving ended after the addresses were reported: well, or for want of a port, a thread or memory. No mapfile is to blame, and no
+-- argument. It ends as reporting failed, where that did
 abbrev pub GoesOnAfter : Outcome → Outcome → Type 0
-GoesOnAfter (Ok done) outcome = Unit {0}
+GoesOnAfter (Ok done) outcome = MatchResult outcome (λ _. Unit {0}) (λ failure. is_service_failure failure ≡ true)
 GoesOnAfter (Err failure) outcome = outcome ≡ Err failure
 
 -- the two ports of a service were listened on, and their addresses told

@@ -1,4 +1,4 @@
-ghost use Rattle.std.specs.Prelude.{◌≡◌, ◌-◌, false, option_map, MatchOption};
+ghost use Rattle.std.specs.Prelude.{◌≡◌, ◌-◌, Some, false, option_map, MatchOption};
 ghost use Rattle.hosting.specs.Ports.{HasEnded, HasOpened, wanted_of};
 
 use crate::port::Port;
@@ -56,9 +56,12 @@ impl<P> Accepting<P> {
     pub fn accept<C>(&mut self) -> Option<C>
     where
         P: Port<C>,
-        ensures { MatchOption result
+        ensures accepts { MatchOption result
             (HasEnded self.old.wanted (P.log self.old.port) (P.log self.new.port) self.new.wanted self.new.is_given_up)
             (λ _. HasOpened self.old.wanted (P.log self.old.port) (P.log self.new.port) self.new.wanted) }
+        ensures kept { MatchOption result
+            (self.old.wanted ≡ Some 0 → self.new.is_given_up ≡ self.old.is_given_up)
+            (λ _. self.new.is_given_up ≡ self.old.is_given_up) }
     {
         if self.wanted == Some(0) {
             return None;
@@ -75,6 +78,10 @@ impl<P> Accepting<P> {
 }
 
 impl<C, P: Port<C>> Streams<C> for Accepting<P> {
+    ghost use Rattle.std.specs.Prelude.{◌≡◌, ◌⊎◌, Some, true};
+
+    ghost ended = { λ a. (a.wanted ≡ Some 0) ⊎ (a.is_given_up ≡ true) };
+
     fn next(&mut self) -> Option<C> {
         self.accept()
     }

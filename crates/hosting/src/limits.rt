@@ -17,6 +17,12 @@ pub const WRITE_SECONDS: u64 = 1;
 /// For how many seconds in all is read what a client still sends after its answer.
 pub const DRAIN_SECONDS: u64 = 2;
 
+/// How many connections of a port wait for a worker. While so many wait, no further one is taken.
+pub const MAX_WAITING: u32 = 512;
+
+/// How many milliseconds pass between two looks whether fewer wait.
+pub const WAITING_MILLISECONDS: u64 = 1;
+
 /// For how many milliseconds in all that is read of a client for whom there is no place.
 pub const TURNED_AWAY_MILLISECONDS: u64 = 20;
 

@@ -2,7 +2,7 @@ ghost use Rattle.std.specs.Prelude.{◌≡◌, ◌||◌, IfErr, IfOk, IfSome, On
 ghost use Rattle.sessions.specs.Forms.{has_told};
 ghost use Rattle.sessions.specs.Session.{is_output_failed};
 ghost use Rattle.sessions.specs.declared.failure.Failure.{Failure};
-ghost use Rattle.hosting.specs.Hosts.{TellsAddresses, is_address_unknown};
+ghost use Rattle.hosting.specs.Hosts.{TellsAddresses, is_service_failure};
 ghost use Rattle.hosting.specs.Performing.{ListensTo, PortView};
 
 use crate::host::Host;
@@ -20,7 +20,7 @@ use std::thread::Threads;
 // Where a port is.
 fn address_of<C, P: Port<C>>(alloc: Global, port: &P) -> Result<Text, Failure>
     ensures address { IfOk result (λ text. IfSome (P.address port.now) (λ known. text ≡ known)) }
-    ensures unknown { IfErr result (λ failure. is_address_unknown failure ≡ true) }
+    ensures unknown { IfErr result (λ failure. is_service_failure failure ≡ true) }
 {
     match port.address(alloc) {
         Ok(address) => Ok(address),

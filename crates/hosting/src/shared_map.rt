@@ -1,6 +1,5 @@
-ghost use Rattle.std.specs.Prelude.{◌≡◌, IfErr, false};
-ghost use Rattle.sessions.specs.Forms.{has_told};
-ghost use Rattle.sessions.specs.Session.{is_output_failed};
+ghost use Rattle.std.specs.Prelude.{◌≡◌, IfErr, true};
+ghost use Rattle.hosting.specs.Hosts.{is_service_failure};
 
 use crate::accepting::Accepting;
 use crate::host::Host;
@@ -48,8 +47,7 @@ fn bell_of<W: Wakes + Drop>(
     alloc: Global,
     waker: Option<W>,
 ) -> Result<(Bell<W>, Arc<AtomicBool, Global>), Failure>
-    ensures output { IfErr result (λ failure. is_output_failed failure ≡ false) }
-    ensures untold { IfErr result (λ failure. has_told failure ≡ false) }
+    ensures failed { IfErr result (λ failure. is_service_failure failure ≡ true) }
 {
     let Some(waker) = waker else {
         return Err(Failure::SocketFailed);
@@ -80,8 +78,7 @@ where
     R: AllocGlobal + Wait + Threads + Send + Copy + Drop + 'static,
     C: Connection + Send + Drop + 'static,
     P: Port<C>,
-    ensures output { IfErr result (λ failure. is_output_failed failure ≡ false) }
-    ensures untold { IfErr result (λ failure. has_told failure ≡ false) }
+    ensures failed { IfErr result (λ failure. is_service_failure failure ≡ true) }
 {
     let Ok(gate) = Arc::new(rt.alloc(), OpenGate) else {
         return Err(Failure::NoMemory);
@@ -194,8 +191,7 @@ where
     H::Connection: Send + 'static,
     H::Port: Send + 'static,
     H::Waker: Send + 'static,
-    ensures output { IfErr result (λ failure. is_output_failed failure ≡ false) }
-    ensures untold { IfErr result (λ failure. has_told failure ≡ false) }
+    ensures failed { IfErr result (λ failure. is_service_failure failure ≡ true) }
 {
     let Ports {
         clients,
@@ -248,8 +244,7 @@ where
     H::Waker: Send + 'static,
     requires history { blank.seen.book ≡ S.book }
     requires opening { machine ≡ S.opening }
-    ensures output { IfErr result (λ failure. is_output_failed failure ≡ false) }
-    ensures untold { IfErr result (λ failure. has_told failure ≡ false) }
+    ensures failed { IfErr result (λ failure. is_service_failure failure ≡ true) }
 {
     let workers = usize::from(service.workers);
     match open::<S, R>(rt, rt.alloc(), blank, &machine, workers) {
@@ -278,8 +273,7 @@ where
     H::Connection: Send + 'static,
     H::Port: Send + 'static,
     H::Waker: Send + 'static,
-    ensures output { IfErr result (λ failure. is_output_failed failure ≡ false) }
-    ensures untold { IfErr result (λ failure. has_told failure ≡ false) }
+    ensures failed { IfErr result (λ failure. is_service_failure failure ≡ true) }
 {
     share_named::<Brand, R, H>(rt, Blank::new(), host, machine, ports, service)
 }

@@ -1,14 +1,19 @@
 ghost use Rattle.std.specs.Prelude.{None};
 
 use crate::closing::hang_up;
-use crate::limits::{DRAIN_SECONDS, FAILURE_MILLISECONDS, TURNED_AWAY_MILLISECONDS, Waits};
+use crate::limits::{
+    DRAIN_SECONDS, FAILURE_MILLISECONDS, MAX_WAITING, TURNED_AWAY_MILLISECONDS,
+    WAITING_MILLISECONDS, Waits,
+};
 use crate::port::{AcceptFailed, AddressFault, Port, Wakes};
 use crate::timed::{Answered, TimedReader, TimedWriter};
 use httpedge::{Asks, EdgeFault, Outcome, respond};
 use mapdefs::Text;
 use mapmachine::{Flagged, WriteFault};
-use std::alloc::Global;
+use std::alloc::{AllocError, Global};
 use std::net::{SocketAddr, TcpListener, TcpStream};
+use std::sync::Arc;
+use std::sync::atomic::{AtomicU32, Ordering};
 use std::time::Duration;
 use std::{io, thread};
 use workers::{Connection, Opens, Sides, serve_one};
@@ -26,15 +31,29 @@ pub struct SocketPort {
     rt: HostRuntime,
     listener: TcpListener,
     waits: Waits,
+    // How many of its connections were accepted, and neither opened nor turned away yet.
+    waiting: Arc<AtomicU32, Global>,
 }
 
 impl SocketPort {
     /// The port of a listener, with how long the calls of its connections wait.
-    pub fn new(rt: &HostRuntime, listener: TcpListener, waits: Waits) -> Self {
-        SocketPort {
+    pub fn new(rt: &HostRuntime, listener: TcpListener, waits: Waits) -> Result<Self, AllocError> {
+        Ok(SocketPort {
             rt: *rt,
             listener,
             waits,
+            waiting: Arc::new(rt.alloc(), AtomicU32::new(0))?,
+        })
+    }
+
+    // Waits until there is room for one more that waits for its worker: a connection that isn't taken waits in the
+    // system's own queue, and costs no descriptor.
+    fn wait_for_room(&self) {
+        for _ in 0..u64::MAX {
+            if self.waiting.load(Ordering::SeqCst) < MAX_WAITING {
+                return;
+            }
+            thread::sleep(&self.rt, Duration::from_millis(WAITING_MILLISECONDS));
         }
     }
 }
@@ -68,13 +87,19 @@ impl Port<SocketConnection> for SocketPort {
     }
 
     fn accept(&mut self) -> Result<SocketConnection, AcceptFailed> {
-        match self.listener.accept() {
-            Ok((stream, _)) => Ok(SocketConnection {
-                rt: self.rt,
-                stream,
-                waits: self.waits,
-            }),
-            Err(_) => {
+        self.wait_for_room();
+        let waiting = Arc::try_clone(&self.waiting);
+        match (self.listener.accept(), waiting) {
+            (Ok((stream, _)), Ok(waiting)) => {
+                waiting.fetch_add(1, Ordering::SeqCst);
+                Ok(SocketConnection {
+                    rt: self.rt,
+                    stream,
+                    waits: self.waits,
+                    waiting,
+                })
+            }
+            (Ok(_), Err(_)) | (Err(_), _) => {
                 thread::sleep(&self.rt, Duration::from_millis(FAILURE_MILLISECONDS));
                 Err(AcceptFailed)
             }
@@ -109,6 +134,7 @@ pub struct SocketConnection {
     rt: HostRuntime,
     stream: TcpStream,
     waits: Waits,
+    waiting: Arc<AtomicU32, Global>,
 }
 
 // Ends a connection, which had this fault or none. What its client still sends is read for so long.
@@ -127,7 +153,13 @@ impl Opens for SocketConnection {
     // The time of its first head begins. What is written leaves at once: an answer that waited for the client's word that
     // it has the one before would wait for as long as that is kept back.
     fn open(self, alloc: Global) -> Option<Sides<SocketReader, SocketWriter>> {
-        let SocketConnection { rt, stream, waits } = self;
+        let SocketConnection {
+            rt,
+            stream,
+            waits,
+            waiting,
+        } = self;
+        waiting.fetch_sub(1, Ordering::SeqCst);
         stream.set_nodelay(true).ok()?;
         let (read, written) = Answered::pair(alloc).ok()?;
         let reader = TimedReader::start(stream.try_clone().ok()?, rt, waits, read).ok()?;

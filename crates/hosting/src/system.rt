@@ -40,7 +40,7 @@ impl Host for SystemHost {
 
     fn listen(&self, number: u16, waits: Waits) -> Result<SocketPort, ListenFailed> {
         match TcpListener::bind(&self.rt, (Ipv4Addr::LOCALHOST, number)) {
-            Ok(listener) => Ok(SocketPort::new(&self.rt, listener, waits)),
+            Ok(listener) => SocketPort::new(&self.rt, listener, waits).map_err(|_| ListenFailed),
             Err(_) => Err(ListenFailed),
         }
     }

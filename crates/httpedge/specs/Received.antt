@@ -1,5 +1,5 @@
 -- What is kept of the bytes that came (RFC 9112; docs/PROFILE.md, "HTTP").
-use Rattle.std.specs.Prelude.{◌≡◌, ◌≤◌, ◌<◌, ℕ, length, Bool, true, false, ◌==◌, ◌||◌, None}
+use Rattle.std.specs.Prelude.{◌≡◌, ◌≤◌, ◌<◌, ◌*◌, ℕ, length, Bool, true, false, ◌==◌, ◌||◌, None}
 use Rattle.std.specs.Prelude.{vec_capacity}
 use Rattle.std.specs.List.{list_all}
 use Rattle.httparse.specs.Spans.{IsWithin}
@@ -14,8 +14,8 @@ is_line_feed byte = byte == 10
 abbrev pub is_newline : ℕ → Bool
 is_newline byte = (byte == 13) || (byte == 10)
 
--- there is room for a head, and the query lies within the bytes; where nothing is decided, text is noted, and the bytes
--- have no head and aren't all that may have one
+-- there is room for a head, and the query lies within the bytes; where nothing is decided, text is noted, the bytes have no head and
+-- aren't all that may have one, and so many of these very bytes were parsed that all of them are at most twice as many
 pub record IsReceived (received : Received) : Type 0 where
   pub room : 16384 ≤ vec_capacity received.bytes
   pub limit : length received.bytes.items ≤ 16384
@@ -23,3 +23,4 @@ pub record IsReceived (received : Received) : Type 0 where
   pub blank : received.decision ≡ None → received.has_text ≡ false → list_all is_newline received.bytes.items ≡ true
   pub no_head : received.decision ≡ None → HasNoHead received.bytes.items
   pub below : received.decision ≡ None → length received.bytes.items < 16384
+  pub recent : received.decision ≡ None → (received.parsed ≤ length received.bytes.items) × (length received.bytes.items ≤ 2 * received.parsed)

@@ -1,4 +1,4 @@
-ghost use Rattle.std.specs.Prelude.{◌≡◌, ◌<◌, ◌≤◌, ◌+◌, ◌++◌, length, vec_capacity, IfOk, None, [], true, false};
+ghost use Rattle.std.specs.Prelude.{◌≡◌, ◌<◌, ◌≤◌, ◌+◌, ◌*◌, ◌++◌, length, vec_capacity, IfOk, None, [], true, false};
 ghost use Rattle.std.specs.List.{list_any, list_all};
 ghost use Rattle.httpedge.specs.Received.{is_line_feed, is_newline, IsReceived};
 ghost use Rattle.httpedge.specs.Connection.{Open, progress, Takes, Feeds, Ends};
@@ -23,7 +23,7 @@ pub struct Received {
     pub closes: bool,
     /// Whether one of the bytes is neither CR nor LF.
     pub has_text: bool,
-    /// How many bytes there were when they were last parsed.
+    /// How many of the bytes there were when they were last parsed.
     pub parsed: usize,
 }
 
@@ -48,6 +48,16 @@ fn add(bytes: &mut Vec<u8>, more: &[u8])
     ensures capacity { vec_capacity bytes.old ≤ vec_capacity bytes.new }
 {
     let _ = bytes.extend_from_slice(more);
+}
+
+// How many bytes were parsed last, where all that came are parsed or not.
+fn last_parsed(is_due: bool, count: usize, before: usize) -> usize
+    requires before { before ≤ count }
+    requires recent { is_due ≡ false → count ≤ 2 * before }
+    ensures these { result ≤ count }
+    ensures recent { count ≤ 2 * result }
+{
+    if is_due { count } else { before }
 }
 
 impl Received {
@@ -84,7 +94,8 @@ impl Received {
         requires received { IsReceived self.now }
         requires open { self.now.decision ≡ None }
         requires limit { length piece.now ≤ HEAD_BYTES }
-        ensures { result ≡ false → HasNoHead (self.now.bytes.items ++ piece.now) }
+        ensures headless { result ≡ false → HasNoHead (self.now.bytes.items ++ piece.now) }
+        ensures recent { result ≡ false → length self.now.bytes.items + length piece.now ≤ 2 * self.now.parsed }
     {
         self.may_end_head(piece) || (self.bytes.len() + piece.len()) / 2 >= self.parsed
     }
@@ -112,11 +123,7 @@ impl Received {
         let is_due = self.is_due(front);
         self.has_text = self.has_text_with(front);
         add(&mut self.bytes, front);
-        self.parsed = if is_due {
-            self.bytes.len()
-        } else {
-            self.parsed
-        };
+        self.parsed = last_parsed(is_due, self.bytes.len(), self.parsed);
         let judged = judge(&self.bytes, is_due);
         self.bytes.truncate(judged.len);
         self.decision = judged.decision;

@@ -1,4 +1,4 @@
-ghost use Rattle.std.specs.Prelude.{◌≡◌, ◌-◌, ◌≤◌, None, OnOk, OnErr, IfErr, MatchResult, true};
+ghost use Rattle.std.specs.Prelude.{◌≡◌, ◌+◌, ◌-◌, ◌≤◌, None, OnOk, OnErr, IfErr, MatchResult, true};
 ghost use Rattle.scripts.specs.Script.{script_of, fault_of};
 ghost use Rattle.scripts.specs.Sent.{IsReplied, IsPartlyReplied};
 ghost use Rattle.scripts.specs.Playing.{HasPlayed, HasPartlyPlayed};
@@ -20,6 +20,7 @@ pub fn play_script<S: Sink>(
 ) -> Result<(), WriteFault>
     ensures played { OnOk result (HasPlayed machine.old script.now machine.new (S.held sink.old) (S.held sink.new)) }
     ensures part { IfErr result (λ e. HasPartlyPlayed machine.old script.now machine.new (S.held sink.old) (S.held sink.new) e.written) }
+    ensures written { IfErr result (λ e. S.taken sink.new ≡ S.taken sink.old + e.written) }
     ensures flag { MatchResult result (λ _. S.put_failed sink.new ≡ S.put_failed sink.old) (λ _. S.put_failed sink.new ≡ true) }
 {
     let before = sink.taken();

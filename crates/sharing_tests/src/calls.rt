@@ -153,6 +153,10 @@ impl Calls {
 }
 
 impl Streams<Call> for Calls {
+    ghost use Rattle.std.specs.Prelude.{◌≡◌, []};
+
+    ghost ended = { λ c. c.waiting.items ≡ [] };
+
     fn next(&mut self) -> Option<Call> {
         self.waiting.pop_front()
     }

@@ -7,7 +7,7 @@ use std::sync::{Arc, Wait};
 use std::thread::{self, Threads};
 use std::time::Duration;
 use test_tables::{TableFault, check_rows};
-use workers::{Gate, Streams, WAITING, work};
+use workers::{Gate, Streams, work};
 
 // A gate that holds each connection until all have come, for ten seconds at most.
 #[derive(Drop)]
@@ -46,6 +46,10 @@ struct Crowd {
 }
 
 impl Streams<Call> for Crowd {
+    ghost use Rattle.std.specs.Prelude.{◌≡◌, []};
+
+    ghost ended = { λ c. c.calls.waiting.items ≡ [] };
+
     fn next(&mut self) -> Option<Call> {
         if self.calls.waiting() == self.left {
             wait_for(&self.rt, &self.gate.asked, 4);
@@ -78,8 +82,8 @@ fn machines(alloc: Global) -> Result<Vec<Machine>, AllocError> {
 
 const BUSY: &str = "HTTP/1.1 503 Service Unavailable^~Content-Length: 0^~Connection: close^~^~";
 
-// How many of so many connections were answered, and the numbers of those that were told that the server is busy.
-fn told_of_ends(alloc: Global, calls: &Calls, count: usize) -> Result<String, AllocError> {
+// How many of so many connections were answered, and the numbers of those whose answer is that the server is busy.
+fn ends_of(alloc: Global, calls: &Calls, count: usize) -> Result<String, AllocError> {
     let mut kept = 0_usize;
     let mut busy = String::new(alloc);
     for number in 1..=count {
@@ -93,14 +97,13 @@ fn told_of_ends(alloc: Global, calls: &Calls, count: usize) -> Result<String, Al
     format!(in alloc; "{kept} kept, busy:{busy}")
 }
 
-// What becomes of four connections that are held by four workers, as many that wait as there are places for, and so many more.
-fn told_of_crowd<R>(rt: &R, system: &HostRuntime, row: &str) -> Result<String, AllocError>
+// What becomes of so many connections, of which the first four are held by four workers until all have come.
+fn outcome_of_crowd<R>(rt: &R, system: &HostRuntime, row: &str) -> Result<String, AllocError>
 where
     R: AllocGlobal + Wait + Threads + Send + Copy + Drop + 'static,
 {
     let alloc = rt.alloc();
-    let more = row.parse().unwrap_or(0).min(100);
-    let count = WAITING + 4 + more;
+    let count = row.parse().unwrap_or(0).clamp(4, 1_000);
     let held = Held {
         rt: *system,
         asked: AtomicU64::new(0),
@@ -114,21 +117,19 @@ where
         gate: Arc::try_clone(&gate)?,
     };
     let done = work(rt, alloc, machines(alloc)?, &mut crowd, &gate);
-    let told = told_of_ends(alloc, &crowd.calls, count)?;
-    format!(in alloc; "{} {told}", done.is_ok())
+    let ends = ends_of(alloc, &crowd.calls, count)?;
+    format!(in alloc; "{} {ends}", done.is_ok())
 }
 
-// There are places for 512, 128 for each of four workers.
+// What waits is answered, however much of it there is.
 const CROWDS: &str = "\
-true 516 kept, busy:|0
-true 516 kept, busy: 517|1
-true 516 kept, busy: 517 518 519 520 521|5";
+true 4 kept, busy:|4
+true 9 kept, busy:|9
+true 700 kept, busy:|700";
 
 #[test]
-fn a_connection_without_a_place_is_told_that_the_server_is_busy(
-    rt: HostRuntime,
-) -> Result<(), TableFault> {
+fn each_connection_waits_until_its_worker_answers_it(rt: HostRuntime) -> Result<(), TableFault> {
     check_rows(rt.alloc(), CROWDS, '|', 3, |_, row| {
-        told_of_crowd(&rt, &rt, row)
+        outcome_of_crowd(&rt, &rt, row)
     })
 }

@@ -1,9 +1,6 @@
-use std::alloc::{AllocError, Global};
+use std::alloc::Global;
 use std::collections::VecDeque;
 use std::sync::{Condvar, Mutex, Wait};
-
-/// How many connections wait for all workers together, at most.
-pub const WAITING: usize = 512;
 
 // What waits for one worker.
 #[derive(Drop)]
@@ -17,28 +14,23 @@ struct Line<T> {
 pub(crate) struct Queue<T: Drop> {
     line: Mutex<Line<T>>,
     changed: Condvar,
-    places: usize,
 }
 
 impl<T: Drop> Queue<T> {
-    /// One with so many places, for which memory is taken at once.
-    pub fn new(alloc: Global, places: usize) -> Result<Self, AllocError> {
-        Ok(Queue {
+    /// An empty one. It takes no memory.
+    pub fn new(alloc: Global) -> Self {
+        Queue {
             line: Mutex::new(Line {
-                waiting: VecDeque::with_capacity(alloc, places)?,
+                waiting: VecDeque::new(alloc),
                 closed: false,
             }),
             changed: Condvar::new(),
-            places,
-        })
+        }
     }
 
-    /// Puts a connection at the end, or gives it back where no place is free.
+    /// Puts a connection at the end, or gives it back where memory for it is refused.
     pub fn put<R: Wait>(&self, rt: &R, item: T) -> Result<(), T> {
         let mut line = self.line.lock(rt);
-        if line.waiting.len() >= self.places {
-            return Err(item);
-        }
         match line.waiting.push_back(item) {
             Ok(()) => {
                 self.changed.notify_one();

@@ -1,6 +1,9 @@
+ghost use Rattle.std.specs.Prelude.{◌≡◌, OnErr, OnOk};
+ghost use Rattle.std.specs.Option.{IfNone};
+
 use crate::connection::Connection;
 use crate::gate::Gate;
-use crate::queue::{Queue, WAITING};
+use crate::queue::Queue;
 use crate::worker::{Worker, run};
 use httpedge::Asks;
 use std::alloc::{AllocError, Global};
@@ -15,8 +18,12 @@ pub struct Start;
 
 /// Where connections come from.
 pub trait Streams<C> {
+    /// Whether no more will come.
+    ghost ended: { Self → Type 0 };
+
     /// The next one, or none where no more will come.
-    fn next(&mut self) -> Option<C>;
+    fn next(&mut self) -> Option<C>
+        ensures { IfNone result (ended self.new) };
 }
 
 // The connections that wait for a worker, with their numbers.
@@ -38,7 +45,7 @@ impl<C: Connection + Drop> Crew<C> {
         })
     }
 
-    // Gives a connection to its worker. Where there is no place for it, it is told that the server is busy.
+    // Gives a connection to its worker. Where memory is refused, it is answered that the server is busy.
     fn give<R: Wait>(&self, rt: &R, alloc: Global, number: u64, connection: C) {
         let worker = number.checked_rem(self.lines.len() as u64).unwrap_or(0) as usize;
         let Some(line) = self.lines.get(worker) else {
@@ -61,13 +68,12 @@ impl<C: Connection + Drop> Crew<C> {
     }
 }
 
-// Starts one worker more, with a line of so many places.
+// Starts one worker more.
 fn start_worker<R, A, C, G>(
     rt: &R,
     alloc: Global,
     crew: &mut Crew<C>,
     worker: Worker<A, G>,
-    places: usize,
 ) -> Result<(), AllocError>
 where
     R: Wait + Threads + Send + Copy + Drop + 'static,
@@ -75,7 +81,7 @@ where
     C: Connection + Send + Drop + 'static,
     G: Gate + Send + Sync + Drop + 'static,
 {
-    let line = Arc::new(alloc, Queue::new(alloc, places)?)?;
+    let line = Arc::new(alloc, Queue::new(alloc))?;
     let theirs = Arc::try_clone(&line)?;
     crew.lines.push(line)?;
     let handle = *rt;
@@ -102,10 +108,9 @@ where
     C: Connection + Send + Drop + 'static,
     G: Gate + Send + Sync + Drop + 'static,
 {
-    let places = WAITING.checked_div(members.len()).unwrap_or(0).max(1);
     for member in members {
         let worker = Worker::new(member, Arc::try_clone(gate)?);
-        start_worker(rt, alloc, crew, worker, places)?;
+        start_worker(rt, alloc, crew, worker)?;
     }
     Ok(())
 }
@@ -116,7 +121,9 @@ fn hand_out<R: Wait, C: Connection + Drop, T: Streams<C>>(
     alloc: Global,
     crew: &Crew<C>,
     streams: &mut T,
-) {
+)
+    ensures { T.ended streams.new }
+{
     let mut number = 0_u64;
     for _ in rt.forever() {
         let Some(connection) = streams.next() else {
@@ -129,8 +136,9 @@ fn hand_out<R: Wait, C: Connection + Drop, T: Streams<C>>(
 }
 
 /// Starts a worker for each member that may be asked, and gives them connection after connection, numbered from 1:
-/// connection c to member c mod N, of N. It returns once no more come and all are served. One that finds no place,
-/// or no memory for its head, is told that the server is busy.
+/// connection c to member c mod N, of N. It returns once no more come and all are served. A connection waits for its
+/// worker as long as there is memory for it; where that is refused, or the memory for its head, it is answered that the
+/// server is busy.
 ///
 /// The error is that there is no member, or that a thread or memory for the workers was refused; then no connection
 /// was taken.
@@ -147,6 +155,8 @@ where
     C: Connection + Send + Drop + 'static,
     T: Streams<C>,
     G: Gate + Send + Sync + Drop + 'static,
+    ensures served { OnOk result (T.ended streams.new) }
+    ensures refused { OnErr result (streams.new ≡ streams.old) }
 {
     if members.is_empty() {
         return Err(Start);

@@ -7,4 +7,5 @@ abbrev pub invariant-loop : goal.invariant-loop
 invariant-loop g l = record {
   noted : Notes (g.P.Port.log l.fn.self.port) (g.P.Port.log l.self.port) (replicate l.counter Failed);
   wanted : l.self.wanted ≡ l.fn.self.wanted;
+  kept : l.self.is_given_up ≡ l.fn.self.is_given_up;
 }

@@ -13,5 +13,6 @@ returns-clause-received c =
       blank = λ o e. ap (list_all is_newline) none;
       no_head = λ e. rw none nothing-headless;
       below = λ e. omega (arith, ap length none);
+      recent = λ e. (omega arith, omega (arith, ap length none));
       query = (omega arith, omega arith);
     }

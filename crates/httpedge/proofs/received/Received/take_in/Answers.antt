@@ -8,7 +8,7 @@ use Rattle.httpedge.proofs.received.Received.take_in.Goals as goal
 
 pub judge-judged-requires-clause-due : goal.judge-judged-requires-clause-due
 judge-judged-requires-clause-due c none =
-    subst HasNoHead (sym (c.deref.ensures.value ∙ c.add.ensures.items)) (c.is_due-is_due.ensures none)
+    subst HasNoHead (sym (c.deref.ensures.value ∙ c.add.ensures.items)) (c.is_due-is_due.ensures.headless none)
 
 pub overflow_sub-result : goal.overflow_sub-result
 overflow_sub-result c =
@@ -37,6 +37,7 @@ returns-clause-received c =
       blank = λ o e. ap (list_all is_newline) (open-is o ∙ c.add.ensures.items) ∙ c.has_text_with-self.ensures e;
       no_head = λ o. subst HasNoHead (sym (open-is o)) (open-headless all c.judge-judged.result _ j.verdict o);
       below = λ o. subst (λ (l : List ℕ). length l < 16384) (sym (open-is o)) (open-below all c.judge-judged.result _ j.verdict o);
+      recent = λ o. (omega (arith, ap length (open-is o), c.len.ensures, c.last_parsed-self.ensures.these), omega (arith, ap length (open-is o), c.len.ensures, c.last_parsed-self.ensures.recent));
       query = (j.query.0, omega (arith, j.query.1, ap length kept, length-take-le c.judge-judged.result.len all (within-all all c.judge-judged.result _ j.verdict)));
     }
 
