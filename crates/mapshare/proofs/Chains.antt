@@ -1,69 +1,85 @@
 -- Fronts that each go one batch further.
-use Rattle.std.specs.Prelude.{MatchBool, MatchResult, OnOk, option_and_then, unwrap_or}
-use Rattle.std.proofs.Common.{arith, length, ◌<◌, ◌≡◌, ◌∙◌, ℕ, Bool, true, false, Option, None, Some, IsSome, Result, Ok, Err, List, [], ◌∷◌, ◌++◌, fold, refl, sym, ap, subst, append_assoc}
-use Rattle.std.proofs.lemmas.List.{append-nil}
+use Rattle.std.specs.Prelude.{MatchBool, MatchResult, OnOk, option_and_then}
+use Rattle.std.proofs.Common.{arith, length, take, drop, ◌+◌, ◌≤◌, ◌≡◌, ◌∙◌, ℕ, Bool, true, false, Some, Result, Ok, Err, List, [], ◌∷◌, ◌++◌, fold, refl, sym, ap, subst, append_assoc}
+use Rattle.std.proofs.Math.Seq.{take-append_seam, take-length}
+use Rattle.std.proofs.lemmas.List.{append-nil, drop_all, drop-append-le, length-append, length-drop, length-take, take-append-drop, take-append-le}
 use Rattle.std.specs.Result.{result_ok}
 use Rattle.batches.specs.Batch.{IsBatchErrorOf, State, batched}
 use Rattle.batches.specs.declared.fault.BatchError.{BatchError}
 use Rattle.batches.specs.declared.fault.BatchError.TheVariants as batch_error
 use Rattle.mapshare.specs.Admin.{Batches, IsFaultOf, all_of}
 use Rattle.sharing.specs.Sharing.{after}
-use Rattle.sharing.proofs.Accepting.{front_accepted, after_append}
-use Rattle.mapshare.specs.declared.edition.Noted.{Noted}
+use Rattle.sharing.proofs.Accepting.{after_append}
+use Rattle.mapshare.specs.declared.edition.Edition.{Edition}
 use Rattle.mapshare.specs.declared.edition.Shape.{Shape}
 use Rattle.mapshare.specs.Accepted.{accepted}
-use Rattle.mapshare.specs.Edition.{applied, IsMade}
-use Rattle.mapshare.specs.Queue.{IsChain, batches_of}
+use Rattle.mapshare.specs.Edition.{applied, IsMade, shape_of}
+use Rattle.mapshare.specs.Queue.{IsChain, IsNext}
 
--- the last front is the first and all batches
-pub chain_all : {S : Type 0} (first : List (List ℕ)) (notes : List (Noted S)) (last : List (List ℕ)) → IsChain first notes last → last ≡ first ++ batches_of notes
-chain_all first [] last c = sym c ∙ sym (append-nil first)
-chain_all first (n ∷ notes) last c = chain_all n.front notes last c.1 ∙ ap (λ z. z ++ batches_of notes) c.0 ∙ append_assoc first (n.batch.items ∷ []) (batches_of notes)
+-- the front before begins the one after, and is shorter
+chain_goes : {S : Type 0} (opening : State) (first : List (List ℕ)) (editions : List (Edition S)) (last : List (List ℕ)) → IsChain opening first editions last →
+    (take (length first) last ≡ first) × (length first + length editions ≤ length last)
+chain_goes opening first [] last c = rw (← c) (take-length first, omega arith)
+chain_goes opening first (e ∷ editions) last c =
+    let rest = chain_goes opening e.front editions last c.2 in
+    let n = length first in
+    let within : n ≤ length (take (n + 1) last) = omega (arith, rest.1, c.0.one_more, length-take (n + 1) last) in
+    let front : take (n + 1) last ≡ e.front = ap (λ m. take m last) (sym c.0.one_more) ∙ rest.0 in
+    let begins : take n last ≡ take n (take (n + 1) last) =
+    ap (take n) (sym (take-append-drop (n + 1) last)) ∙ take-append-le n (take (n + 1) last) (drop (n + 1) last) within in
+    (begins ∙ ap (take n) front ∙ c.0.begins, omega (arith, rest.1, c.0.one_more))
 
-chain_snoc : {S : Type 0} (first : List (List ℕ)) (notes : List (Noted S)) (last : List (List ℕ)) (n : Noted S) → IsChain first notes last → n.front ≡ last ++ n.batch.items ∷ [] → IsChain first (notes ++ n ∷ []) n.front
-chain_snoc first [] last n c e = (rw c e, refl)
-chain_snoc first (x ∷ notes) last n c e = (c.0, chain_snoc x.front notes last n c.1 e)
+-- the last front is the first and what is behind it
+pub chain_all : {S : Type 0} (opening : State) (first : List (List ℕ)) (editions : List (Edition S)) (last : List (List ℕ)) → IsChain opening first editions last →
+    last ≡ first ++ drop (length first) last
+chain_all opening first editions last c =
+    sym (take-append-drop (length first) last) ∙ ap (λ z. z ++ drop (length first) last) (chain_goes opening first editions last c).0
 
--- a chain that goes on by one batch, where the queue does
-pub chain_push : {S : Type 0} (first : List (List ℕ)) (xs ys zs : List (Noted S)) (last next : List (List ℕ)) (n : Noted S) → IsChain first (xs ++ ys) last → zs ≡ ys ++ n ∷ [] → n.front ≡ last ++ n.batch.items ∷ [] → n.front ≡ next → IsChain first (xs ++ zs) next
-chain_push first xs ys zs last next n c e f g =
-    subst (λ z. IsChain first (xs ++ z) next) (sym e) (subst (λ l. IsChain first l next) (append_assoc xs ys (n ∷ [])) (subst (IsChain first ((xs ++ ys) ++ n ∷ [])) g (chain_snoc first (xs ++ ys) last n c f)))
+chain_snoc : {S : Type 0} (opening : State) (first : List (List ℕ)) (editions : List (Edition S)) (last : List (List ℕ)) (e : Edition S) → IsChain opening first editions last →
+    IsNext last e.front → IsMade opening (shape_of e) → IsChain opening first (editions ++ e ∷ []) e.front
+chain_snoc opening first [] last e c next made = (rw c next, made, refl)
+chain_snoc opening first (x ∷ editions) last e c next made = (c.0, c.1, chain_snoc opening x.front editions last e c.2 next made)
 
--- the edition after all that is noted shows the last front
-pub chain_front : {S : Type 0} (s : Shape) (notes : List (Noted S)) (last : List (List ℕ)) → IsChain s.batches notes last → (fold applied s notes).batches ≡ last
-chain_front s [] last c = c
-chain_front s (n ∷ notes) last c = chain_front (applied s n) notes last c.1
+-- a front and one batch more
+pub next_one : (last : List (List ℕ)) (b : List ℕ) → IsNext last (last ++ b ∷ [])
+next_one last b = record { begins = take-append_seam last (b ∷ []); one_more = length-append last (b ∷ []) }
 
-or_same : (o : Option State) (m : State) → IsSome (option_and_then (λ t. Some t) o) → option_and_then (λ t. Some t) o ≡ Some (unwrap_or o m)
-or_same None m h = absurd (cc h)
-or_same (Some t) m h = refl
+-- a chain that goes on by one edition, where the queue does
+pub chain_push : {S : Type 0} (opening : State) (first : List (List ℕ)) (xs ys zs : List (Edition S)) (last next : List (List ℕ)) (e : Edition S) → IsChain opening first (xs ++ ys) last →
+    zs ≡ ys ++ e ∷ [] → IsNext last e.front → IsMade opening (shape_of e) → e.front ≡ next → IsChain opening first (xs ++ zs) next
+chain_push opening first xs ys zs last next e c same is made front =
+    subst (λ z. IsChain opening first (xs ++ z) next) (sym same) (subst (λ l. IsChain opening first l next) (append_assoc xs ys (e ∷ [])) (subst (IsChain opening first ((xs ++ ys) ++ e ∷ [])) front (chain_snoc opening first (xs ++ ys) last e c is made)))
 
-made_one : {S : Type 0} (opening : State) (s : Shape) (n : Noted S) → n.front ≡ s.batches ++ n.batch.items ∷ [] → IsSome (after accepted opening n.front) → IsMade opening s → IsMade opening (applied s n)
-made_one opening s n e h m =
-    let whole : after accepted opening n.front ≡ option_and_then (λ t. Some t) (accepted s.machine n.batch.items) =
-    ap (after accepted opening) e ∙ after_append accepted opening s.batches (n.batch.items ∷ []) ∙ ap (option_and_then (λ t. after accepted t (n.batch.items ∷ []))) m in
-    whole ∙ or_same (accepted s.machine n.batch.items) s.machine (subst IsSome whole h)
+-- what is shown after all editions has the last front
+pub chain_front : {S : Type 0} (opening : State) (s : Shape) (editions : List (Edition S)) (last : List (List ℕ)) → IsChain opening s.batches editions last → (fold applied s editions).batches ≡ last
+chain_front opening s [] last c = c
+chain_front opening s (e ∷ editions) last c = chain_front opening (applied s e) editions last c.2
 
--- it is made by all of its batches, where all are accepted
-pub chain_made : {S : Type 0} (opening : State) (s : Shape) (notes : List (Noted S)) (last : List (List ℕ)) → IsChain s.batches notes last → IsSome (after accepted opening last) → IsMade opening s → IsMade opening (fold applied s notes)
-chain_made opening s [] last c h m = m
-chain_made opening s (n ∷ notes) last c h m =
-    let all : last ≡ n.front ++ batches_of notes = chain_all n.front notes last c.1 in
-    let here = front_accepted accepted opening n.front (batches_of notes) (subst (λ z. IsSome (after accepted opening z)) all h) in
-    chain_made opening (applied s n) notes last c.1 h (made_one opening s n c.0 here m)
+-- it is made by all of its batches
+pub chain_made : {S : Type 0} (opening : State) (s : Shape) (editions : List (Edition S)) (last : List (List ℕ)) → IsChain opening s.batches editions last → IsMade opening s → IsMade opening (fold applied s editions)
+chain_made opening s [] last c m = m
+chain_made opening s (e ∷ editions) last c m = chain_made opening (applied s e) editions last c.2 c.1
 
 -- the state after one more batch that has no fault
 pub after_one : (opening m t : State) (list : List (List ℕ)) (b : List ℕ) → after accepted opening list ≡ Some m → batched b m ≡ Ok t → after accepted opening (list ++ b ∷ []) ≡ Some t
 after_one opening m t list b e f =
     after_append accepted opening list (b ∷ []) ∙ (ap (option_and_then (λ u. after accepted u (b ∷ []))) e ∙ ap (λ r. option_and_then (λ u. Some u) (result_ok r)) f)
 
--- where nothing waits, the last front is the first
-pub idle_last : {S : Type 0} (first : List (List ℕ)) (notes : List (Noted S)) (last : List (List ℕ)) → IsChain first notes last → batches_of notes ≡ [] → last ≡ first
-idle_last first notes last c e = chain_all first notes last c ∙ (ap (λ z. first ++ z) e ∙ append-nil first)
+-- where nothing is pending, the last front is the first
+pub idle_last : {S : Type 0} (opening : State) (first : List (List ℕ)) (editions : List (Edition S)) (last : List (List ℕ)) → IsChain opening first editions last →
+    drop (length first) last ≡ [] → last ≡ first
+idle_last opening first editions last c e = chain_all opening first editions last c ∙ (ap (λ z. first ++ z) e ∙ append-nil first)
 
--- one more batch behind the last front is one more that waits
-pub last_all : {S : Type 0} (first : List (List ℕ)) (notes : List (Noted S)) (last : List (List ℕ)) (b : List ℕ) → IsChain first notes last → last ++ b ∷ [] ≡ first ++ (batches_of notes ++ b ∷ [])
-last_all first notes last b c = ap (λ z. z ++ b ∷ []) (chain_all first notes last c) ∙ append_assoc first (batches_of notes) (b ∷ [])
+-- one more batch behind the last front is one more that is pending
+pub pending_more : {S : Type 0} (opening : State) (first : List (List ℕ)) (editions : List (Edition S)) (last : List (List ℕ)) (b : List ℕ) → IsChain opening first editions last →
+    drop (length first) (last ++ b ∷ []) ≡ drop (length first) last ++ b ∷ []
+pending_more opening first editions last b c =
+    let goes = (chain_goes opening first editions last c).1 in
+    drop-append-le (length first) last (b ∷ []) (omega (arith, goes))
+
+pub last_all : {S : Type 0} (opening : State) (first : List (List ℕ)) (editions : List (Edition S)) (last : List (List ℕ)) (b : List ℕ) → IsChain opening first editions last →
+    last ++ b ∷ [] ≡ first ++ (drop (length first) last ++ b ∷ [])
+last_all opening first editions last b c = ap (λ z. z ++ b ∷ []) (chain_all opening first editions last c) ∙ append_assoc first (drop (length first) last) (b ∷ [])
 
 -- a fault in the state after all batches
 pub fault_of : (opening m : State) (batches : Batches) (b : List ℕ) (error : BatchError) → after accepted opening (all_of batches) ≡ Some m → IsBatchErrorOf (batched b m) error → IsFaultOf opening batches b error
@@ -78,7 +94,11 @@ pub on_true : (b : Bool) (P Q : Type 0) → b ≡ true → MatchBool b P Q → P
 on_true true P Q e m = m
 on_true false P Q e m = absurd (cc e)
 
--- where the first part has something, something waits
-pub some_wait : {S : Type 0} (xs ys : List (Noted S)) → 0 < length xs → batches_of (xs ++ ys) ≡ [] → ⊥
-some_wait [] ys lt e = omega (arith, lt)
-some_wait (x ∷ xs) ys lt e = cc e
+-- nothing is pending where the last front is no longer than the first
+pub idle_when : {S : Type 0} (opening : State) (first : List (List ℕ)) (editions : List (Edition S)) (last : List (List ℕ)) → IsChain opening first editions last →
+    (length last ≡ length first → drop (length first) last ≡ []) × (drop (length first) last ≡ [] → length last ≡ length first)
+idle_when opening first editions last c =
+    let goes = (chain_goes opening first editions last c).1 in (
+      (λ e. drop_all (length first) last (omega (arith, e))),
+      (λ e. omega (arith, goes, ap length e, length-drop (length first) last)),
+    )

@@ -1,12 +1,16 @@
--- Batches that wait to be published, each with the front that ends with it.
-use Rattle.std.specs.Prelude.{◌≡◌, ℕ, List, [], ◌∷◌, ◌++◌, map}
-use Rattle.mapshare.specs.declared.edition.Noted.{Noted}
+-- Editions that wait to be published.
+use Rattle.std.specs.Prelude.{◌≡◌, ℕ, ◌+◌, List, [], ◌∷◌, length, take}
+use Rattle.batches.specs.Batch.{State}
+use Rattle.mapshare.specs.Edition.{IsMade, shape_of}
+use Rattle.mapshare.specs.declared.edition.Edition.{Edition}
 
--- the batches that are noted
-abbrev pub batches_of : {S : Type 0} → List (Noted S) → List (List ℕ)
-batches_of notes = map (λ noted. noted.batch.items) notes
+-- some batches are others and one more
+pub record IsNext (before after : List (List ℕ)) : Type 0 where
+  pub begins : take (length before) after ≡ before
+  pub one_more : length after ≡ length before + 1
 
--- each front is the one before it and one batch more, and the last of them is this
-abbrev pub IsChain : {S : Type 0} → List (List ℕ) → List (Noted S) → List (List ℕ) → Type 0
-IsChain first [] last = first ≡ last
-IsChain first (noted ∷ notes) last = (noted.front ≡ first ++ noted.batch.items ∷ []) × IsChain noted.front notes last
+-- each edition is made by its batches, which are those of the one before it and one more, and the last of them are these
+abbrev pub IsChain : {S : Type 0} → State → List (List ℕ) → List (Edition S) → List (List ℕ) → Type 0
+IsChain opening first [] last = first ≡ last
+IsChain opening first (edition ∷ editions) last =
+    IsNext first edition.front × IsMade opening (shape_of edition) × IsChain opening edition.front editions last

@@ -4,7 +4,7 @@ ghost use Rattle.mapshare.specs.Accepted.{accepted};
 ghost use Rattle.mapshare.specs.Admin.{HasRetried, HasSubmitted, IsAccepted, IsFaultOf, IsIdle, IsPublished, all_of, with_batch};
 ghost use Rattle.mapshare.specs.Queue.{IsChain};
 
-use crate::edition::{Edition, Noted, Shape};
+use crate::edition::{Edition, Shape};
 use crate::receipt::Receipt;
 use crate::rule::{MapWriter, Moves, Ruled, Sharing};
 use crossbeam_utils::rule::Protocol;
@@ -43,13 +43,13 @@ pub enum Retried<S: Sharing> {
 /// The administrator of a shared map. Contracts see it as the batches that are published and pending.
 pub struct Admin<S: Sharing>
 where
-    Edition<S>: Absorb<Noted<S>, State = Shape>,
+    Edition<S>: Absorb<Edition<S>, State = Shape>,
     Ruled<S>: Protocol<Edition<S>, ()>,
 {
     writer: MapWriter<S>,
     history: History<S>,
-    // What is pending and wasn't handed to the writer yet.
-    queue: VecDeque<Noted<S>>,
+    // The editions that are pending and weren't handed to the writer yet.
+    queue: VecDeque<Edition<S>>,
     // The machine after all accepted batches.
     checked: Machine,
     published: Front<S>,
@@ -58,20 +58,20 @@ where
 
 impl<S: Sharing> Model for Admin<S>
 where
-    Edition<S>: Absorb<Noted<S>, State = Shape>,
+    Edition<S>: Absorb<Edition<S>, State = Shape>,
     Ruled<S>: Protocol<Edition<S>, ()>,
 {
-    ghost use Rattle.std.specs.Prelude.{◌≡◌, ◌++◌, Some, drop};
+    ghost use Rattle.std.specs.Prelude.{◌≡◌, ◌++◌, Some, drop, length};
     ghost use Rattle.sharing.specs.Sharing.{after};
     ghost use Rattle.mapshare.specs.Accepted.{accepted};
     ghost use Rattle.mapshare.specs.Admin.{Batches};
-    ghost use Rattle.mapshare.specs.Queue.{IsChain, batches_of};
+    ghost use Rattle.mapshare.specs.Queue.{IsChain};
 
     ghost Value = { Batches };
 
-    ghost view = { λ a. record { published = a.published; pending = batches_of (drop a.writer.behind a.writer.log.items ++ a.queue.items) } };
+    ghost view = { λ a. record { published = a.published; pending = drop (length a.published) a.last } };
 
-    ghost invariant = { λ a. (a.writer.desk.shown.value.front ≡ a.published) × IsChain a.published (drop a.writer.behind a.writer.log.items ++ a.queue.items) a.last × (after accepted S.opening a.last ≡ Some a.checked) };
+    ghost invariant = { λ a. (a.writer.desk.shown.value.front ≡ a.published) × IsChain S.opening a.published (drop a.writer.behind a.writer.log.items ++ a.queue.items) a.last × (after accepted S.opening a.last ≡ Some a.checked) };
 }
 
 // Shows readers all that the writer has, which ends with the last front.
@@ -80,8 +80,7 @@ fn show_all<S: Sharing, R: Wait>(
     writer: MapWriter<S>,
     last: &Front<S>,
 ) -> (MapWriter<S>, Result<(), AllocError>)
-    requires chain { IsChain writer.desk.shown.value.front (drop writer.behind writer.log.items) last.now }
-    requires accepted { IsSome (after accepted S.opening last.now) }
+    requires chain { IsChain S.opening writer.desk.shown.value.front (drop writer.behind writer.log.items) last.now }
     ensures front { OnOk result.1 (result.0.desk.shown.value.front ≡ last.now) }
     ensures none_left { OnOk result.1 (drop result.0.behind result.0.log.items ≡ []) }
     ensures held { OnErr result.1 ((result.0.desk.shown.value ≡ writer.desk.shown.value) × (drop result.0.behind result.0.log.items ≡ drop writer.behind writer.log.items)) }
@@ -91,14 +90,14 @@ fn show_all<S: Sharing, R: Wait>(
 }
 
 // Hands what waits to the writer, as long as there is memory.
-fn fill<S: Sharing>(writer: &mut MapWriter<S>, queue: &mut VecDeque<Noted<S>>) -> bool
+fn fill<S: Sharing>(writer: &mut MapWriter<S>, queue: &mut VecDeque<Edition<S>>) -> bool
     ensures desk { writer.new.desk ≡ writer.old.desk }
     ensures all { drop writer.new.behind writer.new.log.items ++ queue.new.items ≡ drop writer.old.behind writer.old.log.items ++ queue.old.items }
     ensures empty { IsTrue result → queue.new.items ≡ [] }
 {
-    while let Some(noted) = queue.pop_front() {
-        if let Err(noted) = writer.append(noted) {
-            queue.push_front_reserved(noted);
+    while let Some(edition) = queue.pop_front() {
+        if let Err(edition) = writer.append(edition) {
+            queue.push_front_reserved(edition);
             return false;
         }
     }
@@ -109,11 +108,10 @@ fn fill<S: Sharing>(writer: &mut MapWriter<S>, queue: &mut VecDeque<Noted<S>>) -
 fn show_waiting<S: Sharing, R: Wait>(
     rt: &R,
     mut writer: MapWriter<S>,
-    queue: &mut VecDeque<Noted<S>>,
+    queue: &mut VecDeque<Edition<S>>,
     last: &Front<S>,
 ) -> (MapWriter<S>, bool)
-    requires chain { IsChain writer.desk.shown.value.front (drop writer.behind writer.log.items ++ queue.old.items) last.now }
-    requires accepted { IsSome (after accepted S.opening last.now) }
+    requires chain { IsChain S.opening writer.desk.shown.value.front (drop writer.behind writer.log.items ++ queue.old.items) last.now }
     ensures { MatchBool result.1 ((result.0.desk.shown.value.front ≡ last.now) × (drop result.0.behind result.0.log.items ++ queue.new.items ≡ [])) ((result.0.desk.shown.value.front ≡ writer.desk.shown.value.front) × (drop result.0.behind result.0.log.items ++ queue.new.items ≡ drop writer.behind writer.log.items ++ queue.old.items)) }
 {
     if !fill(&mut writer, queue) {
@@ -154,7 +152,7 @@ impl<S: Sharing> Admin<S> {
     fn is_idle(&self) -> bool
         ensures { IsTrue result ↔ (self.now.pending ≡ []) }
     {
-        !self.writer.has_pending_operations() && self.queue.is_empty()
+        self.last.len() == self.published.len()
     }
 
     // The receipt of all that is published, where nothing is pending.
@@ -193,15 +191,19 @@ impl<S: Sharing> Admin<S> {
             Ok(checked) => checked,
             Err(error) => return Err(error),
         };
+        // All memory is taken before the history grows.
+        let Ok(machine) = checked.copy() else {
+            return Err(BatchError::NoMemory);
+        };
         let mut front = self.last.copy();
         if !front.add(&self.history, &batch) {
             return Err(BatchError::NoMemory);
         }
-        let noted = Noted {
-            batch,
+        let edition = Edition {
+            machine,
             front: front.copy(),
         };
-        self.queue.push_back_reserved(noted);
+        self.queue.push_back_reserved(edition);
         self.checked = checked;
         self.last = front;
         Ok(())

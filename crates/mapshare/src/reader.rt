@@ -13,7 +13,8 @@ use mapmachine::Answer;
 use std::alloc::AllocError;
 use std::marker::Model;
 
-/// Nothing can be entered any more: the administrator has closed.
+/// Nothing could be entered. So it is once the administrator has closed; while the sharing is open it happens only where
+/// the map that is at hand lacks a batch of which the reader learned by a receipt.
 #[derive(Debug, Drop)]
 pub struct Closed;
 
@@ -151,6 +152,13 @@ impl<S: Sharing> Entry<'_, S, Shown<S>> {
         ensures { result ≡ S.opening.sequence + length self.now.shown }
     {
         self.shown.sequence()
+    }
+
+    /// Ends the entry, as dropping it does: the reader keeps what it knows, and may enter again.
+    pub fn leave(self)
+        ensures { self.exit.0.now ≡ self.entry.home.now }
+    {
+        drop(self);
     }
 
     /// The answer to a query in the state after the batches that are shown. The one error is that memory was refused.

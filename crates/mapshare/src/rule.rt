@@ -2,7 +2,7 @@
 
 ghost use Rattle.mapshare.specs.Edition.{IsMade, shape_of};
 
-use crate::edition::{Edition, Noted};
+use crate::edition::Edition;
 use crossbeam_utils::rule::{Outcome, Protocol};
 use history::Naming;
 use left_right::{reader, writer};
@@ -51,7 +51,7 @@ impl<J: Naming> Outcome<Edition<J>, ()> for Moves {
 }
 
 /// The administrator's end.
-pub type MapWriter<S> = writer::Writer<Edition<S>, Noted<S>, (), Ruled<S>>;
+pub type MapWriter<S> = writer::Writer<Edition<S>, Edition<S>, (), Ruled<S>>;
 
 /// A reader's end.
 pub type MapReader<S> = reader::Reader<Edition<S>, (), Ruled<S>>;

@@ -1,20 +1,40 @@
-use Rattle.std.proofs.Common.{◌≡◌, ◌∙◌, ◌++◌, ◌∷◌, [], Some, drop, ap, subst}
+use Rattle.std.proofs.Common.{ℕ, List, ◌≡◌, ◌∙◌, ◌++◌, ◌∷◌, [], Some, IsSome, drop, length, ap, refl, subst, sym}
 use Rattle.sharing.specs.Sharing.{after}
 use Rattle.mapshare.specs.Accepted.{accepted}
-use Rattle.mapshare.specs.declared.edition.Noted.{Noted}
-use Rattle.mapshare.specs.Queue.{batches_of}
-use Rattle.mapshare.proofs.Chains.{chain_push, last_all, on_true}
+use Rattle.mapshare.specs.Admin.{Batches, IsAccepted, all_of, with_batch}
+use Rattle.mapshare.specs.declared.edition.Edition.{Edition}
+use Rattle.mapshare.specs.Queue.{IsNext}
+use Rattle.mapshare.proofs.Chains.{chain_push, last_all, next_one, on_true, pending_more}
 use Rattle.mapshare.proofs.admin.Admin.accept.Goals as goal
 
 pub invariant_of-self-3 : goal.invariant_of-self-3
 invariant_of-self-3 g c =
     let a = c.self.inside in
+    let opening = g.S.Sharing.opening in
     let b = c.args.batch.items in
     let waiting = drop a.writer.behind a.writer.log.items ++ a.queue.items in
-    let noted : Noted g.row.S.Denot = record { batch = c.args.batch; front = c.copy.result } in
-    let added : c.add.new.self ≡ a.last ++ b ∷ [] = on_true c.add.result _ _ c.if-not-add.false c.add.ensures.adds ∙ ap (λ z. z ++ b ∷ []) c.copy-front.ensures in (
+    let edition : Edition g.row.S.Denot = record { machine = c.in-Ok-copy.machine; front = c.copy-2.result } in
+    let added : c.add.new.self ≡ a.last ++ b ∷ [] = on_true c.add.result _ _ c.if-not-add.false c.add.ensures.adds ∙ ap (λ z. z ++ b ∷ []) c.copy-front.ensures in
+    let all : after accepted opening c.add.new.self ≡ Some c.in-Ok.checked =
+    ap (after accepted opening) (added ∙ last_all opening a.published waiting a.last b c.self.invariant.1) ∙ c.in-Ok.ensures.accepted in
+    let made = ap (after accepted opening) c.copy-2.ensures ∙ all ∙ ap Some (sym c.in-Ok-copy.ensures) in (
       c.self.invariant.0,
-      chain_push a.published (drop a.writer.behind a.writer.log.items) a.queue.items c.push_back_reserved.new.self.items a.last c.add.new.self noted
-          c.self.invariant.1 (c.push_back_reserved.ensures.items ∙ ap (λ z. z ++ noted ∷ []) c.reserve.ensures.items) (c.copy.ensures ∙ added) c.copy.ensures,
-      ap (after accepted g.S.Sharing.opening) (added ∙ last_all a.published waiting a.last b c.self.invariant.1) ∙ subst (λ z. after accepted g.S.Sharing.opening (a.published ++ (batches_of (drop a.writer.behind a.writer.log.items ++ z) ++ b ∷ [])) ≡ Some c.in-Ok.checked) c.reserve.ensures.items c.in-Ok.ensures.accepted,
+      chain_push opening a.published (drop a.writer.behind a.writer.log.items) a.queue.items c.push_back_reserved.new.self.items a.last c.add.new.self edition
+          c.self.invariant.1 (c.push_back_reserved.ensures.items ∙ ap (λ z. z ++ edition ∷ []) c.reserve.ensures.items) (subst (IsNext a.last) (sym (c.copy-2.ensures ∙ added)) (next_one a.last b)) made c.copy-2.ensures,
+      all,
     )
+
+pub returns-clause-accepted : goal.returns-clause-accepted
+returns-clause-accepted g c =
+    let a = c.self.inside in
+    let opening = g.S.Sharing.opening in
+    let b = c.args.batch.items in
+    let waiting = drop a.writer.behind a.writer.log.items ++ a.queue.items in
+    let added : c.add.new.self ≡ a.last ++ b ∷ [] = on_true c.add.result _ _ c.if-not-add.false c.add.ensures.adds ∙ ap (λ z. z ++ b ∷ []) c.copy-front.ensures in
+    let more : drop (length a.published) c.add.new.self ≡ drop (length a.published) a.last ++ b ∷ [] =
+    ap (drop (length a.published)) added ∙ pending_more opening a.published waiting a.last b c.self.invariant.1 in
+    let old : Batches = record { published = a.published; pending = drop (length a.published) a.last } in
+    let new : Batches = record { published = a.published; pending = drop (length a.published) c.add.new.self } in
+    let is : new ≡ with_batch b old = ap (λ (p : List (List ℕ)). record { published = a.published; pending = p }) more in
+    let state : after accepted opening (all_of (with_batch b old)) ≡ Some c.in-Ok.checked = c.in-Ok.ensures.accepted in
+    (subst (IsAccepted opening) (sym is) (subst IsSome (sym state) refl), rw (← c.self.view_is) is)

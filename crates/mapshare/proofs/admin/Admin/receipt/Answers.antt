@@ -8,5 +8,5 @@ new-requires g c =
     let a = c.self.inside in
     let waiting = drop a.writer.behind a.writer.log.items ++ a.queue.items in
     let none = ap (λ b. b.pending) c.self.view_is ∙ c.requires.idle in
-    let same : a.last ≡ a.published = idle_last a.published waiting a.last c.self.invariant.1 none in
+    let same : a.last ≡ a.published = idle_last g.S.Sharing.opening a.published waiting a.last c.self.invariant.1 none in
     record { counted = c.sequence.ensures ∙ (after_counts g.S.Sharing.opening a.checked a.last c.self.invariant.2 ∙ ap (λ l. g.S.Sharing.opening.sequence + length l) (same ∙ sym c.copy.ensures)) }
