@@ -14,7 +14,11 @@ use test_maps::map_fields;
 // The sequence that an entry of the reader shows, or 99 where the sharing is closed.
 fn entered<S: Sharing>(reader: &mut Reader<S>) -> u64 {
     match reader.enter() {
-        Ok(entry) => entry.sequence(),
+        Ok(entry) => {
+            let sequence = entry.sequence();
+            entry.leave();
+            sequence
+        }
         Err(_) => 99,
     }
 }
