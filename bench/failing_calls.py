@@ -4,7 +4,8 @@
 Usage: failing_calls.py PROGRAM [EVERY]
 
 A library that is loaded before the C library, built here with cc, counts the calls and fails the one of a number,
-or lets it move one byte alone. Maps of demo/ are checked and played, and one is served by two workers, to three clients
+or lets it move one byte alone. Maps of demo/ are checked and played; sessions of a map's own ask for a picture with
+labels, for the capabilities document and for feature information; and a map is served by two workers, to three clients
 and three administrators, who change it between the clients' requests. What comes out may be less than the right
 answer, never another: a reply is right or NOMEMORY; where a file or a stream fails, what was written is a front of the
 right output, with the status of that failure; words on a fault may be missing; where a call moves one byte, nothing
@@ -121,6 +122,62 @@ ANSWERS = {None: point(0, 3), 0: point(2, 1), 1: NO_LAYER}
 # where there is no memory for a head, and where there is none for an answer, which doesn't end the connection
 BUSY = b"HTTP/1.1 503 Service Unavailable\r\nContent-Length: 0\r\nConnection: close\r\n\r\n"
 BUSY_ONCE = b"HTTP/1.1 503 Service Unavailable\r\nContent-Length: 0\r\n\r\n"
+
+
+FONT = """STARTFONT 2.1
+FONT tiny
+SIZE 2 75 75
+FONTBOUNDINGBOX 2 2 0 0
+CHARS 1
+STARTCHAR A
+ENCODING 65
+SWIDTH 1440 0
+DWIDTH 3 0
+BBX 2 2 0 0
+BITMAP
+C0
+80
+ENDCHAR
+ENDFONT
+"""
+# two labels of one anchor, of which the last goes first, to the right of it
+LABELS = b"""MAP CONFIG LABELFONT tiny.bdf LAYER NAME a TYPE POINT CLASS LABEL COLOR 10 20 30 POSITION AUTO END END
+FEATURE TEXT A POINTS 4.5 5.5 END END FEATURE TEXT A POINTS 4.5 5.5 END END END END
+%%
+QUERY VERSION=1.3.0&REQUEST=GetMap&LAYERS=a&STYLES=&CRS=CRS:84&BBOX=0,0,10,10&WIDTH=10&HEIGHT=10&FORMAT=image/x-portable-pixmap
+"""
+CAPABILITIES = b"""MAP WEB METADATA wms_title 'A "map"' wms_onlineresource "http://a.example/?b&" END END
+LAYER NAME a TYPE POINT TEMPLATE t MINSCALEDENOM 5 METADATA wms_title "<a>" END END LAYER NAME b TYPE LINE END END
+%%
+QUERY REQUEST=GetCapabilities&SERVICE=WMS
+QUERY REQUEST=GetCapabilities&SERVICE=WMS&UPDATESEQUENCE=1
+"""
+# a point, a line and a polygon near the pixel of column 1 and row 1, and a point that isn't
+FEATURES = b"""MAP LAYER NAME p TYPE POINT TEMPLATE t TOLERANCE 1 PROCESSING "ITEMS=name" CLASS END
+FEATURE ITEMS x POINTS 3.5 2.5 END END FEATURE ITEMS y POINTS 1.5 2.5 END END END
+LAYER NAME l TYPE LINE TEMPLATE t CLASS END FEATURE POINTS 0 2 4 2 END END END
+LAYER NAME s TYPE POLYGON TEMPLATE t CLASS END FEATURE POINTS 1 1 3 1 3 3 1 3 END END END END
+%%
+QUERY VERSION=1.3.0&REQUEST=GetFeatureInfo&LAYERS=p,l,s&STYLES=&CRS=CRS:84&BBOX=0,0,4,4&WIDTH=4&HEIGHT=4&FORMAT=image/x-portable-pixmap&QUERY_LAYERS=s,p,l&INFO_FORMAT=text/plain&FEATURE_COUNT=9&I=1&J=1
+QUERY VERSION=1.3.0&REQUEST=GetFeatureInfo&LAYERS=p,l,s&STYLES=&CRS=CRS:84&BBOX=0,0,4,4&WIDTH=4&HEIGHT=4&FORMAT=image/x-portable-pixmap&QUERY_LAYERS=p&INFO_FORMAT=text/plain&I=4&J=1
+"""
+FOUND = b"GetFeatureInfo results:\nLayer 's'\n  Feature 0:\nLayer 'p'\n  Feature 1:\n    name = 'y'\nLayer 'l'\n  Feature 0:\n"
+
+
+def transcript(kind, body):
+    """What a session writes for an answer."""
+    lines = b"".join(body[at : at + 32].hex().encode() + b"\n" for at in range(0, len(body), 32))
+    return b"ANSWER %s %d\n%s" % (kind, len(body), lines if kind.startswith(b"image") else body)
+
+
+def labelled():
+    """The picture of the two labels: the ink of each, of three pixels, begins in columns 1 and 5 of row 2."""
+    ink = {(1, 2), (2, 2), (1, 3), (5, 2), (6, 2), (5, 3)}
+    return b"P6\n10 10\n255\n" + b"".join(bytes([10, 20, 30] if (at % 10, at // 10) in ink else [255] * 3) for at in range(100))
+
+
+def report(code, parameter):
+    return NO_LAYER.partition(b"\r\n\r\n")[2].replace(b"LayerNotDefined", code).replace(b"LAYERS", parameter)
 
 
 class Run:
@@ -249,42 +306,57 @@ def may_want_thread(run, right):
     return run.status == 3 and len(run.got) == 2 * len(TURNS) and may_have_served(run, (3,), None)
 
 
+def cases(folder):
+    """What is tried: a name, the words, the folder, what stands on standard input, and what the output ends with."""
+    (folder / "served.map").write_text(SERVED)
+    (folder / "tiny.bdf").write_text(FONT)
+    script = (DEMO / "harbours.script").read_bytes()
+    transparent = script.replace(b"x-portable-pixmap", b"x-portable-arbitrarymap&TRANSPARENT=TRUE")
+    yield "session", "", DEMO, (DEMO / "harbours.map").read_bytes() + b"%%\n" + script + transparent, b"\n"
+    yield "labels", "", folder, LABELS, transcript(b"image/x-portable-pixmap", labelled())
+    yield "capabilities", "", folder, CAPABILITIES, b"</WMS_Capabilities>\n" + transcript(b"text/xml", report(b"InvalidUpdateSequence", b"UPDATESEQUENCE"))
+    yield "information", "", folder, FEATURES, transcript(b"text/plain", FOUND) + transcript(b"text/xml", report(b"InvalidPoint", b"I"))
+    for words, ending in [("run lakes.map lakes.script", b"\n"), ("check harbours.map", b"features\n"), ("check --explain faulty.map", b"")]:
+        yield words, words, DEMO, b"", ending
+    yield SERVE, SERVE, folder, b"", b""
+
+
+def kinds_of(name, right, ending):
+    """Which calls are let fail, how many there are, and by what a run is right; the run with none has to be."""
+    if right.memory == 0 or not right.output.endswith(ending):
+        sys.exit(f"failed: {name} ends with {right.key()}, and {right.memory} calls for memory were counted")
+    yield "FAIL_MEMORY", right.memory, may_want_memory
+    yield "FAIL_BYTES", right.bytes, may_fail
+    yield "SHORT_BYTES", right.bytes, lambda run, right: run.key() == right.key()
+    if name == SERVE:
+        clients = [ANSWERS[after] for after in (None, 0, 1)]
+        if right.key() != (0, b"", b"", [one for both in zip(clients, LINES) for one in both]):
+            sys.exit(f"failed: what is served is {right.key()}")
+        yield "FAIL_THREADS", right.threads, may_want_thread
+
+
 def main():
     if len(sys.argv) not in (2, 3) or not all(word.isdecimal() and int(word) for word in sys.argv[2:]):
         sys.exit(__doc__.split("\n\n")[1])
     program, tried, wrong = os.path.abspath(sys.argv[1]), 0, 0
     every = int(sys.argv[2]) if len(sys.argv) == 3 else 1
-    script = (DEMO / "harbours.script").read_bytes()
-    transparent = script.replace(b"x-portable-pixmap", b"x-portable-arbitrarymap&TRANSPARENT=TRUE")
-    session = (DEMO / "harbours.map").read_bytes() + b"%%\n" + script + transparent
     with tempfile.TemporaryDirectory() as folder:
         shim = os.path.join(folder, "shim.so")
         path = pathlib.Path(folder) / "shim.c"
         path.write_text(SHIM)
         subprocess.run(["cc", "-shared", "-fPIC", "-o", shim, path, "-ldl"], check=True)
-        (pathlib.Path(folder) / "served.map").write_text(SERVED)
-        for words in ["", "run lakes.map lakes.script", "check harbours.map", "check --explain faulty.map", SERVE]:
+        for name, words, at, session, ending in cases(pathlib.Path(folder)):
             command = [program, *words.split()]
-            at = folder if words == SERVE else DEMO
             right = Run(shim, at, command, session)
-            if right.memory == 0:
-                sys.exit(f"failed: {words or 'session'} ends with {right.status}, and no call was counted")
-            kinds = [("FAIL_MEMORY", right.memory, may_want_memory), ("FAIL_BYTES", right.bytes, may_fail)]
-            kinds.append(("SHORT_BYTES", right.bytes, lambda run, right: run.key() == right.key()))
-            if words == SERVE:
-                clients = [ANSWERS[after] for after in (None, 0, 1)]
-                if right.key() != (0, b"", b"", [one for both in zip(clients, LINES) for one in both]):
-                    sys.exit(f"failed: what is served is {right.key()}")
-                kinds.append(("FAIL_THREADS", right.threads, may_want_thread))
-            for kind, count, is_right in kinds:
-                print(f"{words or 'session'}, {kind}: {count} calls", end=", ", flush=True)
+            for kind, count, is_right in kinds_of(name, right, ending):
+                print(f"{name}, {kind}: {count} calls", end=", ", flush=True)
                 begun = time.monotonic()
                 for number in range(1, count + 1, every):
                     run = Run(shim, at, command, session, **{kind: number})
                     tried += 1
                     if not is_right(run, right):
                         wrong += 1
-                        print(f"\nwrong: {words or 'session'}, {kind} {number} of {count}: {run.key()}")
+                        print(f"\nwrong: {name}, {kind} {number} of {count}: {run.key()}")
                 print(f"{time.monotonic() - begun:.1f} s", flush=True)
     print(f"ok: {tried} calls" if wrong == 0 else f"failed: {wrong} of {tried}")
     sys.exit(wrong > 0)

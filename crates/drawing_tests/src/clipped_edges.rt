@@ -1,5 +1,7 @@
 use crate::shapes::{edge, sides};
 use clip::{Class, Rows, clamped, classify};
+use geom::MAX_PICTURE_SIDE;
+use scanfill::{EdgeWalk, Work};
 use std::alloc::{AllocError, Global};
 use test_tables::{TableFault, check_rows, numbers};
 
@@ -122,4 +124,54 @@ fn index(alloc: Global, row: &str) -> Result<String, AllocError> {
 #[test]
 fn indices_are_cut_at_both_ends(rt: HostRuntime) -> Result<(), TableFault> {
     check_rows(rt.alloc(), INDICES, '=', 8, index)
+}
+
+// The columns in which an edge is walked, and the divisions that were made for all of them. The ends of the edge, and
+// width and height of the picture.
+const WALKS: &str = "\
+1 2 by 2=16 16 48 48|4 4
+2 1 by 2=48 16 16 48|4 4
+2 1 by 2=16 48 48 16|4 4
+# the crossing lies at the centre of column 1, and a sixteenth to the right of it
+1 1 1 1 by 2=24 0 24 64|4 4
+2 2 2 2 by 2=25 0 25 64|4 4
+# three columns and a little to the right from row to row
+-2 1 4 by 2=-64 0 81 48|9 3
+# an edge on no pixel centre's height, and one left of the view
+by 0=0 20 64 20|4 4
+by 0=-48 16 -48 48|4 4";
+
+// Adds the columns of a walk down its rows, of which there are 2,048 at most.
+fn add_columns(alloc: Global, walk: &mut EdgeWalk, columns: &mut String) -> Result<(), AllocError> {
+    for _row in 0..2_048_u16 {
+        let column = format!(in alloc; "{} ", walk.column())?;
+        columns.push_str(column.as_str())?;
+        if walk.row() >= walk.end().saturating_sub(1) {
+            return Ok(());
+        }
+        walk.next_row();
+    }
+    Ok(())
+}
+
+// The same of a row.
+fn walk(alloc: Global, row: &str) -> Result<String, AllocError> {
+    let mut columns = String::new(alloc);
+    let mut work = Work::new();
+    let (ends, size) = row.split_once('|').unwrap_or(("", ""));
+    if let (Some(ends), Some((width, height))) = (numbers(ends, ' '), sides(size)) {
+        let edge = edge(ends);
+        if let Class::Walk { rows } = classify(edge, width, height) {
+            if rows.to <= MAX_PICTURE_SIDE {
+                let mut walk = EdgeWalk::start(edge, rows, &mut work);
+                add_columns(alloc, &mut walk, &mut columns)?;
+            }
+        }
+    }
+    format!(in alloc; "{columns}by {}", work.divisions)
+}
+
+#[test]
+fn edges_are_walked_by_two_divisions(rt: HostRuntime) -> Result<(), TableFault> {
+    check_rows(rt.alloc(), WALKS, '=', 8, walk)
 }

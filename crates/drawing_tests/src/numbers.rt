@@ -106,6 +106,35 @@ fn numbers_are_read_up_to_their_limit(rt: HostRuntime) -> Result<(), TableFault>
     check_rows(rt.alloc(), LARGE, '=', 3, other_number)
 }
 
+// The text of a number, and its millionths.
+const TEXTS: &str = "\
+-0.000001=-1
+0.000000=0
+0.000010=10
+0.500000=500000
+1.000000=1000000
+-1.000000=-1000000
+12.345678=12345678
+-180.000000=-180000000
+1000.000001=1000000001
+9223372036854.775807=9223372036854775807
+-9223372036854.775808=-9223372036854775808";
+
+// The text of so many millionths.
+fn text(alloc: Global, row: &str) -> Result<String, AllocError> {
+    let mut out = Vec::new(alloc);
+    Micro::new(row.parse::<i64>().unwrap_or(7)).write(&mut out)?;
+    match str::from_utf8(out.as_slice()) {
+        Ok(text) => String::from_str(alloc, text),
+        Err(_) => format!(in alloc; "not UTF-8"),
+    }
+}
+
+#[test]
+fn numbers_have_their_texts(rt: HostRuntime) -> Result<(), TableFault> {
+    check_rows(rt.alloc(), TEXTS, '=', 11, text)
+}
+
 // The nearest whole number, and millionths.
 const WHOLES: &str = "\
 0=0

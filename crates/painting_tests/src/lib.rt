@@ -3,8 +3,6 @@
 #![tactic(auto)]
 
 #[cfg(test)]
-mod long_rings;
-#[cfg(test)]
 mod near_features;
 #[cfg(test)]
 mod painted_maps;

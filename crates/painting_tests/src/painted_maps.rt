@@ -152,7 +152,7 @@ fn ring(alloc: Global, text: &str) -> Result<Items<World>, AllocError>
 }
 
 /// A feature of these rings.
-pub(crate) fn feature_of(alloc: Global, parts: Items<Items<World>>) -> Feature
+fn feature_of(alloc: Global, parts: Items<Items<World>>) -> Feature
     requires { sum_by length parts ≤ MAX_VERTICES }
     ensures { result.values ≡ [] }
 {
@@ -242,7 +242,7 @@ fn layer_of(
 /// A layer of this feature with one class. Its kind, the letters of the class's styles, and the bounds on
 /// the scale of the class and of the layer with a comma between them, or `none`. Malformed ones end a test as
 /// those for which memory is refused.
-pub(crate) fn layer(alloc: Global, words: &str, feature: Feature) -> Result<Layer, AllocError>
+fn layer(alloc: Global, words: &str, feature: Feature) -> Result<Layer, AllocError>
     requires { feature.values ≡ [] }
     ensures { IfOk result (LayerNamesSymbolsOf 2) }
 {
@@ -277,7 +277,7 @@ fn two_symbols(alloc: Global) -> Result<SharedItems<Symbol>, AllocError>
 }
 
 /// A map of four degrees by four, with these layers and two symbols.
-pub(crate) fn map_of(alloc: Global, layers: Items<Layer>) -> Result<Map, AllocError>
+fn map_of(alloc: Global, layers: Items<Layer>) -> Result<Map, AllocError>
     requires count { length layers ≤ MAX_LAYERS }
     requires symbols { All (LayerNamesSymbolsOf 2) layers }
     ensures { IfOk result (λ map. map.layers ≡ layers) }

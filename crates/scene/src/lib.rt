@@ -5,7 +5,8 @@
 //! of `mapdefs`), and where places and the parts of a feature lie on the picture (`device_point` of
 //! `viewport`). Its value is the record of the three (`SceneValue`).
 //!
-//! Words: a *scene* borrows its map, and owns a projection of the view, so it is made once a picture.
+//! Words: a *scene* borrows its map, and owns a projection of the view. It is made once for a picture, and once for each
+//! layer that is asked for features.
 #![tactic(auto)]
 
 mod classes;
