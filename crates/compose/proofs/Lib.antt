@@ -1,12 +1,12 @@
 pub mod Candidates
 pub mod Cutting
-pub mod Meeting
 pub mod Filling
 pub mod Finding
 pub mod Finishing
 pub mod Found
 pub mod Labelling
 pub mod Margins
+pub mod Meeting
 pub mod NearAnchors
 pub mod NearBoxes
 pub mod NearEdges
@@ -16,5 +16,6 @@ pub mod NearThings
 pub mod Painting
 pub mod Sparing
 pub mod Sweeping
-pub mod Thinning
+pub mod FlipFilling
+pub mod Flipping
 pub mod Walking

@@ -11,15 +11,17 @@
 //! or a pixmap. The *paint list* has the things of the chosen layers in order: a layer's features, a
 //! feature's styles, the points of a feature. A *canvas* is the picture while it is painted. A *colouring*
 //! gives the pixels of a cover their colours. A *run* is a stretch of a ring's vertices in one row of the
-//! picture. Edges *stand for* others where they cover the same pixels of its rows. A feature is *met* when the
-//! chosen layers are gone through and it has a class. A *candidate* is a text that may be placed, and its *anchor*
-//! the pixel that its label stands at.
+//! picture, and a *band* two latitudes between which all are of one row. *Flips* are those of `scanfill`. They
+//! *stand for* edges where the same pixels of the picture lie inside by both. A feature is *met* when the chosen
+//! layers are gone through and it has a class. A *candidate* is a text that may be placed, and its *anchor* the
+//! pixel that its label stands at.
 #![tactic(auto)]
 
 mod anchor;
 mod canvas;
 mod colouring;
 mod drawing;
+mod flip_fill;
 mod ink;
 mod label;
 mod latitudes;
@@ -30,9 +32,9 @@ mod met;
 mod paint;
 mod points;
 mod polygons;
+mod ring_flips;
 mod rows;
 mod run;
 mod sweep;
-mod thinned;
 
 pub use paint::picture;
