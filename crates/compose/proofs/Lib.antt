@@ -14,7 +14,10 @@ pub mod NearLines
 pub mod NearShapes
 pub mod NearThings
 pub mod Painting
+pub mod Quieting
 pub mod Sparing
+pub mod Stripping
+pub mod Stroking
 pub mod Sweeping
 pub mod FlipFilling
 pub mod Flipping

@@ -30,7 +30,7 @@ use viewport::View;
 ///
 /// It takes memory for the picture, for what `near` finds of a layer, for the flips of a polygon's rows, which is kept
 /// until the picture is done, and for one feature at a time: for the edges of a polygon whose rows have too many flips,
-/// for the vertices of a line or an outline and what it is made of, and for a row. Of labels it takes memory for the candidates, which borrow their texts, for the labels, for what
+/// and for a row. Of labels it takes memory for the candidates, which borrow their texts, for the labels, for what
 /// tests ask of them, and for the glyphs of one text at a time. `AllocError` comes only where that is refused.
 pub fn picture<N: Near>(
     alloc: Global,

@@ -8,16 +8,16 @@ ghost use Rattle.compose.specs.Painted.{IsPainted};
 
 use crate::canvas::Canvas;
 use crate::flip_fill::fill_flips;
-use crate::lines::paint_line;
+use crate::pen::Pen;
 use crate::ring_flips::add_rings;
 use crate::run::RowFinder;
+use crate::stroke::paint_along_parts;
 use crate::sweep::fill_polygon;
 use geom::World;
 use mapdefs::{Items, Rgb, Style};
 use scanfill::{FlipFault, Polygon};
 use scene::Scene;
 use std::alloc::AllocError;
-use strokes::Line;
 
 /// Paints a polygon of these rings by each style, in order: its rings, and then its outline. The canvas is as wide
 /// and as high as the scene's picture.
@@ -109,6 +109,8 @@ fn paint_outline(
     rings: &[Items<World>],
     style: &Style,
 ) -> Result<(), AllocError>
+    requires width { canvas.old.width ≡ scene.now.view.width }
+    requires height { canvas.old.height ≡ scene.now.view.height }
     ensures { OnOk result (IsPainted canvas.old canvas.new
         (strokes (line_of (map (map (device_point scene.now.view)) rings.now) true style.now.width) style.now.outline)) }
 {
@@ -116,7 +118,5 @@ fn paint_outline(
     let Some(colour) = style.outline else {
         return Ok(());
     };
-    let rings = scene.points_of(canvas.alloc(), rings)?;
-    let line = Line::new(canvas.alloc(), &rings, true, style.width)?;
-    paint_line(canvas, &line, colour)
+    paint_along_parts(canvas, &Pen::new(scene, style.width, colour), rings, true)
 }
