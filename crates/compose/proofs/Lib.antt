@@ -1,12 +1,12 @@
 pub mod Candidates
 pub mod Cutting
-pub mod Meeting
 pub mod Filling
 pub mod Finding
 pub mod Finishing
 pub mod Found
 pub mod Labelling
 pub mod Margins
+pub mod Meeting
 pub mod NearAnchors
 pub mod NearBoxes
 pub mod NearEdges
@@ -14,7 +14,11 @@ pub mod NearLines
 pub mod NearShapes
 pub mod NearThings
 pub mod Painting
+pub mod Quieting
 pub mod Sparing
+pub mod Stripping
+pub mod Stroking
 pub mod Sweeping
-pub mod Thinning
+pub mod FlipFilling
+pub mod Flipping
 pub mod Walking

@@ -1,4 +1,4 @@
-ghost use Rattle.std.specs.Prelude.{◌≡◌, ℕ, ◌*◌, ◌+◌, ◌≤◌, ◌<◌, true, All, length, replicate, IfOk};
+ghost use Rattle.std.specs.Prelude.{◌≡◌, [], ℕ, ◌*◌, ◌+◌, ◌≤◌, ◌<◌, true, All, length, replicate, IfOk};
 ghost use Rattle.scanfill.specs.Runs.{is_in_spans};
 ghost use Rattle.compose.specs.Painted.{HasRowsFilled};
 
@@ -6,18 +6,20 @@ use crate::colouring::{Colouring, fill_spans};
 use crate::latitudes::RowLatitudes;
 use geom::PictureSide;
 use mapdefs::{Items, Picture, PictureFields, PixelColour, Rgb};
-use scanfill::Span;
+use scanfill::{RowFlips, Span};
 use scene::Scene;
 use std::alloc::{AllocError, Global};
 use std::marker::Model;
+use std::mem;
 
-/// A picture while it is painted, with guesses at the latitudes of its rows.
+/// A picture while it is painted, with a table of the latitudes of its rows.
 #[derive(Drop)]
 pub struct Canvas {
     width: PictureSide,
     height: PictureSide,
     pixels: Vec<PixelColour>,
     latitudes: RowLatitudes,
+    flips: RowFlips,
 }
 
 impl Model for Canvas {
@@ -52,6 +54,7 @@ impl Canvas {
             height,
             pixels,
             latitudes,
+            flips: RowFlips::new(alloc, width, height),
         })
     }
 
@@ -60,9 +63,27 @@ impl Canvas {
         *self.pixels.allocator()
     }
 
-    /// The guesses at the latitudes of its rows.
+    /// The table of the latitudes of its rows.
     pub fn latitudes(&self) -> &RowLatitudes {
         &self.latitudes
+    }
+
+    /// An empty list of flips of its picture. It has the memory of the list that was given back last.
+    pub fn lend_flips(&mut self) -> RowFlips
+        ensures same { self.new ≡ self.old }
+        ensures flips { result ≡ record { width = self.old.width; height = self.old.height; flips = [] } }
+    {
+        let none = RowFlips::new(self.alloc(), self.width, self.height);
+        let mut flips = mem::replace(&mut self.flips, none);
+        flips.restart(self.width, self.height);
+        flips
+    }
+
+    /// Takes a list of flips back. Its memory serves the next one.
+    pub fn return_flips(&mut self, flips: RowFlips)
+        ensures { self.new ≡ self.old }
+    {
+        self.flips = flips;
     }
 
     /// How many columns of pixels it has.

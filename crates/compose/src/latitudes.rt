@@ -1,40 +1,126 @@
-use geom::{Coordinate, Micro};
+ghost use Rattle.std.specs.Prelude.{◌≡◌, ◌≤◌, ◌<◌, ◌+◌, ◌^◌, ℕ, pos, IfOk, length};
+ghost use Rattle.clip.specs.Class.{first_row};
+ghost use Rattle.geom.specs.Range.{IsBelow};
+ghost use Rattle.compose.specs.Flipped.{AreBands, IsBand, row_of};
+
+use clip::clamped;
+use geom::{Coordinate, Micro, PictureSide};
 use std::alloc::{AllocError, Global};
+use std::marker::Model;
 use viewport::Projection;
 
-/// About the southernmost latitude of each row of a picture, from the top, and at last that of what lies below
-/// it. They are guesses, of which nothing is promised: whoever takes one looks whether it is of the row.
+/// Two latitudes of a row of a picture: all between them are of that row. If the southern one is the greater, the
+/// band is empty, and they needn't be of the row.
+#[derive(Clone, Copy)]
+pub struct Band {
+    pub south: Coordinate,
+    pub north: Coordinate,
+}
+
+/// The bands of the rows of a picture, from the top, and last the one of what lies below them. Each is guessed, and
+/// tested when the table is made. The table has the latitudes and the height of the picture that it is of.
 #[derive(Drop)]
 pub struct RowLatitudes {
-    south: Vec<Coordinate>,
+    south: Micro,
+    north: Micro,
+    height: PictureSide,
+    bands: Vec<Band>,
+}
+
+impl Model for RowLatitudes {
+    ghost use Rattle.compose.specs.Flipped.{AreBands, BandsValue};
+
+    ghost Value = { BandsValue };
+
+    ghost view = { λ r. record { south = r.south; north = r.north; height = r.height; bands = r.bands.items } };
+
+    ghost invariant = { λ r. AreBands r.south r.north r.height r.bands.items };
 }
 
 impl RowLatitudes {
-    /// The guesses for a picture. It divides once for each row, so they are made once a picture.
+    /// The bands of a picture. It divides once for each row, so they are made once a picture.
     pub fn new(alloc: Global, projection: &Projection) -> Result<Self, AllocError> {
-        let height = projection.height().pixels();
-        let mut south = Vec::with_capacity(alloc, usize::from(height) + 1)?;
-        for row in 0..height {
-            south.push(projection.about_south(row))?;
-        }
-        south.push(Coordinate::new(Micro::new(-1_000_000_000)))?;
-        Ok(RowLatitudes { south })
+        let height = projection.height();
+        let bands = bands_of(alloc, projection)?;
+        let area = projection.area();
+        Ok(RowLatitudes {
+            south: area.miny(),
+            north: area.maxy(),
+            height,
+            bands,
+        })
     }
 
-    /// About the southernmost latitude of a row.
-    pub fn south(&self, row: u16) -> Coordinate {
-        match self.south.get(usize::from(row)) {
-            Some(latitude) => *latitude,
-            None => Coordinate::new(Micro::new(-1_000_000_000)),
+    /// The bands, or none if they are of another picture than the projection's.
+    pub fn bands(&self, projection: &Projection) -> &[Band]
+        ensures { AreBands projection.now.area.miny projection.now.area.maxy projection.now.height result.now }
+    {
+        let area = projection.area();
+        if self.height.pixels() == projection.height().pixels()
+            && self.south.millionths() == area.miny().millionths()
+            && self.north.millionths() == area.maxy().millionths()
+        {
+            return self.bands.as_slice();
         }
+        &[]
     }
+}
 
-    /// About the northernmost latitude of a row: the one that is next to the row above it.
-    pub fn north(&self, row: u16) -> Coordinate {
-        match row.checked_sub(1) {
-            Some(above) => southward(self.south(above)),
-            None => Coordinate::new(Micro::new(1_000_000_000)),
-        }
+// The bands of a picture's rows.
+fn bands_of(alloc: Global, projection: &Projection) -> Result<Vec<Band>, AllocError>
+    ensures { IfOk result (λ bands. AreBands projection.now.area.miny projection.now.area.maxy projection.now.height bands.items) }
+{
+    let rows = projection.height().pixels();
+    let mut bands = Vec::with_capacity(alloc, usize::from(rows) + 1)?;
+    for row in 0..rows + 1 {
+        bands.push(band_of(projection, row))?;
+    }
+    Ok(bands)
+}
+
+// The band of a row: the one that is guessed if both of its latitudes are of the row, else an empty one.
+fn band_of(projection: &Projection, row: u16) -> Band
+    ensures { IsBand projection.now.area.miny projection.now.area.maxy projection.now.height row result }
+{
+    let south = about_south(projection, row);
+    let north = about_north(projection, row);
+    let rows = (row_at(projection, south), row_at(projection, north));
+    if rows.0 == row && rows.1 == row {
+        return Band { south, north };
+    }
+    Band {
+        south: latitude(1),
+        north: latitude(0),
+    }
+}
+
+// The latitude of so many millionths of a degree.
+fn latitude(millionths: u8) -> Coordinate
+    ensures { result ≡ pos millionths }
+{
+    Coordinate::new(Micro::new(i64::from(millionths)))
+}
+
+/// The first row whose pixel centres lie at that latitude or below it, or the picture's height.
+pub fn row_at(projection: &Projection, latitude: Coordinate) -> u16
+    ensures { result ≡ row_of projection.now latitude }
+{
+    first_row(projection.down(latitude), projection.height())
+}
+
+// About the southernmost latitude of a row, and about the northernmost one: the one that is next to the row above it.
+fn about_south(projection: &Projection, row: u16) -> Coordinate {
+    if row < projection.height().pixels() {
+        projection.about_south(row)
+    } else {
+        Coordinate::new(Micro::new(-1_000_000_000))
+    }
+}
+
+fn about_north(projection: &Projection, row: u16) -> Coordinate {
+    match row.checked_sub(1) {
+        Some(above) => southward(about_south(projection, above)),
+        None => Coordinate::new(Micro::new(1_000_000_000)),
     }
 }
 
@@ -46,4 +132,13 @@ fn southward(latitude: Coordinate) -> Coordinate {
     } else {
         latitude
     }
+}
+
+// The first row whose pixel centres lie at that height or below it, or the picture's height.
+#[tactic(auto, unfolding(clip::specs::Class::first_row))]
+fn first_row(y: i64, height: PictureSide) -> u16
+    requires { IsBelow (2 ^ 47) y }
+    ensures { result ≡ first_row y height }
+{
+    clamped(i128::from((y + 7).div_euclid(16)), height.pixels())
 }

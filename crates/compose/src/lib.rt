@@ -11,15 +11,19 @@
 //! or a pixmap. The *paint list* has the things of the chosen layers in order: a layer's features, a
 //! feature's styles, the points of a feature. A *canvas* is the picture while it is painted. A *colouring*
 //! gives the pixels of a cover their colours. A *run* is a stretch of a ring's vertices in one row of the
-//! picture. Edges *stand for* others where they cover the same pixels of its rows. A feature is *met* when the
-//! chosen layers are gone through and it has a class. A *candidate* is a text that may be placed, and its *anchor*
-//! the pixel that its label stands at.
+//! picture, and a *band* two latitudes between which all are of one row. *Flips* are those of `scanfill`. They
+//! *stand for* edges where the same pixels of the picture lie inside by both. A *step* of a line is a segment and
+//! the square round its second vertex, and a box is *quiet* where a step within it needs no painting. A feature is
+//! *met* when the chosen layers are gone through and it has a class. A *candidate* is a text that may be placed,
+//! and its *anchor* the pixel that its label stands at.
 #![tactic(auto)]
 
 mod anchor;
+mod boxes;
 mod canvas;
 mod colouring;
 mod drawing;
+mod flip_fill;
 mod ink;
 mod label;
 mod latitudes;
@@ -28,11 +32,15 @@ mod lines;
 mod margin;
 mod met;
 mod paint;
+mod pen;
 mod points;
 mod polygons;
+mod ring_flips;
 mod rows;
 mod run;
+mod strips;
+mod stroke;
 mod sweep;
-mod thinned;
+mod trail;
 
 pub use paint::picture;

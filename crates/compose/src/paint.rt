@@ -28,9 +28,9 @@ use viewport::View;
 /// The features that may be seen are those that `near` finds in the view and so many pixels round it as the
 /// layer's styles paint from a point at most. The picture and its labels are the same whatever else it finds.
 ///
-/// It takes memory for the picture, for what `near` finds of a layer, and for one feature at a time: for the edges of a
-/// polygon that cross a row, again for those as its rows are swept, for the vertices of a line or an outline and what it
-/// is made of, and for a row. Of labels it takes memory for the candidates, which borrow their texts, for the labels, for what
+/// It takes memory for the picture, for what `near` finds of a layer, for the flips of a polygon's rows, which is kept
+/// until the picture is done, and for one feature at a time: for the edges of a polygon whose rows have too many flips,
+/// and for a row. Of labels it takes memory for the candidates, which borrow their texts, for the labels, for what
 /// tests ask of them, and for the glyphs of one text at a time. `AllocError` comes only where that is refused.
 pub fn picture<N: Near>(
     alloc: Global,
@@ -84,6 +84,7 @@ fn draw_features<'a>(
     found: &[u32],
 ) -> Result<(), AllocError>
     requires indices { All (λ k. k < length layer.now.features) found.now }
+    requires width { drawing.old.canvas.width ≡ scene.now.view.width }
     requires height { drawing.old.canvas.height ≡ scene.now.view.height }
     ensures { OnOk result (IsDrawn scene.now drawing.old drawing.new (flat_map (given_at (met_feature scene.now.scale layer.now) layer.now.features) found.now)) }
 {
@@ -101,7 +102,8 @@ fn draw_feature<'a>(
     layer: &'a LayerFields,
     feature: &'a FeatureFields,
 ) -> Result<(), AllocError>
-    requires { drawing.old.canvas.height ≡ scene.now.view.height }
+    requires width { drawing.old.canvas.width ≡ scene.now.view.width }
+    requires height { drawing.old.canvas.height ≡ scene.now.view.height }
     ensures { OnOk result (IsDrawn scene.now drawing.old drawing.new (met_feature scene.now.scale layer.now feature.now)) }
 {
     let Some(class) = scene.class_of(layer, feature) else {
@@ -118,7 +120,8 @@ fn paint_feature(
     scene: &Scene<'_>,
     met: &MetFeature<'_>,
 ) -> Result<(), AllocError>
-    requires { canvas.old.height ≡ scene.now.view.height }
+    requires width { canvas.old.width ≡ scene.now.view.width }
+    requires height { canvas.old.height ≡ scene.now.view.height }
     ensures { OnOk result (IsPainted canvas.old canvas.new (met_things scene.now.view scene.now.map.symbols met.now)) }
 {
     let parts = met.feature().parts.as_slice();

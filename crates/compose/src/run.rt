@@ -2,11 +2,10 @@ ghost use Rattle.std.specs.Prelude.{◌≡◌, ◌^◌, ◌&&◌, ◌≤ℤ◌, 
 ghost use Rattle.geom.specs.Range.{IsBelow};
 ghost use Rattle.geom.specs.World.{IsExtent};
 ghost use Rattle.clip.specs.Class.{first_row};
-ghost use Rattle.compose.specs.Thinned.{IsRun, row_of};
+ghost use Rattle.compose.specs.Flipped.{IsRun, row_of};
 
-use crate::latitudes::RowLatitudes;
-use clip::clamped;
-use geom::{Coordinate, PictureSide, World};
+use crate::latitudes::{Band, RowLatitudes, row_at};
+use geom::{Coordinate, World};
 use std::marker::Model;
 use viewport::Projection;
 
@@ -33,25 +32,28 @@ impl Run {
 #[derive(Drop)]
 pub struct RowFinder<'a> {
     projection: &'a Projection,
-    latitudes: &'a RowLatitudes,
+    bands: &'a [Band],
 }
 
 impl<'a> Model for RowFinder<'a> {
     ghost use Rattle.viewport.specs.View.{ViewValue};
+    ghost use Rattle.compose.specs.Flipped.{AreBands};
 
     ghost Value = { ViewValue };
 
     ghost view = { λ r. r.projection.now };
+
+    ghost invariant = { λ r. AreBands r.projection.now.area.miny r.projection.now.area.maxy r.projection.now.height r.bands.now };
 }
 
 impl<'a> RowFinder<'a> {
-    /// A finder of the rows of a projection's picture, with guesses at their latitudes.
+    /// A finder of the rows of a projection's picture, with a table of their latitudes.
     pub fn new(projection: &'a Projection, latitudes: &'a RowLatitudes) -> Self
         ensures { result ≡ projection.now }
     {
         RowFinder {
             projection,
-            latitudes,
+            bands: latitudes.bands(projection),
         }
     }
 
@@ -66,7 +68,7 @@ impl<'a> RowFinder<'a> {
     pub fn row_of(&self, latitude: Coordinate) -> u16
         ensures { result ≡ row_of self.now latitude }
     {
-        first_row(self.projection.down(latitude), self.projection.height())
+        row_at(self.projection, latitude)
     }
 
     /// The run that begins with a vertex of that row.
@@ -75,55 +77,27 @@ impl<'a> RowFinder<'a> {
         ensures from { result.from ≡ from }
         ensures run { IsRun self.now result }
     {
+        let _area = self.projection.area();
         let latitude = from.y();
+        let at = usize::from(row);
+        if at < self.bands.len() {
+            let band = self.bands[at];
+            if is_at_most(band.south, latitude) && is_at_most(latitude, band.north) {
+                return Run {
+                    from,
+                    row,
+                    low: band.south,
+                    high: band.north,
+                };
+            }
+        }
         Run {
             from,
             row,
-            low: self.lower(row, latitude),
-            high: self.upper(row, latitude),
+            low: latitude,
+            high: latitude,
         }
     }
-
-    // A latitude of the row that is no further north than another: the one that is guessed, if it is such a one.
-    fn lower(&self, row: u16, latitude: Coordinate) -> Coordinate
-        requires { row_of self.now latitude ≡ row }
-        ensures row { row_of self.now result ≡ row }
-        ensures least { result ≤ℤ latitude }
-        ensures limits { IsExtent self.now.area }
-    {
-        let _area = self.projection.area();
-        let guess = self.latitudes.south(row);
-        let guessed = self.row_of(guess);
-        if guessed == row && is_at_most(guess, latitude) {
-            guess
-        } else {
-            latitude
-        }
-    }
-
-    // The same of one that is no further south.
-    fn upper(&self, row: u16, latitude: Coordinate) -> Coordinate
-        requires { row_of self.now latitude ≡ row }
-        ensures row { row_of self.now result ≡ row }
-        ensures most { latitude ≤ℤ result }
-    {
-        let guess = self.latitudes.north(row);
-        let guessed = self.row_of(guess);
-        if guessed == row && is_at_most(latitude, guess) {
-            guess
-        } else {
-            latitude
-        }
-    }
-}
-
-// The first row whose pixel centres lie at that height or below it, or the picture's height.
-#[tactic(auto, unfolding(clip::specs::Class::first_row))]
-fn first_row(y: i64, height: PictureSide) -> u16
-    requires { IsBelow (2 ^ 47) y }
-    ensures { result ≡ first_row y height }
-{
-    clamped(i128::from((y + 7).div_euclid(16)), height.pixels())
 }
 
 // Whether a latitude is at most another.

@@ -3,6 +3,7 @@ pub mod Counting
 pub mod Covering
 pub mod Flipping
 pub mod Marching
+pub mod Pairing
 pub mod Parity
 pub mod Quotients
 pub mod Readings
@@ -11,4 +12,5 @@ pub mod Shares
 pub mod Sizes
 pub mod Steps
 pub mod Sweeping
+pub mod FlipCounts
 pub mod Words

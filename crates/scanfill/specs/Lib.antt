@@ -5,4 +5,5 @@ pub mod Law
 pub mod Reading
 pub mod Runs
 pub mod Sweep
+pub mod RowFlips
 pub mod Walk

@@ -7,10 +7,12 @@
 //! `Cover::row` and `Sweep::next` leave are the longest runs of covered pixels, rising (`AreRunsFrom`).
 //! By `laws::spans` a pixel lies in one of them exactly where it is covered, and by
 //! `laws::one_list_of_runs` a row has one such list. Outside of the rows that `Cover::rows` gives no pixel
-//! of the picture is covered.
+//! of the picture is covered. `RowFlips::add` adds to the flips of each pixel's row, in its column or left of
+//! it, what an edge adds to the crossings that the even-odd rule counts (`counts`), and the spans that
+//! `RowSpans::next` gives of them have the pixels inside and no other (`flipped`).
 //!
 //! Words: a *span* is a run of pixels in a row, its end excluded. A *cover* is a shape that covers pixels.
-//! A *walk* goes down an edge, row by row. A *flip* is a column at which the pixels of a row go in or out.
+//! A *walk* goes down an edge, row by row. A *flip* is a column, or a pixel, at which a row goes in or out.
 //! A *crossing* is an edge as a sweep knows it: left of the view, or walked. A *sweep* gives a polygon's
 //! rows from the top.
 #![tactic(auto)]
@@ -23,6 +25,8 @@ pub mod laws;
 mod place;
 mod polygon;
 mod reading;
+mod row_flips;
+mod row_spans;
 mod span;
 mod sweep;
 mod walk;
@@ -32,6 +36,8 @@ pub use clip::Rows;
 pub use cover::Cover;
 pub use polygon::Polygon;
 pub use reading::Reading;
+pub use row_flips::{FlipFault, MAX_FLIPS, RowFlips};
+pub use row_spans::{RowSpan, RowSpans};
 pub use span::{Span, Spans};
 pub use sweep::Sweep;
 pub use walk::EdgeWalk;

@@ -1,7 +1,12 @@
 pub mod Beyond
 pub mod Keeping
-pub mod Sequences
+pub mod Leaving
 pub mod Marking
 pub mod Nearness
 pub mod Parts
 pub mod Reaching
+pub mod Sequences
+pub mod Short
+pub mod Sides
+pub mod Stepping
+pub mod Walking

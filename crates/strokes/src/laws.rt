@@ -2,6 +2,7 @@
 //! states it.
 
 ghost use Rattle.strokes.specs.Law.{AreColumnsWide, AreRowsWide, IsNothing, IsSameBack};
+ghost use Rattle.strokes.specs.Short.{LineStandsWithoutShortSegments, ShortSegmentsAddNothing};
 
 /// In each row whose pixel centres lie between its ends, a segment that goes further down than across covers
 /// as many pixels as it is wide, side by side.
@@ -23,4 +24,15 @@ pub fn back()
 /// A segment of length 0 covers nothing.
 pub fn nothing()
     ensures { IsNothing }
+{}
+
+/// A segment of an odd width whose ends lie in pixels of one column or one row, at most the width apart, covers nothing
+/// but what the squares round its ends cover.
+pub fn short()
+    ensures { ShortSegmentsAddNothing }
+{}
+
+/// So a line of an odd width covers the same pixels without such segments.
+pub fn without_short()
+    ensures { LineStandsWithoutShortSegments }
 {}

@@ -4,21 +4,30 @@
 //! is `covers_segment`, by comparisons of products; of a square it is `covers_square`. A line covers what
 //! its segments and the squares round its vertices cover (`covers_pixel`). `laws::steep` and `laws::flat`
 //! state that a segment is as many pixels thick as the line is wide, `laws::back` that it covers the same
-//! there and back, `laws::nothing` that it covers nothing where it has no length.
+//! there and back, `laws::nothing` that it covers nothing where it has no length. By `laws::short` a short
+//! segment of an odd width covers nothing but the squares round its ends, so that by `laws::without_short` a
+//! line covers the same without them. What `RowWalk::columns` gives of a row is what the segment covers there
+//! (`all`), with one division a segment.
 //!
 //! Words: a *segment* joins two vertices of a line. It is *steep* where it goes further down than across.
 //! To *turn* a point or a segment is to exchange across and down: what a steep segment covers row by row, a
-//! flat one covers column by column.
+//! flat one covers column by column. A segment is *short* where its ends lie in pixels of one column or one row,
+//! at most its width apart. A *strip* is a segment that is walked row by row, or a turned one.
 #![tactic(auto)]
 
 mod columns;
 pub mod laws;
 mod line;
 mod marks;
+mod neighbours;
 mod number;
 mod segment;
 mod square;
+mod steps;
+mod strip;
 
 pub use line::Line;
-pub use segment::Segment;
+pub use neighbours::are_neighbours;
+pub use segment::{Segment, is_steep};
 pub use square::Square;
+pub use strip::{RowWalk, Strip, is_small};

@@ -1,0 +1,217 @@
+-- Flips that stand for the edges of rings.
+use Rattle.std.proofs.Common.{◌≡◌, ◌∙◌, ℕ, ◌+◌, ◌*◌, ◌<◌, ◌≤◌, min, Bool, true, false, not, ◌&&◌, if◌then◌else◌, cond, List, [], ◌∷◌, ◌++◌, map, take, drop, suc, add-one, append-nil, append_assoc, length, get_or, refl, sym, ap, arith}
+use Rattle.std.proofs.lemmas.Bool.{and_left, and_parts}
+use Rattle.std.proofs.Math.Seq.{drop-cons}
+use Rattle.std.proofs.lemmas.List.{take_more}
+use Rattle.std.proofs.lemmas.Int.{ints}
+use Rattle.std.proofs.lemmas.List.Sums.{sum_by-append, sum_by-cons}
+use Rattle.std.specs.Int.{int_div_euclid}
+use Rattle.std.specs.List.{count_by}
+use Rattle.std.specs.Prelude.{int_le, nat_le}
+use lib.IntN.{ℤ, pos, negsuc, ◌-ℤ◌, ◌+ℤ◌, ◌*ℤ◌}
+use lib.Signed.{◌<ℤ◌, ◌≤ℤ◌}
+use Rattle.geom.specs.Device.{DevicePoint, centre, pixel_centre}
+use Rattle.geom.specs.Edge.{EdgeEnds, crosses_height, crosses_at_or_left, meets_at_or_left}
+use Rattle.geom.specs.EvenOdd.{edge_between, edges, is_covered, is_odd, ring_edges}
+use Rattle.geom.specs.Laws.{is_one_of}
+use Rattle.geom.specs.World.{Place}
+use Rattle.geom.proofs.Products.{le_of, mul-sub, product_nonneg}
+use Rattle.geom.proofs.Rings.{closing_edges, ring_edges-closing}
+use Rattle.geom.proofs.Quotients.{at_most-by_product, quotient_parts}
+use Rattle.clip.specs.Class.{at_least_zero, first_row}
+use Rattle.clip.proofs.Rowed.{first_row-at_most}
+use Rattle.viewport.specs.View.{ViewValue, device_point, sixteenths}
+use Rattle.scanfill.specs.RowFlips.{is_pixel_flipped, flips_by}
+use Rattle.compose.specs.declared.run.Run.{Run}
+use Rattle.compose.specs.Flipped.{Adds, AddsEdge, IsRun, StandFor, row_of}
+
+-- an edge whose ends are of one row crosses no row
+same-tests : (s t : Bool) → s ≡ t → (if s then not t else t) ≡ false
+same-tests true true e = refl
+same-tests false false e = refl
+same-tests true false e = absurd (cc)
+same-tests false true e = absurd (cc)
+
+pub row-missed : (e : EdgeEnds) (h i j : ℕ) → first_row e.from.y h ≡ first_row e.to.y h → j < h → crosses_at_or_left (pixel_centre (pos i) (pos j)) e ≡ false
+row-missed e h i j same below =
+    let tests : int_le e.from.y (centre (pos j)) ≡ int_le e.to.y (centre (pos j)) =
+    sym (first_row-at_most e.from.y h j below) ∙ (ap (λ n. nat_le n j) same ∙ first_row-at_most e.to.y h j below) in
+    and_left (crosses_height e (centre (pos j))) (meets_at_or_left (pixel_centre (pos i) (pos j)) e)
+    (same-tests (int_le e.from.y (centre (pos j))) (int_le e.to.y (centre (pos j))) tests)
+
+-- rows go up as heights do
+pub first_row-rising : (y z : ℤ) (h : ℕ) → y ≤ℤ z → first_row y h ≤ first_row z h
+unfolding first_row
+first_row-rising y z h le =
+    let one = quotient_parts (y +ℤ pos 7) (pos 16) (omega (arith, ints)) in
+    let other = quotient_parts (z +ℤ pos 7) (pos 16) (omega (arith, ints)) in
+    cut (int_div_euclid (y +ℤ pos 7) (pos 16)) (int_div_euclid (z +ℤ pos 7) (pos 16)) h (omega (arith, ints, one.0, one.1, other.0, other.1))
+  where
+    cut : (q r : ℤ) (h : ℕ) → q ≤ℤ r → min (at_least_zero q) h ≤ min (at_least_zero r) h
+    cut (pos m) (pos n) h le = omega (arith, ints)
+    cut (negsuc m) (pos n) h le = omega (arith, ints)
+    cut (negsuc m) (negsuc n) h le = omega (arith, ints)
+    cut (pos m) (negsuc n) h le = absurd (omega (arith, ints))
+
+-- sixteenths go up as parts do
+pub sixteenths-rising : (pixels : ℕ) (a b whole : ℤ) → pos 0 <ℤ whole → a ≤ℤ b → sixteenths pixels a whole ≤ℤ sixteenths pixels b whole
+unfolding sixteenths
+sixteenths-rising pixels a b whole some le =
+    let times = pos (16 * pixels) in
+    let one = quotient_parts (times *ℤ a) whole some in
+    let other = quotient_parts (times *ℤ b) whole some in
+    let more : pos 0 ≤ℤ (times *ℤ (b -ℤ a)) = product_nonneg times (b -ℤ a) (omega (arith, ints)) (omega (arith, ints)) in
+    at_most-by_product (int_div_euclid (times *ℤ a) whole) (int_div_euclid (times *ℤ b) whole) whole some (omega (arith, ints, one.0, other.1, more, mul-sub times b a))
+
+-- a latitude between two of one row is of that row
+pub row-between : (view : ViewValue) (low high latitude : ℤ) (row : ℕ) → view.area.miny <ℤ view.area.maxy → row_of view low ≡ row → row_of view high ≡ row →
+    low ≤ℤ latitude → latitude ≤ℤ high → row_of view latitude ≡ row
+row-between view low high latitude row some e f least most =
+    let whole = view.area.maxy -ℤ view.area.miny in
+    let up : row_of view high ≤ row_of view latitude = first_row-rising _ _ view.height (sixteenths-rising view.height (view.area.maxy -ℤ high) (view.area.maxy -ℤ latitude) whole (omega (arith, ints)) (omega (arith, ints))) in
+    let down : row_of view latitude ≤ row_of view low = first_row-rising _ _ view.height (sixteenths-rising view.height (view.area.maxy -ℤ latitude) (view.area.maxy -ℤ low) whole (omega (arith, ints)) (omega (arith, ints))) in
+    omega (arith, e, f, up, down)
+
+-- nothing more is the same
+pub one-false : (b : Bool) → is_one_of b false ≡ b
+one-false true = refl
+one-false false = refl
+
+one-assoc : (a b c : Bool) → is_one_of (is_one_of a b) c ≡ is_one_of a (is_one_of b c)
+one-assoc true true true = refl
+one-assoc true true false = refl
+one-assoc true false true = refl
+one-assoc true false false = refl
+one-assoc false true true = refl
+one-assoc false true false = refl
+one-assoc false false true = refl
+one-assoc false false false = refl
+
+-- crossings of two lists of edges
+pub odd-add : (m n : ℕ) → is_odd (m + n) ≡ is_one_of (is_odd m) (is_odd n)
+odd-add m n = grind arith
+
+pub odd-one : (b : Bool) → is_odd (cond {A = ℕ} b 1 0) ≡ b
+odd-one true = refl
+odd-one false = refl
+
+pub covered-append : (xs ys : List EdgeEnds) (p : DevicePoint) → is_covered (xs ++ ys) p ≡ is_one_of (is_covered xs p) (is_covered ys p)
+covered-append xs ys p =
+    ap is_odd (sum_by-append (λ e. cond {A = ℕ} (crosses_at_or_left p e) 1 0) xs ys)
+    ∙ odd-add (count_by (crosses_at_or_left p) xs) (count_by (crosses_at_or_left p) ys)
+
+pub covered-cons : (e : EdgeEnds) (es : List EdgeEnds) (p : DevicePoint) → is_covered (e ∷ es) p ≡ is_one_of (crosses_at_or_left p e) (is_covered es p)
+covered-cons e es p =
+    ap is_odd (sum_by-cons (λ x. cond {A = ℕ} (crosses_at_or_left p x) 1 0) e es)
+    ∙ (odd-add (cond {A = ℕ} (crosses_at_or_left p e) 1 0) (count_by (crosses_at_or_left p) es)
+    ∙ ap (λ b. is_one_of b (is_covered es p)) (odd-one (crosses_at_or_left p e)))
+
+-- a vertex of the run's row adds nothing
+pub run-missed : (view : ViewValue) (run : Run) (to : Place) (flips : List ℕ) → IsRun view run → row_of view to.y ≡ run.row → AddsEdge view flips run.from to flips
+run-missed view run to flips is row i j column below =
+    let from : row_of view run.from.y ≡ run.row = row-between view run.low run.high run.from.y run.row is.rows is.low is.high is.least is.most in
+    sym (ap (λ b. is_one_of (is_pixel_flipped flips i j) b) (row-missed (edge_between (device_point view run.from, device_point view to)) view.height i j (from ∙ sym row) below)
+    ∙ one-false (is_pixel_flipped flips i j))
+
+-- an edge that was added needs to be added no more
+pub run-step : (old new : Bool) (e : EdgeEnds) (es : List EdgeEnds) (p : DevicePoint) → new ≡ is_one_of old (crosses_at_or_left p e) →
+    is_one_of new (is_covered es p) ≡ is_one_of old (is_covered (e ∷ es) p)
+run-step old new e es p same =
+    ap (λ b. is_one_of b (is_covered es p)) same
+    ∙ (one-assoc old (crosses_at_or_left p e) (is_covered es p) ∙ ap (λ b. is_one_of old b) (sym (covered-cons e es p)))
+
+-- the edges that are left of a ring are those that are to be added
+pub record IsLeft (view : ViewValue) (old flips : List ℕ) (ring : List Place) (first from : Place) (rest : List Place) : Type 0 where
+  pub same : (i j : ℕ) → i < view.width → j < view.height →
+      is_one_of (is_pixel_flipped flips i j) (is_covered (closing_edges (device_point view first) (device_point view from) (map (device_point view) rest)) (pixel_centre (pos i) (pos j)))
+      ≡ is_one_of (is_pixel_flipped old i j) (is_covered (ring_edges (map (device_point view) ring)) (pixel_centre (pos i) (pos j)))
+
+pub left-all : (view : ViewValue) (old : List ℕ) (ring : List Place) (first : Place) (rest : List Place) → ring ≡ first ∷ rest → IsLeft view old old ring first first rest
+left-all view old ring first rest e = record {
+  same = λ i j column below. ap (λ es. is_one_of (is_pixel_flipped old i j) (is_covered es (pixel_centre (pos i) (pos j))))
+      (sym (ring_edges-closing (map (device_point view) ring) (device_point view first) (map (device_point view) rest) (ap (map (device_point view)) e)));
+}
+
+pub left-next : (view : ViewValue) (old flips new : List ℕ) (ring : List Place) (first from to : Place) (rest more : List Place) → rest ≡ to ∷ more →
+    IsLeft view old flips ring first from rest → AddsEdge view flips from to new → IsLeft view old new ring first to more
+left-next view old flips new ring first from to rest more e is adds = record {
+  same = λ i j column below.
+      let p = pixel_centre (pos i) (pos j) in
+      let edge = edge_between (device_point view from, device_point view to) in
+      run-step (is_pixel_flipped flips i j) (is_pixel_flipped new i j) edge (closing_edges (device_point view first) (device_point view to) (map (device_point view) more)) p (adds i j column below)
+      ∙ (ap (λ (places : List Place). is_one_of (is_pixel_flipped flips i j) (is_covered (closing_edges (device_point view first) (device_point view from) (map (device_point view) places)) p)) (sym e)
+      ∙ is.same i j column below);
+}
+
+pub left-none : (view : ViewValue) (old flips new : List ℕ) (ring : List Place) (first from : Place) (rest : List Place) → rest ≡ [] →
+    IsLeft view old flips ring first from rest → AddsEdge view flips from first new → Adds view old (ring_edges (map (device_point view) ring)) new
+left-none view old flips new ring first from rest e is adds = record {
+  same = λ i j column below.
+      let p = pixel_centre (pos i) (pos j) in
+      adds i j column below
+      ∙ (ap (λ b. is_one_of (is_pixel_flipped flips i j) b) (sym (covered-cons (edge_between (device_point view from, device_point view first)) [] p ∙ one-false (crosses_at_or_left p (edge_between (device_point view from, device_point view first)))))
+      ∙ (ap (λ (places : List Place). is_one_of (is_pixel_flipped flips i j) (is_covered (closing_edges (device_point view first) (device_point view from) (map (device_point view) places)) p)) (sym e)
+      ∙ is.same i j column below));
+}
+
+-- the same where the vertex is that of a run
+pub record IsOn (view : ViewValue) (old flips : List ℕ) (ring : List Place) (first : Place) (run : Run) (rest : List Place) : Type 0 where
+  pub left : IsLeft view old flips ring first run.from rest
+  pub valid : IsRun view run
+
+-- a vertex between the two latitudes of the run is passed by
+pub passed-by : (view : ViewValue) (old flips : List ℕ) (ring : List Place) (first : Place) (run : Run) (to : Place) (rest more : List Place) → rest ≡ to ∷ more →
+    IsRun view run → (int_le run.low to.y && int_le to.y run.high) ≡ true → IsLeft view old flips ring first run.from rest →
+    IsOn view old flips ring first (record { from = to; row = run.row; low = run.low; high = run.high }) more
+passed-by view old flips ring first run to rest more e is has before =
+    let both = and_parts (int_le run.low to.y) (int_le to.y run.high) has in
+    let least = le_of run.low to.y both.0 in
+    let most = le_of to.y run.high both.1 in
+    let row : row_of view to.y ≡ run.row = row-between view run.low run.high to.y run.row is.rows is.low is.high least most in
+    record {
+      left = left-next view old flips flips ring first run.from to rest more e before (run-missed view run to flips is row);
+      valid = record { low = is.low; high = is.high; least = least; most = most; rows = is.rows };
+    }
+
+-- one flip more in the count turns a pixel over where the edge crosses
+pub added : (old new : List ℕ) (i j : ℕ) (b : Bool) → count_by (flips_by i j) new ≡ count_by (flips_by i j) old + cond {A = ℕ} b 1 0 →
+    is_pixel_flipped new i j ≡ is_one_of (is_pixel_flipped old i j) b
+added old new i j b e =
+    ap is_odd e ∙ (odd-add (count_by (flips_by i j) old) (cond {A = ℕ} b 1 0) ∙ ap (λ x. is_one_of (is_pixel_flipped old i j) x) (odd-one b))
+
+-- a ring without vertices adds nothing
+pub adds-none : (view : ViewValue) (flips : List ℕ) (more : List EdgeEnds) → more ≡ [] → Adds view flips more flips
+adds-none view flips more e = record {
+  same = λ i j column below. sym (ap (λ es. is_one_of (is_pixel_flipped flips i j) (is_covered es (pixel_centre (pos i) (pos j)))) e ∙ one-false (is_pixel_flipped flips i j));
+}
+
+-- no flips stand for no edges
+pub stand-none : (view : ViewValue) (flips : List ℕ) → flips ≡ [] → StandFor view flips []
+stand-none view flips e = record { same = λ i j column below. ap (λ ts. is_pixel_flipped ts i j) e }
+
+-- rings one after another
+pub adds-ring : (view : ViewValue) (flips new : List ℕ) (whole more : List EdgeEnds) → StandFor view flips whole → Adds view flips more new → StandFor view new (whole ++ more)
+adds-ring view flips new whole more is adds = record {
+  same = λ i j column below.
+      let p = pixel_centre (pos i) (pos j) in
+      adds.same i j column below ∙ (ap (λ b. is_one_of b (is_covered more p)) (is.same i j column below) ∙ sym (covered-append whole more p));
+}
+
+-- the edges of one ring more
+edges-one : (view : ViewValue) (rings : List (List Place)) (ring : List Place) →
+    edges (map (map (device_point view)) (rings ++ ring ∷ [])) ≡ edges (map (map (device_point view)) rings) ++ ring_edges (map (device_point view) ring)
+edges-one view [] ring = append-nil (ring_edges (map (device_point view) ring))
+edges-one view (r ∷ rings) ring =
+    ap (λ es. ring_edges (map (device_point view) r) ++ es) (edges-one view rings ring)
+    ∙ sym (append_assoc (ring_edges (map (device_point view) r)) (edges (map (map (device_point view)) rings)) (ring_edges (map (device_point view) ring)))
+
+pub ring-next : (view : ViewValue) (rings : List (List Place)) (i : ℕ) (ring : List Place) (flips new : List ℕ) → i < length rings → ring ≡ get_or rings i ring →
+    StandFor view flips (edges (map (map (device_point view)) (take i rings))) → Adds view flips (ring_edges (map (device_point view) ring)) new →
+    StandFor view new (edges (map (map (device_point view)) (take (i + 1) rings)))
+ring-next view rings i ring flips new below e is adds =
+    let here : get_or rings i ring ∷ [] ≡ ring ∷ [] = ap (λ y. y ∷ []) (sym e) in
+    rw (take_more rings i ring below, here, edges-one view (take i rings) ring)
+    (adds-ring view flips new (edges (map (map (device_point view)) (take i rings))) (ring_edges (map (device_point view) ring)) is adds)
+
+pub rest-next : (rest : List Place) (i : ℕ) (to : Place) → i < length rest → to ≡ get_or rest i to → drop i rest ≡ to ∷ drop (i + 1) rest
+rest-next rest i to below e = rw (add-one) (drop-cons rest i to below ∙ ap (λ x. x ∷ drop (suc i) rest) (sym e))

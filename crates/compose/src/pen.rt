@@ -1,0 +1,123 @@
+ghost use Rattle.std.specs.Prelude.{◌≡◌, ◌≤◌, ◌&&◌, true, int_le};
+ghost use Rattle.geom.specs.World.{IsExtent};
+ghost use Rattle.mapdefs.specs.declared.limits.TheConstants.{MAX_LINE_WIDTH};
+ghost use Rattle.compose.specs.Stroked.{IsQuiet, has_place};
+
+use geom::{Micro, World, WorldBox};
+use mapdefs::Rgb;
+use scene::Scene;
+use std::marker::Model;
+use viewport::Projection;
+
+/// What a line is painted with: the projection of its places, its width and its colour, and the window of the world
+/// outside of which its vertices cover nothing of the picture.
+#[derive(Drop)]
+pub struct Pen<'a> {
+    projection: &'a Projection,
+    window: WorldBox,
+    width: u8,
+    colour: Rgb,
+}
+
+impl<'a> Model for Pen<'a> {
+    ghost use Rattle.compose.specs.Stroked.{IsPen, PenValue};
+
+    ghost Value = { PenValue };
+
+    ghost view = { λ p. record { view = p.projection.now; width = p.width; colour = p.colour } };
+
+    ghost invariant = { λ p. IsPen (record { view = p.projection.now; width = p.width; colour = p.colour }) p.window };
+}
+
+impl<'a> Pen<'a> {
+    /// The pen of a width, 1 to `MAX_LINE_WIDTH`, and a colour, on the picture of a scene.
+    pub fn new(scene: &'a Scene<'_>, width: u8, colour: Rgb) -> Self
+        requires some { 1 ≤ width }
+        requires most { width ≤ MAX_LINE_WIDTH }
+        ensures { result ≡ record { view = scene.now.view; width = width; colour = colour } }
+    {
+        Pen {
+            projection: scene.projection(),
+            window: scene.window(u16::from(width)),
+            width,
+            colour,
+        }
+    }
+
+    /// The projection of its places.
+    pub fn projection(&self) -> &Projection
+        ensures { result.now ≡ self.now.view }
+    {
+        self.projection
+    }
+
+    /// Its width.
+    pub fn width(&self) -> u8
+        ensures value { result ≡ self.now.width }
+        ensures some { 1 ≤ result }
+        ensures most { result ≤ MAX_LINE_WIDTH }
+    {
+        self.width
+    }
+
+    /// Its colour.
+    pub fn colour(&self) -> Rgb
+        ensures { result ≡ self.now.colour }
+    {
+        self.colour
+    }
+
+    /// A box that has the place and is quiet beside it: the part of the world west, east, south or north of the window
+    /// in which the place lies, since a step within it covers no pixel; or the place alone.
+    pub fn quiet_at(&self, place: World) -> WorldBox
+        ensures has { has_place result place ≡ true }
+        ensures quiet { IsQuiet self.now place result }
+    {
+        let (x, y) = (place.x().get().millionths(), place.y().get().millionths());
+        let window = self.window;
+        if x < window.minx().millionths() {
+            box_of(LEAST, LEAST, window.minx().millionths() - 1, MOST)
+        } else if x > window.maxx().millionths() {
+            box_of(window.maxx().millionths() + 1, LEAST, MOST, MOST)
+        } else if y < window.miny().millionths() {
+            box_of(LEAST, LEAST, MOST, window.miny().millionths() - 1)
+        } else if y > window.maxy().millionths() {
+            box_of(LEAST, window.maxy().millionths() + 1, MOST, MOST)
+        } else {
+            box_of(x, y, x, y)
+        }
+    }
+}
+
+// The least and the greatest coordinate.
+const LEAST: i64 = -1_000_000_000;
+
+const MOST: i64 = 1_000_000_000;
+
+// The box of four numbers of millionths.
+fn box_of(minx: i64, miny: i64, maxx: i64, maxy: i64) -> WorldBox
+    ensures { result ≡ record { minx = minx; miny = miny; maxx = maxx; maxy = maxy } }
+{
+    WorldBox::new(
+        Micro::new(minx),
+        Micro::new(miny),
+        Micro::new(maxx),
+        Micro::new(maxy),
+    )
+}
+
+/// Whether a place lies in a box, or on its border.
+pub fn has_place(area: &WorldBox, place: World) -> bool
+    ensures { result ≡ has_place area.now place }
+{
+    let (x, y) = (place.x().get().millionths(), place.y().get().millionths());
+    is_between(area.minx().millionths(), x, area.maxx().millionths())
+        && is_between(area.miny().millionths(), y, area.maxy().millionths())
+}
+
+// Whether a number lies between two others, both included.
+fn is_between(least: i64, number: i64, most: i64) -> bool
+    ensures { result ≡ (int_le least number && int_le number most) }
+{
+    least <= number && number <= most
+}

@@ -1,0 +1,177 @@
+ghost use Rattle.std.specs.Prelude.{◌≡◌, ◌≤◌, true, map, pos, OnOk, IfOk, Some};
+ghost use Rattle.strokes.specs.Segment.{covers_segment};
+ghost use Rattle.geom.specs.Device.{pixel_centre};
+ghost use Rattle.mapdefs.specs.declared.limits.TheConstants.{MAX_LINE_WIDTH};
+ghost use Rattle.strokes.specs.Strip.{is_small};
+ghost use Rattle.strokes.specs.Line.{line_of};
+ghost use Rattle.strokes.specs.Line as line;
+ghost use Rattle.viewport.specs.View.{device_point};
+ghost use Rattle.compose.specs.Painted.{IsFilled};
+ghost use Rattle.compose.specs.Stroked.{HasAlready, IsOf, IsTrail, part_covers, pen_covers, segment_covers, step_covers, vertex_covers};
+
+use crate::boxes::fill_box;
+use crate::canvas::Canvas;
+use crate::pen::{Pen, has_place};
+use crate::rows::paint_cover;
+use crate::strips::{fill_across, fill_down};
+use crate::trail::Trail;
+use geom::{Device, Edge, World};
+use mapdefs::{Items, Rgb};
+use std::alloc::AllocError;
+use strokes::{Segment, Square, Strip, are_neighbours, is_small, is_steep};
+
+/// Paints the line of a pen along the vertices of each part. A closed line joins each part's last vertex to its first.
+/// It takes memory for the row of a segment that isn't small, and no other.
+pub fn paint_along_parts(
+    canvas: &mut Canvas,
+    pen: &Pen<'_>,
+    parts: &[Items<World>],
+    closed: bool,
+) -> Result<(), AllocError>
+    requires { IsOf pen.now canvas.old }
+    ensures { OnOk result (IsFilled (λ i j. line.covers_pixel (line_of (map (map (device_point pen.now.view)) parts.now) closed pen.now.width) (pos i) (pos j)) (λ i j. Some pen.now.colour) canvas.old canvas.new) }
+{
+    for part in parts {
+        paint_along(canvas, pen, part.as_slice(), closed)?;
+    }
+    Ok(())
+}
+
+// Paints the line along one part.
+fn paint_along(
+    canvas: &mut Canvas,
+    pen: &Pen<'_>,
+    part: &[World],
+    closed: bool,
+) -> Result<(), AllocError>
+    requires { IsOf pen.now canvas.old }
+    ensures { OnOk result (IsFilled (part_covers closed pen.now.width (map (device_point pen.now.view) part.now)) (λ i j. Some pen.now.colour) canvas.old canvas.new) }
+{
+    let Some((first, rest)) = part.split_first() else {
+        return Ok(());
+    };
+    let mut trail = begin(canvas, pen, *first);
+    for to in rest {
+        if has_place(&trail.quiet, *to) {
+            trail.from = *to;
+        } else {
+            trail = go_on(canvas, pen, &trail, *to)?;
+        }
+    }
+    if closed {
+        go_on(canvas, pen, &trail, *first)?;
+    }
+    Ok(())
+}
+
+// Paints the square round the first vertex.
+fn begin(canvas: &mut Canvas, pen: &Pen<'_>, first: World) -> Trail
+    requires { IsOf pen.now canvas.old }
+    ensures from { result.from ≡ first }
+    ensures trail { IsTrail pen.now canvas.new result }
+    ensures filled { IsFilled (vertex_covers pen.now.width (device_point pen.now.view first)) (λ i j. Some pen.now.colour) canvas.old canvas.new }
+{
+    let _area = canvas.width();
+    fill_vertex(canvas, pen, pen.projection().device(first));
+    Trail {
+        from: first,
+        quiet: pen.quiet_at(first),
+    }
+}
+
+// Goes on to the next vertex: paints the segment to it and the square round it.
+fn go_on(canvas: &mut Canvas, pen: &Pen<'_>, trail: &Trail, to: World) -> Result<Trail, AllocError>
+    requires sides { IsOf pen.now canvas.old }
+    requires trail { IsTrail pen.now canvas.old trail.now }
+    ensures from { IfOk result (λ next. next.from ≡ to) }
+    ensures trail { IfOk result (λ next. IsTrail pen.now canvas.new next) }
+    ensures filled { OnOk result (IsFilled (pen_covers pen.now trail.now.from to) (λ i j. Some pen.now.colour) canvas.old canvas.new) }
+{
+    let _area = canvas.width();
+    let projection = pen.projection();
+    let from = projection.device(trail.from);
+    paint_step(canvas, pen, from, projection.device(to))?;
+    Ok(Trail {
+        from: to,
+        quiet: pen.quiet_at(to),
+    })
+}
+
+// Paints a step whose first square is painted already. A short segment of an odd width adds nothing to the squares round
+// its ends.
+fn paint_step(
+    canvas: &mut Canvas,
+    pen: &Pen<'_>,
+    from: Device,
+    to: Device,
+) -> Result<(), AllocError>
+    requires { HasAlready pen.now canvas.old (vertex_covers pen.now.width from) }
+    ensures { OnOk result (IsFilled (step_covers pen.now.width from to) (λ i j. Some pen.now.colour) canvas.old canvas.new) }
+{
+    let width = pen.width();
+    let (first, second) = (from.pixel(), to.pixel());
+    if width % 2 == 0 || !are_neighbours(u16::from(width), first, second) {
+        return paint_long_step(canvas, pen, from, to);
+    }
+    if !are_neighbours(0, first, second) {
+        fill_vertex(canvas, pen, to);
+    }
+    Ok(())
+}
+
+// Paints the segment of a step, and the square round its second vertex.
+fn paint_long_step(
+    canvas: &mut Canvas,
+    pen: &Pen<'_>,
+    from: Device,
+    to: Device,
+) -> Result<(), AllocError>
+    ensures { OnOk result (IsFilled (step_covers pen.now.width from to) (λ i j. Some pen.now.colour) canvas.old canvas.new) }
+{
+    paint_segment(canvas, pen, from, to)?;
+    fill_vertex(canvas, pen, to);
+    Ok(())
+}
+
+// Paints the segment between two vertices.
+fn paint_segment(
+    canvas: &mut Canvas,
+    pen: &Pen<'_>,
+    from: Device,
+    to: Device,
+) -> Result<(), AllocError>
+    ensures { OnOk result (IsFilled (segment_covers pen.now.width from to) (λ i j. Some pen.now.colour) canvas.old canvas.new) }
+{
+    let (edge, width) = (Edge::new(from, to), pen.width());
+    if !is_small(edge) {
+        return paint_cover(canvas, &Segment::new(edge, width), &pen.colour());
+    }
+    fill_segment(canvas, edge, width, pen.colour());
+    Ok(())
+}
+
+// Gives the colour to the pixels of a small segment: row by row if it is steep, else column by column.
+fn fill_segment(canvas: &mut Canvas, edge: Edge, width: u8, colour: Rgb)
+    requires some { 1 ≤ width }
+    requires most { width ≤ MAX_LINE_WIDTH }
+    requires small { is_small edge ≡ true }
+    ensures { IsFilled (λ i j. covers_segment width edge (pixel_centre (pos i) (pos j))) (λ i j. Some colour) canvas.old canvas.new }
+{
+    if is_steep(edge) {
+        fill_down(canvas, Strip::down(edge, width), colour);
+        return;
+    }
+    if let Some(strip) = Strip::across(edge, width) {
+        fill_across(canvas, strip, colour);
+    }
+}
+
+// Gives the colour to the pixels of the square round a vertex.
+fn fill_vertex(canvas: &mut Canvas, pen: &Pen<'_>, vertex: Device)
+    ensures { IsFilled (vertex_covers pen.now.width vertex) (λ i j. Some pen.now.colour) canvas.old canvas.new }
+{
+    let square = Square::new(vertex.pixel(), u16::from(pen.width()));
+    let columns = square.across(canvas.width().pixels());
+    let rows = square.down(canvas.height().pixels());
+    fill_box(canvas, columns, rows, pen.colour());
+}

@@ -1,0 +1,9 @@
+use geom::{World, WorldBox};
+
+/// How far a line is painted: the place of its last vertex, and a *quiet* box round it. A step within the box needs no
+/// painting, since all that it covers has the line's colour already.
+#[derive(Clone, Copy)]
+pub struct Trail {
+    pub from: World,
+    pub quiet: WorldBox,
+}

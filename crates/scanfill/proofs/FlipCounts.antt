@@ -1,0 +1,94 @@
+-- The flips of rows, counted.
+use Rattle.std.proofs.Common.{◌≡◌, ◌∙◌, ℕ, ◌+◌, ◌<◌, ◌≤◌, min, Bool, true, false, ◌&&◌, cond, List, [], ◌∷◌, ◌++◌, refl, sym, ap, arith, inl, inr, ◌⊎◌}
+use Rattle.std.proofs.lemmas.Bool.{and_from, and_left, and_right, cases_Bool, cases_lt, cases_order, eq-eqb, eqb-true, le-leb, lt-leb, ne_eqb}
+use Rattle.std.proofs.lemmas.Bool.Decides.{nat_tests}
+use Rattle.std.proofs.lemmas.List.Sums.{sum_by_push}
+use Rattle.std.proofs.lemmas.Nat.{div-mul-add, mod-mul-add}
+use Rattle.std.specs.List.{count_by}
+use Rattle.std.specs.Prelude.{int_le, nat_le, ◌==◌}
+use lib.IntN.{ℤ, pos}
+use Rattle.clip.specs.Class.{at_least_zero, has_row}
+use Rattle.clip.proofs.Rowed.{cut-at_most}
+use Rattle.scanfill.specs.RowFlips.{IsFlipOf, index_of, flips_by}
+
+-- a flip of a row, at a column or left of it
+pub flip-test : (i j row column : ℕ) → i < 2048 → column < 2048 → flips_by i j (index_of row column) ≡ (j == row && nat_le column i)
+flip-test i j row column left right = elim (cases_order j row) [
+  | inl same ↦ at (cases_lt i column) same
+  | inr (inl above) ↦
+      and_right (nat_le (index_of j 0) (index_of row column)) (nat_le (index_of row column) (index_of j i)) (lt-leb (index_of row column) (index_of j i) (omega arith))
+      ∙ sym (and_left (j == row) (nat_le column i) (ne_eqb j row (λ e. omega (arith, e, above))))
+  | inr (inr below) ↦
+      and_left (nat_le (index_of j 0) (index_of row column)) (nat_le (index_of row column) (index_of j i)) (lt-leb (index_of j 0) (index_of row column) (omega arith))
+      ∙ sym (and_left (j == row) (nat_le column i) (ne_eqb j row (λ e. omega (arith, e, below))))
+]
+  where
+    at : (i < column) ⊎ (column ≤ i) → j ≡ row → flips_by i j (index_of row column) ≡ (j == row && nat_le column i)
+    at (inl lt) same =
+        and_right (nat_le (index_of j 0) (index_of row column)) (nat_le (index_of row column) (index_of j i)) (lt-leb (index_of row column) (index_of j i) (omega arith))
+        ∙ sym (and_right (j == row) (nat_le column i) (lt-leb column i lt))
+    at (inr ge) same =
+        and_from (nat_le (index_of j 0) (index_of row column)) (nat_le (index_of row column) (index_of j i))
+        (le-leb (index_of j 0) (index_of row column) (omega arith)) (le-leb (index_of row column) (index_of j i) (omega arith))
+        ∙ sym (and_from (j == row) (nat_le column i) (eq-eqb j row same) (le-leb column i ge))
+
+-- the flip of a row from a column on, which is cut to the picture
+pub flip-more : (flips : List ℕ) (i j row at width : ℕ) (column : ℤ) → i < width → width ≤ 2048 → at < width → at ≡ min (at_least_zero column) width →
+    count_by (flips_by i j) (flips ++ index_of row at ∷ []) ≡ count_by (flips_by i j) flips + cond {A = ℕ} (j == row && int_le column (pos i)) 1 0
+flip-more flips i j row at width column left most inside cut =
+    let test : nat_le at i ≡ int_le column (pos i) = ap (λ n. nat_le n i) cut ∙ cut-at_most column width i left in
+    sum_by_push (λ (k : ℕ). cond {A = ℕ} (flips_by i j k) 1 0) flips (index_of row at)
+    ∙ ap (λ (b : Bool). count_by (flips_by i j) flips + cond {A = ℕ} b 1 0) (flip-test i j row at (omega arith) (omega arith) ∙ ap (λ b. j == row && b) test)
+
+-- a column past the end adds no flip
+pub flip-none : (n i j row at width : ℕ) (column : ℤ) → i < width → width ≤ at → at ≡ min (at_least_zero column) width →
+    n ≡ n + cond {A = ℕ} (j == row && int_le column (pos i)) 1 0
+flip-none n i j row at width column left past cut =
+    let test : int_le column (pos i) ≡ false = sym (ap (λ n. nat_le n i) cut ∙ cut-at_most column width i left) ∙ lt-leb at i (omega arith) in
+    rw (and_right (j == row) (int_le column (pos i)) test) (omega arith)
+
+-- a flip that is added stands at a pixel of the picture
+pub flip-of : (width height row at : ℕ) → width ≤ 2048 → row < height → at < width → IsFlipOf width height (index_of row at)
+flip-of width height row at most above left = record {
+  above = rw (div-mul-add row 2048 at (omega arith)) above;
+  left = rw (mod-mul-add row 2048 at (omega arith)) left;
+}
+
+-- a row more
+pub rows-step : (from row j : ℕ) (t : Bool) → from ≤ row →
+    cond {A = ℕ} (has_row (record { from = from; to = row }) j && t) 1 0 + cond {A = ℕ} (j == row && t) 1 0
+    ≡ cond {A = ℕ} (has_row (record { from = from; to = row + 1 }) j && t) 1 0
+rows-step from row j true le = grind (arith, nat_tests)
+rows-step from row j false le = grind (arith, nat_tests)
+
+-- no row
+pub rows-none : (from j n : ℕ) (t : Bool) → n ≡ n + cond {A = ℕ} (has_row (record { from = from; to = from }) j && t) 1 0
+rows-none from j n true = grind (arith, nat_tests)
+rows-none from j n false = grind (arith, nat_tests)
+
+-- the column of the row itself
+pub row-itself : (j row : ℕ) (s t : Bool) → (j ≡ row → s ≡ t) → (j == row && s) ≡ (j == row && t)
+row-itself j row s t same = elim (cases_Bool (j == row)) [
+  | inl hit ↦ ap (λ b. j == row && b) (same (eqb-true j row hit))
+  | inr other ↦ and_left (j == row) s other ∙ sym (and_left (j == row) t other)
+]
+
+-- what was counted before a row, and its flip
+pub flips-more : (from row j old before new : ℕ) (s t : Bool) → from ≤ row → (j ≡ row → s ≡ t) →
+    before ≡ old + cond {A = ℕ} (has_row (record { from = from; to = row }) j && t) 1 0 → new ≡ before + cond {A = ℕ} (j == row && s) 1 0 →
+    new ≡ old + cond {A = ℕ} (has_row (record { from = from; to = row + 1 }) j && t) 1 0
+flips-more from row j old before new s t le same e f =
+    omega (arith, rows-step from row j t le, ap (λ b. cond {A = ℕ} b 1 0) (row-itself j row s t same))
+
+-- the same of an edge left of the view
+pub left-more : (from row j old before new : ℕ) (s : Bool) → from ≤ row → s ≡ true →
+    before ≡ old + cond {A = ℕ} (has_row (record { from = from; to = row }) j) 1 0 → new ≡ before + cond {A = ℕ} (j == row && s) 1 0 →
+    new ≡ old + cond {A = ℕ} (has_row (record { from = from; to = row + 1 }) j) 1 0
+left-more from row j old before new s le hit e f =
+    let less = ap (λ b. cond {A = ℕ} b 1 0) (and-true (has_row (record { from = from; to = row }) j)) in
+    let more = ap (λ b. cond {A = ℕ} b 1 0) (and-true (has_row (record { from = from; to = row + 1 }) j)) in
+    omega (arith, less, more, flips-more from row j old before new s true le (λ _. hit) (omega arith) f)
+  where
+    and-true : (b : Bool) → (b && true) ≡ b
+    and-true true = refl
+    and-true false = refl

@@ -1,0 +1,13 @@
+use Rattle.std.proofs.Common.{◌≡◌, ℕ, ◌+◌, ◌<◌, cond}
+use Rattle.std.specs.List.{count_by}
+use Rattle.clip.specs.Class.{has_row}
+use Rattle.scanfill.specs.RowFlips.{flips_by}
+use Rattle.scanfill.proofs.row_flips.RowFlips.add_left.Given as goal
+
+-- the rows before this one have their flips
+abbrev pub invariant-loop-row : goal.invariant-loop-row
+invariant-loop-row l = record {
+  sides : l.self ≡ record l.fn.self { flips = l.self.flips };
+  counts : (i j : ℕ) → i < l.fn.self.width →
+      count_by (flips_by i j) l.self.flips ≡ count_by (flips_by i j) l.fn.self.flips + cond (has_row (record { from = l.fn.rows.from; to = l.row }) j) 1 0;
+}

@@ -1,0 +1,18 @@
+use Rattle.std.proofs.Common.{◌≡◌, ℕ, ◌+◌, ◌<◌, ◌&&◌, cond}
+use Rattle.std.specs.List.{count_by}
+use Rattle.std.specs.Prelude.{int_le}
+use lib.IntN.{pos}
+use Rattle.clip.specs.Class.{has_row}
+use Rattle.scanfill.specs.Column.{column_of}
+use Rattle.scanfill.specs.RowFlips.{flips_by}
+use Rattle.scanfill.proofs.row_flips.RowFlips.add_walked.Given as goal
+
+-- the rows before this one have their flips, and the walk has come to this one
+abbrev pub invariant-loop-row : goal.invariant-loop-row
+invariant-loop-row l = record {
+  sides : l.self ≡ record l.fn.self { flips = l.self.flips };
+  walk : l.walk ≡ record { edge = l.fn.edge; row = l.row; end = l.rows.to };
+  counts : (i j : ℕ) → i < l.fn.self.width →
+      count_by (flips_by i j) l.self.flips ≡ count_by (flips_by i j) l.fn.self.flips
+      + cond (has_row (record { from = l.rows.from; to = l.row }) j && int_le (column_of l.fn.edge j) (pos i)) 1 0;
+}
