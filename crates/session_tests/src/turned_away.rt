@@ -18,7 +18,9 @@ fn turned_away(rt: &HostRuntime, sent: &[u8]) -> io::Result<(Vec<u8>, Duration)>
         idle: Duration::from_secs(30),
         timeout: Duration::from_secs(30),
     };
-    let mut port = SocketPort::new(rt, listener, waits);
+    let Ok(mut port) = SocketPort::new(rt, listener, waits) else {
+        return Err(io::Error::from(io::ErrorKind::OutOfMemory));
+    };
     let Ok(connection) = port.accept() else {
         return Err(io::Error::from(io::ErrorKind::Other));
     };
