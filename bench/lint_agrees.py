@@ -78,6 +78,14 @@ LABELS = [
 ]
 
 
+# What lint differs on once in a LAYER: it goes on behind the END of the block that it doesn't know.
+ONCE = [
+    "CLASS METADATA a b END STYLE COLOR 10 20 30 END END TEMPLATE t", "CLASS VALIDATION a b END END", "COMPOSITE OPACITY 50 END",
+    "CLASS LEADER STYLE PATTERN 2 2 END END END STYLE COLOR 10 20 30 END END", "CLASS STYLE PATTERN 2 2 END END END",
+    "SCALETOKEN VALUES '0' 'a' END END", "CLUSTER MAXDISTANCE 20 END", "GRID LABELFORMAT DD END",
+]
+
+
 def whole(parts):
     return "MAP\n" + parts + "\nEND\n"
 
@@ -165,6 +173,12 @@ def main():
     count = wrong = 0
     for path in ours + others:
         count, wrong = count + 1, wrong + (not agrees(program, lint, path, path))
+    for text in ONCE:
+        linter = lint.Linter("once", whole(LAYER.replace("{}", text)))
+        linter.read_all()
+        count, wrong = count + 1, wrong + (linter.differences != 1)
+        if linter.differences != 1:
+            print(f"{text}: lint differs {linter.differences} times in place of once: {linter.found}")
     small = [open(path, encoding="utf-8", errors="surrogateescape").read() for path in ours + others if os.path.getsize(path) < 20_000]
     with tempfile.TemporaryDirectory() as folder:
         made = list(tables()) + [text for source in small for text in spoiled(source)]
