@@ -59,7 +59,8 @@ async function ask(parameters, type, signal) {
         const xml = await xmlOf(response);
         const exceptions = [...xml.getElementsByTagName("ServiceException")];
         if (exceptions.length > 0) {
-            throw new Error(exceptions.map((one) => `${one.getAttribute("code")}: ${one.textContent}`).join("; "));
+            const text = exceptions.map((one) => `${one.getAttribute("code")}: ${one.textContent}`).join("; ");
+            throw Object.assign(new Error(text), { code: exceptions[0].getAttribute("code") });
         }
         if (type === "text/xml") {
             return xml;
@@ -129,10 +130,28 @@ function replaceOverlays(others) {
     overlays.forEach((overlay) => overlay.addTo(map));
 }
 
-async function showPicture(layers) {
+/** Reads the document again, shows the layers that it has now, and says which went. */
+async function readAgain(signal) {
+    const before = served.layers;
+    readCapabilities(await ask({ REQUEST: "GetCapabilities" }, "text/xml", signal));
+    for (const layer of served.layers) {
+        const known = before.find((one) => one.name === layer.name);
+        layer.input.checked = !layer.input.disabled && (known === undefined || known.input.checked);
+    }
+    writeLayers();
+    const gone = before.filter((one) => !served.layers.some((layer) => layer.name === one.name));
+    if (gone.length > 0) {
+        say(`Gone from the map: ${gone.map((layer) => layer.title).join(", ")}.`);
+    }
+    return gone.length > 0;
+}
+
+/** Shows a picture of the layers. Where one of them is gone, as after a batch, the others are asked for once more. */
+async function showPicture(layers, isAgain = false) {
     asked = new AbortController();
     const signal = asked.signal;
     const picture = pictureOfView(layers);
+    const waiting = setTimeout(() => { byId("waiting").hidden = signal.aborted; }, 300);
     const { west, south, east, north } = boxOfView();
     try {
         const bytes = await ask({ REQUEST: "GetMap", ...picture }, PICTURE, signal);
@@ -140,10 +159,28 @@ async function showPicture(layers) {
         // This overlay takes any element.
         replaceOverlays([L.svgOverlay(canvas, [[south, west], [north, east]])]);
     } catch (error) {
-        if (!signal.aborted) {
-            replaceOverlays([]);
-            say(error.message);
+        if (signal.aborted) {
+            return;
         }
+        await showFailure(error, signal, isAgain);
+    } finally {
+        clearTimeout(waiting);
+        byId("waiting").hidden = true;
+    }
+}
+
+async function showFailure(error, signal, isAgain) {
+    try {
+        if (error.code === "LayerNotDefined" && !isAgain && await readAgain(signal) && layersOn().length > 0) {
+            await showPicture(layersOn(), true);
+            return;
+        }
+    } catch (other) {
+        error = other;
+    }
+    if (!signal.aborted) {
+        replaceOverlays([]);
+        say(error.message);
     }
 }
 
@@ -314,13 +351,20 @@ function readCapabilities(xml) {
 }
 
 /** Writes the map's title and the switches of its layers, the uppermost first. */
-function writePanel() {
+function writeLayers() {
     document.title = byId("title").textContent = served.title;
+    byId("layers").replaceChildren();
     for (const layer of served.layers) {
         const label = document.createElement("label");
         label.append(layer.input, ` ${layer.title}${layer.input.disabled ? " (its name has a comma)" : ""}`);
         byId("layers").prepend(label);
     }
+}
+
+function writePanel() {
+    writeLayers();
+    // Both orders of the axes show the same: the second is for those who look for faults.
+    byId("other-axes").hidden = !new URLSearchParams(location.search).has("debug");
     document.querySelectorAll("input[name=source]").forEach((input) => input.addEventListener("change", changeSource));
 }
 

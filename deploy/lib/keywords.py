@@ -1,0 +1,209 @@
+"""MapServer's keywords of each block of a mapfile, and what mapservd makes of them.
+
+`lint` looks words up here, and docs/MAPSERVER.md is written from it by `deploy/keywords`. The rules themselves stand in
+docs/MAPFILE.md, and the server follows those alone: bench/lint_agrees.py compares what lint and the server say.
+"""
+
+# Keywords that count, by their block, with the number of their values; 0 for a block.
+COUNTS = {
+    "MAP": {"NAME": 1, "EXTENT": 4, "CONFIG": 2, "WEB": 0, "SYMBOL": 0, "LAYER": 0},
+    "WEB": {"METADATA": 0},
+    "SYMBOL": {"NAME": 1, "TYPE": 1, "IMAGE": 1},
+    "LAYER": {
+        "NAME": 1, "TYPE": 1, "CLASSITEM": 1, "LABELITEM": 1, "DATA": 1, "TEMPLATE": 1, "TOLERANCE": 1,
+        "MINSCALEDENOM": 1, "MAXSCALEDENOM": 1, "PROCESSING": 1, "METADATA": 0, "CLASS": 0, "FEATURE": 0,
+    },
+    "CLASS": {"EXPRESSION": 1, "MINSCALEDENOM": 1, "MAXSCALEDENOM": 1, "STYLE": 0, "LABEL": 0},
+    "STYLE": {"COLOR": 3, "OUTLINECOLOR": 3, "WIDTH": 1, "SIZE": 1, "SYMBOL": 1},
+    "LABEL": {
+        "COLOR": 3, "OUTLINECOLOR": 3, "POSITION": 1, "PRIORITY": 1, "BUFFER": 1, "MINDISTANCE": 1, "PARTIALS": 1,
+        "FORCE": 1,
+    },
+    "FEATURE": {"TEXT": 1, "ITEMS": 1, "POINTS": 0},
+}
+
+# Keywords that are read without effect, likewise.
+UNUSED = {
+    "MAP": {
+        "ANGLE": 1, "DEBUG": 1, "FONTSET": 1, "IMAGETYPE": 1, "RESOLUTION": 1, "SHAPEPATH": 1, "UNITS": 1, "MAXSIZE": 1,
+        "STATUS": 1, "SIZE": 2, "IMAGECOLOR": 3, "LEGEND": 0, "OUTPUTFORMAT": 0, "QUERYMAP": 0, "REFERENCE": 0,
+        "SCALEBAR": 0, "PROJECTION": 0,
+    },
+    "WEB": {
+        "EMPTY": 1, "ERROR": 1, "FOOTER": 1, "HEADER": 1, "IMAGEPATH": 1, "IMAGEURL": 1, "LOG": 1, "MAXSCALEDENOM": 1,
+        "MINSCALEDENOM": 1, "TEMPLATE": 1, "VALIDATION": 0,
+    },
+    "SYMBOL": {"TRANSPARENT": 1, "ANCHORPOINT": 2},
+    "LAYER": {
+        "DEBUG": 1, "DUMP": 1, "FOOTER": 1, "GROUP": 1, "HEADER": 1, "LABELMAXSCALEDENOM": 1, "LABELMINSCALEDENOM": 1,
+        "STATUS": 1, "UNITS": 1, "LABELCACHE": 1, "TOLERANCEUNITS": 1, "EXTENT": 4, "PROJECTION": 0, "VALIDATION": 0,
+    },
+    "CLASS": {"GROUP": 1, "NAME": 1, "TITLE": 1, "STATUS": 1, "TEMPLATE": 1},
+    "STYLE": {"ANTIALIAS": 1, "MAXSIZE": 1, "MAXWIDTH": 1, "MINSIZE": 1, "MINWIDTH": 1},
+    "LABEL": {
+        "ANTIALIAS": 1, "ENCODING": 1, "FONT": 1, "MAXSIZE": 1, "MINFEATURESIZE": 1, "MINSIZE": 1, "OUTLINEWIDTH": 1,
+        "REPEATDISTANCE": 1, "SIZE": 1, "TYPE": 1, "OFFSET": 2, "STYLE": 0,
+    },
+    "FEATURE": {},
+}
+
+# What several keywords ask for.
+CONVERT = "deploy/convert makes a map of it, or deploy/features a LAYER"
+LEAVE_OUT = "leave it out"
+IN_STYLE = "write it into a STYLE of the CLASS"
+PIXMAP = "draw the symbol as a pixmap of its size, as deploy/convert does, or leave SYMBOL out for a square of SIZE pixels"
+PER_CLASS = "write a CLASS for each value that occurs"
+
+# Keywords of MapServer that are refused, by their block, with what to do instead.
+REFUSED = {
+    "MAP": {
+        "DATAPATTERN": LEAVE_OUT, "DEFRESOLUTION": LEAVE_OUT, "IMAGEQUALITY": LEAVE_OUT, "INTERLACE": LEAVE_OUT,
+        "SYMBOLSET": "write its SYMBOL blocks into the mapfile", "TEMPLATEPATTERN": LEAVE_OUT,
+        "TRANSPARENT": "leave it out: each request says TRANSPARENT",
+    },
+    "WEB": {
+        "BROWSEFORMAT": LEAVE_OUT, "LEGENDFORMAT": LEAVE_OUT, "MAXSCALE": LEAVE_OUT, "MAXTEMPLATE": LEAVE_OUT,
+        "MINSCALE": LEAVE_OUT, "MINTEMPLATE": LEAVE_OUT, "QUERYFORMAT": LEAVE_OUT, "TEMPPATH": LEAVE_OUT,
+    },
+    "SYMBOL": {
+        "ANTIALIAS": LEAVE_OUT, "CHARACTER": PIXMAP, "FILLED": PIXMAP, "FONT": PIXMAP, "GAP": LEAVE_OUT,
+        "LINECAP": LEAVE_OUT, "LINEJOIN": LEAVE_OUT, "LINEJOINMAXSIZE": LEAVE_OUT,
+        "PATTERN": "leave it out: lines are never dashed", "POINTS": PIXMAP,
+        "STYLE": "leave it out: lines are never dashed",
+    },
+    "LAYER": {
+        "BINDVALS": CONVERT, "CLASSGROUP": "keep the CLASS blocks of one GROUP", "CLUSTER": "leave it out, or cluster the points before",
+        "COMPOSITE": "leave it out: colours are opaque", "CONNECTION": CONVERT, "CONNECTIONOPTIONS": CONVERT,
+        "CONNECTIONTYPE": CONVERT, "ENCODING": "write the mapfile and its tables in UTF-8, by deploy/features --encoding",
+        "FILTER": "write an EXPRESSION into each CLASS, or choose by deploy/features --where",
+        "FILTERITEM": "write an EXPRESSION into each CLASS, or choose by deploy/features --where",
+        "GEOMTRANSFORM": "transform the features before, as by ogr2ogr -dialect SQLite",
+        "GRID": "write its lines as FEATURE blocks, as the layer graticule of demo/world.map has them",
+        "IDENTIFY": LEAVE_OUT, "JOIN": "join the table before, as by ogr2ogr -sql",
+        "LABELANGLEITEM": "leave it out: labels are level", "LABELMAXSCALE": "write MAXSCALEDENOM into the CLASS",
+        "LABELMINSCALE": "write MINSCALEDENOM into the CLASS", "LABELREQUIRES": LEAVE_OUT,
+        "LABELSIZEITEM": "leave it out: letters are as large as the font has them",
+        "MASK": "leave it out, or cut the features before, as by ogr2ogr -clipsrc",
+        "MAXFEATURES": "leave it out, or choose by deploy/features --where",
+        "MAXGEOWIDTH": "write MAXSCALEDENOM", "MAXSCALE": "write MAXSCALEDENOM", "MINGEOWIDTH": "write MINSCALEDENOM",
+        "MINSCALE": "write MINSCALEDENOM", "OFFSITE": "leave it out, and the raster layer with it",
+        "OPACITY": "leave it out, or write the colour that it gives over the background", "PLUGIN": CONVERT,
+        "POSTLABELCACHE": "leave it out: labels lie above all layers", "REQUIRES": "leave it out: clients say which layers",
+        "SCALETOKEN": "write a LAYER for each scale, with MINSCALEDENOM and MAXSCALEDENOM",
+        "SIZEUNITS": "write SIZE and WIDTH in pixels", "STYLEITEM": PER_CLASS,
+        "SYMBOLSCALE": "write SIZE in pixels, and a CLASS for each scale",
+        "SYMBOLSCALEDENOM": "write SIZE in pixels, and a CLASS for each scale",
+        "TILEFILTER": CONVERT, "TILEFILTERITEM": CONVERT, "TILEINDEX": CONVERT, "TILEITEM": CONVERT, "TILESRS": CONVERT,
+        "TRANSFORM": "leave it out, and write POINTS in degrees",
+        "TRANSPARENCY": "leave it out, or write the colour that it gives over the background",
+        "UTFDATA": LEAVE_OUT, "UTFITEM": LEAVE_OUT,
+    },
+    "CLASS": {
+        "BACKGROUNDCOLOR": LEAVE_OUT, "COLOR": IN_STYLE, "DEBUG": LEAVE_OUT,
+        "FALLBACK": "leave it out, and write the CLASS last, without EXPRESSION",
+        "KEYIMAGE": LEAVE_OUT, "LEADER": "leave it out: a label stands at its anchor",
+        "MAXSCALE": "write MAXSCALEDENOM", "MAXSIZE": LEAVE_OUT, "METADATA": LEAVE_OUT, "MINSCALE": "write MINSCALEDENOM",
+        "MINSIZE": LEAVE_OUT, "OUTLINECOLOR": IN_STYLE, "SIZE": IN_STYLE, "SYMBOL": IN_STYLE,
+        "TEXT": "name an item by LABELITEM in the LAYER", "VALIDATION": LEAVE_OUT,
+    },
+    "STYLE": {
+        "ANGLE": "leave it out, or turn the pixmap of the symbol", "ANGLEITEM": "write a CLASS and a SYMBOL for each angle",
+        "BACKGROUNDCOLOR": LEAVE_OUT, "COLORRANGE": "write a CLASS for each range", "DATARANGE": "write a CLASS for each range",
+        "GAP": "leave it out: symbols along a line aren't drawn",
+        "GEOMTRANSFORM": "transform the features before, as by ogr2ogr -dialect SQLite",
+        "INITIALGAP": "leave it out: symbols along a line aren't drawn", "LINECAP": "leave it out: lines end without a cap",
+        "LINEJOIN": "leave it out", "LINEJOINMAXSIZE": LEAVE_OUT, "MAXSCALEDENOM": "write it into a CLASS",
+        "MINSCALEDENOM": "write it into a CLASS", "OFFSET": "leave it out, or shift the features before",
+        "OPACITY": "leave it out, or write the colour that it gives over the background",
+        "OUTLINEWIDTH": "write a wider STYLE in the outline's colour before this one",
+        "PATTERN": "leave it out: lines are never dashed", "POLAROFFSET": LEAVE_OUT, "RANGEITEM": "write a CLASS for each range",
+        "SIZEITEM": "write a CLASS for each size",
+    },
+    "LABEL": {
+        "ALIGN": LEAVE_OUT, "ANGLE": "leave it out: labels are level", "BACKGROUNDCOLOR": LEAVE_OUT,
+        "BACKGROUNDSHADOWCOLOR": LEAVE_OUT, "BACKGROUNDSHADOWSIZE": LEAVE_OUT,
+        "EXPRESSION": "write a CLASS with that EXPRESSION", "MAXLENGTH": LEAVE_OUT, "MAXOVERLAPANGLE": LEAVE_OUT,
+        "MAXSCALEDENOM": "write it into a CLASS", "MINLENGTH": LEAVE_OUT, "MINSCALEDENOM": "write it into a CLASS",
+        "POLAROFFSET": LEAVE_OUT, "SHADOWCOLOR": "leave it out, or write OUTLINECOLOR", "SHADOWSIZE": LEAVE_OUT,
+        "TEXT": "name an item by LABELITEM in the LAYER", "WRAP": "leave it out: a label is one line",
+    },
+    "FEATURE": {"WKT": "write POINTS blocks"},
+}
+INCLUDE = "write into the mapfile what that file has"
+
+# Refused keywords that go on to an END.
+REFUSED_BLOCKS = {
+    "BINDVALS", "CLUSTER", "COMPOSITE", "CONNECTIONOPTIONS", "GRID", "IDENTIFY", "JOIN", "LEADER", "METADATA", "PATTERN",
+    "POINTS", "SCALETOKEN", "STYLE", "VALIDATION",
+}
+# The words that open a block within such a one.
+REFUSED_INNER = {"LABEL", "PATTERN", "STYLE", "VALUES"}
+
+# Why a word has no effect, where that isn't plain.
+REASONS = {
+    "PROJECTION": "coordinates are degrees, longitude before latitude",
+    "FONTSET": 'all labels have the font that CONFIG "LABELFONT" names',
+    "LABEL FONT": 'all labels have the font that CONFIG "LABELFONT" names',
+    "LABEL TYPE": 'all labels have the font that CONFIG "LABELFONT" names',
+    "LABEL SIZE": "letters are as large as the font has them",
+    "LABEL OFFSET": "POSITION alone says where a label stands",
+    "LABEL STYLE": "a label has no box and no symbol",
+    "LABEL OUTLINEWIDTH": "an outline is one pixel wide",
+    "LABEL ENCODING": "texts are UTF-8",
+    "LABEL REPEATDISTANCE": "a feature has one label",
+    "LABEL MINFEATURESIZE": "small features are labelled, too",
+    "SHAPEPATH": "files are looked for in the folder of the mapfile",
+    "STATUS": "each layer can be asked for, and is drawn where it is asked for",
+    "CLASS STATUS": "a class counts; leave out one that is OFF",
+    "IMAGECOLOR": "the background is that of the request",
+    "IMAGETYPE": "each request names its FORMAT",
+    "OUTPUTFORMAT": "pictures are PPM and PAM; deploy/formats makes PNG, JPEG and WebP of them",
+    "MAP SIZE": "each request names its WIDTH and HEIGHT",
+    "MAXSIZE": "a picture has at most 2,048 by 2,048 pixels",
+    "MAP ANGLE": "a picture is never turned",
+    "UNITS": "coordinates are degrees",
+    "RESOLUTION": "a pixel counts as 0.28 mm",
+    "LEGEND": "GetLegendGraphic isn't answered",
+    "ANTIALIAS": "nothing is smoothed",
+    "SYMBOL TRANSPARENT": "pixels of the colour 255 0 255 are transparent",
+    "SYMBOL ANCHORPOINT": "a pixmap stands centred on its point",
+    "LAYER GROUP": "the layers of the document have no groups",
+    "LAYER EXTENT": "the extent is that of the MAP",
+    "LABELMAXSCALEDENOM": "write MAXSCALEDENOM into the CLASS",
+    "LABELMINSCALEDENOM": "write MINSCALEDENOM into the CLASS",
+    "CLASS TEMPLATE": "write TEMPLATE into the LAYER, so that it can be asked for",
+    "WEB TEMPLATE": "there is no page; deploy/viewer shows the map",
+}
+
+METADATA_KEYS = {
+    "WEB": {"wms_title", "ows_title", "wms_onlineresource", "ows_onlineresource"},
+    "LAYER": {"wms_title", "ows_title"},
+}
+
+# The values that a keyword takes: a range of counts or numbers, or words.
+COUNTED = {
+    "STYLE WIDTH": (1, 32), "STYLE SIZE": (1, 256), "LAYER TOLERANCE": (0, 64), "LABEL BUFFER": (0, 64),
+    "LABEL PRIORITY": (1, 10), "LABEL MINDISTANCE": (-1, 4096),
+}
+NUMBERS = {"MINSCALEDENOM": 10**12, "MAXSCALEDENOM": 10**12}
+CHOICES = {
+    "LAYER TYPE": "POINT LINE POLYGON", "SYMBOL TYPE": "PIXMAP", "LABEL POSITION": "UL UC UR CL CC CR LL LC LR AUTO",
+    "LABEL PARTIALS": "TRUE FALSE", "LABEL FORCE": "TRUE FALSE", "LAYER LABELCACHE": "ON",
+    "LAYER TOLERANCEUNITS": "PIXELS",
+}
+
+# What to write for a value of MapServer's that isn't taken, by block and keyword and then the value.
+VALUES = {
+    "LAYER TYPE": {
+        "RASTER": "leave the layer out: rasters aren't drawn", "ANNOTATION": "write POINT, with a LABEL and no STYLE",
+        "CIRCLE": "write POLYGON, with the circle's vertices", "QUERY": "leave the layer out",
+        "CHART": "leave the layer out: charts aren't drawn", "TILEINDEX": CONVERT,
+    },
+    "SYMBOL TYPE": dict.fromkeys(("ELLIPSE", "VECTOR", "TRUETYPE", "SVG", "HATCH", "SIMPLE", "CARTOLINE"), PIXMAP),
+    "LABEL POSITION": {"FOLLOW": "write AUTO: labels don't follow lines"},
+    "LAYER TOLERANCEUNITS": dict.fromkeys(("METERS", "FEET", "INCHES", "KILOMETERS", "MILES", "DD"), "write TOLERANCE in pixels"),
+    "LAYER LABELCACHE": {"OFF": "leave it out: labels are always placed together"},
+}
+
+MOST = {"LAYER": 128, "SYMBOL": 64, "CLASS": 64, "STYLE": 16, "LABEL": 1, "FEATURE": 200_000}
+REQUIRED = {"LAYER": ["NAME", "TYPE"], "SYMBOL": ["NAME", "TYPE", "IMAGE"], "FEATURE": ["POINTS"]}

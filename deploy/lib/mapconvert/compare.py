@@ -1,0 +1,144 @@
+"""Compares views of a map as MapServer and as mapservd draw it."""
+import io
+import os
+import re
+import subprocess
+import urllib.parse
+
+import mapscript
+from PIL import Image, ImageChops, ImageFilter
+
+# A pixel differs where no pixel of the 3 by 3 round it in the other picture is as near in each component.
+NEAR = 48
+SIDE = 600
+
+
+class NoPicture(Exception):
+    """Why there is no picture, in a sentence."""
+
+
+def by_mapserver(map, layers, box, width, height):
+    request = mapscript.OWSRequest()
+    values = {
+        "SERVICE": "WMS", "VERSION": "1.3.0", "REQUEST": "GetMap", "LAYERS": ",".join(layers), "STYLES": "", "CRS": "CRS:84",
+        "BBOX": ",".join(number_text(side) for side in box), "WIDTH": str(width), "HEIGHT": str(height), "FORMAT": "image/png",
+        "BGCOLOR": "0xFFFFFF", "TRANSPARENT": "FALSE",
+    }
+    for name, value in values.items():
+        request.setParameter(name, value)
+    mapscript.msIO_installStdoutToBuffer()
+    try:
+        map.OWSDispatch(request)
+        kind = mapscript.msIO_stripStdoutBufferContentType()
+        mapscript.msIO_stripStdoutBufferContentHeaders()
+        body = mapscript.msIO_getStdoutBufferBytes()
+    finally:
+        mapscript.msIO_resetHandlers()
+    if not (kind or "").startswith("image/"):
+        raise NoPicture(f"MapServer draws no picture: {body[:300]!r}")
+    return Image.open(io.BytesIO(body)).convert("RGB")
+
+
+def number_text(number):
+    return f"{number:.6f}"
+
+
+def by_mapservd(program, mapfile, layers, boxes, size):
+    """The pictures of all boxes, played as one script."""
+    width, height = size
+    lines = []
+    for box in boxes:
+        values = {"VERSION": "1.3.0", "REQUEST": "GetMap", "LAYERS": ",".join(layers), "STYLES": "", "CRS": "CRS:84",
+                  "BBOX": ",".join(number_text(side) for side in box), "WIDTH": width, "HEIGHT": height,
+                  "FORMAT": "image/x-portable-pixmap"}
+        lines.append("QUERY " + urllib.parse.urlencode(values, safe=",:/"))
+    script = os.path.join(os.path.dirname(mapfile), "compare.script")
+    with open(script, "w", encoding="utf-8") as file:
+        file.write("\n".join(lines) + "\n")
+    ran = subprocess.run([program, "run", mapfile, script], capture_output=True)
+    os.remove(script)
+    if ran.returncode:
+        raise NoPicture(f"mapservd doesn't draw the map: {ran.stderr.decode(errors='replace').strip()}")
+    found = re.findall(rb"ANSWER image/x-portable-pixmap \d+\n([0-9a-f\n]+)", ran.stdout)
+    if len(found) != len(boxes):
+        raise NoPicture(f"mapservd draws no picture: {ran.stdout[:300]!r}")
+    return [Image.open(io.BytesIO(bytes.fromhex(one.decode().replace("\n", "")))).convert("RGB") for one in found]
+
+
+def unlike(one, other):
+    """White where a pixel of one has no near pixel round it in the other."""
+    differing = None
+    for across in (-1, 0, 1):
+        for down in (-1, 0, 1):
+            shifted = other.copy()
+            shifted.paste(other, (across, down))
+            red, green, blue = ImageChops.difference(one, shifted).split()
+            far = ImageChops.lighter(ImageChops.lighter(red, green), blue).point(lambda far: 255 if far > NEAR else 0)
+            differing = far if differing is None else ImageChops.darker(differing, far)
+    return differing
+
+
+def beyond(one, other):
+    """White where a pixel of one lies outside of what is round it in the other, so that it is no half-tone between these."""
+    low, high = other.filter(ImageFilter.MinFilter(3)), other.filter(ImageFilter.MaxFilter(3))
+    red, green, blue = ImageChops.lighter(ImageChops.subtract(low, one), ImageChops.subtract(one, high)).split()
+    return ImageChops.lighter(ImageChops.lighter(red, green), blue).point(lambda far: 255 if far > NEAR else 0)
+
+
+def difference(one, other):
+    """What differs in either way, its share, and the share that is no half-tone of a smoothed edge."""
+    both = ImageChops.lighter(unlike(one, other), unlike(other, one))
+    plain = ImageChops.lighter(beyond(one, other), beyond(other, one))
+    pixels = both.width * both.height
+    return both, both.histogram()[255] / pixels, plain.histogram()[255] / pixels
+
+
+def views(extent, anchors, count):
+    """Boxes of one shape: the whole extent, and parts of it round places of features, each half as large."""
+    west, south, east, north = extent
+    boxes, across, down = [extent], east - west, north - south
+    for number in range(1, count):
+        zoom = 2 ** (1 + (number - 1) % 4)
+        x, y = anchors[(number * 7919) % len(anchors)] if anchors else ((west + east) / 2, (south + north) / 2)
+        boxes.append((x - across / zoom / 2, y - down / zoom / 2, x + across / zoom / 2, y + down / zoom / 2))
+    return boxes
+
+
+def side_by_side(one, other, both):
+    whole = Image.new("RGB", (3 * one.width + 20, one.height), (128, 128, 128))
+    for number, picture in enumerate((one, other, both.convert("RGB"))):
+        whole.paste(picture, (number * (one.width + 10), 0))
+    return whole
+
+
+def compare(source, made, folder, program, count):
+    """The lines that tell of each view, and the largest share."""
+    map = mapscript.mapObj(source)
+    map.scalebar.status = map.legend.status = mapscript.MS_OFF
+    map.web.metadata.set("ows_enable_request", "*")
+    map.web.metadata.set("wms_srs", "CRS:84 EPSG:4326")
+    map.web.metadata.set("wms_onlineresource", "http://localhost/?")
+    for number in range(map.numlayers):
+        layer = map.getLayer(number)
+        layer.status = mapscript.MS_OFF
+        layer.metadata.set("ows_enable_request", "*")
+        if number in made.renamed:
+            layer.name = made.renamed[number]
+        if not (layer.getProjection() or map.getProjection()):
+            layer.setProjection("init=epsg:4326")
+    if not map.getProjection():
+        map.setProjection("init=epsg:4326")
+    west, south, east, north = made.extent
+    width, height = (SIDE, max(1, round(SIDE * (north - south) / (east - west)))) if east - west >= north - south else (
+        max(1, round(SIDE * (east - west) / (north - south))), SIDE)
+    boxes = views(made.extent, made.anchors, count)
+    ours = by_mapservd(program, os.path.join(folder, "map.map"), made.written, boxes, (width, height))
+    lines, worst = [], 0
+    for number, (box, drawn) in enumerate(zip(boxes, ours), 1):
+        wanted = by_mapserver(map, made.asked, box, width, height)
+        both, share, plain = difference(wanted, drawn)
+        worst = max(worst, plain)
+        path = os.path.join(folder, f"compare{number}.png")
+        side_by_side(wanted, drawn, both).save(path)
+        lines.append(f"view {number}, {','.join(number_text(side) for side in box)}: {share:.2%} of the pixels differ, {plain:.2%} beyond half-tones, {path}")
+    return lines, worst

@@ -1,0 +1,118 @@
+"""Pixmaps of symbols, drawn by MapServer at their size, and the font of the labels."""
+import io
+import os
+import shutil
+import subprocess
+
+import mapscript
+from PIL import Image
+
+LARGEST = 256
+NOTHING = (255, 0, 255)
+PLAIN_FONTS = ("/usr/share/fonts/truetype/dejavu/DejaVuSans.ttf",)
+HERE = os.path.dirname(os.path.realpath(__file__))
+
+
+class Marks:
+    """The pixmaps of a map, each once, in the folder that is written."""
+
+    def __init__(self, path, folder):
+        self.map = mapscript.mapObj(path)
+        while self.map.numlayers:
+            self.map.removeLayer(0)
+        self.map.scalebar.status = self.map.legend.status = mapscript.MS_OFF
+        form = mapscript.outputFormatObj("AGG/PNG", "marks")
+        form.imagemode, form.transparent = mapscript.MS_IMAGEMODE_RGBA, mapscript.MS_ON
+        self.map.setOutputFormat(form)
+        self.folder, self.names = folder, {}
+
+    def draw(self, style, side, is_polygon=False):
+        """The picture of a point in the middle of a square, or of a polygon that covers it."""
+        self.map.setSize(side, side)
+        self.map.setExtent(-side / 2 + 0.5, -side / 2 + 0.5, side / 2 - 0.5, side / 2 - 0.5)
+        layer = mapscript.layerObj(self.map)
+        layer.type = mapscript.MS_LAYER_POLYGON if is_polygon else mapscript.MS_LAYER_POINT
+        layer.status, layer.name = mapscript.MS_ON, "mark"
+        mapscript.classObj(layer).insertStyle(style.clone())
+        shape = mapscript.shapeObj(mapscript.MS_SHAPE_POLYGON if is_polygon else mapscript.MS_SHAPE_POINT)
+        line = mapscript.lineObj()
+        for x, y in ((-1, -1), (-1, 1), (1, 1), (1, -1), (-1, -1)) if is_polygon else ((0, 0),):
+            line.add(mapscript.pointObj(x * side, y * side))
+        shape.add(line)
+        layer.addFeature(shape)
+        picture = Image.open(io.BytesIO(self.map.draw().getBytes())).convert("RGBA")
+        self.map.removeLayer(layer.index)
+        return picture
+
+    def mean_colour(self, style):
+        """The colour that a pattern has from afar, over white."""
+        picture = Image.new("RGBA", (64, 64), (255, 255, 255, 255))
+        picture.alpha_composite(self.draw(style, 64, True))
+        return "%d %d %d" % picture.convert("RGB").resize((1, 1), Image.Resampling.BOX).getpixel((0, 0))
+
+    def is_translucent(self, style):
+        """Whether most of a mark is neither opaque nor clear."""
+        shades = self.draw(style, LARGEST - 1).getchannel("A").histogram()
+        return sum(shades[16:240]) > sum(shades[240:])
+
+    def pixmap(self, style):
+        """The pixels of a mark round its point, opaque or clear; nothing where it has none."""
+        picture = self.draw(style, LARGEST - 1)
+        solid = picture.getchannel("A").point(lambda alpha: 255 if alpha >= 128 else 0)
+        box, middle = solid.getbbox(), (LARGEST - 1) // 2
+        if box is None:
+            return None
+        across = max(middle - box[0], box[2] - 1 - middle, 0)
+        down = max(middle - box[1], box[3] - 1 - middle, 0)
+        square = (middle - across, middle - down, middle + across + 1, middle + down + 1)
+        plain = Image.new("RGB", picture.size, NOTHING)
+        colours = picture.convert("RGB")
+        # A pixel that is 255 0 255 itself is painted in its neighbour.
+        colours.putdata([(254, 0, 255) if pixel == NOTHING else pixel for pixel in colours.getdata()])
+        plain.paste(colours, mask=solid)
+        return plain.crop(square)
+
+    def name_of(self, style, wanted):
+        """The name of the symbol that paints as a style does on a point; nothing where that paints nothing."""
+        picture = self.pixmap(style)
+        if picture is None:
+            return None
+        key = (picture.size, picture.tobytes())
+        if key not in self.names:
+            name = "".join(c if c.isalnum() and c.isascii() else "_" for c in wanted or "mark")
+            name = f"{name}{len(self.names) + 1}"
+            with open(os.path.join(self.folder, f"{name}.ppm"), "wb") as file:
+                file.write(b"P6\n%d %d\n255\n" % picture.size + picture.tobytes())
+            self.names[key] = name
+        return self.names[key]
+
+    def lines(self):
+        for name in self.names.values():
+            yield f'  SYMBOL NAME "{name}" TYPE PIXMAP IMAGE "{name}.ppm" END'
+
+
+def path_of_font(map, alias):
+    """The file of a font of the FONTSET."""
+    listed = map.fontset.filename
+    if not alias or not listed:
+        return None
+    try:
+        named = map.fontset.fonts.get(alias.split(",")[0])
+    except mapscript.MapServerError:
+        return None
+    if not named:
+        return None
+    return os.path.join(map.mappath or ".", os.path.dirname(listed), named)
+
+
+def write_font(map, alias, size, folder):
+    """Writes a font by otf2bdf; what it was made of, or nothing where there is neither that nor a file."""
+    path = path_of_font(map, alias)
+    if path is None or not os.path.exists(path):
+        path = next((plain for plain in PLAIN_FONTS if os.path.exists(plain)), None)
+    if path is None or shutil.which("otf2bdf") is None:
+        return None
+    # MapServer's letters of SIZE points are drawn at 96 dots an inch.
+    bdf = os.path.join(folder, "labels.bdf")
+    subprocess.run(["otf2bdf", "-p", str(max(4, round(size))), "-r", "96", "-o", bdf, path], capture_output=True)
+    return os.path.basename(path) if os.path.exists(bdf) and os.path.getsize(bdf) else None
