@@ -238,6 +238,29 @@ fn decisions_stay(rt: HostRuntime) -> Result<(), TableFault> {
     check_rows(rt.alloc(), DECISIONS, '>', 6, rows_of_decisions)
 }
 
+// What a piece behind a first head leads to, `>` and the piece.
+const BEHIND: &str = "\
+# bytes of another protocol are refused at once, however long the first head was
+3 Some(Refused(BadRequest))>\x16\x03\x01
+1 Some(Refused(BadRequest))>\x7f
+13 Some(Refused(BadRequest))>SSH-2.0-x||
+# what may become a head isn't
+17 None>GET_/y_HTTP/1.1|";
+
+fn rows_behind(alloc: Global, row: &str) -> Result<String, AllocError> {
+    let piece = stream_of(alloc, row)?;
+    let mut conn = Conn::new(alloc)?;
+    let _ = conn.feed(b"GET /a-long-first-head HTTP/1.1\r\nHost: map.example\r\n\r\n");
+    let is_next = conn.next();
+    let fed = conn.feed(&piece);
+    format!(in alloc; "{} {:?}", if is_next { fed.taken } else { 0 }, fed.step)
+}
+
+#[test]
+fn what_is_no_head_is_refused_behind_another(rt: HostRuntime) -> Result<(), TableFault> {
+    check_rows(rt.alloc(), BEHIND, '>', 4, rows_behind)
+}
+
 // What the end after a piece leads to, what a head after it, whether the head is forgotten, and what a head leads to
 // then, `>` and the piece.
 const ENDS: &str = "\
