@@ -1,9 +1,9 @@
 pub mod Account
 pub mod FirstFault
-pub mod FoundPairs
 pub mod Indices
 pub mod LaterParameters
 pub mod SameTexts
+pub mod Slots
 pub mod Steps
 pub mod WrittenAreas
 pub mod WrittenLayers

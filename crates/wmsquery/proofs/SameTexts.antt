@@ -1,7 +1,7 @@
--- Pairs that give each parameter the same text give the same texts.
-use Rattle.std.proofs.Common.{◌≡◌, List}
-use Rattle.wmsquery.specs.declared.pairs.Pair.{Pair}
-use Rattle.wmsquery.specs.Pairs.{texts_of, HaveSameTexts}
+-- Texts that are the same for each parameter are the same.
+use Rattle.std.proofs.Common.{◌≡◌}
+use Rattle.wmsquery.specs.declared.fault.Parameter.{Parameter}
+use Rattle.wmsquery.specs.Pairs.{Texts}
 
-pub same-texts : (a b : List Pair) → HaveSameTexts a b → texts_of a ≡ texts_of b
-same-texts a b same i p = same p i
+pub same-texts : (t u : Texts) → ((p : Parameter) → t p ≡ u p) → t ≡ u
+same-texts t u same i p = same p i

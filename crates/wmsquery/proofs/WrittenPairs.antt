@@ -5,8 +5,7 @@ use Rattle.std.proofs.lemmas.Str.{utf8_lossy-IsUtf8}
 use Rattle.std.specs.Str.Lossy.{utf8_lossy}
 use Rattle.form_urlencoded.specs.Form.{raw_pairs, decode, extend_pairs}
 use Rattle.form_urlencoded.proofs.FormLemmas.{IsBytePair, round_trip}
-use Rattle.wmsquery.specs.declared.pairs.Pair.{Pair}
-use Rattle.wmsquery.specs.Pairs.{text_of, pair_of, pairs_of}
+use Rattle.wmsquery.specs.Pairs.{Pair, text_of, pair_of, pairs_of}
 
 -- a pair of texts: bytes, and UTF-8
 pub record IsTextPair (pair : List ℕ × List ℕ) : Type 0 where

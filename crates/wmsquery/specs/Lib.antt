@@ -4,6 +4,7 @@ pub mod Pairs
 pub mod Query
 pub mod Reading
 pub mod Report
+pub mod Slots
 pub mod Values
 pub mod Within
 pub mod Written

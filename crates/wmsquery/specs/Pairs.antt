@@ -1,16 +1,17 @@
 -- The parameters of a query (URL Standard, application/x-www-form-urlencoded; docs/PROFILE.md, "Queries").
-use Rattle.std.specs.Prelude.{◌≡◌, ◌&&◌, ◌==◌, ℕ, Bool, List, [], ◌∷◌, map, find, Option, None, Some, ◌++◌}
+use Rattle.std.specs.Prelude.{◌==◌, ℕ, Bool, List, [], ◌∷◌, map, find, Option, None, Some}
 use Rattle.std.specs.List.{slice_split}
-use Rattle.std.specs.Option.{option_map, option_and_then, is_none}
+use Rattle.std.specs.Option.{option_map, option_and_then}
 use Rattle.std.specs.Str.{str_eq_ignore_ascii_case}
 use Rattle.std.specs.Str.Lossy.{utf8_lossy}
 use Rattle.form_urlencoded.specs.Form.{raw_pairs, decode}
-use Rattle.operations.specs.declared.operation.Operation.TheVariants as operation
 use Rattle.wmsquery.specs.declared.fault.Parameter.{Parameter}
-use Rattle.wmsquery.specs.declared.fault.Parameter.TheVariants as parameter
-use Rattle.wmsquery.specs.declared.pairs.Pair.{Pair}
-use Rattle.wmsquery.specs.Order.{order}
 use Rattle.wmsquery.specs.Report.{parameter_text}
+
+-- a name of a query and its value, as texts
+pub record Pair : Type 0 where
+  pub name : List ℕ
+  pub value : List ℕ
 
 -- the text that a name or a value stands for: decoded, with a replacement character for what is not UTF-8
 unfoldable pub text_of : List ℕ → List ℕ
@@ -57,15 +58,3 @@ names_in text = slice_split is_comma text
 abbrev pub names_of : Option (List ℕ) → List (List ℕ)
 names_of None = []
 names_of (Some text) = names_in text
-
--- all parameters that are looked at
-abbrev pub parameters : List Parameter
-parameters = parameter.Service ∷ parameter.Request ∷ order operation.Information ++ order operation.Capabilities
-
--- two lists of pairs give each parameter the same text
-abbrev pub HaveSameTexts : List Pair → List Pair → Type 0
-HaveSameTexts a b = (p : Parameter) → texts_of a p ≡ texts_of b p
-
--- a name is that of a parameter which has no text yet
-abbrev pub is_first_of : List Pair → List ℕ → Parameter → Bool
-is_first_of found name p = str_eq_ignore_ascii_case name (parameter_text p) && is_none (texts_of found p)

@@ -1,6 +1,6 @@
 ghost use Rattle.std.specs.Prelude.{◌≡◌, ◌≤◌, ◌<◌, All, Ok, length, map as each, IfOk, MatchResult};
 ghost use Rattle.mapdefs.specs.declared.limits.TheConstants.{MAX_FEATURES};
-ghost use Rattle.wmsquery.specs.Pairs.{texts_of};
+ghost use Rattle.wmsquery.specs.Slots.{kept};
 ghost use Rattle.wmsquery.specs.Query.{layer_names};
 ghost use Rattle.wmsquery.specs.Reading.{IsErrorOf, asked_read, spot_read, information_read};
 ghost use Rattle.wmsquery.specs.Within.{IsInformationWithin};
@@ -8,9 +8,9 @@ ghost use Rattle.wmsquery.specs.Within.{IsInformationWithin};
 use crate::error::QueryError;
 use crate::fault::{Parameter, WmsFault, checked};
 use crate::lists::{asked_layers, names_of};
-use crate::pairs::{Pair, given};
 use crate::picture::read_map;
 use crate::request::InformationRequest;
+use crate::texts::ParameterTexts;
 use crate::values::{feature_count, info_format, pixel};
 use geom::PictureSide;
 use mapdefs::{Items, Map};
@@ -28,36 +28,40 @@ pub struct Spot {
 // The layers that are asked for features. `names` are those of LAYERS.
 fn read_asked(
     alloc: Global,
-    pairs: &[Pair],
+    texts: &ParameterTexts,
     names: &[&str],
     map: &Map,
 ) -> Result<Items<usize>, QueryError>
-    requires { each (λ x. x.now) names.now ≡ layer_names (texts_of pairs.now) }
+    requires { each (λ x. x.now) names.now ≡ layer_names (kept texts.now) }
     ensures value { MatchResult result
-        (λ asked. asked_read map.now (texts_of pairs.now) ≡ Ok asked)
-        (IsErrorOf (asked_read map.now (texts_of pairs.now))) }
+        (λ asked. asked_read map.now (kept texts.now) ≡ Ok asked)
+        (IsErrorOf (asked_read map.now (kept texts.now))) }
     ensures within { IfOk result (All (λ index. index < length map.now.layers)) }
 {
-    let queried = names_of(alloc, given(pairs, Parameter::QueryLayers))?;
+    let queried = names_of(alloc, texts.given(Parameter::QueryLayers))?;
     let asked = asked_layers(alloc, map, names, &queried)?;
-    let format = info_format(given(pairs, Parameter::InfoFormat));
+    let format = info_format(texts.given(Parameter::InfoFormat));
     checked(Parameter::InfoFormat, format)?;
     Ok(asked)
 }
 
 // The pixel in a picture of these sides, and the count of features.
-fn read_spot(width: PictureSide, height: PictureSide, pairs: &[Pair]) -> Result<Spot, WmsFault>
-    ensures value { result ≡ spot_read width height (texts_of pairs.now) }
+fn read_spot(
+    width: PictureSide,
+    height: PictureSide,
+    texts: &ParameterTexts,
+) -> Result<Spot, WmsFault>
+    ensures value { result ≡ spot_read width height (kept texts.now) }
     ensures some { IfOk result (λ spot. 1 ≤ spot.count) }
     ensures most { IfOk result (λ spot. spot.count ≤ MAX_FEATURES) }
     ensures column { IfOk result (λ spot. spot.column < width) }
     ensures row { IfOk result (λ spot. spot.row < height) }
 {
-    let count = feature_count(given(pairs, Parameter::FeatureCount));
+    let count = feature_count(texts.given(Parameter::FeatureCount));
     let count = checked(Parameter::FeatureCount, count)?;
-    let column = pixel(width, given(pairs, Parameter::Column));
+    let column = pixel(width, texts.given(Parameter::Column));
     let column = checked(Parameter::Column, column)?;
-    let row = pixel(height, given(pairs, Parameter::Row));
+    let row = pixel(height, texts.given(Parameter::Row));
     let row = checked(Parameter::Row, row)?;
     Ok(Spot { count, column, row })
 }
@@ -65,19 +69,19 @@ fn read_spot(width: PictureSide, height: PictureSide, pairs: &[Pair]) -> Result<
 /// The feature information that is asked for. `names` are those of LAYERS.
 pub fn read_information(
     alloc: Global,
-    pairs: &[Pair],
+    texts: &ParameterTexts,
     names: &[&str],
     map: &Map,
 ) -> Result<InformationRequest, QueryError>
-    requires { each (λ x. x.now) names.now ≡ layer_names (texts_of pairs.now) }
+    requires { each (λ x. x.now) names.now ≡ layer_names (kept texts.now) }
     ensures value { MatchResult result
-        (λ request. information_read map.now (texts_of pairs.now) ≡ Ok request)
-        (IsErrorOf (information_read map.now (texts_of pairs.now))) }
+        (λ request. information_read map.now (kept texts.now) ≡ Ok request)
+        (IsErrorOf (information_read map.now (kept texts.now))) }
     ensures within { IfOk result (IsInformationWithin (length map.now.layers)) }
 {
-    let picture = read_map(alloc, Operation::Information, pairs, names, map)?;
-    let asked = read_asked(alloc, pairs, names, map)?;
-    let spot = read_spot(picture.width, picture.height, pairs)?;
+    let picture = read_map(alloc, Operation::Information, texts, names, map)?;
+    let asked = read_asked(alloc, texts, names, map)?;
+    let spot = read_spot(picture.width, picture.height, texts)?;
     Ok(InformationRequest {
         map: picture,
         asked,

@@ -18,10 +18,10 @@ mod fault;
 mod information;
 pub mod laws;
 mod lists;
-mod pairs;
 mod picture;
 mod query;
 mod request;
+mod texts;
 mod values;
 
 pub use error::QueryError;

@@ -1,6 +1,6 @@
 ghost use Rattle.std.specs.Prelude.{◌≡◌, ◌<◌, All, Ok, length, map as each, IfOk, MatchResult};
 ghost use Rattle.geom.specs.World.{IsExtent};
-ghost use Rattle.wmsquery.specs.Pairs.{texts_of};
+ghost use Rattle.wmsquery.specs.Slots.{kept};
 ghost use Rattle.wmsquery.specs.Query.{layer_names};
 ghost use Rattle.wmsquery.specs.Reading.{IsErrorOf, layers_read, frame_read, look_read, map_read};
 ghost use Rattle.wmsquery.specs.Within.{IsMapWithin};
@@ -8,8 +8,8 @@ ghost use Rattle.wmsquery.specs.Within.{IsMapWithin};
 use crate::error::QueryError;
 use crate::fault::{Parameter, WmsFault, checked};
 use crate::lists::{layers, styles};
-use crate::pairs::{Pair, given, text_of};
 use crate::request::{Format, MapRequest};
+use crate::texts::ParameterTexts;
 use crate::values::{area, background, background_for, format, side, system, transparent, version};
 use geom::{PictureSide, WorldBox};
 use mapdefs::{Items, Map, Rgb};
@@ -35,36 +35,33 @@ pub struct Look {
 fn read_layers(
     alloc: Global,
     operation: Operation,
-    pairs: &[Pair],
+    texts: &ParameterTexts,
     names: &[&str],
     map: &Map,
 ) -> Result<Items<usize>, QueryError>
-    requires { each (λ x. x.now) names.now ≡ layer_names (texts_of pairs.now) }
+    requires { each (λ x. x.now) names.now ≡ layer_names (kept texts.now) }
     ensures value { MatchResult result
-        (λ chosen. layers_read map.now operation (texts_of pairs.now) ≡ Ok chosen)
-        (IsErrorOf (layers_read map.now operation (texts_of pairs.now))) }
+        (λ chosen. layers_read map.now operation (kept texts.now) ≡ Ok chosen)
+        (IsErrorOf (layers_read map.now operation (kept texts.now))) }
     ensures within { IfOk result (All (λ index. index < length map.now.layers)) }
 {
-    checked(
-        Parameter::Version,
-        version(given(pairs, Parameter::Version)),
-    )?;
+    checked(Parameter::Version, version(texts.given(Parameter::Version)))?;
     let chosen = layers(alloc, map, names)?;
-    let text = text_of(pairs, Parameter::Styles);
+    let text = texts.text(Parameter::Styles);
     let styles = styles(alloc, operation, names.len(), text)?;
     checked(Parameter::Styles, styles)?;
     Ok(chosen)
 }
 
 // The area and the sides of a picture.
-fn read_frame(pairs: &[Pair]) -> Result<Frame, WmsFault>
-    ensures value { result ≡ frame_read (texts_of pairs.now) }
+fn read_frame(texts: &ParameterTexts) -> Result<Frame, WmsFault>
+    ensures value { result ≡ frame_read (kept texts.now) }
     ensures extent { IfOk result (λ frame. IsExtent frame.area) }
 {
-    let crs = checked(Parameter::Crs, system(given(pairs, Parameter::Crs)))?;
-    let area = checked(Parameter::Bbox, area(crs, given(pairs, Parameter::Bbox)))?;
-    let width = checked(Parameter::Width, side(given(pairs, Parameter::Width)))?;
-    let height = checked(Parameter::Height, side(given(pairs, Parameter::Height)))?;
+    let crs = checked(Parameter::Crs, system(texts.given(Parameter::Crs)))?;
+    let area = checked(Parameter::Bbox, area(crs, texts.given(Parameter::Bbox)))?;
+    let width = checked(Parameter::Width, side(texts.given(Parameter::Width)))?;
+    let height = checked(Parameter::Height, side(texts.given(Parameter::Height)))?;
     Ok(Frame {
         area,
         width,
@@ -73,14 +70,14 @@ fn read_frame(pairs: &[Pair]) -> Result<Frame, WmsFault>
 }
 
 // The format and the background of a picture.
-fn read_look(operation: Operation, pairs: &[Pair]) -> Result<Look, WmsFault>
-    ensures { result ≡ look_read operation (texts_of pairs.now) }
+fn read_look(operation: Operation, texts: &ParameterTexts) -> Result<Look, WmsFault>
+    ensures { result ≡ look_read operation (kept texts.now) }
 {
-    let format = format(operation, given(pairs, Parameter::Format));
+    let format = format(operation, texts.given(Parameter::Format));
     let format = checked(Parameter::Format, format)?;
-    let transparent = transparent(given(pairs, Parameter::Transparent));
+    let transparent = transparent(texts.given(Parameter::Transparent));
     let transparent = checked(Parameter::Transparent, transparent)?;
-    let colour = background(given(pairs, Parameter::Bgcolor));
+    let colour = background(texts.given(Parameter::Bgcolor));
     let colour = checked(Parameter::Bgcolor, colour)?;
     Ok(Look {
         format,
@@ -92,19 +89,19 @@ fn read_look(operation: Operation, pairs: &[Pair]) -> Result<Look, WmsFault>
 pub fn read_map(
     alloc: Global,
     operation: Operation,
-    pairs: &[Pair],
+    texts: &ParameterTexts,
     names: &[&str],
     map: &Map,
 ) -> Result<MapRequest, QueryError>
-    requires { each (λ x. x.now) names.now ≡ layer_names (texts_of pairs.now) }
+    requires { each (λ x. x.now) names.now ≡ layer_names (kept texts.now) }
     ensures value { MatchResult result
-        (λ request. map_read map.now operation (texts_of pairs.now) ≡ Ok request)
-        (IsErrorOf (map_read map.now operation (texts_of pairs.now))) }
+        (λ request. map_read map.now operation (kept texts.now) ≡ Ok request)
+        (IsErrorOf (map_read map.now operation (kept texts.now))) }
     ensures within { IfOk result (IsMapWithin (length map.now.layers)) }
 {
-    let chosen = read_layers(alloc, operation, pairs, names, map)?;
-    let frame = read_frame(pairs)?;
-    let look = read_look(operation, pairs)?;
+    let chosen = read_layers(alloc, operation, texts, names, map)?;
+    let frame = read_frame(texts)?;
+    let look = read_look(operation, texts)?;
     Ok(MapRequest {
         chosen,
         area: frame.area,

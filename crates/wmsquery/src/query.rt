@@ -1,6 +1,6 @@
 ghost use Rattle.std.specs.Prelude.{◌≡◌, Ok, length, IfOk, IfErr, MatchResult};
 ghost use Rattle.wmsquery.specs.Meaning.{IsMeaning, IsMeaningError};
-ghost use Rattle.wmsquery.specs.Pairs.{texts_of};
+ghost use Rattle.wmsquery.specs.Slots.{kept};
 ghost use Rattle.wmsquery.specs.Reading.{IsErrorOf, operation_read, request_read};
 ghost use Rattle.wmsquery.specs.Within.{IsWithin};
 
@@ -8,54 +8,51 @@ use crate::error::QueryError;
 use crate::fault::{Parameter, WmsFault, checked};
 use crate::information::read_information;
 use crate::lists::names_of;
-use crate::pairs::{Pair, first_pairs, given};
 use crate::picture::read_map;
 use crate::request::Request;
+use crate::texts::ParameterTexts;
 use crate::values::{operation, service, update_sequence};
 use mapdefs::Map;
 use operations::Operation;
 use std::alloc::Global;
 
 // The operation that is asked for.
-fn read_operation(pairs: &[Pair]) -> Result<Operation, WmsFault>
-    ensures { result ≡ operation_read (texts_of pairs.now) }
+fn read_operation(texts: &ParameterTexts) -> Result<Operation, WmsFault>
+    ensures { result ≡ operation_read (kept texts.now) }
 {
-    checked(
-        Parameter::Service,
-        service(given(pairs, Parameter::Service)),
-    )?;
+    checked(Parameter::Service, service(texts.given(Parameter::Service)))?;
     checked(
         Parameter::Request,
-        operation(given(pairs, Parameter::Request)),
+        operation(texts.given(Parameter::Request)),
     )
 }
 
-// The request of some pairs.
-fn read_pairs(
+// The request of the texts of parameters.
+fn read_texts(
     alloc: Global,
-    pairs: &[Pair],
+    texts: &ParameterTexts,
     map: &Map,
     sequence: u64,
 ) -> Result<Request, QueryError>
     ensures value { MatchResult result
-        (λ request. request_read map.now sequence (texts_of pairs.now) ≡ Ok request)
-        (IsErrorOf (request_read map.now sequence (texts_of pairs.now))) }
+        (λ request. request_read map.now sequence (kept texts.now) ≡ Ok request)
+        (IsErrorOf (request_read map.now sequence (kept texts.now))) }
     ensures within { IfOk result (IsWithin (length map.now.layers)) }
 {
-    match read_operation(pairs)? {
+    match read_operation(texts)? {
         Operation::Capabilities => {
-            let text = given(pairs, Parameter::UpdateSequence);
+            let text = texts.given(Parameter::UpdateSequence);
             checked(Parameter::UpdateSequence, update_sequence(sequence, text))?;
             Ok(Request::Capabilities)
         }
         Operation::Map => {
-            let names = names_of(alloc, given(pairs, Parameter::Layers))?;
-            let request = read_map(alloc, Operation::Map, pairs, &names, map)?;
+            let names = names_of(alloc, texts.given(Parameter::Layers))?;
+            let request = read_map(alloc, Operation::Map, texts, &names, map)?;
             Ok(Request::Map(request))
         }
         Operation::Information => {
-            let names = names_of(alloc, given(pairs, Parameter::Layers))?;
-            let request = read_information(alloc, pairs, &names, map)?;
+            let names = names_of(alloc, texts.given(Parameter::Layers))?;
+            let request = read_information(alloc, texts, &names, map)?;
             Ok(Request::Information(request))
         }
     }
@@ -70,6 +67,6 @@ pub fn read(alloc: Global, query: &[u8], map: &Map, sequence: u64) -> Result<Req
     ensures fault { IfErr result (IsMeaningError map.now sequence query.now) }
     ensures within { IfOk result (IsWithin (length map.now.layers)) }
 {
-    let pairs = first_pairs(alloc, query)?;
-    read_pairs(alloc, &pairs, map, sequence)
+    let texts = ParameterTexts::of_query(alloc, query)?;
+    read_texts(alloc, &texts, map, sequence)
 }
