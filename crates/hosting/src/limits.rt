@@ -23,7 +23,7 @@ pub const MAX_WAITING: u32 = 512;
 /// How many milliseconds pass between two looks whether fewer wait.
 pub const WAITING_MILLISECONDS: u64 = 1;
 
-/// For how many milliseconds in all that is read of a client for whom there is no place.
+/// For how many milliseconds in all that is read of a client that is turned away.
 pub const TURNED_AWAY_MILLISECONDS: u64 = 20;
 
 /// How many milliseconds are waited after a call for a connection has failed.
