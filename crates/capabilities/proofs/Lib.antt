@@ -1,3 +1,6 @@
+mod Boxes
+mod Extents
 pub mod Numbers
 mod Readings
+mod Sought
 mod Tags

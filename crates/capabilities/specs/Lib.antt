@@ -1,3 +1,4 @@
+pub mod Boxes
 pub mod Document
 pub mod Element
 pub mod Layer

@@ -1,5 +1,6 @@
 //! Laws of the definitions. A law is a function without arguments whose contract states it.
 
+ghost use Rattle.capabilities.specs.Boxes.{ExtentIsRead};
 ghost use Rattle.capabilities.specs.Texts.{TextsChangeNoTags, TitlesAreRead, NamesAreRead};
 
 /// Whatever the texts of a map are, its document has the tags and the attributes of the document of the
@@ -17,4 +18,10 @@ pub fn titles_are_read()
 /// What stands in its elements `Name` is the name of the service, and then that of each such layer.
 pub fn names_are_read()
     ensures { NamesAreRead }
+{}
+
+/// The boxes of a document, each read in the system that it names as a query's BBOX is, are the extent of the map, and
+/// so are the four sides of its geographic box.
+pub fn extent_is_read()
+    ensures { ExtentIsRead }
 {}

@@ -16,6 +16,7 @@ use Rattle.geom.specs.Written.{written, written_size, six_digits}
 use Rattle.geom.proofs.Written.{numeral, six-are, coordinate-size, coordinate-written}
 use Rattle.geom.proofs.Digits.{digit-range, digits-cons}
 use Rattle.crsaxes.specs.Axes.{parts, box_of, box_of_parts, box_in, with_area}
+use Rattle.crsaxes.proofs.Areas.{four-read, extent-area}
 use Rattle.crsaxes.specs.declared.crs.Crs.{Crs}
 use Rattle.crsaxes.specs.declared.crs.Crs.TheVariants.{Crs84, Epsg4326}
 use Rattle.mapdefs.specs.declared.colour.Rgb.{Rgb}
@@ -80,26 +81,7 @@ four-parts a b c d ha hb hc hd =
 -- four coordinates are the box of them
 four-box : (crs : Crs) (a b c d : ℤ) → IsCoordinate a → IsCoordinate b → IsCoordinate c → IsCoordinate d →
     box_of_parts crs (parts (with_commas (written a ∷ written b ∷ written c ∷ written d ∷ []))) ≡ with_area (box_in crs a b c d)
-four-box crs a b c d ha hb hc hd =
-    ap (box_of_parts crs) (four-parts a b c d ha hb hc hd)
-    ∙ ap (λ x. box_of crs x (coordinate_of (written b)) (coordinate_of (written c)) (coordinate_of (written d))) (coordinate-written a ha)
-    ∙ ap (λ x. box_of crs (Some a) x (coordinate_of (written c)) (coordinate_of (written d))) (coordinate-written b hb)
-    ∙ ap (λ x. box_of crs (Some a) (Some b) x (coordinate_of (written d))) (coordinate-written c hc)
-    ∙ ap (λ x. box_of crs (Some a) (Some b) (Some c) x) (coordinate-written d hd)
-
--- the lesser of two numbers is tested so
-lesser-test : (a b : ℤ) → a <ℤ b → int_lt a b ≡ true
-lesser-test (pos a) (pos b) h = lt-ltb a b (omega (arith, ints, h))
-lesser-test (pos a) (negsuc b) h = absurd (omega (arith, ints, h))
-lesser-test (negsuc a) (pos b) h = refl
-lesser-test (negsuc a) (negsuc b) h = lt-ltb b a (omega (arith, ints, h))
-
--- an extent has an area
-extent-area : (area : Area) → IsExtent area → with_area area ≡ Ok area
-extent-area area is =
-    let test : (int_lt area.minx area.maxx && int_lt area.miny area.maxy) ≡ true =
-    and_from _ _ (lesser-test area.minx area.maxx is.columns) (lesser-test area.miny area.maxy is.rows) in
-    rw test refl
+four-box crs a b c d ha hb hc hd = ap (box_of_parts crs) (four-parts a b c d ha hb hc hd) ∙ four-read crs a b c d ha hb hc hd
 
 -- the sides of a box in the axis order of a system mean that box
 pub area-written : (crs : Crs) (area : Area) → IsExtent area → area_of crs (Some (bbox_text crs area)) ≡ Ok area
