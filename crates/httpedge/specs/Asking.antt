@@ -1,9 +1,10 @@
 -- What whoever is asked says to a query (docs/PROFILE.md, "HTTP").
-use Rattle.std.specs.Prelude.{◌≡◌, ℕ, List, Result, IfOk}
+use Rattle.std.specs.Prelude.{◌≡◌, ℕ, true, List, Result, IfOk}
 use mathlib.Core.List.{IsPrefix}
 use Rattle.batches.specs.Batch.{State}
 use Rattle.mapmachine.specs.Machine.{IsAnswer}
 use Rattle.mapshare.specs.Accepted.{accepted}
+use Rattle.mapshare.specs.Reader.{ReaderValue}
 use Rattle.sharing.specs.Reply.{IsAnswerAfter}
 use Rattle.mapmachine.specs.declared.reply.Answer.{Answer}
 use Rattle.httpedge.specs.declared.asks.Busy.{Busy}
@@ -13,6 +14,8 @@ abbrev pub machine_answers : State → List ℕ → Result Answer Busy → State
 machine_answers old query said new = (new ≡ old) × IfOk said (IsAnswer old query)
 
 -- a reader of a shared map says the answer of the machine after batches that begin with all that it knew to be published, and which it
--- knows from then on; or it says that there is none now
-abbrev pub reader_answers : State → List (List ℕ) → List ℕ → Result Answer Busy → List (List ℕ) → Type 0
-reader_answers opening old query said new = IsPrefix old new × IfOk said (λ answer. IsAnswerAfter opening accepted IsAnswer query answer new)
+-- knows from then on; or it says that there is none now. One that may enter may do so again
+abbrev pub reader_answers : State → ReaderValue → List ℕ → Result Answer Busy → ReaderValue → Type 0
+reader_answers opening old query said new =
+    IsPrefix old.known new.known × (old.is_free ≡ true → new.is_free ≡ true)
+    × IfOk said (λ answer. IsAnswerAfter opening accepted IsAnswer query answer new.known)

@@ -2,3 +2,4 @@ pub mod Accepted
 pub mod Admin
 pub mod Edition
 pub mod Queue
+pub mod Reader

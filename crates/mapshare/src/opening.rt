@@ -1,4 +1,5 @@
 ghost use Rattle.std.specs.Prelude.{◌≡◌, ◌<◌, ◌≤◌, ◌⊎◌, ◌↔◌, [], drop, All, IfOk, IsErrOf, vec_len};
+ghost use Rattle.mapshare.specs.Reader.{free};
 ghost use Rattle.mapshare.specs.declared.opening.TheConstants.{MAX_READERS};
 
 use crate::admin::Admin;
@@ -62,7 +63,7 @@ fn readers_of<S: Sharing>(
 ) -> Result<Vec<Reader<S>>, AllocError>
     requires { front.now ≡ [] }
     ensures count { IfOk result (λ readers. vec_len readers ≡ count) }
-    ensures known { IfOk result (λ readers. All (λ reader. reader ≡ []) readers.items) }
+    ensures known { IfOk result (λ readers. All (λ reader. reader ≡ free []) readers.items) }
 {
     let mut readers = Vec::new(alloc);
     for _ in 0..count {
@@ -85,7 +86,7 @@ pub fn open<S: Sharing, R: Wait>(
     requires opening { machine.now ≡ S.opening }
     ensures admin { IfOk result (λ r. r.0 ≡ record { published = []; pending = [] }) }
     ensures readers { IfOk result (λ r. vec_len r.1 ≡ count) }
-    ensures known { IfOk result (λ r. All (λ reader. reader ≡ []) r.1.items) }
+    ensures known { IfOk result (λ r. All (λ reader. reader ≡ free []) r.1.items) }
     ensures count { IsErrOf result ShareFault.Count ↔ ((count ≡ 0) ⊎ (MAX_READERS < count)) }
 {
     let (history, front) = blank.named::<S>();

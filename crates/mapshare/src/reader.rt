@@ -4,6 +4,7 @@ ghost use mathlib.Core.List.{IsPrefix};
 ghost use Rattle.sharing.specs.Reply.{IsAnswerAfter};
 ghost use Rattle.mapmachine.specs.Machine.{IsAnswer};
 ghost use Rattle.mapshare.specs.Accepted.{accepted};
+ghost use Rattle.mapshare.specs.Reader.{entered, free};
 ghost use Rattle.mapshare.specs.contracts.reader.Reader.{the_row as reader_row};
 
 use crate::receipt::Receipt;
@@ -18,7 +19,7 @@ use std::marker::Model;
 #[derive(Debug, Drop)]
 pub struct Closed;
 
-/// A reader of a shared map. Contracts see it as the batches that it knows to be published.
+/// A reader of a shared map. Contracts see it as the batches that it knows to be published, and whether it may enter.
 #[derive(Drop)]
 pub struct Reader<S: Sharing> {
     // It is away while an entry has it.
@@ -27,11 +28,12 @@ pub struct Reader<S: Sharing> {
 }
 
 impl<S: Sharing> Model for Reader<S> {
-    ghost use Rattle.std.specs.Prelude.{ℕ, List};
+    ghost use Rattle.std.specs.Prelude.{is_some};
+    ghost use Rattle.mapshare.specs.Reader.{ReaderValue};
 
-    ghost Value = { List (List ℕ) };
+    ghost Value = { ReaderValue };
 
-    ghost view = { λ r. r.known };
+    ghost view = { λ r. record { known = r.known; is_free = is_some r.end } };
 }
 
 /// What is published as one reader sees it: the machine after these batches, as which contracts see it.
@@ -98,7 +100,7 @@ impl<S: Sharing> Shown<S> {
 impl<S: Sharing> Reader<S> {
     // A reader that knows this.
     pub(crate) fn new(end: MapReader<S>, known: Front<S>) -> Self
-        ensures { result ≡ known }
+        ensures { result ≡ free known }
     {
         Reader {
             end: Some(end),
@@ -109,9 +111,9 @@ impl<S: Sharing> Reader<S> {
     /// Takes in a receipt. Of what it knows and what the receipt stands for, of which the one begins the other, the
     /// reader knows the longer from then on.
     pub fn learn(&mut self, receipt: Receipt<S>)
-        ensures one { (self.new ≡ self.old) ⊎ (self.new ≡ receipt) }
-        ensures kept { IsPrefix self.old self.new }
-        ensures told { IsPrefix receipt self.new }
+        ensures one { (self.new ≡ self.old) ⊎ (self.new ≡ record self.old { known = receipt }) }
+        ensures kept { IsPrefix self.old.known self.new.known }
+        ensures told { IsPrefix receipt self.new.known }
     {
         self.known = self.known.longer(receipt.front());
     }
@@ -120,8 +122,8 @@ impl<S: Sharing> Reader<S> {
     pub fn enter(&mut self) -> Result<Entered<'_, S>, Closed>
         ensures* closed { sem 𝓛 (RestsIfErr (reader_row S.row (record { opening = S.opening }) (record { book = S.book })) self.entry (λ e. e.home.ghost_name) result (λ n. n ≡ self.old)) }
         ensures same_reference { IfOk result (λ e. e.home.ghost_name ≡ self.entry.ghost_name) }
-        ensures known { IfOk result (λ e. IsPrefix self.old e.shown) }
-        ensures knows { IfOk result (λ e. e.home.now ≡ e.shown) }
+        ensures known { IfOk result (λ e. IsPrefix self.old.known e.shown) }
+        ensures knows { IfOk result (λ e. e.home.now ≡ entered e.shown) }
     {
         let Some(end) = self.end.take() else {
             return Err(Closed);
@@ -156,7 +158,7 @@ impl<S: Sharing> Entry<'_, S, Shown<S>> {
 
     /// Ends the entry, as dropping it does: the reader keeps what it knows, and may enter again.
     pub fn leave(self)
-        ensures { self.exit.0.now ≡ self.entry.home.now }
+        ensures { self.exit.0.now ≡ free self.entry.home.now.known }
     {
         drop(self);
     }
@@ -171,7 +173,7 @@ impl<S: Sharing> Entry<'_, S, Shown<S>> {
 
 impl<S: Sharing, X: Ends<S>> Drop for Entry<'_, S, X> {
     fn drop(self)
-        ensures { self.exit.0.now ≡ self.entry.home.now }
+        ensures { self.exit.0.now ≡ free self.entry.home.now.known }
     {
         let Self { home, shown } = self;
         home.end = Some(shown.end());
