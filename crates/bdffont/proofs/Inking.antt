@@ -1,31 +1,17 @@
 -- The ink of a text, a character at a time.
-use Rattle.std.proofs.Common.{◌≡◌, ℕ, ◌+◌, true, false, List, [], ◌∷◌, length, Option, None, Some, ℤ, refl, sym, ◌∙◌, arith}
+use Rattle.std.proofs.Common.{◌≡◌, ℕ, ◌+◌, true, false, List, [], ◌∷◌, length, None, Some, ℤ, refl, ◌∙◌, arith}
 use Rattle.std.specs.Prelude.{◌||◌}
 use Rattle.std.specs.Str.{chars}
 use Rattle.std.proofs.lemmas.Str.{chars-nil}
 use Rattle.geom.specs.Device.{PixelPlace}
 use Rattle.mapdefs.specs.declared.font.FontFields.{FontFields}
 use Rattle.mapdefs.specs.declared.font.Glyph.{Glyph}
-use Rattle.bdffont.specs.Ink.{glyph_of, advance_of, past, inks, inks_at, covers, character_covers, has_ink_from}
+use Rattle.bdffont.specs.Ink.{glyph_of, advance_of, covers, character_covers, has_ink_from}
 
 -- an empty text has no characters
 pub no-chars : (bytes : List ℕ) → length bytes ≡ 0 → chars bytes ≡ []
 no-chars [] h = chars-nil
 no-chars (b ∷ bs) h = absurd (omega arith)
-
--- a glyph whose box is before the pixel, or not
-pub covered : (g : Glyph) (left i top j : ℤ) (column row : ℕ) → past left i ≡ Some column → past top j ≡ Some row → inks_at g (past left i) (past top j) ≡ inks g column row
-covered g left i top j column row c r = rw (c, r) refl
-
-pub right-of : (g : Glyph) (left i : ℤ) (row : Option ℕ) → past left i ≡ None → inks_at g (past left i) row ≡ false
-right-of g left i row c = rw c refl
-
-pub below : (g : Glyph) (column : ℕ) (left i top j : ℤ) → past left i ≡ Some column → past top j ≡ None → inks_at g (past left i) (past top j) ≡ false
-below g column left i top j c r = rw (c, r) refl
-
--- a distance between two numbers, as words hold them
-pub past-words : (a b from to : ℤ) (r said : Option ℕ) → r ≡ past a b → r ≡ said → a ≡ from → b ≡ to → past from to ≡ said
-past-words a b from to r said e is same_from same_to = rw (← same_from, ← same_to) (sym e ∙ is)
 
 module _ (font : FontFields) (at : PixelPlace) (i j : ℤ) (pen : ℕ) (characters : List ℕ) where
   -- without characters there is no ink

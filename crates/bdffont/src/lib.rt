@@ -4,8 +4,8 @@
 //! line (`error`), for any bytes. `extent` is the sum of the advances and the height of the font's box
 //! (`width`, `height`), and `ink` says of each pixel whether a text has ink there. Laws state that a
 //! file has one font, that a row which is written out is read as itself, and that ink is that of a
-//! character, the pen having advanced by those before it (`laws`). `split_char`, `glyph_of` and `corner_of`
-//! give a text's glyphs one by one, and where each stands.
+//! character, the pen having advanced by those before it (`laws`). `split_char`, `glyph_of`, `advance_of` and
+//! `corner_of` give a text's glyphs one by one, and where each stands; `inks_at` says what one of them inks.
 //!
 //! Words: a *section* is the part of a file in which a line stands, as a header or the rows of a glyph; the
 //! *state* is the section, and whether properties are skipped there. A *draft* is a font so far as it is
@@ -27,4 +27,6 @@ mod text;
 
 pub use fault::{FontError, FontFault, FontKind};
 pub use file::read;
-pub use text::{MAX_CHARACTERS, corner_of, extent, glyph_of, ink, is_short, split_char};
+pub use text::{
+    MAX_CHARACTERS, advance_of, corner_of, extent, glyph_of, ink, inks_at, is_short, split_char,
+};

@@ -4,7 +4,7 @@ ghost use Rattle.bdffont.specs.declared.text.TheConstants.{MAX_CHARACTERS};
 ghost use Rattle.geom.specs.Range.{IsBelow};
 ghost use Rattle.mapdefs.specs.FontLimits.{IsRising};
 ghost use Rattle.bdffont.specs.File.{has_encoding};
-ghost use Rattle.bdffont.specs.Ink.{glyph_of, advance_of, text_width, inks, left_of, last_row, first_row, bottom_of, past, covers, has_ink};
+ghost use Rattle.bdffont.specs.Ink.{glyph_of, advance_of, text_width, inks, left_of, last_row, first_row, bottom_of, past, inks_at, covers, has_ink};
 
 use geom::Pixel;
 use mapdefs::{BitmapBox, Font, Glyph};
@@ -31,8 +31,8 @@ pub fn glyph_of(glyphs: &[Glyph], character: u32) -> Option<&Glyph>
     }
 }
 
-// How far the pen advances after a character.
-fn advance_of(glyphs: &[Glyph], character: u32) -> u8
+/// How far the pen advances after a character, by the glyphs of a font.
+pub fn advance_of(glyphs: &[Glyph], character: u32) -> u8
     requires { IsRising glyphs.now }
     ensures { result ≡ advance_of glyphs.now character }
 {
@@ -167,20 +167,28 @@ fn inks(glyph: &Glyph, column: u64, row: u64) -> bool
     glyph.rows.as_slice().get(index).copied().unwrap_or(false)
 }
 
+/// Whether a glyph has ink in column `i` and row `j` of the picture, where its box has this leftmost column
+/// and this first row.
+pub fn inks_at(glyph: &Glyph, left: i64, top: i64, i: i64, j: i64) -> bool
+    ensures { result ≡ inks_at glyph.now (past left i) (past top j) }
+{
+    let Some(column) = past(left, i) else {
+        return false;
+    };
+    let Some(row) = past(top, j) else {
+        return false;
+    };
+    inks(glyph, column, row)
+}
+
 // Whether a glyph has ink in column `i` and row `j` of the picture, in a text at a pixel, where
 // the pen has advanced so far.
 fn covers(font: BitmapBox, at: Pixel, pen: u32, i: i64, j: i64, glyph: &Glyph) -> bool
     requires { pen ≤ 2 ^ 16 }
     ensures { result ≡ covers font at pen i j glyph.now }
 {
-    let Some(column) = past(left_of(at.i(), pen, glyph.bounds), i) else {
-        return false;
-    };
-    let bottom = bottom_of(at.j(), font, glyph.bounds);
-    let Some(row) = past(first_row(bottom, glyph.bounds.height), j) else {
-        return false;
-    };
-    inks(glyph, column, row)
+    let (left, top) = corner_of(font, at, pen, glyph.bounds);
+    inks_at(glyph, left, top, i, j)
 }
 
 /// Whether a text has ink in column `i` and row `j` of the picture, where the upper left pixel of the

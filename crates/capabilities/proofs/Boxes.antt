@@ -16,7 +16,7 @@ use Rattle.crsaxes.specs.declared.fault.AxisFault.TheVariants.{UnknownCrs}
 use Rattle.crsaxes.specs.declared.crs.Crs.TheVariants.{Crs84, Epsg4326}
 use Rattle.crsaxes.proofs.Areas.{four-read, extent-area}
 use Rattle.xmltext.specs.Escape.{is_markup}
-use Rattle.xmltext.proofs.Structures.{or-none}
+use Rattle.std.proofs.lemmas.Bool.{or_parts}
 use Rattle.capabilities.specs.Boxes.{value_of, box_of_tag, ExtentIsRead}
 use Rattle.capabilities.specs.Element.{attribute}
 use Rattle.capabilities.specs.World.{corner}
@@ -71,7 +71,7 @@ tag-whole crs a b c d =
 past : (name v rest : List ℕ) → list_any is_blank v ≡ false → value_of name (v ++ rest) ≡ value_of name rest
 past name [] rest h = refl
 past name (b ∷ bs) rest h =
-    let parts = or-none (is_blank b) (list_any is_blank bs) h in
+    let parts = or_parts (is_blank b) (list_any is_blank bs) h in
     let other : nat_eq 32 b ≡ false = grind (arith, nat_tests) in
     rw other (past name bs rest parts.1)
 

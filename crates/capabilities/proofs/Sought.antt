@@ -5,7 +5,7 @@ use Rattle.std.proofs.lemmas.List.{append_assoc}
 use Rattle.std.proofs.Math.Seq.{take-append_seam}
 use Rattle.std.specs.List.{list_any, starts_with, before_first, position_or_len}
 use Rattle.xmltext.specs.Escape.{is_markup}
-use Rattle.xmltext.proofs.Structures.{or-none}
+use Rattle.std.proofs.lemmas.Bool.{or_parts}
 use Rattle.capabilities.specs.Boxes.{is_edge, parts_behind}
 use Rattle.capabilities.specs.Element.{opening}
 use Rattle.capabilities.specs.Texts.{contents_of}
@@ -131,7 +131,7 @@ none xs h s = without s xs (lacks-each s xs h)
 pub inside-lacks : (s : Sought) (xs : List ℕ) → list_any is_edge xs ≡ false → lacks (60 ∷ beginning s) xs ≡ true
 inside-lacks s [] h = refl
 inside-lacks s (b ∷ bs) h =
-    let parts = or-none (is_edge b) (list_any is_edge bs) h in
+    let parts = or_parts (is_edge b) (list_any is_edge bs) h in
     let other : nat_eq 60 b ≡ false = grind (arith, nat_tests) in
     rw other (inside-lacks s bs parts.1)
 
@@ -139,7 +139,7 @@ inside-lacks s (b ∷ bs) h =
 pub markup-inside : (xs : List ℕ) → list_any is_markup xs ≡ false → list_any is_edge xs ≡ false
 markup-inside [] h = refl
 markup-inside (b ∷ bs) h =
-    let parts = or-none (is_markup b) (list_any is_markup bs) h in
+    let parts = or_parts (is_markup b) (list_any is_markup bs) h in
     let other : is_edge b ≡ false = grind (arith, nat_tests) in
     rw other (markup-inside bs parts.1)
 
@@ -153,7 +153,7 @@ plain s xs h = without s xs (plain-lacks s xs h)
 pub first-at : (p : ℕ → Bool) (xs rest : List ℕ) (b : ℕ) → list_any p xs ≡ false → p b ≡ true → position_or_len p (xs ++ b ∷ rest) ≡ length xs
 first-at p [] rest b h m = rw m refl
 first-at p (x ∷ xs) rest b h m =
-    let parts = or-none (p x) (list_any p xs) h in
+    let parts = or_parts (p x) (list_any p xs) h in
     rw parts.0 (omega (arith, first-at p xs rest b parts.1 m))
 
 pub before-at : (p : ℕ → Bool) (xs rest : List ℕ) (b : ℕ) → list_any p xs ≡ false → p b ≡ true → before_first p (xs ++ b ∷ rest) ≡ xs

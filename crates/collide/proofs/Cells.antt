@@ -1,13 +1,12 @@
 -- What cells keep, and what is found in them.
-use Rattle.std.proofs.Common.{◌≡◌, ℕ, ◌<◌, ◌≤◌, ◌+◌, ◌-◌, ◌*◌, List, [], ◌∷◌, ◌++◌, length, get_or, set, take, drop, Some, ap, sym, ◌∙◌, ⊎_elim, arith}
-use Rattle.std.proofs.lemmas.Bool.{cases_lt, cases_eq}
+use Rattle.std.proofs.Common.{◌≡◌, ℕ, ◌<◌, ◌≤◌, ◌+◌, ◌-◌, ◌*◌, List, [], ◌∷◌, ◌++◌, length, get_or, take, drop, Some, ap, ◌∙◌, ⊎_elim, arith}
+use Rattle.std.proofs.lemmas.Bool.{cases_lt}
 use Rattle.std.proofs.lemmas.Int.{ints, to_z-of_z}
-use Rattle.std.proofs.lemmas.List.{get_or-set_same, get_or-set_other, get_or_append_left, length-set, length-append, take_all, drop_all, append-nil}
-use Rattle.std.proofs.lemmas.List.Elements.{Contains-push, Contains-append_left}
+use Rattle.std.proofs.lemmas.List.{get_or_append_left, length-append, take_all, drop_all, append-nil}
 use Rattle.std.proofs.lemmas.Option.{slice_get_within, slice_get-get_or, get_or_from_slice_get}
 use Rattle.std.proofs.Math.Nat.{mul-le-mul_right}
 use Rattle.std.proofs.Math.Seq.{get_or-append_seam}
-use Rattle.std.specs.List.{Any, Contains, slice_get}
+use Rattle.std.specs.List.{Any, slice_get}
 use borrow.Author.Count.{below_more}
 use lib.IntN.{ℤ, pos, negsuc}
 use lib.Signed.{◌≤ℤ◌}
@@ -15,7 +14,9 @@ use mir.Syntax.{w64}
 use mir.Val.{to_z, of_z, SFits}
 use Rattle.geom.specs.PxBox.{PixelBoxValue, Meets}
 use Rattle.collide.specs.declared.grid.Grid.{Grid}
-use Rattle.collide.specs.Grid.{cell_of, Notes, NotesAll, IsKept, Grows, Finds, FindsBetween, FindsInRow, FindsNear}
+use Rattle.collide.proofs.Listed.{found-any}
+use Rattle.collide.specs.Indices.{Grows}
+use Rattle.collide.specs.Grid.{cell_of, Notes, NotesAll, IsKept, FindsBetween, FindsInRow, FindsNear}
 
 -- a position further on has no earlier cell
 pub cell-mono : (count : ℕ) (y z : ℤ) → y ≤ℤ z → cell_of count y ≤ cell_of count z
@@ -31,19 +32,6 @@ cell-is n count r z h e f = h ∙ ap (cell_of count) (to_z-of_z w64 r f ∙ e)
 -- where nothing is found below n and at n, nothing is below n + 1
 pub none-more : (P : ℕ → Type 0) (low n : ℕ) → ((i : ℕ) → low ≤ i → i < n → P i → ⊥) → (P n → ⊥) → (i : ℕ) → low ≤ i → i < n + 1 → P i → ⊥
 none-more P low n before here i a b = below_more (λ (j : ℕ). low ≤ j → P j → ⊥) n (λ j q p. before j p q) (λ _. here) i b a
-
--- an element that is read with one default is read with any
-pub at-default : (xs : List ℕ) (i d x : ℕ) → i < length xs → get_or xs i x ≡ x → get_or xs i d ≡ x
-at-default xs i d x p e =
-    let a = slice_get-get_or xs i d p in
-    let b = slice_get-get_or xs i x p in
-    cc
-
--- a cell whose indices were all tried has none
-pub none-found : (area : PixelBoxValue) (boxes : List PixelBoxValue) (cell : List ℕ) →
-    ((i : ℕ) (x : PixelBoxValue) → i < length cell → slice_get boxes (get_or cell i 0) ≡ Some x → Meets area x → ⊥) → Finds area boxes cell → ⊥
-none-found area boxes cell h f =
-    h f.noted.0 f.other f.noted.1 (rw (at-default cell f.noted.0 0 f.index f.noted.1 f.noted.2) f.is) f.meets
 
 -- a cell between two of a row is one of its columns
 pub row-found : (area : PixelBoxValue) (boxes : List PixelBoxValue) (grid : Grid) (row left right : ℕ) →
@@ -77,8 +65,7 @@ row-finds area boxes grid row left right d e f =
 -- what is found near the area is a box that meets it
 pub any-from : (area : PixelBoxValue) (boxes : List PixelBoxValue) (grid : Grid) → FindsNear area boxes grid → Any (Meets area) boxes
 any-from area boxes grid f =
-    let g = f.finds.finds in
-    (g.index, g.other, slice_get_within boxes g.index g.other g.is, get_or_from_slice_get boxes g.index g.other g.other g.is, g.meets)
+    found-any (Meets area) boxes _ f.finds.finds
 
 -- a box that meets the area is found near it, in the cell of a pixel of both
 pub near-from : (area : PixelBoxValue) (boxes : List PixelBoxValue) (grid : Grid) → IsKept grid boxes →
@@ -93,41 +80,9 @@ near-from area boxes grid kept k x p e m =
         column = cell_of grid.columns m.0;
         first = cell-mono _ _ _ m.2.left;
         last = cell-mono _ _ _ (omega (arith, ints, m.2.right));
-        finds = record { index = k; other = x; noted = kept.noted k x is m.0 m.1 m.3; is = is; meets = m };
+        finds = record { index = k; other = x; noted = kept.noted k x is m.0 m.1 m.3; is = is; holds = m };
       };
     }
-
--- a cell that gets an index more keeps what it had
-pub keeps-added : (cells : List (List ℕ)) (p k : ℕ) (cell : List ℕ) → p < length cells → cell ≡ get_or cells p cell →
-    (i j : ℕ) → Contains (get_or cells i []) j → Contains (get_or (set cells p (cell ++ k ∷ [])) i []) j
-keeps-added cells p k cell h e i j c = ⊎_elim
-    (λ (q : i ≡ p).
-    let d : get_or cells p [] ≡ cell = at-default' cells p [] cell h (sym e) in
-    rw (q, get_or-set_same cells p (cell ++ k ∷ []) [] h) (Contains-append_left cell (k ∷ []) j (rw (q, d) at c)))
-    (λ (q : i ≡ p → ⊥). rw (get_or-set_other cells p i (cell ++ k ∷ []) [] q) c)
-    (cases_eq i p)
-  where
-    at-default' : (xs : List (List ℕ)) (i : ℕ) (d x : List ℕ) → i < length xs → get_or xs i x ≡ x → get_or xs i d ≡ x
-    at-default' xs i d x p e =
-        let a = slice_get-get_or xs i d p in
-        let b = slice_get-get_or xs i x p in
-        cc
-
--- and has the index
-pub has-added : (cells : List (List ℕ)) (p k : ℕ) (cell : List ℕ) → p < length cells → (i : ℕ) → i ≡ p →
-    Contains (get_or (set cells p (cell ++ k ∷ [])) i []) k
-has-added cells p k cell h i q = rw (q, get_or-set_same cells p (cell ++ k ∷ []) [] h) (Contains-push cell k)
-
--- so cells that grew still did
-pub grows-added : (old cells : List (List ℕ)) (p k : ℕ) (cell : List ℕ) → Grows old cells → p < length cells → cell ≡ get_or cells p cell →
-    Grows old (set cells p (cell ++ k ∷ []))
-grows-added old cells p k cell g h e = record {
-  same = length-set cells p (cell ++ k ∷ []) ∙ g.same;
-  keeps = λ i j c. keeps-added cells p k cell h e i j (g.keeps i j c);
-}
-
-pub grows-trans : (a b c : List (List ℕ)) → Grows a b → Grows b c → Grows a c
-grows-trans a b c g h = record { same = h.same ∙ g.same; keeps = λ i j x. h.keeps i j (g.keeps i j x) }
 
 -- all cells are written back
 pub written-back : (old new : List (List ℕ)) (n : ℕ) → length new ≡ length old → n ≡ length old → take n (new ++ drop (length new) old) ≡ new

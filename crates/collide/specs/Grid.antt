@@ -2,6 +2,7 @@
 use Rattle.std.specs.Prelude.{ℕ, ℤ, pos, negsuc, List, [], ◌≡◌, ◌≤◌, ◌<◌, ◌+◌, ◌*◌, ◌-◌, ◌/◌, length, Some, slice_index_or, min}
 use Rattle.std.specs.List.{Contains, slice_get}
 use Rattle.geom.specs.PxBox.{PixelBoxValue, HasPixel, Meets}
+use Rattle.collide.specs.Indices.{Finds}
 use Rattle.collide.specs.declared.grid.Grid.{Grid}
 
 -- the cell of a position, of so many in a row: the first one left of the picture, and the last one right of it
@@ -37,36 +38,23 @@ pub record IsKept (grid : Grid) (boxes : List PixelBoxValue) : Type 0 where
   pub whole : IsGrid grid
   pub noted : NotesAll grid boxes
 
--- each cell has the indices that it had
-pub record Grows (old new : List (List ℕ)) : Type 0 where
-  pub same : length new ≡ length old
-  pub keeps : (i k : ℕ) → Contains (slice_index_or old i []) k → Contains (slice_index_or new i []) k
-
 -- the cells numbered from the one to the other, both included, have the index
 abbrev pub HasNoted : List (List ℕ) → ℕ → ℕ → ℕ → Type 0
 HasNoted cells from to k = (i : ℕ) → from ≤ i → i ≤ to → Contains (slice_index_or cells i []) k
 
--- some index of the cell is that of a box that meets the area
-pub record Finds (area : PixelBoxValue) (boxes : List PixelBoxValue) (cell : List ℕ) : Type 0 where
-  pub index : ℕ
-  pub other : PixelBoxValue
-  pub noted : Contains cell index
-  pub is : slice_get boxes index ≡ Some other
-  pub meets : Meets area other
-
--- a cell numbered from the one to the other, both included, has such an index
+-- a cell numbered from the one to the other, both included, has the index of a box that meets the area
 pub record FindsBetween (area : PixelBoxValue) (boxes : List PixelBoxValue) (cells : List (List ℕ)) (from to : ℕ) : Type 0 where
   pub number : ℕ
   pub first : from ≤ number
   pub last : number ≤ to
-  pub finds : Finds area boxes (slice_index_or cells number [])
+  pub finds : Finds (Meets area) boxes (slice_index_or cells number [])
 
 -- a cell of a row that the area covers has such an index
 pub record FindsInRow (area : PixelBoxValue) (boxes : List PixelBoxValue) (grid : Grid) (row : ℕ) : Type 0 where
   pub column : ℕ
   pub first : cell_of grid.columns area.left ≤ column
   pub last : column ≤ cell_of grid.columns area.right
-  pub finds : Finds area boxes (cell_at grid row column)
+  pub finds : Finds (Meets area) boxes (cell_at grid row column)
 
 -- a cell that the area covers has such an index
 pub record FindsNear (area : PixelBoxValue) (boxes : List PixelBoxValue) (grid : Grid) : Type 0 where

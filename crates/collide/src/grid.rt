@@ -1,8 +1,10 @@
 ghost use Rattle.std.specs.Prelude.{◌≡◌, ◌<◌, ◌≤◌, ◌↔◌, length, IsTrue, IfOk, OnOk};
 ghost use Rattle.geom.specs.PxBox.{PixelBoxValue};
-ghost use Rattle.collide.specs.Grid.{FindsBetween, FindsNear, Grows, HasNoted, IsGrid, Notes, cell_of, cells_of};
+ghost use Rattle.collide.specs.Grid.{FindsBetween, FindsNear, HasNoted, IsGrid, Notes, cell_of, cells_of};
+ghost use Rattle.collide.specs.Indices.{Grows};
 
-use crate::cell::Cell;
+use crate::cell::is_hit_by;
+use crate::indices::{Indices, empty_lists};
 use geom::{PictureSide, PxBox};
 use std::alloc::{AllocError, Global};
 
@@ -13,7 +15,7 @@ const CELL_SIDE: usize = 64;
 /// lies off the picture.
 #[derive(Drop)]
 pub struct Grid {
-    cells: Vec<Cell>,
+    cells: Vec<Indices>,
     columns: usize,
     rows: usize,
 }
@@ -25,12 +27,8 @@ impl Grid {
     {
         let columns = cells_of(width);
         let rows = cells_of(height);
-        let mut cells = Vec::new(alloc);
-        for _number in 0..columns * rows {
-            cells.push(Cell::new(alloc))?;
-        }
         Ok(Grid {
-            cells,
+            cells: empty_lists(alloc, columns * rows)?,
             columns,
             rows,
         })
@@ -98,7 +96,12 @@ fn cell_of(position: i64, count: usize) -> usize
 }
 
 // Adds an index to the cells numbered `from` to `to`, both included.
-fn note_between(cells: &mut [Cell], from: usize, to: usize, index: usize) -> Result<(), AllocError>
+fn note_between(
+    cells: &mut [Indices],
+    from: usize,
+    to: usize,
+    index: usize,
+) -> Result<(), AllocError>
     requires { to < length cells.old }
     ensures kept { Grows cells.old cells.new }
     ensures noted { OnOk result (HasNoted cells.new from to index) }
@@ -110,12 +113,12 @@ fn note_between(cells: &mut [Cell], from: usize, to: usize, index: usize) -> Res
 }
 
 // Whether a cell numbered `from` to `to`, both included, has the index of a box that meets the area.
-fn hits_between(cells: &[Cell], from: usize, to: usize, boxes: &[PxBox], area: PxBox) -> bool
+fn hits_between(cells: &[Indices], from: usize, to: usize, boxes: &[PxBox], area: PxBox) -> bool
     requires { to < length cells.now }
     ensures { IsTrue result ↔ FindsBetween area boxes.now cells.now from to }
 {
     for number in from..to + 1 {
-        if cells[number].hits(boxes, area) {
+        if is_hit_by(&cells[number], boxes, area) {
             return true;
         }
     }

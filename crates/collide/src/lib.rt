@@ -1,7 +1,7 @@
 //! Boxes that were placed on a picture, and whether a further one shares a pixel with any of them.
 //!
 //! Proved: `Boxes::add` keeps each box that it is given, on the picture or off it, and `Boxes::hits`
-//! says whether a box shares a pixel with one of them.
+//! says whether a box shares a pixel with one of them. `Indices::add` adds one index, or changes nothing.
 //!
 //! Words: two boxes *meet* where some pixel lies in both; boxes that only touch don't.
 #![tactic(auto)]
@@ -9,5 +9,7 @@
 mod boxes;
 mod cell;
 mod grid;
+mod indices;
 
 pub use boxes::Boxes;
+pub use indices::{Indices, empty_lists};

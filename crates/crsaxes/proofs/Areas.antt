@@ -1,10 +1,10 @@
 -- Sides that are written out are read as the box that has them.
-use Rattle.std.proofs.Common.{◌≡◌, ℤ, pos, negsuc, ◌<ℤ◌, ◌&&◌, true, int_lt, [], ◌∷◌, Some, Ok, ap, refl, ◌∙◌, arith}
-use Rattle.std.proofs.lemmas.Bool.{and_from, lt-ltb}
-use Rattle.std.proofs.lemmas.Int.{ints}
+use Rattle.std.proofs.Common.{◌≡◌, ℤ, ◌&&◌, true, int_lt, [], ◌∷◌, Some, Ok, ap, refl, ◌∙◌}
+use Rattle.std.proofs.lemmas.Bool.{and_from}
 use Rattle.geom.specs.Number.{coordinate_of}
 use Rattle.geom.specs.World.{Area, IsCoordinate, IsExtent}
 use Rattle.geom.specs.Written.{written}
+use Rattle.geom.proofs.Products.{is_lt}
 use Rattle.geom.proofs.Written.{coordinate-written}
 use Rattle.crsaxes.specs.Axes.{box_of, box_of_parts, box_in, with_area}
 use Rattle.crsaxes.specs.declared.crs.Crs.{Crs}
@@ -18,16 +18,9 @@ four-read crs a b c d ha hb hc hd =
     ∙ ap (λ x. box_of crs (Some a) (Some b) x (coordinate_of (written d))) (coordinate-written c hc)
     ∙ ap (λ x. box_of crs (Some a) (Some b) (Some c) x) (coordinate-written d hd)
 
--- the lesser of two numbers is tested so
-lesser-test : (a b : ℤ) → a <ℤ b → int_lt a b ≡ true
-lesser-test (pos a) (pos b) h = lt-ltb a b (omega (arith, ints, h))
-lesser-test (pos a) (negsuc b) h = absurd (omega (arith, ints, h))
-lesser-test (negsuc a) (pos b) h = refl
-lesser-test (negsuc a) (negsuc b) h = lt-ltb b a (omega (arith, ints, h))
-
 -- an extent has an area
 pub extent-area : (area : Area) → IsExtent area → with_area area ≡ Ok area
 extent-area area is =
     let test : (int_lt area.minx area.maxx && int_lt area.miny area.maxy) ≡ true =
-    and_from _ _ (lesser-test area.minx area.maxx is.columns) (lesser-test area.miny area.maxy is.rows) in
+    and_from _ _ (is_lt area.minx area.maxx is.columns) (is_lt area.miny area.maxy is.rows) in
     rw test refl

@@ -2,13 +2,12 @@ ghost use Rattle.std.specs.Prelude.{◌≡◌, ◌≤◌, length, IfOk};
 ghost use Rattle.std.specs.Str.{chars};
 ghost use Rattle.bdffont.specs.declared.text.TheConstants.{MAX_CHARACTERS};
 ghost use Rattle.bdffont.specs.Ink.{advance_of};
-ghost use Rattle.mapdefs.specs.FontLimits.{IsRising};
 ghost use Rattle.labelcache.specs.Advances.{AreAdvances};
 ghost use Rattle.labelcache.specs.LabelBox.{size_of};
 
 use crate::label_box::TextSize;
-use bdffont::{glyph_of, split_char};
-use mapdefs::{Font, Glyph};
+use bdffont::{advance_of, split_char};
+use mapdefs::Font;
 use std::alloc::{AllocError, Global};
 use std::marker::Model;
 
@@ -32,17 +31,6 @@ impl<'a> Model for Advances<'a> {
     ghost view = { λ a. a.font.now };
 
     ghost invariant = { λ a. AreAdvances a.font.now a.first.items };
-}
-
-// How far the pen advances after a character, by the glyphs of a font.
-fn advance_of(glyphs: &[Glyph], character: u32) -> u8
-    requires { IsRising glyphs.now }
-    ensures { result ≡ advance_of glyphs.now character }
-{
-    match glyph_of(glyphs, character) {
-        Some(glyph) => glyph.advance,
-        None => 0,
-    }
 }
 
 // The advances of the first characters.

@@ -14,7 +14,7 @@ use crate::features::with_items;
 use crate::files::Files;
 use crate::font::font_given;
 use crate::symbol::{symbol_index, symbols_of};
-use crate::table::tables_of;
+use crate::table::{LATITUDES, LONGITUDES, tables_of};
 use crate::uses::files_fault;
 use csvpoints::Table;
 use geom::{Micro, WorldBox};
@@ -212,8 +212,8 @@ fn layer_of(
     } = tree;
     let (items, features) = with_items(items, features, table, alloc)?;
     let title = text_or(wms_title.or(ows_title), name.as_str(), alloc)?;
-    let csv_x = text_or(csv_x, "x", alloc)?;
-    let csv_y = text_or(csv_y, "y", alloc)?;
+    let csv_x = text_or(csv_x, LONGITUDES, alloc)?;
+    let csv_y = text_or(csv_y, LATITUDES, alloc)?;
     let classes = classes_of(classes, symbols, alloc)?;
     let tolerance = count_or(tolerance, tolerance_of(kind)) as u8;
     Ok(Layer::new(LayerFields {

@@ -10,7 +10,13 @@ use mapdefs::{Items, MAX_FEATURES, Text};
 use maptree::{LayerTree, Named, ParseFault, ParseKind};
 use std::alloc::Global;
 
-// A column's name, or what stands for it where it isn't given.
+/// The name of the column of longitudes where none is given.
+pub const LONGITUDES: &str = "x";
+
+/// The name of the column of latitudes where none is given.
+pub const LATITUDES: &str = "y";
+
+// A column's name, or its default.
 fn column<'a>(given: &'a Option<Text>, default: &'a str) -> &'a str
     ensures { result.now ≡ unwrap_or given.now default.now }
 {
@@ -30,8 +36,8 @@ pub fn table_for(layer: &LayerTree, bytes: &[u8], alloc: Global) -> Result<Table
     read(
         alloc,
         bytes,
-        column(&layer.csv_x, "x"),
-        column(&layer.csv_y, "y"),
+        column(&layer.csv_x, LONGITUDES),
+        column(&layer.csv_y, LATITUDES),
         room as u32,
     )
 }

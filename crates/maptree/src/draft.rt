@@ -9,7 +9,7 @@ use crate::tree::{
 use geom::Micro;
 use mapdefs::{Items, Kind, MAX_CLASSES, MAX_FEATURES, MAX_ITEMS, Rgb, Text};
 use mapwords::{
-    Block, Bounded, Capped, ColourKeyword, FlagKeyword, ScaleKeyword, TextKeyword, Value,
+    Block, Capped, ColourKeyword, FlagKeyword, ScaleKeyword, TextKeyword, Tolerance, Value,
 };
 use std::alloc::Global;
 use std::mem;
@@ -22,7 +22,7 @@ pub struct LayerDraft {
     pub classitem: Option<Text>,
     pub labelitem: Option<Text>,
     pub queryable: bool,
-    pub tolerance: Option<Bounded<0, 64>>,
+    pub tolerance: Option<Tolerance>,
     pub min: Option<Micro>,
     pub max: Option<Micro>,
     pub items: Option<Capped<Text, MAX_ITEMS>>,

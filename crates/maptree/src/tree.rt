@@ -4,7 +4,9 @@ use mapdefs::{
     Duplicate, Items, Kind, MAX_CLASSES, MAX_FEATURES, MAX_ITEMS, MAX_LAYERS, MAX_STYLES,
     MAX_SYMBOLS, Position, Rgb, Text,
 };
-use mapwords::{Bounded, Capped, ClassRule, Extent};
+use mapwords::{
+    Buffer, Capped, ClassRule, Distance, Extent, LineWidth, Priority, SquareSide, Tolerance,
+};
 use std::alloc::{AllocError, Global};
 
 /// A name, and the line of its token.
@@ -68,7 +70,7 @@ pub struct LayerTree {
     pub labelitem: Option<Text>,
     /// Whether a TEMPLATE is given.
     pub queryable: bool,
-    pub tolerance: Option<Bounded<0, 64>>,
+    pub tolerance: Option<Tolerance>,
     pub min: Option<Micro>,
     pub max: Option<Micro>,
     /// The names of its items.
@@ -100,10 +102,10 @@ pub struct LabelTree {
     /// Its COLOR, if one is given: none where a component is -1.
     pub colour: Option<Option<Rgb>>,
     pub outline: Option<Rgb>,
-    pub priority: Option<Bounded<1, 10>>,
+    pub priority: Option<Priority>,
     pub position: Option<Position>,
-    pub buffer: Option<Bounded<0, 64>>,
-    pub distance: Option<Bounded<0, 4096>>,
+    pub buffer: Option<Buffer>,
+    pub distance: Option<Distance>,
     pub partials: Option<bool>,
     pub force: Option<bool>,
 }
@@ -115,8 +117,8 @@ pub struct StyleTree {
     pub colour: Option<Rgb>,
     /// The colour of its outline, which OUTLINECOLOR gives in the same way.
     pub outline: Option<Rgb>,
-    pub width: Option<Bounded<1, 32>>,
-    pub size: Option<Bounded<1, 256>>,
+    pub width: Option<LineWidth>,
+    pub size: Option<SquareSide>,
     /// The name of its symbol. It is none where no SYMBOL is given, and where it is 0.
     pub symbol: Option<Named>,
 }

@@ -2,6 +2,7 @@ ghost use Rattle.std.specs.Prelude.{◌≡◌};
 ghost use Rattle.mapwords.specs.Label.{position_of, flag_of, distance_of};
 
 use crate::bounded::Bounded;
+use crate::bounds::Distance;
 use geom::Micro;
 use mapdefs::Position;
 
@@ -48,7 +49,7 @@ pub fn flag_of(text: &str) -> Option<bool>
 }
 
 /// How far labels of one text stay apart, in pixels. The count -1 stands for 0.
-pub fn distance_of(text: &str) -> Option<Bounded<0, 4096>>
+pub fn distance_of(text: &str) -> Option<Distance>
     ensures { result ≡ distance_of text.now }
 {
     match Micro::read_count(text.as_bytes()) {

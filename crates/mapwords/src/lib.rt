@@ -14,6 +14,7 @@
 #![tactic(auto)]
 
 mod bounded;
+mod bounds;
 mod capped;
 mod colour;
 mod extent;
@@ -30,6 +31,7 @@ mod texts;
 mod value;
 
 pub use bounded::Bounded;
+pub use bounds::{Buffer, Distance, LineWidth, Priority, SquareSide, Tolerance};
 pub use capped::Capped;
 pub use extent::Extent;
 pub use fault::{Fault, ParseFault, ParseKind, fault_of, missing};

@@ -6,6 +6,7 @@ ghost use Rattle.mapwords.specs.Colour.{component_of};
 ghost use Rattle.mapwords.specs.Value.{kind_of, pixmap_step, is_value, hex_at, colour_step, only_text, only_step, unused_step, east_step, north_step, config_step, is_table_name, table_step, rule_step, plain_step, step_in, may_take, value_step, coordinate_in};
 
 use crate::bounded::Bounded;
+use crate::bounds::{Buffer, Distance, LineWidth, Priority, SquareSide, Tolerance};
 use crate::capped::Capped;
 use crate::colour::{Component, hex_colour, rgb_of};
 use crate::extent::Extent;
@@ -28,12 +29,12 @@ pub enum Value {
     /// The kind of a symbol.
     Pixmap,
     Colour(ColourKeyword, Option<Rgb>),
-    Width(Bounded<1, 32>),
-    Size(Bounded<1, 256>),
-    Tolerance(Bounded<0, 64>),
-    Priority(Bounded<1, 10>),
-    Buffer(Bounded<0, 64>),
-    Distance(Bounded<0, 4096>),
+    Width(LineWidth),
+    Size(SquareSide),
+    Tolerance(Tolerance),
+    Priority(Priority),
+    Buffer(Buffer),
+    Distance(Distance),
     Position(Position),
     Flag(FlagKeyword, bool),
     Scale(ScaleKeyword, Micro),

@@ -1,6 +1,6 @@
 use Rattle.std.proofs.Common.{◌≡◌, ℕ, ◌<◌, ◌≤◌, arith, List, [], ◌∷◌, ◌++◌, length, ap, sym, ◌∙◌, ⊎_elim}
 use Rattle.std.proofs.lemmas.Bool.{cases_lt}
-use Rattle.collide.proofs.Cells.{keeps-added, has-added, grows-added}
+use Rattle.collide.proofs.Listed.{keeps-added, has-added, grows-added}
 use Rattle.collide.proofs.grid.note_between.Goals as goal
 
 pub loop-number-preserved : goal.loop-number-preserved

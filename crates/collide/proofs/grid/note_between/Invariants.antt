@@ -1,6 +1,6 @@
 use Rattle.std.proofs.Common.{ℕ, ◌<◌, ◌≤◌, [], slice_index_or}
 use Rattle.std.specs.List.{Contains}
-use Rattle.collide.specs.Grid.{Grows}
+use Rattle.collide.specs.Indices.{Grows}
 use Rattle.collide.proofs.grid.note_between.Given as goal
 
 abbrev pub invariant-loop-number : goal.invariant-loop-number

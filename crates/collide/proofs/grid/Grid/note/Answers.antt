@@ -2,7 +2,8 @@ use Rattle.std.proofs.Common.{rules, ◌≡◌, ◌<◌, ◌≤◌, ◌+◌, ◌
 use Rattle.std.proofs.lemmas.Bool.{cases_lt}
 use Rattle.std.proofs.lemmas.Int.{ints}
 use Rattle.collide.specs.Grid.{cell_of}
-use Rattle.collide.proofs.Cells.{cell-mono, cell-is, grows-trans, number-below, written-back}
+use Rattle.collide.proofs.Cells.{cell-mono, cell-is, number-below, written-back}
+use Rattle.collide.proofs.Listed.{grows-trans}
 use Rattle.collide.proofs.grid.Grid.note.Goals as goal
 
 pub returns-in_err-note_between-clause-kept : goal.returns-in_err-note_between-clause-kept

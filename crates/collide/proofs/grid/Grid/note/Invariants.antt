@@ -1,5 +1,6 @@
 use Rattle.std.proofs.Common.{ℕ, ◌≡◌, ◌<◌, ◌≤◌, ◌+◌, ◌*◌}
-use Rattle.collide.specs.Grid.{Grows, HasNoted}
+use Rattle.collide.specs.Grid.{HasNoted}
+use Rattle.collide.specs.Indices.{Grows}
 use Rattle.collide.proofs.grid.Grid.note.Given as goal
 
 abbrev pub invariant-loop-row : goal.invariant-loop-row
