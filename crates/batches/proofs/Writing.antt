@@ -7,13 +7,13 @@ use Rattle.std.proofs.lemmas.Fmt.{decimal_nonempty, digits_decimal, digits_value
 use Rattle.std.proofs.lemmas.List.{append_assoc, append-nil}
 use Rattle.std.proofs.lemmas.List.Elements.{All-head, All-tail}
 use Rattle.std.proofs.lemmas.List.Folds.{list_any-append}
-use Rattle.std.proofs.lemmas.Str.Parse.{IsNumeralModel, numerals_by_fold, tells_all_ascii_digits}
 use Rattle.std.specs.Char.{is_ascii_digit}
 use Rattle.std.specs.Fmt.{decimal}
 use Rattle.std.specs.List.{after_first, before_first, fold, list_any, position_or_len}
 use Rattle.std.specs.Prelude.{codes}
 use Rattle.std.specs.Str.{all_ascii_digits}
-use Rattle.geom.specs.Decimal.{number_of, with_digit}
+use Rattle.geom.proofs.OneText.{digits-model}
+use Rattle.geom.specs.Decimal.{with_digit}
 use Rattle.geom.specs.Natural.{number_in}
 use Rattle.batches.specs.Command.{append_of, count_of, ends_in_cr, front_command, is_line_end, is_space, line_of, reading_of, reading_within, step, with_bytes, with_command}
 use Rattle.batches.specs.Written.{CanBeWritten, written, written_command}
@@ -70,20 +70,17 @@ digits-plain (d ∷ ds) h =
 digits-counted : (ds : List ℕ) → all_ascii_digits ds ≡ true → number_in ds ≡ Some (fold with_digit 0 ds)
 digits-counted ds h = rw h refl
 
-own : IsNumeralModel (λ ds. all_ascii_digits ds ≡ true) number_of
-own = numerals_by_fold (λ ds. all_ascii_digits ds ≡ true) tells_all_ascii_digits (λ n ds. fold with_digit n ds) (record { empty = λ n. refl; more = λ n c cs r. refl })
-
 -- a count of at most 10 digits is read back
 module _ (n : ℕ) (fits : n < 10 ^ 10) where
   pub count-digits : all_ascii_digits (decimal n) ≡ true
-  count-digits = digits_decimal own n (omega arith)
+  count-digits = digits_decimal digits-model n (omega arith)
 
   pub count-read : count_of (decimal n) ≡ Some n
   count-read =
       let small : n < 2 ^ 64 = omega arith in
       let some : nat_le 1 (length (decimal n)) ≡ true = grind (arith, nat_tests, decimal_nonempty n small) in
       let few : nat_le (length (decimal n)) 10 ≡ true = grind (arith, nat_tests, length-decimal-le 10 n (omega arith) fits small) in
-      rw (some, few) (digits-counted (decimal n) count-digits ∙ ap (λ (k : ℕ). Some k) (digits_value-decimal own n small))
+      rw (some, few) (digits-counted (decimal n) count-digits ∙ ap (λ (k : ℕ). Some k) (digits_value-decimal digits-model n small))
 
   -- so are a count and a name
   append-read : (name : List ℕ) → append_of (decimal n ++ 32 ∷ name) ≡ Some (Wants n name)

@@ -4,7 +4,7 @@ use Rattle.std.specs.Prelude.{◌||◌, ◌&&◌, ◌==◌, nat_lt, if◌then◌
 use Rattle.std.proofs.lemmas.Int.{ints}
 use Rattle.std.proofs.lemmas.List.{length-take}
 use Rattle.std.proofs.lemmas.List.Elements.{All-nil, All-push}
-use Rattle.std.proofs.lemmas.Bool.{ltb-true, ltb-false, leb-true, eqb-true}
+use Rattle.std.proofs.lemmas.Bool.{and_parts, ltb-true, ltb-false, leb-true, eqb-true}
 use Rattle.std.proofs.lemmas.Result.{IfOk-at_ok}
 use Rattle.geom.specs.Range.{IsWithin}
 use Rattle.geom.specs.Decimal.{signed}
@@ -75,19 +75,14 @@ offset-good : (is_negative : Bool) (n : ℕ) → n ≤ 64 → IsWithin 64 (signe
 offset-good true n h = record { least = omega (arith, ints); most = omega (arith, ints) }
 offset-good false n h = record { least = omega (arith, ints); most = omega (arith, ints) }
 
-both : (a b : Bool) → (a && b) ≡ true → (a ≡ true) × (b ≡ true)
-both true true e = (refl, refl)
-both true false e = absurd cc
-both false b e = absurd cc
-
 box-if : (w h x y : Number) (negative small : Bool) → (((is_small w && is_small h) && is_small x) && is_small y) ≡ small →
     IfOk (if negative then Err Field else (if small then Ok (record { width = w.size; height = h.size; xoff = signed x.is_negative x.size; yoff = signed y.is_negative y.size }) else Err Limit)) IsBoxWithinLimits
 box-if w h x y true small e = tt
 box-if w h x y false false e = tt
 box-if w h x y false true e =
-    let last = both ((is_small w && is_small h) && is_small x) (is_small y) e in
-    let third = both (is_small w && is_small h) (is_small x) last.0 in
-    let first = both (is_small w) (is_small h) third.0 in
+    let last = and_parts ((is_small w && is_small h) && is_small x) (is_small y) e in
+    let third = and_parts (is_small w && is_small h) (is_small x) last.0 in
+    let first = and_parts (is_small w) (is_small h) third.0 in
     record {
       columns = leb-true _ _ first.0;
       rows = leb-true _ _ first.1;
@@ -177,7 +172,7 @@ bits-length (d ∷ ds) = omega (arith, bits-length ds)
 
 row-length : (width : ℕ) (line : List ℕ) → is_row width line ≡ true → length (row_pixels width line) ≡ width
 row-length width line row =
-    let digits : length line ≡ ((width + 7) / 8) * 2 = eqb-true _ _ (both (length line == ((width + 7) / 8) * 2) _ row).0 in
+    let digits : length line ≡ ((width + 7) / 8) * 2 = eqb-true _ _ (and_parts (length line == ((width + 7) / 8) * 2) _ row).0 in
     omega (arith, length-take width (bits line), bits-length line)
 
 with_encoded-good : (d : Draft) (r : Rows) (e : Encoding) → IsGoodDraft d 1 → IsGoodRows r → r.left ≡ 0 → IsGoodDraft (with_encoded d r e) 0

@@ -1,5 +1,6 @@
 -- A reader finds the titles and the names of a map in its document.
 use Rattle.std.proofs.Common.{◌≡◌, ◌++◌, ◌==◌, ℕ, ℤ, pos, int_lt, Bool, true, false, if◌then◌else◌, Option, None, Some, List, [], ◌∷◌, map, filter, codes, refl, ◌∙◌, ap, sym, arith, append-nil}
+use Rattle.std.proofs.lemmas.Bool.{or_parts}
 use Rattle.std.proofs.lemmas.Bool.Decides.{nat_tests}
 use Rattle.std.proofs.lemmas.List.{append_assoc}
 use Rattle.std.specs.List.{list_any, flat_map}
@@ -14,7 +15,7 @@ use Rattle.operations.specs.Mime.{mime_text}
 use Rattle.operations.specs.Operation.{name_of}
 use Rattle.xmltext.specs.Escape.{escaped, is_markup}
 use Rattle.xmltext.proofs.Escaping.{markup-law}
-use Rattle.xmltext.proofs.Structures.{found-law, or-none}
+use Rattle.xmltext.proofs.Structures.{found-law}
 use Rattle.capabilities.specs.declared.markup.Markup.TheVariants as part
 use Rattle.capabilities.specs.Document.{preamble, service, address_line, format_lines, request, requests, outer, document}
 use Rattle.capabilities.specs.Element.{opening, ending, enclosed, element, attribute, online_resource}
@@ -54,7 +55,7 @@ skipped Names b bs h = let not-first : (60 == b) ≡ false = grind (arith, nat_t
 plain-is : (s : Sought) (xs rest : List ℕ) → list_any is_markup xs ≡ false → contents_of (called s) (xs ++ rest) ≡ contents_of (called s) rest
 plain-is s [] rest h = refl
 plain-is s (b ∷ bs) rest h =
-    let parts = or-none (is_markup b) (list_any is_markup bs) h in
+    let parts = or_parts (is_markup b) (list_any is_markup bs) h in
     skipped s b (bs ++ rest) parts.0 ∙ plain-is s bs rest parts.1
 
 plain : (s : Sought) (xs : List ℕ) → list_any is_markup xs ≡ false → Finds s xs []

@@ -20,14 +20,15 @@ same-test : (ds : List ℕ) → all_ascii_digits ds ≡ list_all is_ascii_digit 
 same-test [] = refl
 same-test (d ∷ ds) = ap (λ (b : Bool). is_ascii_digit d && b) (same-test ds)
 
-own : IsNumeralModel (λ ds. all_ascii_digits ds ≡ true) number_of
-own = numerals_by_fold (λ ds. all_ascii_digits ds ≡ true) tells_all_ascii_digits (λ n ds. fold with_digit n ds) (record { empty = λ n. refl; more = λ n c cs r. refl })
+-- the number of digits is what std reads them as
+pub digits-model : IsNumeralModel (λ ds. all_ascii_digits ds ≡ true) number_of
+digits-model = numerals_by_fold (λ ds. all_ascii_digits ds ≡ true) tells_all_ascii_digits (λ n ds. fold with_digit n ds) (record { empty = λ n. refl; more = λ n c cs r. refl })
 
 -- digits without a needless zero are those that are written
 whole-is : (whole : List ℕ) (n : ℕ) → list_all is_ascii_digit whole ≡ true → 1 ≤ length whole → (slice_index_or whole 0 0 ≡ 48 → length whole ≡ 1) →
     number_of whole ≡ n → n < 2 ^ 64 → whole ≡ decimal n
 whole-is whole n digits some needed is small =
-    sym (decimal-digits_value own whole (same-test whole ∙ digits) (omega (arith, some)) needed (omega (arith, is, small))) ∙ ap decimal is
+    sym (decimal-digits_value digits-model whole (same-test whole ∙ digits) (omega (arith, some)) needed (omega (arith, is, small))) ∙ ap decimal is
 
 -- a digit of a number of six
 six-is : (a b c d e f n w : ℕ) → (48 ≤ a) × (a ≤ 57) → (48 ≤ b) × (b ≤ 57) → (48 ≤ c) × (c ≤ 57) → (48 ≤ d) × (d ≤ 57) → (48 ≤ e) × (e ≤ 57) → (48 ≤ f) × (f ≤ 57) →

@@ -1,7 +1,7 @@
 -- Products of whole numbers, and the tests of their order.
 use Rattle.std.proofs.Common.{◌≡◌, ◌∙◌, ◌*◌, Bool, true, false, refl, ap, sym, arith}
 use Rattle.std.proofs.lemmas.Int.{ints}
-use Rattle.std.specs.Prelude.{int_le}
+use Rattle.std.specs.Prelude.{int_le, int_lt}
 use borrow.Author.Differences.{up, down, same_in, sum_is_lem, neg_is, product_is}
 use lib.IntN.{ℤ, pos, negsuc, neg_ℤ, ◌+ℤ◌, ◌-ℤ◌, ◌*ℤ◌}
 use lib.Signed.{◌<ℤ◌, ◌≤ℤ◌}
@@ -75,6 +75,12 @@ not_le_of a b e = omega (arith, ints)
 
 pub is_le : (a b : ℤ) → a ≤ℤ b → int_le a b ≡ true
 is_le a b h = sym (omega (arith, ints))
+
+pub lt_of : (a b : ℤ) → int_lt a b ≡ true → a <ℤ b
+lt_of a b e = omega (arith, ints)
+
+pub is_lt : (a b : ℤ) → a <ℤ b → int_lt a b ≡ true
+is_lt a b h = sym (omega (arith, ints))
 
 pub is_not_le : (a b : ℤ) → b <ℤ a → int_le a b ≡ false
 is_not_le a b h = sym (omega (arith, ints))

@@ -1,6 +1,6 @@
 -- Numbers that are written out are read again.
-use Rattle.std.proofs.Common.{◌≡◌, ℕ, suc, ℤ, pos, negsuc, unsigned_abs, ◌+◌, ◌*◌, ◌/◌, ◌%◌, ◌^◌, ◌<◌, ◌≤◌, ◌++◌, ◌==◌, ◌||◌, Bool, true, false, Some, Ok, nat_le, nat_lt, List, [], ◌∷◌, length, take, drop, take_all, length-append, refl, ◌∙◌, ap, arith}
-use Rattle.std.proofs.lemmas.Bool.{and_from}
+use Rattle.std.proofs.Common.{◌≡◌, ℕ, suc, ℤ, pos, negsuc, unsigned_abs, ◌+◌, ◌*◌, ◌/◌, ◌%◌, ◌^◌, ◌<◌, ◌≤◌, ◌++◌, ◌==◌, Bool, true, false, Some, Ok, nat_le, nat_lt, List, [], ◌∷◌, length, take, drop, take_all, length-append, refl, ◌∙◌, ap, arith}
+use Rattle.std.proofs.lemmas.Bool.{and_from, or_parts}
 use Rattle.std.proofs.lemmas.Bool.Decides.{nat_tests}
 use Rattle.std.proofs.lemmas.Fmt.{decimal_by_steps}
 use Rattle.std.proofs.lemmas.Int.{ints}
@@ -68,16 +68,11 @@ pub no-letters : (digits : List ℕ) → list_all is_ascii_digit digits ≡ true
 no-letters [] h = refl
 no-letters (d ∷ ds) h = rw (digit-no_letter d (digits-cons d ds h).0) (no-letters ds (digits-cons d ds h).1)
 
--- where neither is so, each is not
-or-none : (x y : Bool) → (x || y) ≡ false → (x ≡ false) × (y ≡ false)
-or-none true y h = cc
-or-none false y h = (refl, h)
-
 -- where no byte is of a kind, the first one would stand at the end
 pub none-at_end : (p : ℕ → Bool) (text : List ℕ) → list_any p text ≡ false → position_or_len p text ≡ length text
 none-at_end p [] h = refl
 none-at_end p (b ∷ bs) h =
-    let parts = or-none (p b) (list_any p bs) h in
+    let parts = or_parts (p b) (list_any p bs) h in
     rw parts.0 (omega (arith, none-at_end p bs parts.1))
 
 -- the first point stands after the whole digits

@@ -15,6 +15,7 @@ use Rattle.geom.specs.Number.{count_of}
 use Rattle.geom.specs.Written.{written, six_digits}
 use Rattle.geom.proofs.Numerals.{numeral-read, whole-read}
 use Rattle.geom.proofs.Digits.{digits-cons}
+use Rattle.geom.proofs.Products.{is_lt}
 use Rattle.geom.proofs.Written.{numeral, written-law as number-law, coordinate-size, coordinate-written}
 use Rattle.maplex.specs.declared.fault.Tail.{Tail}
 use Rattle.maplex.specs.declared.fault.Tail.TheVariants as tails
@@ -79,10 +80,6 @@ not_end : (z : ℤ) → IsCoordinate z → is_spelt (written z) End ≡ false
 unfolding spelling
 not_end (pos n) is = let size : n ≤ COORDINATE_LIMIT = coordinate-size (pos n) is in size-not_end n (omega arith)
 not_end (negsuc n) is = refl
-
--- what lies to the east does
-east-true : (a b : ℤ) → a <ℤ b → int_lt a b ≡ true
-east-true a b h = grind (arith, ints)
 
 -- a number of any size that is written out isn't END
 number-not_end : (z : ℤ) → unsigned_abs z ≤ NUMBER_LIMIT → is_spelt (written z) End ≡ false
@@ -194,15 +191,15 @@ module _ (tail : Tail) (k : ℕ) where
         coordinate-written area.miny is.world.south,
         not_end area.maxx is.world.east,
         coordinate-written area.maxx is.world.east,
-        east-true area.minx area.maxx is.columns,
+        is_lt area.minx area.maxx is.columns,
         not_end area.maxy is.world.north,
         coordinate-written area.maxy is.world.north,
         le-leb (unsigned_abs area.minx) COORDINATE_LIMIT (coordinate-size area.minx is.world.west),
         le-leb (unsigned_abs area.miny) COORDINATE_LIMIT (coordinate-size area.miny is.world.south),
         le-leb (unsigned_abs area.maxx) COORDINATE_LIMIT (coordinate-size area.maxx is.world.east),
         le-leb (unsigned_abs area.maxy) COORDINATE_LIMIT (coordinate-size area.maxy is.world.north),
-        east-true area.minx area.maxx is.columns,
-        east-true area.miny area.maxy is.rows,
+        is_lt area.minx area.maxx is.columns,
+        is_lt area.miny area.maxy is.rows,
       )
       (on b above (Said v line before) rest (omega arith))
   value-read b above before v line rest (layer_items names some few none) p =

@@ -8,13 +8,11 @@ use lib.Signed.{◌<ℤ◌, ◌≤ℤ◌}
 use mir.Syntax.{w64}
 use mir.Val.{SFits, to_z, of_z}
 use Rattle.geom.specs.Range.{IsBelow}
+use Rattle.geom.proofs.Integers.{word-below}
 use Rattle.geom.proofs.Quotients.{quotient_parts, at_most-by_product}
 use Rattle.viewport.specs.View.{sixteenths, SixteenthsAreRoundedDown}
 
--- what i64 holds of a number below 2 ^ 47
-pub word-below : (z : ℤ) → IsBelow (2 ^ 47) z → to_z w64 (of_z w64 z) ≡ z
-word-below z h = omega (arith, ints)
-
+-- what is below 2 ^ 47 fits i64
 pub fits-below : (z : ℤ) → IsBelow (2 ^ 47) z → SFits w64 z
 fits-below z h = omega (arith, ints)
 

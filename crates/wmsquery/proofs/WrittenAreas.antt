@@ -1,8 +1,7 @@
 -- Boxes and colours that are written out are read again.
-use Rattle.std.proofs.Common.{ok_or, ◌≡◌, ◌≢◌, ℕ, zero, suc, ℤ, pos, negsuc, ◌/◌, ◌^◌, ◌<◌, ◌<ℤ◌, ◌&&◌, true, int_lt, List, [], ◌∷◌, All, Some, Ok, ap, refl, ◌∙◌, arith}
-use Rattle.std.proofs.lemmas.Bool.{and_from, lt-ltb}
+use Rattle.std.proofs.Common.{ok_or, ◌≡◌, ◌≢◌, ℕ, zero, suc, ℤ, pos, negsuc, ◌/◌, ◌^◌, ◌<◌, ◌&&◌, true, int_lt, List, [], ◌∷◌, All, Some, Ok, ap, refl, ◌∙◌, arith}
+use Rattle.std.proofs.lemmas.Bool.{and_from}
 use Rattle.std.proofs.lemmas.List.Elements.{All-nil, All-cons, All-append, All-weaker}
-use Rattle.std.proofs.lemmas.Int.{ints}
 use Rattle.std.specs.Char.{is_ascii_digit}
 use Rattle.std.specs.Fmt.{decimal}
 use Rattle.std.specs.List.{list_all}
@@ -15,6 +14,7 @@ use Rattle.geom.specs.World.{Area, IsCoordinate, IsExtent}
 use Rattle.geom.specs.Written.{written, written_size, six_digits}
 use Rattle.geom.proofs.Written.{numeral, six-are, coordinate-size, coordinate-written}
 use Rattle.geom.proofs.Digits.{digit-range, digits-cons}
+use Rattle.geom.proofs.Products.{is_lt}
 use Rattle.crsaxes.specs.Axes.{parts, box_of, box_of_parts, box_in, with_area}
 use Rattle.crsaxes.specs.declared.crs.Crs.{Crs}
 use Rattle.crsaxes.specs.declared.crs.Crs.TheVariants.{Crs84, Epsg4326}
@@ -87,18 +87,11 @@ four-box crs a b c d ha hb hc hd =
     ∙ ap (λ x. box_of crs (Some a) (Some b) x (coordinate_of (written d))) (coordinate-written c hc)
     ∙ ap (λ x. box_of crs (Some a) (Some b) (Some c) x) (coordinate-written d hd)
 
--- the lesser of two numbers is tested so
-lesser-test : (a b : ℤ) → a <ℤ b → int_lt a b ≡ true
-lesser-test (pos a) (pos b) h = lt-ltb a b (omega (arith, ints, h))
-lesser-test (pos a) (negsuc b) h = absurd (omega (arith, ints, h))
-lesser-test (negsuc a) (pos b) h = refl
-lesser-test (negsuc a) (negsuc b) h = lt-ltb b a (omega (arith, ints, h))
-
 -- an extent has an area
 extent-area : (area : Area) → IsExtent area → with_area area ≡ Ok area
 extent-area area is =
     let test : (int_lt area.minx area.maxx && int_lt area.miny area.maxy) ≡ true =
-    and_from _ _ (lesser-test area.minx area.maxx is.columns) (lesser-test area.miny area.maxy is.rows) in
+    and_from _ _ (is_lt area.minx area.maxx is.columns) (is_lt area.miny area.maxy is.rows) in
     rw test refl
 
 -- the sides of a box in the axis order of a system mean that box

@@ -6,7 +6,8 @@ use mir.Val.{to_z, of_z}
 use Rattle.geom.specs.Range.{IsBelow}
 use Rattle.geom.proofs.Quotients.{quotient-below}
 use Rattle.viewport.specs.View.{sixteenths}
-use Rattle.viewport.proofs.Quotients.{share-below, share-fits, share-is, word-below}
+use Rattle.geom.proofs.Integers.{word-below}
+use Rattle.viewport.proofs.Quotients.{share-below, share-fits, share-is}
 use Rattle.viewport.proofs.view.sixteenths.Goals as goal
 
 pub returns-clause-range : goal.returns-clause-range

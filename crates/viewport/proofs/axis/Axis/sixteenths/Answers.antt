@@ -5,7 +5,7 @@ use Rattle.geom.specs.Range.{IsBelow}
 use Rattle.geom.proofs.Quotients.{quotient-below}
 use Rattle.viewport.specs.Axis.{AxisValue}
 use Rattle.viewport.proofs.Products.{axis-is, times-below}
-use Rattle.viewport.proofs.Quotients.{word-below}
+use Rattle.geom.proofs.Integers.{word-below}
 use Rattle.viewport.proofs.axis.Axis.sixteenths.Goals as goal
 
 pub returns-clause-value : goal.returns-clause-value

@@ -4,7 +4,7 @@ use Rattle.std.specs.Int.{int_div_euclid}
 use Rattle.geom.specs.Range.{IsBelow}
 use Rattle.geom.specs.World.{Area}
 use Rattle.viewport.proofs.Products.{axis-sixteenths}
-use Rattle.viewport.proofs.Quotients.{word-below}
+use Rattle.geom.proofs.Integers.{word-below}
 use Rattle.viewport.proofs.projection.Projection.down.Goals as goal
 
 pub returns-clause-value : goal.returns-clause-value
