@@ -8,6 +8,7 @@ use Rattle.clap.specs.declared.builder.value_parser.ValueParser.TheVariants as v
 use Rattle.clap.specs.Words.{App, Row, Rule, Text, fault_of, first_of, one_of, subcommand_of, takes, new_app, new_rule, with_rule, with_subcommand}
 use Rattle.commandline.specs.declared.form.Command.{Command}
 use Rattle.commandline.specs.declared.form.Service.{Service}
+use Rattle.commandline.specs.declared.form.TheConstants.{MAX_IDLE, MAX_TIMEOUT, MAX_WORKERS}
 use Rattle.commandline.specs.declared.form.Command.TheVariants.{Session, Check, Run, Serve}
 use Rattle.commandline.specs.declared.words.WordsFault.{WordsFault}
 use Rattle.commandline.specs.declared.words.WordsFault.TheVariants.{Refused, NoMemory}
@@ -98,9 +99,9 @@ IsNumber bits name rows n = (t : Text) × (one_of name rows ≡ Some t) × Parse
 
 -- the times of a service, and the count of its workers, lie in their ranges
 pub record IsInRange (service : Service) : Type 0 where
-  pub idle : (1 ≤ service.idle) × (service.idle ≤ 60000)
-  pub timeout : (1 ≤ service.timeout) × (service.timeout ≤ 3600)
-  pub workers : (1 ≤ service.workers) × (service.workers ≤ 32)
+  pub idle : (1 ≤ service.idle) × (service.idle ≤ MAX_IDLE)
+  pub timeout : (1 ≤ service.timeout) × (service.timeout ≤ MAX_TIMEOUT)
+  pub workers : (1 ≤ service.workers) × (service.workers ≤ MAX_WORKERS)
 
 -- the rows of matches say how a map is served, with numbers in their ranges
 pub record IsService (rows : List Row) (service : Service) : Type 0 where

@@ -30,6 +30,15 @@ pub enum Command<'a> {
     },
 }
 
+/// For how many milliseconds a connection may be idle at most.
+pub const MAX_IDLE: u16 = 60_000;
+
+/// How many seconds a head, or an answer, may take at most.
+pub const MAX_TIMEOUT: u16 = 3_600;
+
+/// How many workers answer connections at most.
+pub const MAX_WORKERS: u16 = 32;
+
 /// How a map is served.
 #[derive(Clone, Copy)]
 pub struct Service {
@@ -37,12 +46,12 @@ pub struct Service {
     pub port: u16,
     /// How many connections are answered, 0 without an end.
     pub connections: u32,
-    /// How many milliseconds a connection may be idle after an answer, 1 to 60,000.
+    /// How many milliseconds a connection may be idle after an answer, 1 to `MAX_IDLE`.
     pub idle: u16,
-    /// How many seconds a head that has begun, and an answer, may take, 1 to 3,600.
+    /// How many seconds a head that has begun, and an answer, may take, 1 to `MAX_TIMEOUT`.
     pub timeout: u16,
     /// The port on which batches are taken, 0 for one that is free.
     pub admin_port: u16,
-    /// How many workers answer connections, 1 to 32.
+    /// How many workers answer connections, 1 to `MAX_WORKERS`.
     pub workers: u16,
 }

@@ -11,5 +11,5 @@ mod form;
 pub mod laws;
 mod words;
 
-pub use form::{Command, Service};
+pub use form::{Command, MAX_IDLE, MAX_TIMEOUT, MAX_WORKERS, Service};
 pub use words::{WordsFault, command};

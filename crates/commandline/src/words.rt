@@ -5,7 +5,7 @@ ghost use Rattle.clap.specs.declared.builder.command.Command.TheViews.{out-Comma
 ghost use Rattle.commandline.specs.Forms.{IsWithForm};
 ghost use Rattle.commandline.specs.Words.{app, named_app, file_app, number_rule, check_app, run_app, port_app, counted_app, idle_app, timed_app, admin_app, serve_app, IsCommand, IsFlag, IsInRange, IsNumber, IsService, is_refusal};
 
-use crate::form::{Command, Service};
+use crate::form::{Command, MAX_IDLE, MAX_TIMEOUT, MAX_WORKERS, Service};
 use clap::builder::ValueParser;
 use clap::error::ErrorKind;
 use clap::{Arg, ArgAction, ArgMatches};
@@ -103,7 +103,8 @@ fn idle_form<'a>(alloc: Global) -> Result<clap::Command<'a>, AllocError>
     ensures local { IfOk result (λ c. (out-Command c).has_globals ≡ false) }
 {
     let form = counted_form(alloc)?;
-    form.arg(number(alloc, "idle", ValueParser::signed(1, 60_000), "200"))
+    let parser = ValueParser::signed(1, i64::from(MAX_IDLE));
+    form.arg(number(alloc, "idle", parser, "200"))
 }
 
 // The same with `--timeout SECONDS`.
@@ -112,7 +113,8 @@ fn timed_form<'a>(alloc: Global) -> Result<clap::Command<'a>, AllocError>
     ensures local { IfOk result (λ c. (out-Command c).has_globals ≡ false) }
 {
     let form = idle_form(alloc)?;
-    form.arg(number(alloc, "timeout", ValueParser::signed(1, 3_600), "30"))
+    let parser = ValueParser::signed(1, i64::from(MAX_TIMEOUT));
+    form.arg(number(alloc, "timeout", parser, "30"))
 }
 
 // The same with `--admin-port PORT`.
@@ -130,7 +132,8 @@ fn serve_form<'a>(alloc: Global) -> Result<clap::Command<'a>, AllocError>
     ensures local { IfOk result (λ c. (out-Command c).has_globals ≡ false) }
 {
     let form = admin_form(alloc)?;
-    form.arg(number(alloc, "workers", ValueParser::signed(1, 32), "4"))
+    let parser = ValueParser::signed(1, i64::from(MAX_WORKERS));
+    form.arg(number(alloc, "workers", parser, "4"))
 }
 
 // The program by its name, without forms.
@@ -198,7 +201,9 @@ fn is_in_range(service: Service) -> bool
         workers,
         ..
     } = service;
-    (1..=60_000).contains(&idle) && (1..=3_600).contains(&timeout) && (1..=32).contains(&workers)
+    (1..=MAX_IDLE).contains(&idle)
+        && (1..=MAX_TIMEOUT).contains(&timeout)
+        && (1..=MAX_WORKERS).contains(&workers)
 }
 
 // How matches say that a map is served. Numbers beyond their ranges don't come.

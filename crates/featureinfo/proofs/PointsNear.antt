@@ -6,8 +6,8 @@ use Rattle.std.proofs.lemmas.List.Folds.{Any-from_list_any, list_any-from_Any}
 use Rattle.std.specs.List.{list_any}
 use Rattle.std.specs.Prelude.{int_le, int_lt}
 use lib.IntN.{ℤ, pos, negsuc, ◌+ℤ◌, ◌-ℤ◌}
-use lib.Signed.{◌<ℤ◌, ◌≤ℤ◌}
-use Rattle.geom.proofs.Products.{le_of}
+use lib.Signed.{◌≤ℤ◌}
+use Rattle.geom.proofs.Products.{is_le, is_lt, le_of, lt_of}
 use Rattle.geom.specs.Device.{DevicePoint, PixelPlace, pixel_of}
 use Rattle.geom.specs.World.{Place}
 use Rattle.mapdefs.specs.declared.layer.Kind.TheVariants as kind
@@ -17,13 +17,7 @@ use Rattle.viewport.specs.View.{ViewValue, device_point}
 use Rattle.featureinfo.specs.Hits.{covers_plainly}
 use Rattle.featureinfo.specs.Nearby.{SomeNear, has_pixel, part_near, points_near}
 use Rattle.featureinfo.specs.declared.nearby.Nearby.{Nearby}
-use Rattle.featureinfo.proofs.Reaching.{any-more, le-true, mapped}
-
-lt-true : (a b : ℤ) → a <ℤ b → int_lt a b ≡ true
-lt-true a b h = sym (omega (arith, ints, h))
-
-lt_of : (a b : ℤ) → int_lt a b ≡ true → a <ℤ b
-lt_of a b h = omega (arith, ints, h)
+use Rattle.featureinfo.proofs.Reaching.{any-more, mapped}
 
 -- a column or row that isn't below 0
 record IsIndex (z : ℤ) : Type 0 where
@@ -39,10 +33,10 @@ one-pixel : (v : DevicePoint) (c r : ℕ) → (pixel_of v).i ≡ pos c → (pixe
 unfolding covers_square
 one-pixel v c r i j =
     rw (
-      le-true ((pixel_of v).i -ℤ pos 0) (pos c) (omega (arith, ints, i)),
-      le-true (pos c) ((pixel_of v).i +ℤ pos 0) (omega (arith, ints, i)),
-      le-true ((pixel_of v).j -ℤ pos 0) (pos r) (omega (arith, ints, j)),
-      le-true (pos r) ((pixel_of v).j +ℤ pos 0) (omega (arith, ints, j)),
+      is_le ((pixel_of v).i -ℤ pos 0) (pos c) (omega (arith, ints, i)),
+      is_le (pos c) ((pixel_of v).i +ℤ pos 0) (omega (arith, ints, i)),
+      is_le ((pixel_of v).j -ℤ pos 0) (pos r) (omega (arith, ints, j)),
+      is_le (pos r) ((pixel_of v).j +ℤ pos 0) (omega (arith, ints, j)),
     ) refl
 
 -- a covered one is among them
@@ -58,10 +52,10 @@ has-covered n v c r left right top bottom h =
     let d = le_of ((pixel_of v).j -ℤ pos 0) (pos r) down.0 in
     let e = le_of (pos r) ((pixel_of v).j +ℤ pos 0) down.1 in
     rw (
-      le-true (pos n.left) (pixel_of v).i (omega (arith, ints, b, left)),
-      lt-true (pixel_of v).i (pos n.right) (omega (arith, ints, a, right)),
-      le-true (pos n.top) (pixel_of v).j (omega (arith, ints, e, top)),
-      lt-true (pixel_of v).j (pos n.bottom) (omega (arith, ints, d, bottom)),
+      is_le (pos n.left) (pixel_of v).i (omega (arith, ints, b, left)),
+      is_lt (pixel_of v).i (pos n.right) (omega (arith, ints, a, right)),
+      is_le (pos n.top) (pixel_of v).j (omega (arith, ints, e, top)),
+      is_lt (pixel_of v).j (pos n.bottom) (omega (arith, ints, d, bottom)),
     ) refl
 
 module _ (view : ViewValue) (n : Nearby) where

@@ -7,7 +7,7 @@ use Rattle.std.specs.List.{flat_map, list_any}
 use Rattle.std.specs.Prelude.{int_le, int_lt}
 use lib.IntN.{ℤ, pos, ◌+ℤ◌, ◌-ℤ◌}
 use lib.Signed.{◌≤ℤ◌}
-use Rattle.geom.proofs.Products.{le_of}
+use Rattle.geom.proofs.Products.{is_le, le_of}
 use Rattle.geom.proofs.Quotients.{quotient_parts}
 use Rattle.geom.specs.Device.{DevicePoint, pixel_centre, pixel_of}
 use Rattle.geom.specs.EvenOdd.{is_inside}
@@ -53,10 +53,6 @@ mapped {X} {Y} g f (part ∷ parts) = rw (one part, mapped g f parts) refl
     one [] = refl
     one (x ∷ xs) = ap (λ b. f (g x) || b) (one xs)
 
--- comparisons
-pub le-true : (a b : ℤ) → a ≤ℤ b → int_le a b ≡ true
-le-true a b h = sym (omega (arith, ints, h))
-
 -- the pixel in a column and a row is one of those near
 pub record IsOf (n : Nearby) (c r : ℕ) : Type 0 where
   pub left : n.left ≤ c
@@ -74,38 +70,38 @@ module _ (view : ViewValue) (parts : List (List Place)) (n : Nearby) (c r : ℕ)
 
   -- a vertex left or right of the centre, above or below it, by at most a pixel
   right-more : (k : ℕ) (q : Place) → k ≤ 16 → int_le (device_point view q).x ((pixel_centre (pos c) (pos r)).x +ℤ pos k) ≡ true → is_within Right (limit_of n Right) (device_point view q) ≡ true
-  right-more k q few h = le-true (device_point view q).x (pos (16 * n.right + 8)) (omega (arith, ints, le_of (device_point view q).x ((pixel_centre (pos c) (pos r)).x +ℤ pos k) h, of.right))
+  right-more k q few h = is_le (device_point view q).x (pos (16 * n.right + 8)) (omega (arith, ints, le_of (device_point view q).x ((pixel_centre (pos c) (pos r)).x +ℤ pos k) h, of.right))
 
   left-more : (k : ℕ) (q : Place) → k ≤ 16 → int_le ((pixel_centre (pos c) (pos r)).x -ℤ pos k) (device_point view q).x ≡ true → is_within Left (limit_of n Left) (device_point view q) ≡ true
-  left-more k q few h = le-true (pos (16 * n.left) -ℤ pos 8) (device_point view q).x (omega (arith, ints, le_of ((pixel_centre (pos c) (pos r)).x -ℤ pos k) (device_point view q).x h, of.left))
+  left-more k q few h = is_le (pos (16 * n.left) -ℤ pos 8) (device_point view q).x (omega (arith, ints, le_of ((pixel_centre (pos c) (pos r)).x -ℤ pos k) (device_point view q).x h, of.left))
 
   bottom-more : (k : ℕ) (q : Place) → k ≤ 16 → int_le (device_point view q).y ((pixel_centre (pos c) (pos r)).y +ℤ pos k) ≡ true → is_within Bottom (limit_of n Bottom) (device_point view q) ≡ true
-  bottom-more k q few h = le-true (device_point view q).y (pos (16 * n.bottom + 8)) (omega (arith, ints, le_of (device_point view q).y ((pixel_centre (pos c) (pos r)).y +ℤ pos k) h, of.bottom))
+  bottom-more k q few h = is_le (device_point view q).y (pos (16 * n.bottom + 8)) (omega (arith, ints, le_of (device_point view q).y ((pixel_centre (pos c) (pos r)).y +ℤ pos k) h, of.bottom))
 
   top-more : (k : ℕ) (q : Place) → k ≤ 16 → int_le ((pixel_centre (pos c) (pos r)).y -ℤ pos k) (device_point view q).y ≡ true → is_within Top (limit_of n Top) (device_point view q) ≡ true
-  top-more k q few h = le-true (pos (16 * n.top) -ℤ pos 8) (device_point view q).y (omega (arith, ints, le_of ((pixel_centre (pos c) (pos r)).y -ℤ pos k) (device_point view q).y h, of.top))
+  top-more k q few h = is_le (pos (16 * n.top) -ℤ pos 8) (device_point view q).y (omega (arith, ints, le_of ((pixel_centre (pos c) (pos r)).y -ℤ pos k) (device_point view q).y h, of.top))
 
   -- a polygon
   fill-reaches : is_inside (map (map (device_point view)) parts) (pixel_centre (pos c) (pos r)) ≡ true → (side : Side) → reaches view parts (limit_of n side) side ≡ true
   fill-reaches inside Right =
       let at : Place → DevicePoint = device_point view in
       let p : DevicePoint = pixel_centre (pos c) (pos r) in
-      from-test Right (λ q. int_le (at q).x p.x) (λ (q : Place) (h : int_le (at q).x p.x ≡ true). le-true (at q).x (pos (16 * n.right + 8)) (omega (arith, ints, le_of (at q).x p.x h, of.right)))
+      from-test Right (λ q. int_le (at q).x p.x) (λ (q : Place) (h : int_le (at q).x p.x ≡ true). is_le (at q).x (pos (16 * n.right + 8)) (omega (arith, ints, le_of (at q).x p.x h, of.right)))
       (must-pass _ _ (none-inside parts at (λ v. int_le v.x p.x) p (right-fails p)) inside)
   fill-reaches inside Left =
       let at : Place → DevicePoint = device_point view in
       let p : DevicePoint = pixel_centre (pos c) (pos r) in
-      from-test Left (λ q. int_lt p.x (at q).x) (λ (q : Place) (h : int_lt p.x (at q).x ≡ true). le-true (pos (16 * n.left) -ℤ pos 8) (at q).x (omega (arith, ints, h, of.left)))
+      from-test Left (λ q. int_lt p.x (at q).x) (λ (q : Place) (h : int_lt p.x (at q).x ≡ true). is_le (pos (16 * n.left) -ℤ pos 8) (at q).x (omega (arith, ints, h, of.left)))
       (must-pass _ _ (left-inside parts at p) inside)
   fill-reaches inside Bottom =
       let at : Place → DevicePoint = device_point view in
       let p : DevicePoint = pixel_centre (pos c) (pos r) in
-      from-test Bottom (λ q. int_le (at q).y p.y) (λ (q : Place) (h : int_le (at q).y p.y ≡ true). le-true (at q).y (pos (16 * n.bottom + 8)) (omega (arith, ints, le_of (at q).y p.y h, of.bottom)))
+      from-test Bottom (λ q. int_le (at q).y p.y) (λ (q : Place) (h : int_le (at q).y p.y ≡ true). is_le (at q).y (pos (16 * n.bottom + 8)) (omega (arith, ints, le_of (at q).y p.y h, of.bottom)))
       (must-pass _ _ (none-inside parts at (λ v. int_le v.y p.y) p (below-fails p)) inside)
   fill-reaches inside Top =
       let at : Place → DevicePoint = device_point view in
       let p : DevicePoint = pixel_centre (pos c) (pos r) in
-      from-test Top (λ q. int_lt p.y (at q).y) (λ (q : Place) (h : int_lt p.y (at q).y ≡ true). le-true (pos (16 * n.top) -ℤ pos 8) (at q).y (omega (arith, ints, h, of.top)))
+      from-test Top (λ q. int_lt p.y (at q).y) (λ (q : Place) (h : int_lt p.y (at q).y ≡ true). is_le (pos (16 * n.top) -ℤ pos 8) (at q).y (omega (arith, ints, h, of.top)))
       (must-pass _ _ (none-inside parts at (λ v. int_lt p.y v.y) p (above-fails p)) inside)
 
   -- a line one pixel wide, by a segment
@@ -151,10 +147,10 @@ module _ (view : ViewValue) (parts : List (List Place)) (n : Nearby) (c r : ℕ)
     where
       at-side : (s : Side) → v.x ≤ℤ pos (16 * n.right + 8) → (pos (16 * n.left) -ℤ pos 8) ≤ℤ v.x → v.y ≤ℤ pos (16 * n.bottom + 8) → (pos (16 * n.top) -ℤ pos 8) ≤ℤ v.y →
           is_within s (limit_of n s) v ≡ true
-      at-side Right a b d e = le-true v.x (pos (16 * n.right + 8)) a
-      at-side Left a b d e = le-true (pos (16 * n.left) -ℤ pos 8) v.x b
-      at-side Bottom a b d e = le-true v.y (pos (16 * n.bottom + 8)) d
-      at-side Top a b d e = le-true (pos (16 * n.top) -ℤ pos 8) v.y e
+      at-side Right a b d e = is_le v.x (pos (16 * n.right + 8)) a
+      at-side Left a b d e = is_le (pos (16 * n.left) -ℤ pos 8) v.x b
+      at-side Bottom a b d e = is_le v.y (pos (16 * n.bottom + 8)) d
+      at-side Top a b d e = is_le (pos (16 * n.top) -ℤ pos 8) v.y e
 
   squares-reach : list_any (λ q. covers_square (square_at 1 (device_point view q)) (pos c) (pos r)) (flat_map (λ part. part) parts) ≡ true →
       (side : Side) → reaches view parts (limit_of n side) side ≡ true

@@ -1,6 +1,6 @@
 -- A row of a cover has one of some columns where one of its spans has.
-use Rattle.std.proofs.Common.{◌≡◌, ℕ, ◌<◌, ◌≤◌, Bool, true, false, ◌||◌, ◌&&◌, nat_lt, List, [], ◌∷◌, refl, sym, ◌∙◌, arith}
-use Rattle.std.proofs.lemmas.Bool.{ltb-true, ltb-false, lt-ltb}
+use Rattle.std.proofs.Common.{◌≡◌, ℕ, ◌<◌, ◌≤◌, Bool, true, false, ◌||◌, nat_lt, List, [], ◌∷◌, refl, sym, ◌∙◌, arith}
+use Rattle.std.proofs.lemmas.Bool.{and_parts, ltb-true, ltb-false, lt-ltb}
 use Rattle.std.specs.List.{list_any}
 use Rattle.scanfill.specs.declared.span.Span.{Span}
 use Rattle.scanfill.specs.Runs.{AreRunsFrom, IsRunFrom}
@@ -22,10 +22,6 @@ in-run test start end left right span run lt before after = of (nat_lt left span
     of false e = let above : span.from ≤ left = ltb-false _ _ e in
         record { column = left; least = omega arith; most = lt; passes = run.inside left above after }
 
-both-true : (a b : Bool) → (a && b) ≡ true → (a ≡ true) × (b ≡ true)
-both-true true b h = (refl, h)
-both-true false b h = cc
-
 -- where one of the spans does, some column passes
 pub some-passes : (test : ℕ → Bool) (start end left right : ℕ) (spans : List Span) → AreRunsFrom test start end spans → left < right →
     list_any (meets left right) spans ≡ true → Found test left right
@@ -34,7 +30,7 @@ some-passes test start end left right (span ∷ spans) runs lt h = of (some-pass
   where
     of : (list_any (meets left right) spans ≡ true → Found test left right) → (t : Bool) → meets left right span ≡ t → (t || list_any (meets left right) spans) ≡ true → Found test left right
     of later true e h =
-        let both = both-true (nat_lt span.from right) (nat_lt left span.to) e in
+        let both = and_parts (nat_lt span.from right) (nat_lt left span.to) e in
         in-run test start end left right span runs.0 lt (ltb-true _ _ both.0) (ltb-true _ _ both.1)
     of later false e h = later h
 

@@ -5,7 +5,8 @@ ghost use Rattle.scripts.specs.Playing.{HasPlayed, HasPartlyPlayed};
 
 use crate::script::{split_command, unreadable_command};
 use crate::sending::{send_reply, send_script_fault};
-use mapmachine::{Event, Machine, PutFailed, Sink, WriteFault};
+use mapmachine::{Event, Machine};
+use streams::{PutFailed, Sink, WriteFault};
 
 /// Plays a script on the machine, and writes the transcript of its replies; of an unreadable script it
 /// plays nothing and writes the fault. The error is that the writer failed: exactly the first `written`

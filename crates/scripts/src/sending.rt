@@ -4,7 +4,8 @@ ghost use Rattle.scripts.specs.Transcript.{hex_lines, body_text, answer_line, re
 
 use crate::hexadecimal::{LINE, fill_lines};
 use itoa::Buffer;
-use mapmachine::{Answer, BatchFault, Mime, PutFailed, Reply, Sink, put_all, put_pieces};
+use mapmachine::{Answer, BatchFault, Mime, Reply};
+use streams::{PutFailed, Sink, put_all, put_pieces};
 
 // The most bytes that are put into lines at once: 63 lines of 65 bytes, 4,095 in all.
 const BLOCK: usize = 63 * LINE;
