@@ -1,10 +1,11 @@
-// The viewer: layers by the server's capabilities, pictures by GetMap or MapProxy's tiles, features by a click.
+// The viewer: layers by the server's capabilities, pictures by GetMap or as tiles, features by a click.
 //
 // The server's texts go into the page by textContent, so that none of them is read as HTML.
 "use strict";
 
 const SERVER = "../wms";
 const TILES = "../tiles/wmts";
+const LEGEND = "legend.json";
 const PICTURE = "image/x-portable-arbitrarymap";
 
 // A pixel counts as 0.28 mm, and a degree of longitude as 111,319.491 m.
@@ -14,6 +15,8 @@ const SCALE_OF_A_DEGREE = 111319.491 / 0.00028;
 let served = { layers: [] };
 // The names of MapProxy's layers; empty where none are served.
 let tileNames = new Set();
+// What deploy/legend wrote: the classes of each layer, by its name; nothing where it isn't there.
+let legend = {};
 let map;
 // What lies on the map: a canvas, or layers of tiles.
 let overlays = [];
@@ -24,6 +27,7 @@ let timer;
 const byId = (id) => document.getElementById(id);
 const say = (text) => { byId("message").textContent = text; };
 const source = () => document.querySelector("input[name=source]:checked").value;
+const isTiled = () => ["png", "tiles"].includes(source());
 const layersOn = () => served.layers.filter((layer) => layer.input.checked);
 
 // Asking
@@ -99,7 +103,7 @@ function pictureOfView(layers) {
     const size = map.getSize();
     const width = Math.min(size.x, served.width);
     const height = Math.min(size.y, served.height);
-    return pictureOf(layers, source(), boxOfView(), width, height);
+    return pictureOf(layers, source() === "EPSG:4326" ? "EPSG:4326" : "CRS:84", boxOfView(), width, height);
 }
 
 function degreesOfPixel() {
@@ -139,6 +143,7 @@ async function readAgain(signal) {
         layer.input.checked = !layer.input.disabled && (known === undefined || known.input.checked);
     }
     writeLayers();
+    markScales();
     const gone = before.filter((one) => !served.layers.some((layer) => layer.name === one.name));
     if (gone.length > 0) {
         say(`Gone from the map: ${gone.map((layer) => layer.title).join(", ")}.`);
@@ -201,6 +206,27 @@ function tilesOf(name) {
     return tiles.on("tileerror", () => say("A tile of MapProxy's didn't come."));
 }
 
+/** Shows PNG tiles that deploy/formats packs. A tile of a layer that is gone has the others asked for once more. */
+function showPng(layers, isAgain = false) {
+    asked = new AbortController();
+    const signal = asked.signal;
+    const names = layers.map((layer) => layer.name).join(",");
+    const options = { layers: names, version: "1.3.0", format: "image/png", transparent: true, maxZoom: 18 };
+    const tiles = L.tileLayer.wms(SERVER, { ...options, noWrap: true, bounds: [[-90, -180], [90, 180]] });
+    tiles.once("tileerror", async () => {
+        try {
+            if (!signal.aborted && !isAgain && await readAgain(signal) && layersOn().length > 0) {
+                showPng(layersOn(), true);
+            } else if (!signal.aborted) {
+                say("A tile of the server's didn't come.");
+            }
+        } catch (error) {
+            say(error.message);
+        }
+    });
+    replaceOverlays([tiles]);
+}
+
 function show() {
     say("");
     const layers = layersOn();
@@ -209,6 +235,8 @@ function show() {
         say(served.layers.length === 0 ? "The map has no layers." : "All layers are off.");
     } else if (source() === "tiles") {
         showTiles(layers);
+    } else if (source() === "png") {
+        showPng(layers);
     } else {
         showPicture(layers);
     }
@@ -221,36 +249,48 @@ function showSoon() {
     timer = setTimeout(show, 100);
 }
 
-function afterMove() {
+/** Greys layers, and hides classes of the legend, that the present scale doesn't show. */
+function markScales() {
     const scale = degreesOfPixel() * SCALE_OF_A_DEGREE;
+    const visible = ({ minScale = 0, maxScale = Infinity }) => minScale <= scale && scale < maxScale;
     for (const layer of served.layers) {
-        const visible = layer.minScale <= scale && scale < layer.maxScale;
-        layer.input.parentElement.classList.toggle("out-of-scale", !visible);
+        layer.input.parentElement.classList.toggle("out-of-scale", !visible(layer));
+        let isTaken = !visible(layer) || !layer.input.checked;
+        for (const [line, entry] of layer.lines) {
+            line.hidden = isTaken || !visible(entry);
+            isTaken ||= entry.takesAll && visible(entry);
+        }
     }
+}
+
+function afterMove() {
+    markScales();
     const center = map.getCenter();
     const level = map.getZoom() - (source() === "tiles" ? 1 : 0);
     history.replaceState(null, "", `#${level}/${center.lat.toFixed(5)}/${center.lng.toFixed(5)}`);
-    if (source() !== "tiles") {
+    if (!isTiled()) {
         showSoon();
     }
 }
 
 function changeLayers() {
+    markScales();
     map.closePopup();
     showSoon();
 }
 
-/** Pictures of the server are in degrees, tiles in web mercator, whose levels have twice the degrees a pixel. */
+/** All but MapProxy's tiles are in degrees; those are in web mercator, whose levels have twice the degrees a pixel. */
 function changeSource() {
-    const hasTiles = source() === "tiles";
-    const system = hasTiles ? L.CRS.EPSG3857 : L.CRS.EPSG4326;
+    const isMercator = source() === "tiles";
+    const system = isMercator ? L.CRS.EPSG3857 : L.CRS.EPSG4326;
+    const center = map.getCenter();
+    map.options.zoomSnap = isTiled() ? 1 : 0.5;
     if (map.options.crs !== system) {
-        const center = map.getCenter();
-        const level = Math.round(map.getZoom()) + (hasTiles ? 1 : -1);
         replaceOverlays([]);
         map.options.crs = system;
-        map.options.zoomSnap = hasTiles ? 1 : 0.5;
-        map.setView(center, level, { reset: true });
+        map.setView(center, Math.round(map.getZoom()) + (isMercator ? 1 : -1), { reset: true });
+    } else if (isTiled()) {
+        map.setZoom(Math.round(map.getZoom()));
     }
     showSoon();
 }
@@ -312,6 +352,8 @@ function layerOf(element) {
     return {
         name,
         input,
+        // The lines of the legend, each with its entry.
+        lines: [],
         title: textOf(element, ":scope > Title") || name,
         queryable: element.getAttribute("queryable") === "1",
         minScale: numberOf(element, ":scope > MinScaleDenominator", 0),
@@ -344,20 +386,35 @@ function readCapabilities(xml) {
             [side("northBoundLatitude", 90), side("eastBoundLongitude", 180)],
         ],
         layers,
+        hasPng: [...xml.querySelectorAll("GetMap > Format")].some((one) => one.textContent === "image/png"),
         allTiles: nameTiles(layers),
         width: numberOf(xml, "MaxWidth", 2048),
         height: numberOf(xml, "MaxHeight", 2048),
     };
 }
 
-/** Writes the map's title and the switches of its layers, the uppermost first. */
+/** The lines of a layer's legend. */
+function legendOf(layer) {
+    layer.lines = (legend[layer.name] ?? []).map((entry) => {
+        const line = document.createElement("div");
+        const picture = document.createElement("img");
+        line.className = "class";
+        picture.src = entry.picture;
+        picture.alt = "";
+        line.append(picture, ` ${entry.title}`);
+        return [line, entry];
+    });
+    return layer.lines.map(([line]) => line);
+}
+
+/** Writes the map's title and the switches of its layers, the uppermost first, each with its legend below it. */
 function writeLayers() {
     document.title = byId("title").textContent = served.title;
     byId("layers").replaceChildren();
     for (const layer of served.layers) {
         const label = document.createElement("label");
         label.append(layer.input, ` ${layer.title}${layer.input.disabled ? " (its name has a comma)" : ""}`);
-        byId("layers").prepend(label);
+        byId("layers").prepend(label, ...legendOf(layer));
     }
 }
 
@@ -365,6 +422,7 @@ function writePanel() {
     writeLayers();
     // Both orders of the axes show the same: the second is for those who look for faults.
     byId("other-axes").hidden = !new URLSearchParams(location.search).has("debug");
+    byId("png-tiles").hidden = !served.hasPng;
     document.querySelectorAll("input[name=source]").forEach((input) => input.addEventListener("change", changeSource));
 }
 
@@ -403,6 +461,14 @@ async function findTiles() {
     }
 }
 
+async function readLegend() {
+    try {
+        legend = await (await get(LEGEND)).json();
+    } catch (error) {
+        legend = {};
+    }
+}
+
 async function begin() {
     if (!window.L) {
         say("Leaflet is missing: apt-get install libjs-leaflet.");
@@ -414,6 +480,7 @@ async function begin() {
         say(error.message);
         return;
     }
+    await readLegend();
     writePanel();
     makeMap();
     findTiles();

@@ -176,7 +176,10 @@ class LayerWriter:
     # Blocks.
 
     def block(self, number, rule, styles, label, low, high):
-        lines = ["    CLASS"]
+        kind = self.layer.getClass(number)
+        # It has no effect on the map, and is the title of the class in the viewer's legend.
+        title = kind.title or kind.name
+        lines = ["    CLASS"] + ([f"      NAME {quoted(title)}"] if title else [])
         if rule is not None:
             lines.append(f"      EXPRESSION {rule}")
         lines += [f"      {line}" for line in scales(low, high, self.options.factor)]
