@@ -12,7 +12,7 @@ ghost use Rattle.httpedge.specs.Stopped.{HasExchanged, HasStopped, HasKeptUp, is
 ghost use Rattle.httpedge.specs.declared.asks.Busy.{Busy};
 
 use crate::{Asks, Busy, Conn, Decision, Outcome, respond};
-use mapmachine::{PutFailed, Sink, Source};
+use streams::{PutFailed, Sink, Source};
 use thiserror::Error;
 
 // How many bytes are read at once, at most.

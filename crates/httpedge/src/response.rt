@@ -4,7 +4,8 @@ ghost use Rattle.httpedge.specs.Response.{head_end, refusal_lines, busy_lines, b
 
 use crate::{Outcome, Refusal};
 use itoa::Buffer;
-use mapmachine::{Answer, PutFailed, Sink, WriteFault, put_pieces};
+use mapmachine::Answer;
+use streams::{PutFailed, Sink, WriteFault, put_pieces};
 
 // The end of a head.
 #[tactic(auto, unfolding(crate::specs::Response::head_end))]

@@ -1,8 +1,9 @@
 use crate::narrow::{Cut, holding_nothing};
 use httpedge::{Asks, Conn, EdgeFault, Outcome, exchange, respond};
 use mapdefs::{Items, Map};
-use mapmachine::{Answer, Flagged, Machine, Mime};
+use mapmachine::{Answer, Machine, Mime};
 use std::alloc::{AllocError, Global};
+use streams::Flagged;
 use test_maps::map_fields;
 use test_tables::{TableFault, check_rows};
 

@@ -1,6 +1,6 @@
 use httpedge::{Busy, EdgeFault};
-use mapmachine::{PutFailed, TakeFailed, WriteFault};
 use std::alloc::{AllocError, Global};
+use streams::{PutFailed, TakeFailed, WriteFault};
 use test_tables::{TableFault, check_rows};
 
 // What is told, `|` and the crate that tells it.

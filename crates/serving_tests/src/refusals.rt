@@ -2,8 +2,9 @@ use crate::exchanges::{WHOLE, exchanged};
 use crate::narrow::holding_nothing;
 use httpedge::{Asks, Busy, Conn, Outcome, Refusal, exchange, respond};
 use mapdefs::Items;
-use mapmachine::{Answer, Flagged, Mime};
+use mapmachine::{Answer, Mime};
 use std::alloc::{AllocError, Global};
+use streams::Flagged;
 use test_tables::{TableFault, check_rows};
 
 // Who is asked, and is busy. It counts the queries.

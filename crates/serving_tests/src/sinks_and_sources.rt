@@ -1,6 +1,6 @@
 use crate::narrow::{Narrow, holding_nothing};
-use mapmachine::{Flagged, Sink, Source, put_all, put_pieces};
 use std::alloc::{AllocError, Global};
+use streams::{Flagged, Sink, Source, put_all, put_pieces};
 use test_tables::{TableFault, check_rows};
 
 // So many bytes, each another one than that before it.
