@@ -1,23 +1,24 @@
 -- Blocks of vertices that are passed over: what their box in the world says of the chain along them.
-use Rattle.std.proofs.Common.{◌≡◌, ◌∙◌, ℕ, ◌<◌, ◌||◌, Bool, true, false, List, [], ◌∷◌, map, refl, sym, ap, arith}
-use Rattle.std.proofs.lemmas.Bool.{eqb-true}
+use Rattle.std.proofs.Common.{◌≡◌, ◌∙◌, ℕ, ◌*◌, ◌<◌, true, List, [], ◌∷◌, map, refl, sym, ap, arith}
 use Rattle.std.proofs.lemmas.Int.{ints}
 use Rattle.std.specs.List.{AllByRecursion, count_by}
-use Rattle.std.specs.Prelude.{int_le, int_lt, nat_le, ◌==◌}
-use lib.IntN.{pos, ◌-ℤ◌}
+use Rattle.std.specs.Prelude.{int_le, nat_le}
+use lib.IntN.{ℤ, pos, ◌-ℤ◌, ◌*ℤ◌}
 use lib.Signed.{◌<ℤ◌, ◌≤ℤ◌}
-use Rattle.geom.specs.Device.{DevicePoint, centre, pixel_centre}
+use Rattle.geom.specs.Device.{DevicePoint, pixel_centre}
 use Rattle.geom.specs.Edge.{crosses_at_or_left}
 use Rattle.geom.specs.EvenOdd.{edge_between, is_covered, is_odd}
 use Rattle.geom.specs.Laws.{is_one_of}
 use Rattle.geom.specs.World.{Area, HasPlace, IsExtent, Place}
 use Rattle.geom.proofs.Products.{le_of}
+use Rattle.geom.proofs.Quotients.{at_most-by_product, quotient_parts}
+use Rattle.std.specs.Int.{int_div_euclid}
 use Rattle.clip.proofs.Rowed.{first_row-at_most}
-use Rattle.viewport.specs.View.{ViewValue, device_point}
+use Rattle.viewport.specs.View.{ViewValue, device_point, sixteenths}
 use Rattle.scanfill.specs.RowFlips.{is_pixel_flipped}
 use Rattle.compose.specs.declared.run.Run.{Run}
 use Rattle.compose.specs.Flipped.{AddsEdge, IsRun, row_of}
-use Rattle.compose.specs.Chain.{AddsChain, HasChain, across, chain_edges, chain_end, is_left, is_missed}
+use Rattle.compose.specs.Chain.{AddsChain, HasChain, chain_edges, chain_end, is_left, is_right}
 use Rattle.compose.proofs.Chains.{beside, end-has, left, right}
 use Rattle.compose.proofs.Flipping.{end-placed, one-false, row-between, sixteenths-rising}
 
@@ -48,42 +49,51 @@ in-row view box from rest flips rows all same = adds-nothing view flips from res
     sym (first_row-at_most (device_point view place).y view.height j below) ∙ ap (λ n. nat_le n j) of_row)
     (from ∷ rest) all))
 
--- a block right of the pixel centres of the last column is crossed left of none
-right-of : (view : ViewValue) (box : Area) (from : Place) (rest : List Place) (flips : List ℕ) → IsExtent view.area → HasChain box from rest →
-    centre (pos view.width -ℤ pos 1) <ℤ across view box.minx → AddsChain view flips from rest flips
-right-of view box from rest flips extent all far = adds-nothing view flips from rest (λ i j column below.
+-- how far a longitude is from the left
+abbrev across : ViewValue → ℤ → ℤ
+across view longitude = sixteenths view.width (longitude -ℤ view.area.minx) (view.area.maxx -ℤ view.area.minx)
+
+-- the whole of a side has all its sixteenths, and none of it has none
+sixteenths-whole : (pixels : ℕ) (whole : ℤ) → pos 0 <ℤ whole → pos (16 * pixels) ≤ℤ sixteenths pixels whole whole
+unfolding sixteenths
+sixteenths-whole pixels whole some =
+    let times = pos (16 * pixels) in
+    at_most-by_product times (int_div_euclid (times *ℤ whole) whole) whole some (quotient_parts (times *ℤ whole) whole some).1
+
+sixteenths-none : (pixels : ℕ) (whole : ℤ) → pos 0 <ℤ whole → sixteenths pixels (pos 0) whole ≤ℤ pos 0
+unfolding sixteenths
+sixteenths-none pixels whole some =
+    let times = pos (16 * pixels) in
+    let none : times *ℤ pos 0 ≡ pos 0 = omega (arith, ints) in
+    at_most-by_product (int_div_euclid (times *ℤ pos 0) whole) (pos 0) whole some (omega (arith, ints, (quotient_parts (times *ℤ pos 0) whole some).0, none, some))
+
+-- a block right of the view is crossed left of none of its pixel centres
+pub right-of : (view : ViewValue) (box : Area) (from : Place) (rest : List Place) (flips : List ℕ) → IsExtent view.area → HasChain box from rest →
+    is_right view box ≡ true → AddsChain view flips from rest flips
+right-of view box from rest flips extent all is = adds-nothing view flips from rest (λ i j column below.
     let p = pixel_centre (pos i) (pos j) in
     let whole = view.area.maxx -ℤ view.area.minx in
     right p (device_point view from) (map (device_point view) rest)
     (all-placed view box (λ v. p.x <ℤ v.x)
     (λ place inside.
-    let more : across view box.minx ≤ℤ across view place.x = sixteenths-rising view.width (box.minx -ℤ view.area.minx) (place.x -ℤ view.area.minx) whole (omega (arith, ints, extent.columns)) (omega (arith, ints, inside.west)) in
-    omega (arith, ints, more, far, column))
+    let end : pos (16 * view.width) ≤ℤ sixteenths view.width whole whole = sixteenths-whole view.width whole (omega (arith, ints, extent.columns)) in
+    let more : sixteenths view.width whole whole ≤ℤ across view place.x = sixteenths-rising view.width whole (place.x -ℤ view.area.minx) whole (omega (arith, ints, extent.columns)) (omega (arith, ints, inside.west, is)) in
+    omega (arith, ints, end, more, column))
     (from ∷ rest) all))
 
-pub missed : (view : ViewValue) (box : Area) (from : Place) (rest : List Place) (flips : List ℕ) → IsExtent view.area → HasChain box from rest →
-    is_missed view box ≡ true → AddsChain view flips from rest flips
-missed view box from rest flips extent all is = go (int_lt (centre (pos view.width -ℤ pos 1)) (across view box.minx)) refl is
-  where
-    go : (t : Bool) → int_lt (centre (pos view.width -ℤ pos 1)) (across view box.minx) ≡ t → (t || (row_of view box.miny == row_of view box.maxy)) ≡ true → AddsChain view flips from rest flips
-    go true e f = right-of view box from rest flips extent all (omega (arith, ints, e))
-    go false e f = in-row view box from rest flips extent.rows all (eqb-true (row_of view box.miny) (row_of view box.maxy) f)
-
--- a block left of the pixel centres of the first column, or at them, counts like its chord
+-- a block left of the view counts like its chord
 pub by-chord : (view : ViewValue) (box : Area) (from : Place) (rest : List Place) (old new : List ℕ) → IsExtent view.area → HasChain box from rest →
     is_left view box ≡ true → AddsEdge view old from (chain_end from rest) new → AddsChain view old from rest new
 by-chord view box from rest old new extent all is adds = record {
   same = λ i j column below.
       let p = pixel_centre (pos i) (pos j) in
       let whole = view.area.maxx -ℤ view.area.minx in
-      let near : across view box.maxx ≤ℤ centre (pos 0) = le_of (across view box.maxx) (centre (pos 0)) is in
+      let begin : sixteenths view.width (pos 0) whole ≤ℤ pos 0 = sixteenths-none view.width whole (omega (arith, ints, extent.columns)) in
+      let inside-left : (place : Place) → HasPlace box place → (device_point view place).x ≤ℤ p.x = λ place inside.
+      let less : across view place.x ≤ℤ sixteenths view.width (pos 0) whole = sixteenths-rising view.width (place.x -ℤ view.area.minx) (pos 0) whole (omega (arith, ints, extent.columns)) (omega (arith, ints, inside.east, le_of box.maxx view.area.minx is)) in
+      omega (arith, ints, less, begin) in
       let covered : is_covered (chain_edges (device_point view from) (map (device_point view) rest)) p ≡ crosses_at_or_left p (edge_between (device_point view from, device_point view (chain_end from rest))) =
-      left p (device_point view from) (map (device_point view) rest)
-      (all-placed view box (λ v. v.x ≤ℤ p.x)
-      (λ place inside.
-      let less : across view place.x ≤ℤ across view box.maxx = sixteenths-rising view.width (place.x -ℤ view.area.minx) (box.maxx -ℤ view.area.minx) whole (omega (arith, ints, extent.columns)) (omega (arith, ints, inside.east)) in
-      omega (arith, ints, less, near))
-      (from ∷ rest) all)
+      left p (device_point view from) (map (device_point view) rest) (all-placed view box (λ v. v.x ≤ℤ p.x) inside-left (from ∷ rest) all)
       ∙ ap (λ (end : DevicePoint). crosses_at_or_left p (edge_between (device_point view from, end))) (end-placed view from rest) in
       adds i j column below ∙ ap (λ b. is_one_of (is_pixel_flipped old i j) b) (sym covered);
 }

@@ -1,11 +1,11 @@
 -- Chains of vertices: blocks of a part, as they are passed over (docs/ARCHITECTURE.md, "Blocks of vertices").
-use Rattle.std.specs.Prelude.{◌==◌, ℕ, Bool, ◌||◌, ℤ, pos, ◌-ℤ◌, int_le, int_lt, List, [], ◌∷◌, map}
+use Rattle.std.specs.Prelude.{ℕ, Bool, int_le, int_lt, List, [], ◌∷◌, map}
 use Rattle.std.specs.List.{AllByRecursion}
-use Rattle.geom.specs.Device.{DevicePoint, centre}
+use Rattle.geom.specs.Device.{DevicePoint}
 use Rattle.geom.specs.Edge.{EdgeEnds}
 use Rattle.geom.specs.World.{Area, HasPlace, Place}
-use Rattle.viewport.specs.View.{ViewValue, device_point, sixteenths}
-use Rattle.compose.specs.Flipped.{Adds, row_of}
+use Rattle.viewport.specs.View.{ViewValue, device_point}
+use Rattle.compose.specs.Flipped.{Adds}
 
 -- the edges from a vertex over those that follow
 abbrev pub chain_edges : DevicePoint → List DevicePoint → List EdgeEnds
@@ -25,17 +25,13 @@ chord from rest = record { from = from; to = chain_end from rest }
 abbrev pub HasChain : Area → Place → List Place → Type 0
 HasChain box from rest = AllByRecursion (HasPlace box) (from ∷ rest)
 
--- how far a longitude is from the left
-abbrev pub across : ViewValue → ℤ → ℤ
-across view longitude = sixteenths view.width (longitude -ℤ view.area.minx) (view.area.maxx -ℤ view.area.minx)
+-- a box lies right of the view
+abbrev pub is_right : ViewValue → Area → Bool
+is_right view box = int_lt view.area.maxx box.minx
 
--- a box lies right of the pixel centres of the last column, or in one row
-abbrev pub is_missed : ViewValue → Area → Bool
-is_missed view box = int_lt (centre (pos view.width -ℤ pos 1)) (across view box.minx) || (row_of view box.miny == row_of view box.maxy)
-
--- a box lies left of the pixel centres of the first column, or at them
+-- a box lies left of the view, or reaches to its left side
 abbrev pub is_left : ViewValue → Area → Bool
-is_left view box = int_le (across view box.maxx) (centre (pos 0))
+is_left view box = int_le box.maxx view.area.minx
 
 -- by the new flips those pixels lie inside that either do by the old ones or the edges of a chain cover, and not both
 abbrev pub AddsChain : ViewValue → List ℕ → Place → List Place → List ℕ → Type 0

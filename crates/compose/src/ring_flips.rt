@@ -50,8 +50,8 @@ fn add_ring(flips: &mut RowFlips, rows: &RowFinder<'_>, ring: &Part) -> Result<(
     Ok(())
 }
 
-// Adds the flips of a block: of none of its edges if its box lies in one row or right of the picture, of its chord if
-// it lies left of it, else of all.
+// Adds the flips of a block: of none of its edges if its box lies between the latitudes of the run or right of the
+// picture, of its chord if it lies left of it, else of all.
 fn add_block(
     flips: &mut RowFlips,
     rows: &RowFinder<'_>,
@@ -73,7 +73,7 @@ fn add_block(
         run.from = last;
         return Ok(run);
     }
-    if rows.misses(area) {
+    if rows.is_right(area) {
         return Ok(rows.begin(last, rows.row_of(last.y())));
     }
     if rows.is_left(area) {

@@ -2,7 +2,7 @@ ghost use Rattle.std.specs.Prelude.{◌≡◌, ◌^◌, ◌&&◌, ◌≤ℤ◌, 
 ghost use Rattle.geom.specs.Range.{IsBelow};
 ghost use Rattle.geom.specs.World.{IsExtent};
 ghost use Rattle.clip.specs.Class.{first_row};
-ghost use Rattle.compose.specs.Chain.{is_left, is_missed};
+ghost use Rattle.compose.specs.Chain.{is_left, is_right};
 ghost use Rattle.compose.specs.Flipped.{IsRun, row_of};
 
 use crate::latitudes::{Band, RowLatitudes, row_at};
@@ -101,15 +101,12 @@ impl<'a> RowFinder<'a> {
         }
     }
 
-    /// Whether a box lies in one row, or right of the picture: a chain of vertices in it adds no flips.
-    pub fn misses(&self, area: BlockBox) -> bool
-        ensures value { result ≡ is_missed self.now area }
+    /// Whether a box lies right of the picture: a chain of vertices in it adds no flips.
+    pub fn is_right(&self, area: BlockBox) -> bool
+        ensures value { result ≡ is_right self.now area }
         ensures limits { IsExtent self.now.area }
     {
-        let _area = self.projection.area();
-        let end = 16 * i64::from(self.projection.width().pixels()) - 8;
-        self.projection.across(area.minx()) > end
-            || self.row_of(area.miny()) == self.row_of(area.maxy())
+        self.projection.area().maxx().millionths() < area.minx().get().millionths()
     }
 
     /// Whether a box lies left of the picture: a chain of vertices in it adds the flips of its chord.
@@ -117,8 +114,7 @@ impl<'a> RowFinder<'a> {
         ensures value { result ≡ is_left self.now area }
         ensures limits { IsExtent self.now.area }
     {
-        let _area = self.projection.area();
-        self.projection.across(area.maxx()) <= 8
+        area.maxx().get().millionths() <= self.projection.area().minx().millionths()
     }
 }
 

@@ -3,7 +3,7 @@ use Rattle.std.proofs.lemmas.Bool.{and_parts}
 use Rattle.std.specs.Prelude.{int_le}
 use Rattle.geom.specs.World.{Place}
 use Rattle.compose.specs.Flipped.{AddsEdge, IsRun}
-use Rattle.compose.proofs.Skipping.{IsOver, by-chord, missed, within-run}
+use Rattle.compose.proofs.Skipping.{IsOver, by-chord, right-of, within-run}
 use Rattle.compose.proofs.ring_flips.add_block.Goals as goal
 
 -- a block between the two latitudes of the run
@@ -20,9 +20,9 @@ returns-then-has-2-clause-run c =
 pub returns-then-has-2-clause-adds : goal.returns-then-has-2-clause-adds
 returns-then-has-2-clause-adds c = (over c).adds
 
-pub returns-then-misses-clause-adds : goal.returns-then-misses-clause-adds
-returns-then-misses-clause-adds c =
-    missed c.args.rows.now c.args.area c.args.run.from c.args.block.now c.args.flips.now.flips c.misses.ensures.limits c.requires.has (sym c.misses.ensures.value ∙ c.if-misses.true)
+pub returns-then-is_right-clause-adds : goal.returns-then-is_right-clause-adds
+returns-then-is_right-clause-adds c =
+    right-of c.args.rows.now c.args.area c.args.run.from c.args.block.now c.args.flips.now.flips c.is_right.ensures.limits c.requires.has (sym c.is_right.ensures.value ∙ c.if-is_right.true)
 
 pub returns-then-is_left-clause-adds : goal.returns-then-is_left-clause-adds
 returns-then-is_left-clause-adds c =
