@@ -6,7 +6,8 @@ use compose::picture;
 use geom::{Micro, NUMBER_LIMIT, PictureSide, World, WorldBox};
 use mapdefs::{
     AllFeatures, Class, ClassFields, Feature, FeatureFields, Items, Kind, Layer, LayerFields,
-    MAX_VERTICES, Map, Part, Picture, Rgb, Rule, Shared, SharedItems, Style, StyleFields, Symbol, Text,
+    MAX_VERTICES, Map, Part, Picture, Rgb, Rule, Shared, SharedItems, Style, StyleFields, Symbol,
+    Text,
 };
 use scaledenom::Scale;
 use std::alloc::{AllocError, Global};
