@@ -140,4 +140,5 @@ def main():
         sys.exit("a picture differs, or there is none")
 
 
-main()
+if __name__ == "__main__":
+    main()

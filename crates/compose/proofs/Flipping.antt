@@ -1,6 +1,6 @@
 -- Flips that stand for the edges of rings.
-use Rattle.std.proofs.Common.{◌≡◌, ◌∙◌, ℕ, ◌+◌, ◌*◌, ◌<◌, ◌≤◌, min, Bool, true, false, not, ◌&&◌, if◌then◌else◌, cond, List, [], ◌∷◌, ◌++◌, map, take, drop, suc, add-one, append-nil, append_assoc, length, get_or, refl, sym, ap, arith}
-use Rattle.std.proofs.lemmas.Bool.{and_left, and_parts}
+use Rattle.std.proofs.Common.{◌≡◌, ◌∙◌, ℕ, ◌+◌, ◌*◌, ◌<◌, ◌≤◌, min, Bool, true, false, not, if◌then◌else◌, cond, List, [], ◌∷◌, ◌++◌, map, take, drop, suc, add-one, append-nil, append_assoc, length, get_or, refl, sym, ap, arith}
+use Rattle.std.proofs.lemmas.Bool.{and_left}
 use Rattle.std.proofs.Math.Seq.{drop-cons}
 use Rattle.std.proofs.lemmas.List.{take_more}
 use Rattle.std.proofs.lemmas.Int.{ints}
@@ -15,8 +15,8 @@ use Rattle.geom.specs.Edge.{EdgeEnds, crosses_height, crosses_at_or_left, meets_
 use Rattle.geom.specs.EvenOdd.{edge_between, edges, is_covered, is_odd, ring_edges}
 use Rattle.geom.specs.Laws.{is_one_of}
 use Rattle.geom.specs.World.{Place}
-use Rattle.geom.proofs.Products.{le_of, mul-sub, product_nonneg}
-use Rattle.geom.proofs.Rings.{closing_edges, ring_edges-closing}
+use Rattle.geom.proofs.Products.{mul-sub, product_nonneg}
+use Rattle.geom.proofs.Rings.{closing_edges}
 use Rattle.geom.proofs.Quotients.{at_most-by_product, quotient_parts}
 use Rattle.clip.specs.Class.{at_least_zero, first_row}
 use Rattle.clip.proofs.Rowed.{first_row-at_most}
@@ -24,6 +24,7 @@ use Rattle.viewport.specs.View.{ViewValue, device_point, sixteenths}
 use Rattle.scanfill.specs.RowFlips.{is_pixel_flipped, flips_by}
 use Rattle.compose.specs.declared.run.Run.{Run}
 use Rattle.compose.specs.Flipped.{Adds, AddsEdge, IsRun, StandFor, row_of}
+use Rattle.compose.specs.Chain.{chain_edges, chain_end}
 
 -- an edge whose ends are of one row crosses no row
 same-tests : (s t : Bool) → s ≡ t → (if s then not t else t) ≡ false
@@ -113,65 +114,49 @@ run-missed view run to flips is row i j column below =
     sym (ap (λ b. is_one_of (is_pixel_flipped flips i j) b) (row-missed (edge_between (device_point view run.from, device_point view to)) view.height i j (from ∙ sym row) below)
     ∙ one-false (is_pixel_flipped flips i j))
 
--- an edge that was added needs to be added no more
-pub run-step : (old new : Bool) (e : EdgeEnds) (es : List EdgeEnds) (p : DevicePoint) → new ≡ is_one_of old (crosses_at_or_left p e) →
-    is_one_of new (is_covered es p) ≡ is_one_of old (is_covered (e ∷ es) p)
-run-step old new e es p same =
-    ap (λ b. is_one_of b (is_covered es p)) same
-    ∙ (one-assoc old (crosses_at_or_left p e) (is_covered es p) ∙ ap (λ b. is_one_of old b) (sym (covered-cons e es p)))
-
--- the edges that are left of a ring are those that are to be added
-pub record IsLeft (view : ViewValue) (old flips : List ℕ) (ring : List Place) (first from : Place) (rest : List Place) : Type 0 where
+-- the edges that are left of some are those that are to be added
+pub record IsLeft (view : ViewValue) (old flips : List ℕ) (whole left : List EdgeEnds) : Type 0 where
   pub same : (i j : ℕ) → i < view.width → j < view.height →
-      is_one_of (is_pixel_flipped flips i j) (is_covered (closing_edges (device_point view first) (device_point view from) (map (device_point view) rest)) (pixel_centre (pos i) (pos j)))
-      ≡ is_one_of (is_pixel_flipped old i j) (is_covered (ring_edges (map (device_point view) ring)) (pixel_centre (pos i) (pos j)))
+      is_one_of (is_pixel_flipped flips i j) (is_covered left (pixel_centre (pos i) (pos j)))
+      ≡ is_one_of (is_pixel_flipped old i j) (is_covered whole (pixel_centre (pos i) (pos j)))
 
-pub left-all : (view : ViewValue) (old : List ℕ) (ring : List Place) (first : Place) (rest : List Place) → ring ≡ first ∷ rest → IsLeft view old old ring first first rest
-left-all view old ring first rest e = record {
-  same = λ i j column below. ap (λ es. is_one_of (is_pixel_flipped old i j) (is_covered es (pixel_centre (pos i) (pos j))))
-      (sym (ring_edges-closing (map (device_point view) ring) (device_point view first) (map (device_point view) rest) (ap (map (device_point view)) e)));
+pub left-all : (view : ViewValue) (old : List ℕ) (whole left : List EdgeEnds) → whole ≡ left → IsLeft view old old whole left
+left-all view old whole left e = record {
+  same = λ i j column below. ap (λ es. is_one_of (is_pixel_flipped old i j) (is_covered es (pixel_centre (pos i) (pos j)))) (sym e);
 }
 
-pub left-next : (view : ViewValue) (old flips new : List ℕ) (ring : List Place) (first from to : Place) (rest more : List Place) → rest ≡ to ∷ more →
-    IsLeft view old flips ring first from rest → AddsEdge view flips from to new → IsLeft view old new ring first to more
-left-next view old flips new ring first from to rest more e is adds = record {
+-- edges that were added need to be added no more
+pub left-next : (view : ViewValue) (old flips new : List ℕ) (whole left more rest : List EdgeEnds) → left ≡ more ++ rest →
+    IsLeft view old flips whole left → Adds view flips more new → IsLeft view old new whole rest
+left-next view old flips new whole left more rest e is adds = record {
   same = λ i j column below.
       let p = pixel_centre (pos i) (pos j) in
-      let edge = edge_between (device_point view from, device_point view to) in
-      run-step (is_pixel_flipped flips i j) (is_pixel_flipped new i j) edge (closing_edges (device_point view first) (device_point view to) (map (device_point view) more)) p (adds i j column below)
-      ∙ (ap (λ (places : List Place). is_one_of (is_pixel_flipped flips i j) (is_covered (closing_edges (device_point view first) (device_point view from) (map (device_point view) places)) p)) (sym e)
+      ap (λ b. is_one_of b (is_covered rest p)) (adds.same i j column below)
+      ∙ (one-assoc (is_pixel_flipped flips i j) (is_covered more p) (is_covered rest p)
+      ∙ (ap (λ b. is_one_of (is_pixel_flipped flips i j) b) (sym (covered-append more rest p))
+      ∙ (ap (λ es. is_one_of (is_pixel_flipped flips i j) (is_covered es p)) (sym e)
+      ∙ is.same i j column below)));
+}
+
+pub left-none : (view : ViewValue) (old flips : List ℕ) (whole left : List EdgeEnds) → left ≡ [] → IsLeft view old flips whole left → Adds view old whole flips
+left-none view old flips whole left e is = record {
+  same = λ i j column below.
+      let p = pixel_centre (pos i) (pos j) in
+      sym (one-false (is_pixel_flipped flips i j))
+      ∙ (ap (λ es. is_one_of (is_pixel_flipped flips i j) (is_covered es p)) (sym e)
       ∙ is.same i j column below);
 }
 
-pub left-none : (view : ViewValue) (old flips new : List ℕ) (ring : List Place) (first from : Place) (rest : List Place) → rest ≡ [] →
-    IsLeft view old flips ring first from rest → AddsEdge view flips from first new → Adds view old (ring_edges (map (device_point view) ring)) new
-left-none view old flips new ring first from rest e is adds = record {
+-- one edge
+pub adds-edge : (view : ViewValue) (old new : List ℕ) (from to : Place) → AddsEdge view old from to new →
+    Adds view old (edge_between (device_point view from, device_point view to) ∷ []) new
+adds-edge view old new from to adds = record {
   same = λ i j column below.
       let p = pixel_centre (pos i) (pos j) in
+      let e : EdgeEnds = edge_between (device_point view from, device_point view to) in
       adds i j column below
-      ∙ (ap (λ b. is_one_of (is_pixel_flipped flips i j) b) (sym (covered-cons (edge_between (device_point view from, device_point view first)) [] p ∙ one-false (crosses_at_or_left p (edge_between (device_point view from, device_point view first)))))
-      ∙ (ap (λ (places : List Place). is_one_of (is_pixel_flipped flips i j) (is_covered (closing_edges (device_point view first) (device_point view from) (map (device_point view) places)) p)) (sym e)
-      ∙ is.same i j column below));
+      ∙ ap (λ b. is_one_of (is_pixel_flipped old i j) b) (sym (covered-cons e [] p ∙ one-false (crosses_at_or_left p e)));
 }
-
--- the same where the vertex is that of a run
-pub record IsOn (view : ViewValue) (old flips : List ℕ) (ring : List Place) (first : Place) (run : Run) (rest : List Place) : Type 0 where
-  pub left : IsLeft view old flips ring first run.from rest
-  pub valid : IsRun view run
-
--- a vertex between the two latitudes of the run is passed by
-pub passed-by : (view : ViewValue) (old flips : List ℕ) (ring : List Place) (first : Place) (run : Run) (to : Place) (rest more : List Place) → rest ≡ to ∷ more →
-    IsRun view run → (int_le run.low to.y && int_le to.y run.high) ≡ true → IsLeft view old flips ring first run.from rest →
-    IsOn view old flips ring first (record { from = to; row = run.row; low = run.low; high = run.high }) more
-passed-by view old flips ring first run to rest more e is has before =
-    let both = and_parts (int_le run.low to.y) (int_le to.y run.high) has in
-    let least = le_of run.low to.y both.0 in
-    let most = le_of to.y run.high both.1 in
-    let row : row_of view to.y ≡ run.row = row-between view run.low run.high to.y run.row is.rows is.low is.high least most in
-    record {
-      left = left-next view old flips flips ring first run.from to rest more e before (run-missed view run to flips is row);
-      valid = record { low = is.low; high = is.high; least = least; most = most; rows = is.rows };
-    }
 
 -- one flip more in the count turns a pixel over where the edge crosses
 pub added : (old new : List ℕ) (i j : ℕ) (b : Bool) → count_by (flips_by i j) new ≡ count_by (flips_by i j) old + cond {A = ℕ} b 1 0 →
@@ -215,3 +200,13 @@ ring-next view rings i ring flips new below e is adds =
 
 pub rest-next : (rest : List Place) (i : ℕ) (to : Place) → i < length rest → to ≡ get_or rest i to → drop i rest ≡ to ∷ drop (i + 1) rest
 rest-next rest i to below e = rw (add-one) (drop-cons rest i to below ∙ ap (λ x. x ∷ drop (suc i) rest) (sym e))
+
+-- the edges of a ring are those over the vertices of a chain and those that are left of it
+pub closing-append : (first from : DevicePoint) (chain rest : List DevicePoint) →
+    closing_edges first from (chain ++ rest) ≡ chain_edges from chain ++ closing_edges first (chain_end from chain) rest
+closing-append first from [] rest = refl
+closing-append first from (to ∷ chain) rest = ap (λ es. record { from = from; to = to } ∷ es) (closing-append first to chain rest)
+
+pub end-placed : (view : ViewValue) (from : Place) (rest : List Place) → chain_end (device_point view from) (map (device_point view) rest) ≡ device_point view (chain_end from rest)
+end-placed view from [] = refl
+end-placed view from (to ∷ rest) = end-placed view to rest

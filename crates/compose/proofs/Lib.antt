@@ -1,4 +1,5 @@
 pub mod Candidates
+pub mod Chains
 pub mod Cutting
 pub mod Filling
 pub mod Finding
@@ -15,8 +16,11 @@ pub mod NearShapes
 pub mod NearThings
 pub mod Painting
 pub mod Quieting
+pub mod RingBlocks
+pub mod Skipping
 pub mod Sparing
 pub mod Stripping
+pub mod StrokeBlocks
 pub mod Stroking
 pub mod Sweeping
 pub mod FlipFilling

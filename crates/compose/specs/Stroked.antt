@@ -1,5 +1,5 @@
 -- What a line covers, from vertex to vertex (docs/PROFILE.md, "When a pixel belongs to a line").
-use Rattle.std.specs.Prelude.{◌≡◌, ℕ, ◌<◌, ◌≤◌, Bool, true, ◌&&◌, ◌||◌, pos, int_le, List, [], ◌∷◌, map, Some}
+use Rattle.std.specs.Prelude.{◌≡◌, ℕ, ◌<◌, ◌≤◌, Bool, true, false, ◌&&◌, ◌||◌, pos, int_le, List, [], ◌∷◌, map, Some}
 use Rattle.std.specs.List.{list_any}
 use Rattle.geom.specs.Device.{DevicePoint, pixel_centre}
 use Rattle.geom.specs.EvenOdd.{edge_between}
@@ -59,6 +59,14 @@ has_place box place = (int_le box.minx place.x && int_le place.x box.maxx) && (i
 -- a step of a pen between two places
 abbrev pub pen_covers : PenValue → Place → Place → ℕ → ℕ → Bool
 pen_covers pen a b i j = step_covers pen.width (device_point pen.view a) (device_point pen.view b) i j
+
+-- one of the steps from a place over those that follow does
+abbrev pub chain_covers : PenValue → Place → List Place → ℕ → ℕ → Bool
+chain_covers pen from rest i j = rest_covers false pen.width (device_point pen.view from) (device_point pen.view from) (map (device_point pen.view) rest) i j
+
+-- a box lies in another one
+abbrev pub has_box : Area → Area → Bool
+has_box big small = (int_le big.minx small.minx && int_le small.maxx big.maxx) && (int_le big.miny small.miny && int_le small.maxy big.maxy)
 
 -- a picture has the sides of a pen's view
 pub record IsOf (pen : PenValue) (canvas : PictureFields) : Type 0 where

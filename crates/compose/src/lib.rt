@@ -21,6 +21,7 @@
 mod anchor;
 mod boxes;
 mod canvas;
+mod chain;
 mod colouring;
 mod drawing;
 mod flip_fill;

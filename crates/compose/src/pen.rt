@@ -1,10 +1,10 @@
 ghost use Rattle.std.specs.Prelude.{◌≡◌, ◌≤◌, ◌&&◌, true, int_le};
 ghost use Rattle.geom.specs.World.{IsExtent};
 ghost use Rattle.mapdefs.specs.declared.limits.TheConstants.{MAX_LINE_WIDTH};
-ghost use Rattle.compose.specs.Stroked.{IsQuiet, has_place};
+ghost use Rattle.compose.specs.Stroked.{IsQuiet, has_box, has_place};
 
 use geom::{Micro, World, WorldBox};
-use mapdefs::Rgb;
+use mapdefs::{BlockBox, Rgb};
 use scene::Scene;
 use std::marker::Model;
 use viewport::Projection;
@@ -113,6 +113,23 @@ pub fn has_place(area: &WorldBox, place: World) -> bool
     let (x, y) = (place.x().get().millionths(), place.y().get().millionths());
     is_between(area.minx().millionths(), x, area.maxx().millionths())
         && is_between(area.miny().millionths(), y, area.maxy().millionths())
+}
+
+/// Whether a block's box lies in a box.
+pub fn has_box(area: &WorldBox, block: BlockBox) -> bool
+    ensures { result ≡ has_box area.now block }
+{
+    let (minx, maxx) = (block.minx().get(), block.maxx().get());
+    let (miny, maxy) = (block.miny().get(), block.maxy().get());
+    encloses((area.minx(), area.maxx()), (minx, maxx))
+        && encloses((area.miny(), area.maxy()), (miny, maxy))
+}
+
+// Whether the numbers between two lie between two others.
+fn encloses(outer: (Micro, Micro), inner: (Micro, Micro)) -> bool
+    ensures { result ≡ (int_le outer.0 inner.0 && int_le inner.1 outer.1) }
+{
+    outer.0.millionths() <= inner.0.millionths() && inner.1.millionths() <= outer.1.millionths()
 }
 
 // Whether a number lies between two others, both included.

@@ -7,7 +7,7 @@ ghost use Rattle.compose.specs.Painted.{IsPainted};
 use crate::canvas::Canvas;
 use crate::rows::paint_cover;
 use geom::{Pixel, World};
-use mapdefs::{Items, Rgb, Style, Symbol};
+use mapdefs::{Part, Rgb, Style, Symbol};
 use scene::Scene;
 use std::alloc::AllocError;
 use strokes::Square;
@@ -17,7 +17,7 @@ use symbols::Stamp;
 pub fn paint_points(
     canvas: &mut Canvas,
     scene: &Scene<'_>,
-    parts: &[Items<World>],
+    parts: &[Part],
     styles: &[Style],
 ) -> Result<(), AllocError>
     ensures { OnOk result (IsPainted canvas.old canvas.new
@@ -33,7 +33,7 @@ pub fn paint_points(
 fn paint_by_style(
     canvas: &mut Canvas,
     scene: &Scene<'_>,
-    parts: &[Items<World>],
+    parts: &[Part],
     style: &Style,
 ) -> Result<(), AllocError>
     ensures { OnOk result (IsPainted canvas.old canvas.new (flat_map (λ part. flat_map (point_things scene.now.view scene.now.map.symbols style.now) part) parts.now)) }

@@ -13,8 +13,7 @@ use crate::ring_flips::add_rings;
 use crate::run::RowFinder;
 use crate::stroke::paint_along_parts;
 use crate::sweep::fill_polygon;
-use geom::World;
-use mapdefs::{Items, Rgb, Style};
+use mapdefs::{Part, Rgb, Style};
 use scanfill::{FlipFault, Polygon};
 use scene::Scene;
 use std::alloc::AllocError;
@@ -24,7 +23,7 @@ use std::alloc::AllocError;
 pub fn paint_polygon(
     canvas: &mut Canvas,
     scene: &Scene<'_>,
-    rings: &[Items<World>],
+    rings: &[Part],
     styles: &[Style],
 ) -> Result<(), AllocError>
     requires width { canvas.old.width ≡ scene.now.view.width }
@@ -43,7 +42,7 @@ pub fn paint_polygon(
 fn fill_rings(
     canvas: &mut Canvas,
     scene: &Scene<'_>,
-    rings: &[Items<World>],
+    rings: &[Part],
     style: &Style,
 ) -> Result<(), AllocError>
     requires width { canvas.old.width ≡ scene.now.view.width }
@@ -64,7 +63,7 @@ fn fill_rings(
 fn fill_by_flips(
     canvas: &mut Canvas,
     scene: &Scene<'_>,
-    rings: &[Items<World>],
+    rings: &[Part],
     colour: Rgb,
 ) -> Result<(), FlipFault>
     requires width { canvas.old.width ≡ scene.now.view.width }
@@ -92,7 +91,7 @@ fn fill_by_flips(
 fn fill_by_sweep(
     canvas: &mut Canvas,
     scene: &Scene<'_>,
-    rings: &[Items<World>],
+    rings: &[Part],
     colour: Rgb,
 ) -> Result<(), AllocError>
     ensures { OnOk result (IsPainted canvas.old canvas.new (Fill (map (map (device_point scene.now.view)) rings.now) colour ∷ [])) }
@@ -106,7 +105,7 @@ fn fill_by_sweep(
 fn paint_outline(
     canvas: &mut Canvas,
     scene: &Scene<'_>,
-    rings: &[Items<World>],
+    rings: &[Part],
     style: &Style,
 ) -> Result<(), AllocError>
     requires width { canvas.old.width ≡ scene.now.view.width }

@@ -1,11 +1,13 @@
 ghost use Rattle.std.specs.Prelude.{◌≡◌, [], map, IfOk, OnOk};
 ghost use Rattle.geom.specs.EvenOdd.{edges, ring_edges};
 ghost use Rattle.viewport.specs.View.{device_point};
+ghost use Rattle.compose.specs.Chain.{AddsChain, HasChain, chain_end};
 ghost use Rattle.compose.specs.Flipped.{Adds, AddsEdge, IsRun, StandFor};
 
+use crate::chain::last_of;
 use crate::run::{RowFinder, Run};
 use geom::{Edge, World};
-use mapdefs::Items;
+use mapdefs::{BlockBox, Part, split_block};
 use scanfill::{FlipFault, RowFlips};
 
 /// Adds the flips of the edges of the rings to an empty list. An edge that crosses no row of the picture is
@@ -13,7 +15,7 @@ use scanfill::{FlipFault, RowFlips};
 pub fn add_rings(
     flips: &mut RowFlips,
     rows: &RowFinder<'_>,
-    rings: &[Items<World>],
+    rings: &[Part],
 ) -> Result<(), FlipFault>
     requires none { flips.old.flips ≡ [] }
     requires width { flips.old.width ≡ rows.now.width }
@@ -22,31 +24,87 @@ pub fn add_rings(
     ensures stand { OnOk result (StandFor rows.now flips.new.flips (edges (map (map (device_point rows.now)) rings.now))) }
 {
     for ring in rings {
-        add_ring(flips, rows, ring.as_slice())?;
+        add_ring(flips, rows, ring)?;
     }
     Ok(())
 }
 
-// Adds the flips of one ring. A vertex between the two latitudes of the run is skipped.
-fn add_ring(flips: &mut RowFlips, rows: &RowFinder<'_>, ring: &[World]) -> Result<(), FlipFault>
+// Adds the flips of one ring, block by block.
+fn add_ring(flips: &mut RowFlips, rows: &RowFinder<'_>, ring: &Part) -> Result<(), FlipFault>
     requires width { flips.old.width ≡ rows.now.width }
     requires height { flips.old.height ≡ rows.now.height }
     ensures sides { flips.new ≡ record flips.old { flips = flips.new.flips } }
     ensures adds { OnOk result (Adds rows.now flips.old.flips (ring_edges (map (device_point rows.now) ring.now)) flips.new.flips) }
 {
-    let Some((first, rest)) = ring.split_first() else {
+    let Some((first, rest)) = ring.as_slice().split_first() else {
         return Ok(());
     };
     let mut run = rows.begin(*first, rows.row_of(first.y()));
-    for to in rest {
+    let mut left = rest;
+    for area in ring.boxes() {
+        let (block, behind) = split_block(left);
+        run = add_block(flips, rows, run, *area, block)?;
+        left = behind;
+    }
+    go_on(flips, rows, run, *first)?;
+    Ok(())
+}
+
+// Adds the flips of a block: of none of its edges if its box lies between the latitudes of the run or right of the
+// picture, of its chord if it lies left of it, else of all.
+fn add_block(
+    flips: &mut RowFlips,
+    rows: &RowFinder<'_>,
+    mut run: Run,
+    area: BlockBox,
+    block: &[World],
+) -> Result<Run, FlipFault>
+    requires width { flips.old.width ≡ rows.now.width }
+    requires height { flips.old.height ≡ rows.now.height }
+    requires run { IsRun rows.now run }
+    requires has { HasChain area run.from block.now }
+    ensures sides { flips.new ≡ record flips.old { flips = flips.new.flips } }
+    ensures from { IfOk result (λ next. next.from ≡ chain_end run.from block.now) }
+    ensures run { IfOk result (λ next. IsRun rows.now next) }
+    ensures adds { OnOk result (AddsChain rows.now flips.old.flips run.from block.now flips.new.flips) }
+{
+    let last = last_of(run.from, block);
+    if run.has(area.miny()) && run.has(area.maxy()) {
+        run.from = last;
+        return Ok(run);
+    }
+    if rows.is_right(area) {
+        return Ok(rows.begin(last, rows.row_of(last.y())));
+    }
+    if rows.is_left(area) {
+        return Ok(go_on(flips, rows, run, last)?);
+    }
+    add_vertices(flips, rows, run, block)
+}
+
+// Adds the flips of the edges over the vertices of a block. One between the two latitudes of the run is skipped.
+fn add_vertices(
+    flips: &mut RowFlips,
+    rows: &RowFinder<'_>,
+    mut run: Run,
+    block: &[World],
+) -> Result<Run, FlipFault>
+    requires width { flips.old.width ≡ rows.now.width }
+    requires height { flips.old.height ≡ rows.now.height }
+    requires run { IsRun rows.now run }
+    ensures sides { flips.new ≡ record flips.old { flips = flips.new.flips } }
+    ensures from { IfOk result (λ next. next.from ≡ chain_end run.from block.now) }
+    ensures run { IfOk result (λ next. IsRun rows.now next) }
+    ensures adds { OnOk result (AddsChain rows.now flips.old.flips run.from block.now flips.new.flips) }
+{
+    for to in block {
         if run.has(to.y()) {
             run.from = *to;
         } else {
             run = go_on(flips, rows, run, *to)?;
         }
     }
-    go_on(flips, rows, run, *first)?;
-    Ok(())
+    Ok(run)
 }
 
 // Goes on to the next vertex. It adds the flips of the edge to it, if that crosses a row.

@@ -2,10 +2,12 @@ ghost use Rattle.std.specs.Prelude.{◌≡◌, ◌^◌, ◌&&◌, ◌≤ℤ◌, 
 ghost use Rattle.geom.specs.Range.{IsBelow};
 ghost use Rattle.geom.specs.World.{IsExtent};
 ghost use Rattle.clip.specs.Class.{first_row};
+ghost use Rattle.compose.specs.Chain.{is_left, is_right};
 ghost use Rattle.compose.specs.Flipped.{IsRun, row_of};
 
 use crate::latitudes::{Band, RowLatitudes, row_at};
 use geom::{Coordinate, World};
+use mapdefs::BlockBox;
 use std::marker::Model;
 use viewport::Projection;
 
@@ -97,6 +99,22 @@ impl<'a> RowFinder<'a> {
             low: latitude,
             high: latitude,
         }
+    }
+
+    /// Whether a box lies right of the picture: a chain of vertices in it adds no flips.
+    pub fn is_right(&self, area: BlockBox) -> bool
+        ensures value { result ≡ is_right self.now area }
+        ensures limits { IsExtent self.now.area }
+    {
+        self.projection.area().maxx().millionths() < area.minx().get().millionths()
+    }
+
+    /// Whether a box lies left of the picture: a chain of vertices in it adds the flips of its chord.
+    pub fn is_left(&self, area: BlockBox) -> bool
+        ensures value { result ≡ is_left self.now area }
+        ensures limits { IsExtent self.now.area }
+    {
+        area.maxx().get().millionths() <= self.projection.area().minx().millionths()
     }
 }
 

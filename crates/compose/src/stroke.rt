@@ -6,17 +6,19 @@ ghost use Rattle.strokes.specs.Strip.{is_small};
 ghost use Rattle.strokes.specs.Line.{line_of};
 ghost use Rattle.strokes.specs.Line as line;
 ghost use Rattle.viewport.specs.View.{device_point};
+ghost use Rattle.compose.specs.Chain.{HasChain, chain_end};
 ghost use Rattle.compose.specs.Painted.{IsFilled};
-ghost use Rattle.compose.specs.Stroked.{HasAlready, IsOf, IsTrail, part_covers, pen_covers, segment_covers, step_covers, vertex_covers};
+ghost use Rattle.compose.specs.Stroked.{HasAlready, IsOf, IsTrail, chain_covers, part_covers, pen_covers, segment_covers, step_covers, vertex_covers};
 
 use crate::boxes::fill_box;
 use crate::canvas::Canvas;
-use crate::pen::{Pen, has_place};
+use crate::chain::last_of;
+use crate::pen::{Pen, has_box, has_place};
 use crate::rows::paint_cover;
 use crate::strips::{fill_across, fill_down};
 use crate::trail::Trail;
 use geom::{Device, Edge, World};
-use mapdefs::{Items, Rgb};
+use mapdefs::{BlockBox, Part, Rgb, split_block};
 use std::alloc::AllocError;
 use strokes::{Segment, Square, Strip, are_neighbours, is_small, is_steep};
 
@@ -25,43 +27,89 @@ use strokes::{Segment, Square, Strip, are_neighbours, is_small, is_steep};
 pub fn paint_along_parts(
     canvas: &mut Canvas,
     pen: &Pen<'_>,
-    parts: &[Items<World>],
+    parts: &[Part],
     closed: bool,
 ) -> Result<(), AllocError>
     requires { IsOf pen.now canvas.old }
     ensures { OnOk result (IsFilled (λ i j. line.covers_pixel (line_of (map (map (device_point pen.now.view)) parts.now) closed pen.now.width) (pos i) (pos j)) (λ i j. Some pen.now.colour) canvas.old canvas.new) }
 {
     for part in parts {
-        paint_along(canvas, pen, part.as_slice(), closed)?;
+        paint_along(canvas, pen, part, closed)?;
     }
     Ok(())
 }
 
-// Paints the line along one part.
+// Paints the line along one part, block by block.
 fn paint_along(
     canvas: &mut Canvas,
     pen: &Pen<'_>,
-    part: &[World],
+    part: &Part,
     closed: bool,
 ) -> Result<(), AllocError>
     requires { IsOf pen.now canvas.old }
     ensures { OnOk result (IsFilled (part_covers closed pen.now.width (map (device_point pen.now.view) part.now)) (λ i j. Some pen.now.colour) canvas.old canvas.new) }
 {
-    let Some((first, rest)) = part.split_first() else {
+    let Some((first, rest)) = part.as_slice().split_first() else {
         return Ok(());
     };
     let mut trail = begin(canvas, pen, *first);
-    for to in rest {
+    let mut left = rest;
+    for area in part.boxes() {
+        let (block, behind) = split_block(left);
+        trail = paint_block(canvas, pen, trail, *area, block)?;
+        left = behind;
+    }
+    if closed {
+        go_on(canvas, pen, &trail, *first)?;
+    }
+    Ok(())
+}
+
+// Goes on over the vertices of a block: at once to its last one if its box lies in the trail's, else step by step.
+fn paint_block(
+    canvas: &mut Canvas,
+    pen: &Pen<'_>,
+    trail: Trail,
+    area: BlockBox,
+    block: &[World],
+) -> Result<Trail, AllocError>
+    requires sides { IsOf pen.now canvas.old }
+    requires trail { IsTrail pen.now canvas.old trail }
+    requires has { HasChain area trail.from block.now }
+    ensures from { IfOk result (λ next. next.from ≡ chain_end trail.from block.now) }
+    ensures trail { IfOk result (λ next. IsTrail pen.now canvas.new next) }
+    ensures filled { OnOk result (IsFilled (chain_covers pen.now trail.from block.now) (λ i j. Some pen.now.colour) canvas.old canvas.new) }
+{
+    if has_box(&trail.quiet, area) {
+        return Ok(Trail {
+            from: last_of(trail.from, block),
+            quiet: trail.quiet,
+        });
+    }
+    paint_steps(canvas, pen, trail, block)
+}
+
+// Paints the steps over the vertices of a block. One within the trail's box is skipped.
+fn paint_steps(
+    canvas: &mut Canvas,
+    pen: &Pen<'_>,
+    mut trail: Trail,
+    block: &[World],
+) -> Result<Trail, AllocError>
+    requires sides { IsOf pen.now canvas.old }
+    requires trail { IsTrail pen.now canvas.old trail }
+    ensures from { IfOk result (λ next. next.from ≡ chain_end trail.from block.now) }
+    ensures trail { IfOk result (λ next. IsTrail pen.now canvas.new next) }
+    ensures filled { OnOk result (IsFilled (chain_covers pen.now trail.from block.now) (λ i j. Some pen.now.colour) canvas.old canvas.new) }
+{
+    for to in block {
         if has_place(&trail.quiet, *to) {
             trail.from = *to;
         } else {
             trail = go_on(canvas, pen, &trail, *to)?;
         }
     }
-    if closed {
-        go_on(canvas, pen, &trail, *first)?;
-    }
-    Ok(())
+    Ok(trail)
 }
 
 // Paints the square round the first vertex.

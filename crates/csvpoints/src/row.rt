@@ -8,7 +8,7 @@ use crate::fault::{CsvError, CsvFault, CsvKind};
 use crate::header::Columns;
 use csv::ByteRecord;
 use geom::{COORDINATE_LIMIT, Coordinate, Micro, World};
-use mapdefs::{Feature, FeatureFields, Items, Text};
+use mapdefs::{Feature, FeatureFields, Items, Part, Text};
 use std::alloc::{AllocError, Global};
 
 // The text without the spaces at its front.
@@ -72,7 +72,7 @@ pub fn texts_of(alloc: Global, row: &ByteRecord, number: u64) -> Result<Items<Te
 fn point_at(alloc: Global, values: Items<Text>, place: World) -> Result<Feature, AllocError>
     ensures { IfOk result (λ f. f ≡ record { parts = (place ∷ []) ∷ []; text = None; values = values }) }
 {
-    let part = Items::of(vec![in alloc; place]?);
+    let part = Part::of(alloc, vec![in alloc; place]?)?;
     let parts = Items::of(vec![in alloc; part]?);
     Ok(Feature::new(FeatureFields {
         parts,

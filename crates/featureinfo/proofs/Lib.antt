@@ -1,3 +1,4 @@
+mod BlocksReaching
 mod Firsts
 mod InWindow
 mod OneHitList

@@ -3,7 +3,7 @@
 use Rattle.std.specs.Prelude.{◌≡◌, ◌+◌, ◌*◌, Bool, false, ◌&&◌, not, ℤ, pos, ◌-ℤ◌, int_le, List}
 use Rattle.std.specs.List.{list_any}
 use Rattle.geom.specs.Device.{DevicePoint}
-use Rattle.geom.specs.World.{Place}
+use Rattle.geom.specs.World.{Area, Place}
 use Rattle.viewport.specs.View.{ViewValue, device_point}
 use Rattle.mapdefs.specs.declared.layer.Kind.{Kind}
 use Rattle.featureinfo.specs.Hits.{covers_plainly}
@@ -25,6 +25,13 @@ is_within Right limit v = int_le v.x limit
 is_within Left limit v = int_le limit v.x
 is_within Bottom limit v = int_le v.y limit
 is_within Top limit v = int_le limit v.y
+
+-- a box doesn't lie beyond a limit on a side as a whole: its corner that is the last to lie there doesn't
+abbrev pub box_reaches : ViewValue → Area → ℤ → Side → Bool
+box_reaches view box limit Right = int_le (device_point view (record { x = box.minx; y = box.miny })).x limit
+box_reaches view box limit Left = int_le limit (device_point view (record { x = box.maxx; y = box.miny })).x
+box_reaches view box limit Bottom = int_le (device_point view (record { x = box.minx; y = box.maxy })).y limit
+box_reaches view box limit Top = int_le limit (device_point view (record { x = box.minx; y = box.miny })).y
 
 -- some vertex of a part doesn't lie beyond that side, and some of all parts
 abbrev pub part_reaches : ViewValue → List Place → ℤ → Side → Bool

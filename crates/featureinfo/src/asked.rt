@@ -9,7 +9,7 @@ ghost use Rattle.featureinfo.specs.Nearby.{SomeNear, part_near, points_near};
 use crate::nearby::Nearby;
 use crate::reach::is_far;
 use geom::World;
-use mapdefs::{FeatureFields, Items, Kind, LayerFields, Map, Near};
+use mapdefs::{FeatureFields, Items, Kind, LayerFields, Map, Near, Part};
 use scaledenom::Scale;
 use scanfill::Polygon;
 use scene::Scene;
@@ -45,7 +45,7 @@ fn part_near(projection: &Projection, part: &[World], nearby: Nearby) -> bool
 }
 
 // Whether some point of the parts has its pixel among those.
-fn points_near(projection: &Projection, parts: &[Items<World>], nearby: Nearby) -> bool
+fn points_near(projection: &Projection, parts: &[Part], nearby: Nearby) -> bool
     ensures { result ≡ points_near projection.now parts.now nearby }
 {
     parts
@@ -57,7 +57,7 @@ fn points_near(projection: &Projection, parts: &[Items<World>], nearby: Nearby) 
 fn polygon_near(
     alloc: Global,
     scene: &Scene<'_>,
-    parts: &[Items<World>],
+    parts: &[Part],
     nearby: Nearby,
 ) -> Result<bool, AllocError>
     requires some { nearby.left < nearby.right }
@@ -74,7 +74,7 @@ fn polygon_near(
 fn line_near(
     alloc: Global,
     scene: &Scene<'_>,
-    parts: &[Items<World>],
+    parts: &[Part],
     nearby: Nearby,
 ) -> Result<bool, AllocError>
     requires some { nearby.left < nearby.right }
@@ -92,7 +92,7 @@ fn covers_near(
     alloc: Global,
     scene: &Scene<'_>,
     kind: Kind,
-    parts: &[Items<World>],
+    parts: &[Part],
     nearby: Nearby,
 ) -> Result<bool, AllocError>
     requires some { nearby.left < nearby.right }

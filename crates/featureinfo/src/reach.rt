@@ -1,10 +1,12 @@
 ghost use Rattle.std.specs.Prelude.{◌≡◌};
-ghost use Rattle.featureinfo.specs.Reach.{limit_of, is_within, part_reaches, reaches, is_far};
+ghost use Rattle.std.specs.List.{AllByRecursion};
+ghost use Rattle.geom.specs.World.{HasPlace, IsExtent};
+ghost use Rattle.featureinfo.specs.Reach.{box_reaches, limit_of, is_within, part_reaches, reaches, is_far};
 
 use crate::nearby::Nearby;
 use crate::side::Side;
 use geom::{Device, World};
-use mapdefs::Items;
+use mapdefs::{BlockBox, Part, split_block};
 use viewport::Projection;
 
 // Half a pixel beyond a side of the pixels, in sixteenths of one.
@@ -31,23 +33,69 @@ fn is_within(side: Side, limit: i64, vertex: Device) -> bool
     }
 }
 
-// Whether some vertex of a part doesn't lie beyond that side. It stops at the first that doesn't.
-fn part_reaches(projection: &Projection, part: &[World], limit: i64, side: Side) -> bool
-    ensures { result ≡ part_reaches projection.now part.now limit side }
+// Whether some of these vertices doesn't lie beyond that side. It stops at the first that doesn't.
+fn vertices_reach(projection: &Projection, vertices: &[World], limit: i64, side: Side) -> bool
+    ensures { result ≡ part_reaches projection.now vertices.now limit side }
 {
-    part.iter()
+    vertices
+        .iter()
         .any(|place| is_within(side, limit, projection.device(*place)))
 }
 
+// Whether a box doesn't lie beyond that side as a whole.
+fn box_reaches(projection: &Projection, area: BlockBox, limit: i64, side: Side) -> bool
+    ensures value { result ≡ box_reaches projection.now area limit side }
+    ensures limits { IsExtent projection.now.area }
+{
+    let _area = projection.area();
+    match side {
+        Side::Right => projection.across(area.minx()) <= limit,
+        Side::Left => limit <= projection.across(area.maxx()),
+        Side::Bottom => projection.down(area.maxy()) <= limit,
+        Side::Top => limit <= projection.down(area.miny()),
+    }
+}
+
+// Whether some of the vertices, which lie in the box, doesn't lie beyond that side. If the box does, none is looked at.
+fn block_reaches(
+    projection: &Projection,
+    area: BlockBox,
+    vertices: &[World],
+    limit: i64,
+    side: Side,
+) -> bool
+    requires { AllByRecursion (HasPlace area) vertices.now }
+    ensures { result ≡ part_reaches projection.now vertices.now limit side }
+{
+    box_reaches(projection, area, limit, side) && vertices_reach(projection, vertices, limit, side)
+}
+
+// Whether some vertex of a part doesn't lie beyond that side. A block of vertices whose box lies there is passed over.
+fn part_reaches(projection: &Projection, part: &Part, limit: i64, side: Side) -> bool
+    ensures { result ≡ part_reaches projection.now part.now limit side }
+{
+    let mut left = part.as_slice();
+    for area in part.boxes() {
+        let (block, behind) = split_block(left);
+        if block_reaches(projection, *area, block, limit, side) {
+            return true;
+        }
+        left = behind;
+    }
+    vertices_reach(projection, left, limit, side)
+}
+
 // Whether some vertex of the parts doesn't lie beyond that side.
-fn reaches(projection: &Projection, parts: &[Items<World>], limit: i64, side: Side) -> bool
+fn reaches(projection: &Projection, parts: &[Part], limit: i64, side: Side) -> bool
     ensures { result ≡ reaches projection.now parts.now limit side }
 {
-    parts.iter().any(|part| part_reaches(projection, part.as_slice(), limit, side))
+    parts
+        .iter()
+        .any(|part| part_reaches(projection, part, limit, side))
 }
 
 /// Whether all vertices of the parts lie beyond one side of the pixels.
-pub fn is_far(projection: &Projection, parts: &[Items<World>], nearby: Nearby) -> bool
+pub fn is_far(projection: &Projection, parts: &[Part], nearby: Nearby) -> bool
     ensures { result ≡ is_far projection.now parts.now nearby }
 {
     !(reaches(

@@ -9,7 +9,7 @@ use crate::worked_labels::set;
 use geom::World;
 use mapdefs::{
     Class, ClassFields, Feature, FeatureFields, Font, Items, Kind, Label, Layer, LayerFields, Map,
-    Rgb, Rule, Shared, SharedItems, Style, StyleFields, Text,
+    Part, Rgb, Rule, Shared, SharedItems, Style, StyleFields, Text,
 };
 use std::alloc::{AllocError, Global};
 use test_maps::{layer_fields, map_fields, place};
@@ -106,24 +106,24 @@ fn vertex(text: &str, unit: Unit) -> Option<World> {
 }
 
 // A part of at most eight vertices.
-fn part_of(alloc: Global, text: &str, unit: Unit) -> Result<Items<World>, AllocError>
+fn part_of(alloc: Global, text: &str, unit: Unit) -> Result<Part, AllocError>
     ensures { IfOk result (λ part. length part ≤ 8) }
 {
     let vertices: Vec<&str> = text.split_whitespace().collect(alloc)?;
     if vertices.len() > 8 {
         return Err(AllocError);
     }
-    let mut part = Items::new(alloc);
+    let mut part = Vec::new(alloc);
     for text in vertices.as_slice() {
         part.push(vertex(text, unit).ok_or(AllocError)?)?;
     }
-    Ok(part)
+    Part::of(alloc, part)
 }
 
 // A feature of a part, with its own text, if it has one, and the value of the layer's item.
 fn feature_of(
     alloc: Global,
-    part: Items<World>,
+    part: Part,
     text: Option<Text>,
     value: Text,
 ) -> Result<Shared<Feature>, AllocError>

@@ -1,15 +1,14 @@
 -- The box of a feature has all that lies between its points.
-use Rattle.std.proofs.Common.{◌≡◌, List, [], ◌∷◌, fold, get_or, refl, arith, ⊎_elim, ◌⊎◌, inl, inr, if◌then◌else◌, Bool, true, false}
+use Rattle.std.proofs.Common.{◌≡◌, List, [], ◌∷◌, fold, get_or, refl, arith, ⊎_elim, ◌⊎◌, inl, inr}
 use Rattle.std.proofs.lemmas.Int.{ints}
 use Rattle.std.proofs.lemmas.List.Elements.{Contains-append_cases, Contains-append_right}
 use Rattle.std.specs.List.{Contains, flat_map}
-use Rattle.std.specs.Prelude.{int_lt}
-use lib.IntN.{ℤ}
-use lib.Signed.{◌≤ℤ◌}
 use Rattle.geom.specs.World.{Area, Place, HasPlace}
 use Rattle.mapdefs.specs.declared.feature.FeatureFields.{FeatureFields}
 use Rattle.mapdefs.specs.Near.{LiesInBoxOf, points_of}
-use Rattle.layers.specs.Boxes.{box_of, greater, less, nowhere, with_parts, with_place}
+use Rattle.mapdefs.proofs.BlockBoxes.{IsWider, many-wider, one-has, wider-has, wider-on, wider-same}
+use Rattle.mapdefs.specs.Blocks.{nowhere, with_place}
+use Rattle.layers.specs.Boxes.{box_of, with_parts}
 
 -- the first element, or one of the others
 pub first_or : {X : Type 0} (x y : X) (xs : List X) → Contains (x ∷ xs) y → (x ≡ y) ⊎ Contains xs y
@@ -29,68 +28,7 @@ flat-contains {X} {A} f (x ∷ xs) a c = ⊎_elim
     (λ (d : Contains (flat_map f xs) a). let (y, e, g) = flat-contains f xs a d in (y, Contains-append_right (x ∷ []) xs y e, g))
     (Contains-append_cases (f x) (flat_map f xs) a c)
 
--- the sides of one box lie no further in than those of another
-pub record IsWider (big small : Area) : Type 0 where
-  pub west : big.minx ≤ℤ small.minx
-  pub south : big.miny ≤ℤ small.miny
-  pub east : small.maxx ≤ℤ big.maxx
-  pub north : small.maxy ≤ℤ big.maxy
-
-less-both : (a b : ℤ) → (less a b ≤ℤ a) × (less a b ≤ℤ b)
-less-both a b = go (int_lt b a) refl
-  where
-    go : (t : Bool) → int_lt b a ≡ t → ((if t then b else a) ≤ℤ a) × ((if t then b else a) ≤ℤ b)
-    go true e = (omega (arith, ints, e), omega (arith, ints))
-    go false e = (omega (arith, ints), omega (arith, ints, e))
-
-greater-both : (a b : ℤ) → (a ≤ℤ greater a b) × (b ≤ℤ greater a b)
-greater-both a b = go (int_lt a b) refl
-  where
-    go : (t : Bool) → int_lt a b ≡ t → (a ≤ℤ (if t then b else a)) × (b ≤ℤ (if t then b else a))
-    go true e = (omega (arith, ints, e), omega (arith, ints))
-    go false e = (omega (arith, ints), omega (arith, ints, e))
-
--- a box with a place more is wider, and has the place
-one-wider : (area : Area) (p : Place) → IsWider (with_place area p) area
-one-wider area p = record {
-  west = (less-both area.minx p.x).0;
-  south = (less-both area.miny p.y).0;
-  east = (greater-both area.maxx p.x).0;
-  north = (greater-both area.maxy p.y).0;
-}
-
-one-has : (area : Area) (p : Place) → HasPlace (with_place area p) p
-one-has area p = record {
-  west = (less-both area.minx p.x).1;
-  east = (greater-both area.maxx p.x).1;
-  south = (less-both area.miny p.y).1;
-  north = (greater-both area.maxy p.y).1;
-}
-
-wider-same : (a : Area) → IsWider a a
-wider-same a = record { west = omega (arith, ints); south = omega (arith, ints); east = omega (arith, ints); north = omega (arith, ints) }
-
-wider-on : (a b c : Area) → IsWider a b → IsWider b c → IsWider a c
-wider-on a b c f g = record {
-  west = omega (arith, ints, f.west, g.west);
-  south = omega (arith, ints, f.south, g.south);
-  east = omega (arith, ints, f.east, g.east);
-  north = omega (arith, ints, f.north, g.north);
-}
-
-wider-has : (a b : Area) (p : Place) → IsWider a b → HasPlace b p → HasPlace a p
-wider-has a b p f h = record {
-  west = omega (arith, ints, f.west, h.west);
-  east = omega (arith, ints, f.east, h.east);
-  south = omega (arith, ints, f.south, h.south);
-  north = omega (arith, ints, f.north, h.north);
-}
-
--- so do many
-many-wider : (area : Area) (points : List Place) → IsWider (fold with_place area points) area
-many-wider area [] = wider-same area
-many-wider area (p ∷ points) = wider-on (fold with_place (with_place area p) points) (with_place area p) area (many-wider (with_place area p) points) (one-wider area p)
-
+-- a box and many places have each of those
 many-has : (area : Area) (points : List Place) (q : Place) → Contains points q → HasPlace (fold with_place area points) q
 many-has area [] q c = absurd (omega (arith, c.1))
 many-has area (p ∷ points) q c = ⊎_elim

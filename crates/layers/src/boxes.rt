@@ -1,11 +1,12 @@
 ghost use Rattle.std.specs.Prelude.{◌≡◌, ◌≤◌, ◌+◌, ◌++◌, map, fold, length, IfOk, OnOk};
 ghost use Rattle.mapdefs.specs.declared.limits.TheConstants.{MAX_FEATURES};
-ghost use Rattle.layers.specs.Boxes.{box_of, greater, less, with_place};
+ghost use Rattle.mapdefs.specs.Blocks.{box_of_places, greater, less, nowhere, with_place};
+ghost use Rattle.layers.specs.Boxes.{box_of, with_box};
 
 use crate::grids::SharedGrid;
 use geom::{Micro, World, WorldBox};
 use gridindex::Grid;
-use mapdefs::{Feature, FeatureFields, Shared};
+use mapdefs::{BlockBox, Feature, FeatureFields, Part, Shared};
 use std::alloc::{AllocError, Global};
 
 // The lesser of two numbers.
@@ -46,14 +47,57 @@ fn with_places(area: WorldBox, places: &[World]) -> WorldBox
     grown
 }
 
+// The box that two boxes lie in.
+fn with_box(a: WorldBox, b: WorldBox) -> WorldBox
+    ensures { result ≡ with_box a b }
+{
+    WorldBox::new(
+        less(a.minx(), b.minx()),
+        less(a.miny(), b.miny()),
+        greater(a.maxx(), b.maxx()),
+        greater(a.maxy(), b.maxy()),
+    )
+}
+
+// The box of a block.
+fn box_of_block(block: BlockBox) -> WorldBox
+    ensures { result ≡ block }
+{
+    let (minx, maxx) = (block.minx().get(), block.maxx().get());
+    let (miny, maxy) = (block.miny().get(), block.maxy().get());
+    WorldBox::new(minx, miny, maxx, maxy)
+}
+
+// The box of no place.
+fn nowhere() -> WorldBox
+    ensures { result ≡ nowhere }
+{
+    let (most, least) = (Micro::new(1_000_000_000), Micro::new(-1_000_000_000));
+    WorldBox::new(most, most, least, least)
+}
+
+// The box of the vertices of a part. It looks at the boxes of blocks alone, if there are any.
+fn box_of_part(part: &Part) -> WorldBox
+    ensures { result ≡ box_of_places part.now }
+{
+    let boxes = part.boxes();
+    if boxes.is_empty() {
+        return with_places(nowhere(), part.as_slice());
+    }
+    let mut grown = nowhere();
+    for block in boxes {
+        grown = with_box(grown, box_of_block(*block));
+    }
+    grown
+}
+
 // The box of a feature's points.
 fn box_of(feature: &FeatureFields) -> WorldBox
     ensures { result ≡ box_of feature.now }
 {
-    let (most, least) = (Micro::new(1_000_000_000), Micro::new(-1_000_000_000));
-    let mut area = WorldBox::new(most, most, least, least);
+    let mut area = nowhere();
     for part in feature.parts.as_slice() {
-        area = with_places(area, part.as_slice());
+        area = with_box(area, box_of_part(part));
     }
     area
 }

@@ -1,11 +1,10 @@
-use crate::{Items, Limited, Limits, Text};
-use geom::World;
+use crate::{Items, Limited, Limits, Part, Text};
 
 /// What a feature says.
 #[derive(Drop)]
 pub struct FeatureFields {
     /// Its parts: rings of a polygon, lines, or points.
-    pub parts: Items<Items<World>>,
+    pub parts: Items<Part>,
     /// The text of its label, where it has one of its own.
     pub text: Option<Text>,
     /// The values of the layer's items, in the layer's order.

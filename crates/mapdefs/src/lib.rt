@@ -13,6 +13,7 @@
 #![tactic(auto)]
 
 mod all_features;
+mod block_box;
 mod boxed;
 mod class;
 mod colour;
@@ -27,6 +28,7 @@ mod limited;
 mod limits;
 mod map;
 mod near;
+mod part;
 mod picture;
 mod pixel_colour;
 mod shared;
@@ -36,6 +38,7 @@ mod symbol;
 mod text;
 
 pub use all_features::AllFeatures;
+pub use block_box::{BLOCK_EDGES, BlockBox};
 pub use boxed::Boxed;
 pub use class::{Class, ClassFields, Rule};
 pub use colour::Rgb;
@@ -54,6 +57,7 @@ pub use limits::{
 };
 pub use map::{Map, MapFields};
 pub use near::Near;
+pub use part::{Part, split_block};
 pub use picture::{Picture, PictureFields};
 pub use pixel_colour::PixelColour;
 pub use shared::Shared;

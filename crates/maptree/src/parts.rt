@@ -3,7 +3,7 @@ ghost use Rattle.mapdefs.specs.declared.limits.TheConstants.{MAX_VERTICES};
 ghost use Rattle.maptree.specs.Parts.{no_parts, vertex_count, with_vertex, with_part};
 
 use geom::World;
-use mapdefs::{Items, MAX_VERTICES};
+use mapdefs::{Items, MAX_VERTICES, Part};
 use std::alloc::{AllocError, Global};
 use std::marker::Model;
 use std::mem;
@@ -11,7 +11,7 @@ use std::mem;
 /// The parts of a feature, with at most `MAX_VERTICES` vertices.
 #[derive(Drop)]
 pub struct Parts {
-    parts: Items<Items<World>>,
+    parts: Items<Part>,
 }
 
 impl Model for Parts {
@@ -28,7 +28,7 @@ impl Model for Parts {
 
 impl Parts {
     /// The parts.
-    pub fn into_items(self) -> Items<Items<World>>
+    pub fn into_items(self) -> Items<Part>
         ensures value { result ≡ self }
         ensures limit { sum_by length result ≤ MAX_VERTICES }
     {
@@ -40,7 +40,7 @@ impl Parts {
 /// The parts of a feature as far as they are read: those that are whole, and the vertices of the next.
 #[derive(Drop)]
 pub struct PartsDraft {
-    whole: Items<Items<World>>,
+    whole: Items<Part>,
     // How many vertices the whole parts have.
     count: usize,
     next: Vec<World>,
@@ -92,14 +92,14 @@ impl PartsDraft {
         Ok(())
     }
 
-    /// Makes the next part a whole one, which keeps no more memory than it needs.
+    /// Makes the next part a whole one, with the boxes of its blocks. It keeps no more memory than it needs.
     pub fn finish_part(&mut self, alloc: Global) -> Result<(), AllocError>
         ensures { OnOk result (self.new ≡ with_part self.old) }
     {
         let mut part = mem::replace(&mut self.next, Vec::new(alloc));
         part.shrink_to_fit();
         let count = part.len();
-        self.whole.push(Items::of(part))?;
+        self.whole.push(Part::of(alloc, part)?)?;
         self.count += count;
         Ok(())
     }

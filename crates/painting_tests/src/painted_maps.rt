@@ -6,7 +6,8 @@ use compose::picture;
 use geom::{Micro, NUMBER_LIMIT, PictureSide, World, WorldBox};
 use mapdefs::{
     AllFeatures, Class, ClassFields, Feature, FeatureFields, Items, Kind, Layer, LayerFields,
-    MAX_VERTICES, Map, Picture, Rgb, Rule, Shared, SharedItems, Style, StyleFields, Symbol, Text,
+    MAX_VERTICES, Map, Part, Picture, Rgb, Rule, Shared, SharedItems, Style, StyleFields, Symbol,
+    Text,
 };
 use scaledenom::Scale;
 use std::alloc::{AllocError, Global};
@@ -137,22 +138,22 @@ fn vertex(text: &str) -> Option<World> {
 }
 
 // A ring of at most eight vertices.
-fn ring(alloc: Global, text: &str) -> Result<Items<World>, AllocError>
+fn ring(alloc: Global, text: &str) -> Result<Part, AllocError>
     ensures { IfOk result (λ ring. length ring ≤ 8) }
 {
     let vertices: Vec<&str> = text.split_whitespace().collect(alloc)?;
     if vertices.len() > 8 {
         return Err(AllocError);
     }
-    let mut ring = Items::new(alloc);
+    let mut ring = Vec::new(alloc);
     for text in vertices.as_slice() {
         ring.push(vertex(text).ok_or(AllocError)?)?;
     }
-    Ok(ring)
+    Part::of(alloc, ring)
 }
 
 /// A feature of these rings.
-fn feature_of(alloc: Global, parts: Items<Items<World>>) -> Feature
+fn feature_of(alloc: Global, parts: Items<Part>) -> Feature
     requires { sum_by length parts ≤ MAX_VERTICES }
     ensures { result.values ≡ [] }
 {

@@ -2,7 +2,7 @@ ghost use Rattle.std.specs.Prelude.{◌≡◌, map, IfOk, vec_items};
 ghost use Rattle.viewport.specs.View.{device_point};
 
 use geom::{Device, World};
-use mapdefs::Items;
+use mapdefs::Part;
 use std::alloc::{AllocError, Global};
 use viewport::Projection;
 
@@ -10,7 +10,7 @@ use viewport::Projection;
 pub fn points_of_parts(
     alloc: Global,
     projection: &Projection,
-    parts: &[Items<World>],
+    parts: &[Part],
 ) -> Result<Vec<Vec<Device>>, AllocError>
     ensures { IfOk result (λ points. map vec_items points.items ≡ map (map (device_point projection.now)) parts.now) }
 {

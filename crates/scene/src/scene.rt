@@ -10,7 +10,7 @@ ghost use Rattle.viewport.specs.declared.view.TheConstants.{MAX_MARGIN};
 use crate::classes::first_class;
 use crate::parts::points_of_parts;
 use geom::{Device, Pixel, World, WorldBox};
-use mapdefs::{ClassFields, FeatureFields, Font, Items, LayerFields, Map, Symbol};
+use mapdefs::{ClassFields, FeatureFields, Font, LayerFields, Map, Part, Symbol};
 use scaledenom::Scale;
 use std::alloc::{AllocError, Global};
 use std::marker::Model;
@@ -124,11 +124,7 @@ impl<'a> Scene<'a> {
     }
 
     /// The parts of a feature on the picture: each vertex at its device point.
-    pub fn points_of(
-        &self,
-        alloc: Global,
-        parts: &[Items<World>],
-    ) -> Result<Vec<Vec<Device>>, AllocError>
+    pub fn points_of(&self, alloc: Global, parts: &[Part]) -> Result<Vec<Vec<Device>>, AllocError>
         ensures { IfOk result (λ points. map vec_items points.items ≡ map (map (device_point self.now.view)) parts.now) }
     {
         points_of_parts(alloc, &self.projection, parts)

@@ -1,9 +1,18 @@
-use Rattle.std.proofs.Common.{◌≡◌, drop}
-use Rattle.compose.proofs.Flipping.{IsOn}
+use Rattle.std.proofs.Common.{◌≡◌, ◌<◌, ◌*◌, ◌-◌, ◌∷◌, drop, length, map}
+use Rattle.geom.specs.EvenOdd.{ring_edges}
+use Rattle.geom.proofs.Rings.{closing_edges}
+use Rattle.viewport.specs.View.{device_point}
+use Rattle.compose.specs.Flipped.{IsRun}
+use Rattle.compose.proofs.Flipping.{IsLeft}
 use Rattle.compose.proofs.ring_flips.add_ring.Given as goal
 
-abbrev pub invariant-loop-to : goal.invariant-loop-to
-invariant-loop-to l = record {
+-- the edges of the blocks before this one are added, and this block begins with the run's vertex
+abbrev pub invariant-loop-area : goal.invariant-loop-area
+invariant-loop-area l = record {
   sides : l.flips ≡ record l.fn.flips { flips = l.flips.flips };
-  on : IsOn l.rows l.fn.flips.flips l.flips.flips l.fn.ring l.first l.run (drop l.to-index l.rest);
+  edges : IsLeft l.rows l.fn.flips.flips l.flips.flips (ring_edges (map (device_point l.rows) l.fn.ring))
+      (closing_edges (device_point l.rows l.first) (device_point l.rows l.run.from) (map (device_point l.rows) l.left));
+  valid : IsRun l.rows l.run;
+  rest : length l.left ≡ length l.fn.ring - 1 - 64 * l.area-index;
+  here : 64 * l.area-index < length l.fn.ring → l.run.from ∷ l.left ≡ drop (64 * l.area-index) l.fn.ring;
 }

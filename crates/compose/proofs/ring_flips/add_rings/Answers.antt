@@ -8,7 +8,7 @@ loop-ring-init c = record { sides = refl; stand = stand-none c.args.rows.now c.a
 pub loop-ring-preserved : goal.loop-ring-preserved
 loop-ring-preserved c =
     let l = c.loop-ring in
-    let adds = rw c.as_slice.ensures at c.in_ok-add_ring.ensures.adds in
+    let adds = c.in_ok-add_ring.ensures.adds in
     record {
       sides = search (rules, c.in_ok-add_ring.ensures.sides, l.invariant.sides);
       stand = ring-next c.args.rows.now c.args.rings.now l.ring-index c.ring-item.result l.flips.flips c.add_ring.new.flips.flips c.loop-ring-test.true c.ring-item.is

@@ -1,0 +1,88 @@
+-- Flips of a ring, block by block, and of a block, vertex by vertex.
+use Rattle.std.proofs.Common.{◌≡◌, ◌∙◌, ℕ, ◌+◌, ◌*◌, ◌<◌, ◌≤◌, zero, suc, ◌&&◌, true, List, [], ◌∷◌, ◌++◌, get_or, map, take, drop, length, refl, sym, ap, arith}
+use Rattle.std.proofs.lemmas.Bool.{and_parts}
+use Rattle.std.proofs.lemmas.List.{drop-drop, length-drop, map-append}
+use Rattle.std.specs.Prelude.{int_le}
+use Rattle.geom.specs.Device.{DevicePoint}
+use Rattle.geom.specs.Edge.{EdgeEnds}
+use Rattle.geom.specs.EvenOdd.{edge_between}
+use Rattle.geom.specs.World.{Place}
+use Rattle.geom.proofs.Products.{le_of}
+use Rattle.geom.proofs.Rings.{closing_edges}
+use Rattle.viewport.specs.View.{ViewValue, device_point}
+use Rattle.compose.specs.declared.run.Run.{Run}
+use Rattle.compose.specs.Flipped.{Adds, AddsEdge, IsRun, row_of}
+use Rattle.compose.specs.Chain.{AddsChain, chain_edges, chain_end}
+use Rattle.compose.proofs.Flipping.{IsLeft, adds-edge, closing-append, end-placed, left-next, left-none, row-between, run-missed}
+
+-- a vertex between the two latitudes of the run adds nothing, and the run goes on from it
+pub step-within : (view : ViewValue) (run : Run) (to : Place) (flips : List ℕ) → IsRun view run → (int_le run.low to.y && int_le to.y run.high) ≡ true →
+    AddsEdge view flips run.from to flips × IsRun view (record { from = to; row = run.row; low = run.low; high = run.high })
+step-within view run to flips is has =
+    let both = and_parts (int_le run.low to.y) (int_le to.y run.high) has in
+    let least = le_of run.low to.y both.0 in
+    let most = le_of to.y run.high both.1 in
+    let row : row_of view to.y ≡ run.row = row-between view run.low run.high to.y run.row is.rows is.low is.high least most in
+    (run-missed view run to flips is row, record { low = is.low; high = is.high; least = least; most = most; rows = is.rows })
+
+-- the edges that are left of a block after one more
+pub chain-next : (view : ViewValue) (old flips new : List ℕ) (whole : List EdgeEnds) (from to : Place) (rest more : List Place) → rest ≡ to ∷ more →
+    IsLeft view old flips whole (chain_edges (device_point view from) (map (device_point view) rest)) → AddsEdge view flips from to new →
+    IsLeft view old new whole (chain_edges (device_point view to) (map (device_point view) more))
+chain-next view old flips new whole from to rest more e is adds =
+    left-next view old flips new whole (chain_edges (device_point view from) (map (device_point view) rest)) (edge_between (device_point view from, device_point view to) ∷ [])
+    (chain_edges (device_point view to) (map (device_point view) more))
+    (ap (λ (ps : List Place). chain_edges (device_point view from) (map (device_point view) ps)) e) is (adds-edge view flips new from to adds)
+
+pub chain-none : (view : ViewValue) (old flips : List ℕ) (whole : List EdgeEnds) (from : Place) (rest : List Place) → rest ≡ [] →
+    IsLeft view old flips whole (chain_edges (device_point view from) (map (device_point view) rest)) → Adds view old whole flips
+chain-none view old flips whole from rest e is =
+    left-none view old flips whole (chain_edges (device_point view from) (map (device_point view) rest)) (ap (λ (ps : List Place). chain_edges (device_point view from) (map (device_point view) ps)) e) is
+
+-- the edges that are left of a ring after a block
+pub ring-block : (view : ViewValue) (old flips new : List ℕ) (whole : List EdgeEnds) (first from end : Place) (left block behind : List Place) → left ≡ block ++ behind → end ≡ chain_end from block →
+    IsLeft view old flips whole (closing_edges (device_point view first) (device_point view from) (map (device_point view) left)) → AddsChain view flips from block new →
+    IsLeft view old new whole (closing_edges (device_point view first) (device_point view end) (map (device_point view) behind))
+ring-block view old flips new whole first from end left block behind e f is adds =
+    let point : Place → DevicePoint = device_point view in
+    let parted : closing_edges (point first) (point from) (map point left) ≡ chain_edges (point from) (map point block) ++ closing_edges (point first) (point end) (map point behind) =
+    ap (λ (ps : List Place). closing_edges (point first) (point from) (map point ps)) e
+    ∙ (ap (λ ps. closing_edges (point first) (point from) ps) (map-append point block behind)
+    ∙ (closing-append (point first) (point from) (map point block) (map point behind)
+    ∙ ap (λ p. chain_edges (point from) (map point block) ++ closing_edges (point first) p (map point behind)) (end-placed view from block ∙ ap point (sym f)))) in
+    left-next view old flips new whole (closing_edges (point first) (point from) (map point left)) (chain_edges (point from) (map point block))
+    (closing_edges (point first) (point end) (map point behind)) parted is adds
+
+-- and after the last edge
+pub ring-none : (view : ViewValue) (old flips new : List ℕ) (whole : List EdgeEnds) (first from : Place) (left : List Place) → left ≡ [] →
+    IsLeft view old flips whole (closing_edges (device_point view first) (device_point view from) (map (device_point view) left)) → AddsEdge view flips from first new → Adds view old whole new
+ring-none view old flips new whole first from left e is adds =
+    let point : Place → DevicePoint = device_point view in
+    left-none view old new whole [] refl
+    (left-next view old flips new whole (closing_edges (point first) (point from) (map point left)) (edge_between (point from, point first) ∷ []) []
+    (ap (λ (ps : List Place). closing_edges (point first) (point from) (map point ps)) e) is (adds-edge view flips new from first adds))
+
+-- so many vertices on, a chain begins with the last of those
+pub chain-drop : {X : Type 0} (n : ℕ) (from : X) (rest : List X) → n ≤ length rest → chain_end from (take n rest) ∷ drop n rest ≡ drop n (from ∷ rest)
+chain-drop zero from rest h = refl
+chain-drop (suc n) from [] h = absurd (omega (arith, h))
+chain-drop (suc n) from (to ∷ rest) h = chain-drop n to rest (omega (arith, h))
+
+-- the next block of a part begins with the last vertex of this one
+pub block-next : {X : Type 0} (vertices : List X) (k : ℕ) (from end : X) (rest behind : List X) → 64 * k < length vertices → from ∷ rest ≡ drop (64 * k) vertices →
+    end ≡ chain_end from (take 64 rest) → behind ≡ drop 64 rest → 64 * (k + 1) < length vertices → end ∷ behind ≡ drop (64 * (k + 1)) vertices
+block-next vertices k from end rest behind here e f g next =
+    let enough : 64 ≤ length rest = omega (arith, next, ap length e, length-drop (64 * k) vertices) in
+    let on : 64 * k + 64 ≡ 64 * (k + 1) = omega arith in
+    ap (λ x. x ∷ behind) f ∙ (ap (λ xs. chain_end from (take 64 rest) ∷ xs) g ∙ (chain-drop 64 from rest enough ∙ (ap (drop 64) e ∙ (drop-drop 64 (64 * k) vertices ∙ ap (λ n. drop n vertices) on))))
+
+-- the last of some vertices is the end of the chain along them
+pub last-end : {X : Type 0} (n : ℕ) (from : X) (rest : List X) (last : X) → n + 1 ≡ length rest → last ≡ get_or rest n last → last ≡ chain_end from rest
+last-end n from [] last e is = absurd (omega (arith, e))
+last-end zero from (to ∷ []) last e is = is
+last-end zero from (to ∷ next ∷ rest) last e is = absurd (omega (arith, e))
+last-end (suc n) from (to ∷ rest) last e is = last-end n to rest last (omega (arith, e)) is
+
+pub empty-of : {X : Type 0} (xs : List X) → length xs ≡ 0 → xs ≡ []
+empty-of [] e = refl
+empty-of (x ∷ xs) e = absurd (omega arith)

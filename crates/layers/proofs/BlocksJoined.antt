@@ -1,0 +1,138 @@
+-- The box of a part is that of the boxes of its blocks.
+use Rattle.std.proofs.Common.{◌≡◌, ◌∙◌, ℕ, zero, suc, Bool, true, false, if◌then◌else◌, List, [], ◌∷◌, ◌+◌, ◌<◌, ◌≤◌, add-one, drop, fold, get_or, length, take, refl, sym, ap, arith}
+use Rattle.std.proofs.Math.Seq.{drop-cons}
+use Rattle.std.proofs.lemmas.Int.{ints}
+use Rattle.std.specs.Prelude.{int_lt}
+use lib.IntN.{ℤ}
+use lib.Signed.{◌≤ℤ◌}
+use Rattle.geom.specs.World.{Area, Place}
+use Rattle.mapdefs.proofs.BlockBoxes.{IsWider, greater-both, less-both}
+use Rattle.mapdefs.specs.Blocks.{box_of_places, greater, less, nowhere, with_place}
+use Rattle.layers.specs.Boxes.{with_box}
+
+-- the lesser of two numbers is the first or the second
+less-left : (a b : ℤ) → a ≤ℤ b → less a b ≡ a
+less-left a b h = go (int_lt b a) refl
+  where
+    go : (t : Bool) → int_lt b a ≡ t → (if t then b else a) ≡ a
+    go true e = absurd (omega (arith, ints, h, e))
+    go false e = refl
+
+less-right : (a b : ℤ) → b ≤ℤ a → less a b ≡ b
+less-right a b h = go (int_lt b a) refl
+  where
+    go : (t : Bool) → int_lt b a ≡ t → (if t then b else a) ≡ b
+    go true e = refl
+    go false e = omega (arith, ints, h, e)
+
+less-assoc : (a b c : ℤ) → less a (less b c) ≡ less (less a b) c
+less-assoc a b c = go (int_lt c b) refl (int_lt b a) refl
+  where
+    go : (t : Bool) → int_lt c b ≡ t → (u : Bool) → int_lt b a ≡ u → less a (less b c) ≡ less (less a b) c
+    go true e true f = ap (λ x. less a x) (less-right b c (omega (arith, ints, e))) ∙ (less-right a c (omega (arith, ints, e, f))
+        ∙ sym (ap (λ x. less x c) (less-right a b (omega (arith, ints, f))) ∙ less-right b c (omega (arith, ints, e))))
+    go true e false f = ap (λ x. less a x) (less-right b c (omega (arith, ints, e))) ∙ sym (ap (λ x. less x c) (less-left a b (omega (arith, ints, f))))
+    go false e true f = ap (λ x. less a x) (less-left b c (omega (arith, ints, e))) ∙ (less-right a b (omega (arith, ints, f))
+        ∙ sym (ap (λ x. less x c) (less-right a b (omega (arith, ints, f))) ∙ less-left b c (omega (arith, ints, e))))
+    go false e false f = ap (λ x. less a x) (less-left b c (omega (arith, ints, e))) ∙ (less-left a b (omega (arith, ints, f))
+        ∙ sym (ap (λ x. less x c) (less-left a b (omega (arith, ints, f))) ∙ less-left a c (omega (arith, ints, e, f))))
+
+less-twice : (a b : ℤ) → less (less a b) b ≡ less a b
+less-twice a b = sym (less-assoc a b b) ∙ ap (λ x. less a x) (less-left b b (omega (arith, ints)))
+
+-- and so is the greater
+greater-left : (a b : ℤ) → b ≤ℤ a → greater a b ≡ a
+greater-left a b h = go (int_lt a b) refl
+  where
+    go : (t : Bool) → int_lt a b ≡ t → (if t then b else a) ≡ a
+    go true e = absurd (omega (arith, ints, h, e))
+    go false e = refl
+
+greater-right : (a b : ℤ) → a ≤ℤ b → greater a b ≡ b
+greater-right a b h = go (int_lt a b) refl
+  where
+    go : (t : Bool) → int_lt a b ≡ t → (if t then b else a) ≡ b
+    go true e = refl
+    go false e = omega (arith, ints, h, e)
+
+greater-assoc : (a b c : ℤ) → greater a (greater b c) ≡ greater (greater a b) c
+greater-assoc a b c = go (int_lt b c) refl (int_lt a b) refl
+  where
+    go : (t : Bool) → int_lt b c ≡ t → (u : Bool) → int_lt a b ≡ u → greater a (greater b c) ≡ greater (greater a b) c
+    go true e true f = ap (λ x. greater a x) (greater-right b c (omega (arith, ints, e))) ∙ (greater-right a c (omega (arith, ints, e, f))
+        ∙ sym (ap (λ x. greater x c) (greater-right a b (omega (arith, ints, f))) ∙ greater-right b c (omega (arith, ints, e))))
+    go true e false f = ap (λ x. greater a x) (greater-right b c (omega (arith, ints, e))) ∙ sym (ap (λ x. greater x c) (greater-left a b (omega (arith, ints, f))))
+    go false e true f = ap (λ x. greater a x) (greater-left b c (omega (arith, ints, e))) ∙ (greater-right a b (omega (arith, ints, f))
+        ∙ sym (ap (λ x. greater x c) (greater-right a b (omega (arith, ints, f))) ∙ greater-left b c (omega (arith, ints, e))))
+    go false e false f = ap (λ x. greater a x) (greater-left b c (omega (arith, ints, e))) ∙ (greater-left a b (omega (arith, ints, f))
+        ∙ sym (ap (λ x. greater x c) (greater-left a b (omega (arith, ints, f))) ∙ greater-left a c (omega (arith, ints, e, f))))
+
+greater-twice : (a b : ℤ) → greater (greater a b) b ≡ greater a b
+greater-twice a b = sym (greater-assoc a b b) ∙ ap (λ x. greater a x) (greater-left b b (omega (arith, ints)))
+
+-- a box is that of its four sides
+sides : (a b : Area) → a.minx ≡ b.minx → a.miny ≡ b.miny → a.maxx ≡ b.maxx → a.maxy ≡ b.maxy → a ≡ b
+sides a b e f g h =
+    let of : ℤ → ℤ → ℤ → ℤ → Area = λ minx miny maxx maxy. record { minx = minx; miny = miny; maxx = maxx; maxy = maxy } in
+    ap (λ z. of z a.miny a.maxx a.maxy) e ∙ (ap (λ z. of b.minx z a.maxx a.maxy) f ∙ (ap (λ z. of b.minx b.miny z a.maxy) g ∙ ap (λ z. of b.minx b.miny b.maxx z) h))
+
+-- a place that a box has got once needs no second time
+place-twice : (a : Area) (p : Place) → with_place (with_place a p) p ≡ with_place a p
+place-twice a p = sides (with_place (with_place a p) p) (with_place a p) (less-twice a.minx p.x) (less-twice a.miny p.y) (greater-twice a.maxx p.x) (greater-twice a.maxy p.y)
+
+-- the places of a list may be taken in two overlapping parts
+overlap : (n : ℕ) (a : Area) (places : List Place) → fold with_place (fold with_place a (take (suc n) places)) (drop n places) ≡ fold with_place a places
+overlap zero a [] = refl
+overlap (suc n) a [] = refl
+overlap zero a (p ∷ places) = ap (λ b. fold with_place b places) (place-twice a p)
+overlap (suc n) a (p ∷ places) = overlap n (with_place a p) places
+
+-- a box with that of some places is the box with those places
+with-fold : (a n : Area) (places : List Place) → with_box a (fold with_place n places) ≡ fold with_place (with_box a n) places
+with-fold a n [] = refl
+with-fold a n (p ∷ places) =
+    with-fold a (with_place n p) places
+    ∙ ap (λ b. fold with_place b places)
+    (sides (with_box a (with_place n p)) (with_place (with_box a n) p) (less-assoc a.minx n.minx p.x) (less-assoc a.miny n.miny p.y) (greater-assoc a.maxx n.maxx p.x) (greater-assoc a.maxy n.maxy p.y))
+
+pub with-places : (a : Area) (places : List Place) → IsWider a nowhere → with_box a (box_of_places places) ≡ fold with_place a places
+with-places a places wide =
+    with-fold a nowhere places
+    ∙ ap (λ b. fold with_place b places)
+    (sides (with_box a nowhere) a (less-left a.minx nowhere.minx wide.west) (less-left a.miny nowhere.miny wide.south) (greater-left a.maxx nowhere.maxx wide.east) (greater-left a.maxy nowhere.maxy wide.north))
+
+-- after the box of the block with which some places begin, the places from its last on are left
+pub block-joined : (a next box : Area) (places : List Place) → IsWider a nowhere → next ≡ with_box a box → box ≡ box_of_places (take 65 places) →
+    fold with_place next (drop 64 places) ≡ fold with_place a places
+block-joined a next box places wide e is =
+    ap (λ b. fold with_place b (drop 64 places)) (e ∙ (ap (λ b. with_box a b) is ∙ with-places a (take 65 places) wide)) ∙ overlap 64 a places
+
+-- a box with another one is wider than it
+pub box-wider : (a b small : Area) → IsWider a small → IsWider (with_box a b) small
+box-wider a b small wide = record {
+  west = omega (arith, ints, (less-both a.minx b.minx).0, wide.west);
+  south = omega (arith, ints, (less-both a.miny b.miny).0, wide.south);
+  east = omega (arith, ints, (greater-both a.maxx b.maxx).0, wide.east);
+  north = omega (arith, ints, (greater-both a.maxy b.maxy).0, wide.north);
+}
+
+cons-first : {X : Type 0} (p v : X) (ps vs : List X) → p ∷ ps ≡ v ∷ vs → p ≡ v
+cons-first p v ps vs e = ap (λ xs. get_or xs 0 p) e
+
+-- the first place behind a block is the block's last, which the box has already
+pub again-next : (n : ℕ) (a : Area) (places : List Place) (v : Place) (more : List Place) → drop n places ≡ v ∷ more →
+    with_place (fold with_place a (take (suc n) places)) v ≡ fold with_place a (take (suc n) places)
+again-next zero a [] v more e = absurd (omega (arith, ap length e))
+again-next (suc n) a [] v more e = absurd (omega (arith, ap length e))
+again-next zero a (p ∷ places) v more e = rw (← cons-first p v places more e) (place-twice a p)
+again-next (suc n) a (p ∷ places) v more e = again-next n (with_place a p) places v more e
+
+-- so where one place at most is left, the box is whole
+pub joined-end : (a whole : Area) (left : List Place) → length left ≤ 1 → ((v : Place) (more : List Place) → left ≡ v ∷ more → with_place a v ≡ a) →
+    fold with_place a left ≡ whole → a ≡ whole
+joined-end a whole [] few again e = e
+joined-end a whole (v ∷ []) few again e = sym (again v [] refl) ∙ e
+joined-end a whole (v ∷ w ∷ more) few again e = absurd (omega (arith, few))
+
+pub rest-next : {X : Type 0} (rest : List X) (i : ℕ) (to : X) → i < length rest → to ≡ get_or rest i to → drop i rest ≡ to ∷ drop (i + 1) rest
+rest-next rest i to below e = rw (add-one) (drop-cons rest i to below ∙ ap (λ x. x ∷ drop (suc i) rest) (sym e))

@@ -1,0 +1,33 @@
+-- Blocks of a part's vertices, and the box of each (docs/ARCHITECTURE.md, "Blocks of vertices").
+use Rattle.std.specs.Prelude.{◌≡◌, ℕ, ◌+◌, ◌-◌, ◌*◌, ◌<◌, if◌then◌else◌, ℤ, pos, negsuc, List, length, take, drop, fold, int_lt, slice_index_or}
+use Rattle.std.specs.Int.{div_ceil}
+use Rattle.geom.specs.World.{Area, Place}
+use Rattle.mapdefs.specs.declared.block_box.TheConstants.{BLOCK_EDGES}
+
+-- the lesser and the greater of two numbers
+abbrev pub less : ℤ → ℤ → ℤ
+less a b = if int_lt b a then b else a
+
+abbrev pub greater : ℤ → ℤ → ℤ
+greater a b = if int_lt a b then b else a
+
+-- the box that a box and a place lie in
+abbrev pub with_place : Area → Place → Area
+with_place area p = record { minx = less area.minx p.x; miny = less area.miny p.y; maxx = greater area.maxx p.x; maxy = greater area.maxy p.y }
+
+-- the box of no place: its west side is east of all places, and so on
+abbrev pub nowhere : Area
+nowhere = record { minx = pos 1000000000; miny = pos 1000000000; maxx = negsuc 999999999; maxy = negsuc 999999999 }
+
+-- the least box of some places
+abbrev pub box_of_places : List Place → Area
+box_of_places places = fold with_place nowhere places
+
+-- the block of an index: the vertices along `BLOCK_EDGES` edges, the last of which is the first of the next block
+abbrev pub block_of : List Place → ℕ → List Place
+block_of vertices k = take (BLOCK_EDGES + 1) (drop (BLOCK_EDGES * k) vertices)
+
+-- the boxes are those of the blocks of a part, in order: there are as many blocks as hold its edges, and the last may be short
+pub record AreBlockBoxes (vertices : List Place) (boxes : List Area) : Type 0 where
+  pub count : length boxes ≡ div_ceil (length vertices - 1) BLOCK_EDGES
+  pub each : (k : ℕ) (d : Area) → k < length boxes → slice_index_or boxes k d ≡ box_of_places (block_of vertices k)
