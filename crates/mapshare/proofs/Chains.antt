@@ -4,6 +4,7 @@ use Rattle.std.proofs.Common.{arith, length, take, drop, ◌+◌, ◌≤◌, ◌
 use Rattle.std.proofs.Math.Seq.{take-append_seam, take-length}
 use Rattle.std.proofs.lemmas.List.{append-nil, drop_all, drop-append-le, length-append, length-drop, length-take, take-append-drop, take-append-le}
 use Rattle.std.specs.Result.{result_ok}
+use mathlib.Core.List.{IsPrefix}
 use Rattle.batches.specs.Batch.{IsBatchErrorOf, State, batched}
 use Rattle.batches.specs.declared.fault.BatchError.{BatchError}
 use Rattle.batches.specs.declared.fault.BatchError.TheVariants as batch_error
@@ -34,6 +35,10 @@ pub chain_all : {S : Type 0} (opening : State) (first : List (List ℕ)) (editio
     last ≡ first ++ drop (length first) last
 chain_all opening first editions last c =
     sym (take-append-drop (length first) last) ∙ ap (λ z. z ++ drop (length first) last) (chain_goes opening first editions last c).0
+
+-- the first front begins the last
+pub chain_begins : {S : Type 0} (opening : State) (first : List (List ℕ)) (editions : List (Edition S)) (last : List (List ℕ)) → IsChain opening first editions last → IsPrefix first last
+chain_begins opening first editions last c = (drop (length first) last, sym (chain_all opening first editions last c))
 
 chain_snoc : {S : Type 0} (opening : State) (first : List (List ℕ)) (editions : List (Edition S)) (last : List (List ℕ)) (e : Edition S) → IsChain opening first editions last →
     IsNext last e.front → IsMade opening (shape_of e) → IsChain opening first (editions ++ e ∷ []) e.front

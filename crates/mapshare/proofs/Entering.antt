@@ -1,8 +1,10 @@
 -- What an entry shows begins with what its reader knew.
-use Rattle.std.proofs.Common.{◌≡◌, ◌≤◌, ◌⊎◌, ℕ, List, length, inl, inr, sym, subst}
+use Rattle.std.proofs.Common.{◌≡◌, ◌∙◌, ◌<◌, ◌≤◌, ◌⊎◌, ℕ, Bool, false, List, Option, None, Some, IfSome, length, inl, inr, sym, ap, subst, arith}
+use Rattle.std.proofs.lemmas.List.{length-append}
 use mathlib.Core.List.{IsPrefix}
 use Rattle.history.proofs.Prefixes.{prefix_whole}
 use Rattle.sharing.proofs.Prefixes.{prefix_self}
+use Rattle.mapshare.specs.Reader.{ReaderValue, entered}
 
 -- a front that isn't shorter than what is known, and of which the longer is one of the two, begins with it
 pub known_begins : (front known longer : List (List ℕ)) → (longer ≡ front) ⊎ (longer ≡ known) → IsPrefix front longer → IsPrefix known longer → length known ≤ length front → IsPrefix known front
@@ -10,3 +12,24 @@ known_begins front known longer (inl e) p q le = subst (λ l. IsPrefix known l) 
 known_begins front known longer (inr e) p q le =
     let same : front ≡ known = prefix_whole front known (subst (λ l. IsPrefix front l) e p) le in
     subst (λ l. IsPrefix known l) (sym same) (prefix_self known)
+
+-- a reader, by what it knows, what it has seen and whether it may enter
+abbrev pub of_reader : List (List ℕ) → List (List ℕ) → Bool → ReaderValue
+of_reader known seen is_free = record { known = known; seen = seen; is_free = is_free }
+
+-- a reader behind an entry knows and has seen what the entry shows
+pub away_entered : (known seen shown : List (List ℕ)) → seen ≡ known → known ≡ shown → of_reader known seen false ≡ entered shown
+away_entered known seen shown same is = ap (λ z. of_reader known z false) same ∙ ap entered is
+
+-- what begins what is shown is no longer
+pub prefix_length : (xs ys : List (List ℕ)) → IsPrefix xs ys → length xs ≤ length ys
+prefix_length xs ys p = omega (arith, length-append xs p.0, ap length p.1)
+
+-- where a reader knows more than is shown, it knows more than it was shown
+pub behind : (seen before front known : List (List ℕ)) → IsPrefix seen before → IsPrefix before front → length front < length known → length seen < length known
+behind seen before front known p q less = omega (arith, prefix_length seen before p, prefix_length before front q, less)
+
+-- what holds of an end, if there is one, holds of the end that there is
+pub at_some : {A : Type 0} (P : A → Type 0) (o : Option A) (x : A) → o ≡ Some x → IfSome o P → P x
+at_some P None x e h = absurd (cc e)
+at_some P (Some y) x e h = let same : y ≡ x = cc e in subst P same h

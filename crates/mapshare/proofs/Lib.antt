@@ -3,3 +3,4 @@ pub mod Counting
 pub mod Crossing
 pub mod Entering
 pub mod ReaderCrossing
+pub mod Seeing

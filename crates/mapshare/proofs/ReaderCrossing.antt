@@ -7,13 +7,13 @@ use Rattle.mapshare.proofs.Crossing.{fielded, machine-send, machine-sync}
 use Rattle.mapshare.specs.contracts.edition.Edition as Edition
 use Rattle.mapshare.specs.contracts.reader.Reader as Reader
 use Rattle.mapshare.specs.contracts.rule.Ruled as Ruled
-use Rattle.mapshare.specs.contracts.rule.RuledProtocolEditionUnit.TheImpl as Rule
+use Rattle.mapshare.specs.contracts.rule.RuledProtocolEditionView.TheImpl as Rule
+use Rattle.mapshare.specs.contracts.rule.View as View
 use Rattle.mapshare.specs.declared.rule.Sharing as Sharing
 use Rattle.std.below.std_heap.proofs.GlobalAllocator.TheSendSync as HeapFrees
 use Rattle.std.proofs.alloc.Global.TheSendSync as HeapCrosses
 use Rattle.std.specs.contracts.alloc.Global as Heap
 use Rattle.std.specs.contracts.impls.GlobalAllocator.TheImpl as HeapAllocator
-use denote.Builtin as built
 use denote.Param.Send.{IsSend, IsSync}
 use denote.RattleType.{RattleType}
 
@@ -25,8 +25,8 @@ module _ (R : RattleType) (g : Naming.Ghosts R.Denot) where
   edition-sync = search (machine-sync, FrontCrosses.the_sync, fielded) depth 60 fits 20000
 
 module _ (R : RattleType) (g : Sharing.Ghosts R.Denot) (g' : Naming.Ghosts R.Denot) where
-  pub end-send : IsSend (End.the_row (Edition.the_row R g') built.unit (Ruled.the_row R) Heap.the_row (Rule.ghosts R g Rule.no_dict g' Rule.no_dict) HeapAllocator.ghosts)
-  end-send = EndCrosses.the_send (Edition.the_row R g') built.unit (Ruled.the_row R) Heap.the_row (Rule.ghosts R g Rule.no_dict g' Rule.no_dict) HeapAllocator.ghosts HeapCrosses.the_send (edition-sync R g') HeapCrosses.the_sync HeapFrees.the_frees
+  pub end-send : IsSend (End.the_row (Edition.the_row R g') View.the_row (Ruled.the_row R) Heap.the_row (Rule.ghosts R g Rule.no_dict g' Rule.no_dict) HeapAllocator.ghosts)
+  end-send = EndCrosses.the_send (Edition.the_row R g') View.the_row (Ruled.the_row R) Heap.the_row (Rule.ghosts R g Rule.no_dict g' Rule.no_dict) HeapAllocator.ghosts HeapCrosses.the_send (edition-sync R g') HeapCrosses.the_sync HeapFrees.the_frees
 
   pub reader-send : IsSend (Reader.the_row R g g')
   reader-send = search (end-send, FrontCrosses.the_send, fielded) depth 60 fits 20000

@@ -3,3 +3,4 @@ pub mod Admin
 pub mod Edition
 pub mod Queue
 pub mod Reader
+pub mod Seeing

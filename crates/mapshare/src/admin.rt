@@ -6,7 +6,7 @@ ghost use Rattle.mapshare.specs.Queue.{IsChain};
 
 use crate::edition::{Edition, Shape};
 use crate::receipt::Receipt;
-use crate::rule::{MapWriter, Moves, Ruled, Sharing};
+use crate::rule::{MapWriter, Moves, Ruled, Sharing, View};
 use crossbeam_utils::rule::Protocol;
 use history::{Front, History, MAX_HISTORY};
 use left_right::Absorb;
@@ -44,7 +44,7 @@ pub enum Retried<S: Sharing> {
 pub struct Admin<S: Sharing>
 where
     Edition<S>: Absorb<Edition<S>, State = Shape>,
-    Ruled<S>: Protocol<Edition<S>, ()>,
+    Ruled<S>: Protocol<Edition<S>, View>,
 {
     writer: MapWriter<S>,
     history: History<S>,
@@ -59,7 +59,7 @@ where
 impl<S: Sharing> Model for Admin<S>
 where
     Edition<S>: Absorb<Edition<S>, State = Shape>,
-    Ruled<S>: Protocol<Edition<S>, ()>,
+    Ruled<S>: Protocol<Edition<S>, View>,
 {
     ghost use Rattle.std.specs.Prelude.{◌≡◌, ◌++◌, Some, drop, length};
     ghost use Rattle.sharing.specs.Sharing.{after};

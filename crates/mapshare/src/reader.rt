@@ -1,10 +1,10 @@
-ghost use Rattle.std.specs.Prelude.{◌≡◌, ◌⊎◌, ◌+◌, length, IfOk};
+ghost use Rattle.std.specs.Prelude.{◌≡◌, ◌⊎◌, ◌+◌, ◌<◌, [], length, IfOk, IsErrOf};
 ghost use Rattle.std.specs.Borrow.{sem, RestsIfErr};
 ghost use mathlib.Core.List.{IsPrefix};
 ghost use Rattle.sharing.specs.Reply.{IsAnswerAfter};
 ghost use Rattle.mapmachine.specs.Machine.{IsAnswer};
 ghost use Rattle.mapshare.specs.Accepted.{accepted};
-ghost use Rattle.mapshare.specs.Reader.{entered, free};
+ghost use Rattle.mapshare.specs.Reader.{entered, free, freed};
 ghost use Rattle.mapshare.specs.contracts.reader.Reader.{the_row as reader_row};
 
 use crate::receipt::Receipt;
@@ -14,26 +14,40 @@ use mapmachine::Answer;
 use std::alloc::AllocError;
 use std::marker::Model;
 
-/// Nothing could be entered. So it is once the administrator has closed; while the sharing is open it happens only where
-/// the map that is at hand lacks a batch of which the reader learned by a receipt.
+/// Why nothing could be entered.
 #[derive(Debug, Drop)]
-pub struct Closed;
+pub enum Closed {
+    /// There is no map to enter: the administrator has closed, or an entry that was forgotten has the reader's part.
+    /// No clause says when the two copies give a map.
+    NoGuard,
+    /// The map that is at hand lacks a batch of which the reader learned by a receipt. A reader that knows no more than
+    /// its last entry showed never gets this.
+    Behind,
+}
 
-/// A reader of a shared map. Contracts see it as the batches that it knows to be published, and whether it may enter.
+/// A reader of a shared map. Contracts see it as the batches that it knows to be published, those that its last entry
+/// showed, and whether it may enter.
 #[derive(Drop)]
 pub struct Reader<S: Sharing> {
     // It is away while an entry has it.
     end: Option<MapReader<S>>,
+    // What the last entry showed.
+    seen: Front<S>,
+    // The longer of what was seen and of each receipt.
     known: Front<S>,
 }
 
 impl<S: Sharing> Model for Reader<S> {
-    ghost use Rattle.std.specs.Prelude.{is_some};
+    ghost use Rattle.std.specs.Prelude.{is_some, IfSome};
+    ghost use mathlib.Core.List.{IsPrefix};
+    ghost use Rattle.left_right.specs.Sides.{view as seen_by};
     ghost use Rattle.mapshare.specs.Reader.{ReaderValue};
 
     ghost Value = { ReaderValue };
 
-    ghost view = { λ r. record { known = r.known; is_free = is_some r.end } };
+    ghost view = { λ r. record { known = r.known; seen = r.seen; is_free = is_some r.end } };
+
+    ghost invariant = { λ r. IfSome r.end (λ end. IsPrefix r.seen (seen_by end.place).seen) };
 }
 
 /// What is published as one reader sees it: the machine after these batches, as which contracts see it.
@@ -42,26 +56,38 @@ pub struct Shown<S: Sharing> {
 }
 
 impl<S: Sharing> Model for Shown<S> {
-    ghost use Rattle.std.specs.Prelude.{ℕ, List};
+    ghost use Rattle.std.specs.Prelude.{◌≡◌, ℕ, List};
+    ghost use Rattle.left_right.specs.Sides.{view as seen_by};
     ghost use Rattle.mapshare.specs.Edition.{IsMade, shape_of};
 
     ghost Value = { List (List ℕ) };
 
     ghost view = { λ s. s.reading.part.value.front };
 
-    ghost invariant = { λ s. IsMade S.opening (shape_of s.reading.part.value) };
+    ghost invariant = { λ s. IsMade S.opening (shape_of s.reading.part.value) × ((seen_by s.reading.place).seen ≡ s.reading.part.value.front) };
 }
 
 /// What gives the end of a reader back.
 pub trait Ends<S: Sharing> {
-    /// Ends the reading.
-    fn end(self) -> MapReader<S>;
+    ghost use Rattle.std.specs.Prelude.{◌≡◌, ℕ, List};
+    ghost use Rattle.left_right.specs.Sides.{view as seen_by};
+
+    /// The batches that were shown.
+    ghost shows: { Self → List (List ℕ) };
+
+    /// Ends the reading. It gives the end of the reader, and what was shown.
+    fn end(self) -> (MapReader<S>, Front<S>)
+        ensures seen { (seen_by result.0.place).seen ≡ shows self }
+        ensures front { result.1 ≡ shows self };
 }
 
 impl<S: Sharing> Ends<S> for Shown<S> {
-    fn end(self) -> MapReader<S> {
+    ghost shows = { λ shown. shown };
+
+    fn end(self) -> (MapReader<S>, Front<S>) {
         let Self { reading } = self;
-        reading.leave()
+        let front = reading.get().front.copy();
+        (reading.leave(), front)
     }
 }
 
@@ -98,12 +124,14 @@ impl<S: Sharing> Shown<S> {
 }
 
 impl<S: Sharing> Reader<S> {
-    // A reader that knows this.
+    // A reader that knows this, which has no batch.
     pub(crate) fn new(end: MapReader<S>, known: Front<S>) -> Self
+        requires empty { known ≡ [] }
         ensures { result ≡ free known }
     {
         Reader {
             end: Some(end),
+            seen: known.copy(),
             known,
         }
     }
@@ -118,31 +146,34 @@ impl<S: Sharing> Reader<S> {
         self.known = self.known.longer(receipt.front());
     }
 
-    /// Enters: the entry shows batches that begin with all that the reader knows, and which it knows from then on.
+    /// Enters: the entry shows batches that begin with all that the reader knows, and which it knows from then on. They
+    /// begin with what earlier entries showed, since the copies keep that; they are compared with receipts alone.
     pub fn enter(&mut self) -> Result<Entered<'_, S>, Closed>
         ensures* closed { sem 𝓛 (RestsIfErr (reader_row S.row (record { opening = S.opening }) (record { book = S.book })) self.entry (λ e. e.home.ghost_name) result (λ n. n ≡ self.old)) }
         ensures same_reference { IfOk result (λ e. e.home.ghost_name ≡ self.entry.ghost_name) }
         ensures known { IfOk result (λ e. IsPrefix self.old.known e.shown) }
         ensures knows { IfOk result (λ e. e.home.now ≡ entered e.shown) }
+        ensures behind { IsErrOf result Closed.Behind → length self.old.seen < length self.old.known }
     {
         let Some(end) = self.end.take() else {
-            return Err(Closed);
+            return Err(Closed::NoGuard);
         };
         match end.enter_as::<Sees<S>>() {
             Ok(reading) => {
                 let shown = Shown { reading };
                 let front = shown.front();
                 if front.len() < self.known.len() {
-                    self.end = Some(shown.end());
-                    return Err(Closed);
+                    self.end = Some(shown.end().0);
+                    return Err(Closed::Behind);
                 }
                 let _both = front.longer(&self.known);
+                self.seen = front.copy();
                 self.known = front;
                 Ok(Entry { home: self, shown })
             }
             Err(end) => {
                 self.end = Some(end);
-                Err(Closed)
+                Err(Closed::NoGuard)
             }
         }
     }
@@ -156,9 +187,9 @@ impl<S: Sharing> Entry<'_, S, Shown<S>> {
         self.shown.sequence()
     }
 
-    /// Ends the entry, as dropping it does: the reader keeps what it knows, and may enter again.
+    /// Ends the entry, as dropping it does: the reader keeps what it knows, was shown this, and may enter again.
     pub fn leave(self)
-        ensures { self.exit.0.now ≡ free self.entry.home.now.known }
+        ensures { self.exit.0.now ≡ freed self.entry.home.now self.entry.shown }
     {
         drop(self);
     }
@@ -173,9 +204,11 @@ impl<S: Sharing> Entry<'_, S, Shown<S>> {
 
 impl<S: Sharing, X: Ends<S>> Drop for Entry<'_, S, X> {
     fn drop(self)
-        ensures { self.exit.0.now ≡ free self.entry.home.now.known }
+        ensures { self.exit.0.now ≡ freed self.entry.home.now (X.shows self.entry.shown) }
     {
         let Self { home, shown } = self;
-        home.end = Some(shown.end());
+        let (end, seen) = shown.end();
+        home.end = Some(end);
+        home.seen = seen;
     }
 }

@@ -1,6 +1,6 @@
 //! The rule between readers and the writer.
 
-ghost use Rattle.mapshare.specs.Edition.{IsMade, shape_of};
+ghost use Rattle.mapshare.specs.Seeing.{Keeps, Shows, nothing_seen};
 
 use crate::edition::Edition;
 use crossbeam_utils::rule::{Outcome, Protocol};
@@ -23,38 +23,46 @@ impl Sharing for Brand {
     ghost opening = { no_state };
 }
 
-/// The rule: what is published is the opening state after the batches of its front.
+/// What a reader's end, or the writer's, has seen. No value of it is made.
+pub struct View {
+    /// The batches that were shown last.
+    pub seen: [[u8; 0]; 0],
+}
+
+/// The rule: what is published is the opening state after the batches of its front, which begins with all that each
+/// end has seen.
 pub struct Ruled<S> {
     of: PhantomData<S>,
 }
 
-impl<S: Sharing> Protocol<Edition<S>, ()> for Ruled<S> {
-    ghost holds = { λ edition _. IsMade S.opening (shape_of edition) };
+impl<S: Sharing> Protocol<Edition<S>, View> for Ruled<S> {
+    ghost holds = { Keeps S.opening };
 
-    ghost first = { tt };
+    ghost first = { nothing_seen };
 }
 
-/// A step that tells of an edition that it is made by its batches.
+/// A step that tells of an edition that it is made by its batches, which begin with what was seen before and are what
+/// is seen then.
 pub struct Sees<S> {
     of: PhantomData<S>,
 }
 
-impl<S: Sharing> Outcome<Edition<S>, ()> for Sees<S> {
-    ghost then = { λ _ _ edition _. IsMade S.opening (shape_of edition) };
+impl<S: Sharing> Outcome<Edition<S>, View> for Sees<S> {
+    ghost then = { λ before _ edition after. Shows S.opening before edition after };
 }
 
 /// A publish, which tells nothing more than the history does.
 pub struct Moves;
 
-impl<J: Naming> Outcome<Edition<J>, ()> for Moves {
+impl<J: Naming> Outcome<Edition<J>, View> for Moves {
     ghost then = { λ _ _ _ _. Unit {0} };
 }
 
 /// The administrator's end.
-pub type MapWriter<S> = writer::Writer<Edition<S>, Edition<S>, (), Ruled<S>>;
+pub type MapWriter<S> = writer::Writer<Edition<S>, Edition<S>, View, Ruled<S>>;
 
 /// A reader's end.
-pub type MapReader<S> = reader::Reader<Edition<S>, (), Ruled<S>>;
+pub type MapReader<S> = reader::Reader<Edition<S>, View, Ruled<S>>;
 
 /// A reader's end while it reads.
-pub type MapReading<S> = reader::Reading<Edition<S>, (), Ruled<S>>;
+pub type MapReading<S> = reader::Reading<Edition<S>, View, Ruled<S>>;

@@ -1,12 +1,19 @@
-use Rattle.std.proofs.Common.{◌∙◌, drop, sym, ap, subst}
+use Rattle.std.proofs.Common.{◌≡◌, ◌∙◌, drop, sym, ap, subst}
+use mathlib.Core.List.{IsPrefix}
 use Rattle.mapshare.specs.Edition.{shape_of, IsMade}
-use Rattle.mapshare.proofs.Chains.{chain_made, chain_front, ok_from}
+use Rattle.mapshare.proofs.Chains.{chain_begins, chain_made, chain_front, ok_from}
+use Rattle.mapshare.proofs.Seeing.{moves}
 use Rattle.mapshare.proofs.admin.show_all.Goals as goal
 
 pub publish_as-requires : goal.publish_as-requires
 publish_as-requires g c =
     let w = c.args.writer in
-    λ next same views made at. (tt, subst (IsMade g.S.Sharing.opening) (sym same) (chain_made g.S.Sharing.opening (shape_of w.desk.shown.value) (drop w.behind w.log.items) c.args.last.now c.requires.chain made), tt)
+    let opening = g.S.Sharing.opening in
+    let waiting = drop w.behind w.log.items in
+    λ next same.
+    let front : next.front ≡ c.args.last.now = ap (λ s. s.batches) same ∙ chain_front opening (shape_of w.desk.shown.value) waiting c.args.last.now c.requires.chain in
+    let begins = subst (IsPrefix w.desk.shown.value.front) (sym front) (chain_begins opening w.desk.shown.value.front waiting c.args.last.now c.requires.chain) in
+    moves opening _ _ w.desk.shown.value next begins (λ made. subst (IsMade opening) (sym same) (chain_made opening (shape_of w.desk.shown.value) waiting c.args.last.now c.requires.chain made))
 
 pub returns-clause-front : goal.returns-clause-front
 returns-clause-front g c =
