@@ -10,6 +10,7 @@ use Rattle.geom.specs.contracts.world.WorldBox as WorldBox
 use Rattle.gridindex.proofs.grid.Grid.TheSendSync as GridCrosses
 use Rattle.gridindex.specs.contracts.grid.Grid as Grid
 use Rattle.mapdefs.proofs.expr.Expr.TheLaws.TheKnot as Knot
+use Rattle.mapdefs.specs.contracts.block_box.BlockBox as BlockBox
 use Rattle.mapdefs.specs.contracts.boxed.Boxed as Boxed
 use Rattle.mapdefs.specs.contracts.class.ClassFields as ClassFields
 use Rattle.mapdefs.specs.contracts.class.Rule as Rule
@@ -24,6 +25,7 @@ use Rattle.mapdefs.specs.contracts.label.LabelFields as LabelFields
 use Rattle.mapdefs.specs.contracts.layer.LayerFields as LayerFields
 use Rattle.mapdefs.specs.contracts.limited.Limited as Limited
 use Rattle.mapdefs.specs.contracts.map.MapFields as MapFields
+use Rattle.mapdefs.specs.contracts.part.Part as Part
 use Rattle.mapdefs.specs.contracts.shared.Shared as Shared
 use Rattle.mapdefs.specs.contracts.shared_items.SharedItems as SharedItems
 use Rattle.mapdefs.specs.contracts.style.StyleFields as StyleFields
@@ -61,6 +63,18 @@ world-send = search (coordinate-send, fielded) depth 12
 pub world-sync : IsSync World.the_row
 world-sync = search (coordinate-sync, fielded) depth 12
 
+pub block_box-send : IsSend BlockBox.the_row
+block_box-send = search (coordinate-send, fielded) depth 12
+
+pub block_box-sync : IsSync BlockBox.the_row
+block_box-sync = search (coordinate-sync, fielded) depth 12
+
+pub part-send : IsSend Part.the_row
+part-send = search (world-send, block_box-send, fielded) depth 12
+
+pub part-sync : IsSync Part.the_row
+part-sync = search (world-sync, block_box-sync, fielded) depth 12
+
 module _ (R : RattleType) where
   pub items-send : IsSend R → IsSend (Items.the_row R)
   items-send s = search (fielded) depth 9
@@ -92,7 +106,7 @@ module _ (R : RattleType) where
       search (fielded) depth 9
 
 -- what the types of maps are made of
-ruleset wrapped = (text-send, text-sync, micro-send, micro-sync, world-send, world-sync, items-send, items-sync, boxed-send, boxed-sync, shared-send, shared-sync, shared_items-send, shared_items-sync, fielded)
+ruleset wrapped = (text-send, text-sync, micro-send, micro-sync, world-send, world-sync, part-send, part-sync, items-send, items-sync, boxed-send, boxed-sync, shared-send, shared-sync, shared_items-send, shared_items-sync, fielded)
 
 pub feature-send : IsSend FeatureFields.the_row
 feature-send = search (wrapped) depth 12

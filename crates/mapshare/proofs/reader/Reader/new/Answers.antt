@@ -1,4 +1,4 @@
-use Rattle.std.proofs.Common.{◌≡◌, ◌∙◌, ◌++◌, ap}
+use Rattle.std.proofs.Common.{◌∙◌, ◌++◌, ap}
 use Rattle.left_right.specs.Sides.{view}
 use Rattle.mapshare.proofs.reader.Reader.new.Goals as goal
 
