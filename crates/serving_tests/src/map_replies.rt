@@ -4,8 +4,8 @@ ghost use Rattle.mapdefs.specs.declared.limits.TheConstants.{MAX_LAYERS};
 
 use geom::{Coordinate, Micro, NUMBER_LIMIT, World};
 use mapdefs::{
-    Class, ClassFields, Feature, FeatureFields, Items, Layer, Map, Rgb, Rule, SharedItems, Style,
-    StyleFields, Text,
+    Class, ClassFields, Feature, FeatureFields, Items, Layer, Map, Part, Rgb, Rule, SharedItems,
+    Style, StyleFields, Text,
 };
 use mapmachine::Machine;
 use std::alloc::{AllocError, Global};
@@ -45,12 +45,12 @@ fn place(x: i8, y: i8) -> World {
 fn square(alloc: Global) -> Result<Feature, AllocError>
     ensures { IfOk result (λ feature. feature.values ≡ []) }
 {
-    let mut ring = Items::new(alloc);
+    let mut ring = Vec::new(alloc);
     ring.push(place(-1, -1))?;
     ring.push(place(1, -1))?;
     ring.push(place(1, 1))?;
     ring.push(place(-1, 1))?;
-    let parts = Items::of(vec![in alloc; ring]?);
+    let parts = Items::of(vec![in alloc; Part::of(alloc, ring)?]?);
     Ok(Feature::new(FeatureFields {
         parts,
         text: None,
