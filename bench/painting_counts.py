@@ -90,6 +90,13 @@ def scattered_lines(count):
         yield part
 
 
+def scattered_points(count):
+    """Points of the world, one a feature."""
+    random.seed(3)
+    for _ in range(count):
+        yield [(random.uniform(-179, 179), random.uniform(-89, 89))]
+
+
 def workloads(world):
     """Name, mapfile and sides of each."""
     countries, rivers = layers_of(world)
@@ -107,6 +114,8 @@ def workloads(world):
     yield "rivers, 1 wide", of_extent(EARTH, rivers), 1024, 512
     lines = of_extent(EARTH, layer("LINE", "COLOR 10 20 30\nWIDTH 1", scattered_lines(20_000)))
     yield "20,000 lines of 4 vertices, 1 wide", lines, 2048, 1024
+    points = of_extent(EARTH, layer("POINT", "COLOR 10 20 30\nSIZE 5", scattered_points(20_000)))
+    yield "20,000 points as squares of 5 pixels", points, 2048, 1024
 
 
 def counted(program, mapfile, count, width, height):

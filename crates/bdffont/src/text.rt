@@ -167,28 +167,31 @@ fn inks(glyph: &Glyph, column: u64, row: u64) -> bool
     glyph.rows.as_slice().get(index).copied().unwrap_or(false)
 }
 
-/// Whether a glyph has ink in column `i` and row `j` of the picture, where its box has this leftmost column
-/// and this first row.
-pub fn inks_at(glyph: &Glyph, left: i64, top: i64, i: i64, j: i64) -> bool
-    ensures { result ≡ inks_at glyph.now (past left i) (past top j) }
+/// Whether a glyph has ink in column `i` and row `j` of the picture, where the corner of its box is its leftmost
+/// column and its first row.
+pub fn inks_at(glyph: &Glyph, corner: (i64, i64), i: i64, j: i64) -> bool
+    ensures { result ≡ inks_at glyph.now (past corner.0 i) (past corner.1 j) }
 {
-    let Some(column) = past(left, i) else {
+    let Some(column) = past(corner.0, i) else {
         return false;
     };
-    let Some(row) = past(top, j) else {
+    let Some(row) = past(corner.1, j) else {
         return false;
     };
     inks(glyph, column, row)
 }
 
-// Whether a glyph has ink in column `i` and row `j` of the picture, in a text at a pixel, where
-// the pen has advanced so far.
-fn covers(font: BitmapBox, at: Pixel, pen: u32, i: i64, j: i64, glyph: &Glyph) -> bool
+// Whether a glyph has ink in a column and a row of the picture, in a text at a pixel, where the pen has advanced so far.
+fn covers(font: BitmapBox, at: Pixel, pen: u32, cell: (i64, i64), glyph: &Glyph) -> bool
     requires { pen ≤ 2 ^ 16 }
-    ensures { result ≡ covers font at pen i j glyph.now }
+    ensures { result ≡ covers font at pen cell.0 cell.1 glyph.now }
 {
-    let (left, top) = corner_of(font, at, pen, glyph.bounds);
-    inks_at(glyph, left, top, i, j)
+    inks_at(
+        glyph,
+        corner_of(font, at, pen, glyph.bounds),
+        cell.0,
+        cell.1,
+    )
 }
 
 /// Whether a text has ink in column `i` and row `j` of the picture, where the upper left pixel of the
@@ -207,7 +210,7 @@ pub fn ink(font: &Font, text: &str, at: Pixel, i: i64, j: i64) -> bool
     let mut rest = text;
     while let Some((character, after)) = split_char(rest) {
         if let Some(glyph) = glyph_of(glyphs, character) {
-            if covers(fields.bounds, at, pen, i, j, glyph) {
+            if covers(fields.bounds, at, pen, (i, j), glyph) {
                 return true;
             }
             pen += u32::from(glyph.advance);

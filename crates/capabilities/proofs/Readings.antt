@@ -274,30 +274,23 @@ document-reads s n m =
     ∙ ap (λ (r : List (List ℕ)). found_of s m ++ r) (nothing-in s)
     ∙ append-nil (found_of s m)
 
--- the titles of the layers that are on, and their names
-shown-titles : (layers : List LayerFields) → layers_of Titles layers ≡ map (λ (layer : LayerFields). layer.title) (filter (λ (layer : LayerFields). layer.on) layers)
-shown-titles [] = refl
-shown-titles (layer ∷ layers) = one layer.on (shown-titles layers)
+-- what is found of layers is a text of each that is on, where that is what is found of one
+shown-texts : (s : Sought) (text : LayerFields → List ℕ) → ((layer : LayerFields) → texts_of s layer ≡ text layer ∷ []) → (layers : List LayerFields) →
+    layers_of s layers ≡ map text (filter (λ (layer : LayerFields). layer.on) layers)
+shown-texts s text h [] = refl
+shown-texts s text h (layer ∷ layers) = one layer.on (shown-texts s text h layers)
   where
-    one : (on : Bool) → layers_of Titles layers ≡ map (λ (l : LayerFields). l.title) (filter (λ (l : LayerFields). l.on) layers) → (if on then layer.title ∷ [] else []) ++ layers_of Titles layers
-        ≡ map (λ (l : LayerFields). l.title) (if on then layer ∷ filter (λ (l : LayerFields). l.on) layers else filter (λ (l : LayerFields). l.on) layers)
-    one true more = ap (λ (r : List (List ℕ)). layer.title ∷ r) more
-    one false more = more
-
-shown-names : (layers : List LayerFields) → layers_of Names layers ≡ map (λ (layer : LayerFields). layer.name) (filter (λ (layer : LayerFields). layer.on) layers)
-shown-names [] = refl
-shown-names (layer ∷ layers) = one layer.on (shown-names layers)
-  where
-    one : (on : Bool) → layers_of Names layers ≡ map (λ (l : LayerFields). l.name) (filter (λ (l : LayerFields). l.on) layers) → (if on then layer.name ∷ [] else []) ++ layers_of Names layers
-        ≡ map (λ (l : LayerFields). l.name) (if on then layer ∷ filter (λ (l : LayerFields). l.on) layers else filter (λ (l : LayerFields). l.on) layers)
-    one true more = ap (λ (r : List (List ℕ)). layer.name ∷ r) more
+    one : (on : Bool) → layers_of s layers ≡ map text (filter (λ (l : LayerFields). l.on) layers) →
+        (if on then texts_of s layer else []) ++ layers_of s layers
+        ≡ map text (if on then layer ∷ filter (λ (l : LayerFields). l.on) layers else filter (λ (l : LayerFields). l.on) layers)
+    one true more = rw (h layer, more) refl
     one false more = more
 
 pub titles-law : TitlesAreRead
-titles-law n m = document-reads Titles n m ∙ rw (append-nil, shown-titles m.layers) refl
+titles-law n m = document-reads Titles n m ∙ rw (append-nil, shown-texts Titles (λ (layer : LayerFields). layer.title) (λ layer. refl) m.layers) refl
 
 pub names-law : NamesAreRead
-names-law n m = document-reads Names n m ∙ rw (append-nil, shown-names m.layers) refl
+names-law n m = document-reads Names n m ∙ rw (append-nil, shown-texts Names (λ (layer : LayerFields). layer.name) (λ layer. refl) m.layers) refl
 
 -- nothing of layers where the extent is looked for
 no-layers : (s : Sought) → ((layer : LayerFields) → texts_of s layer ≡ []) → (layers : List LayerFields) → layers_of s layers ≡ []

@@ -1,4 +1,4 @@
-ghost use Rattle.std.specs.Prelude.{◌≡◌, [], ◌∷◌, ◌++◌, length, IfOk, OnOk, OnErr};
+ghost use Rattle.std.specs.Prelude.{◌≡◌, [], ◌∷◌, ◌++◌, All, length, IfOk, OnOk, OnErr};
 
 use std::alloc::{AllocError, Global};
 use std::marker::Model;
@@ -46,7 +46,8 @@ impl Indices {
 
 /// So many lists without indices.
 pub fn empty_lists(alloc: Global, count: usize) -> Result<Vec<Indices>, AllocError>
-    ensures { IfOk result (λ lists. length lists.items ≡ count) }
+    ensures count { IfOk result (λ lists. length lists.items ≡ count) }
+    ensures empty { IfOk result (λ lists. All (λ list. list ≡ []) lists.items) }
 {
     let mut lists = Vec::new(alloc);
     for _number in 0..count {

@@ -1,8 +1,8 @@
 -- Filling the rows of a polygon.
-use Rattle.std.proofs.Common.{Option, ◌≡◌, ◌∙◌, ℕ, zero, suc, ◌+◌, ◌-◌, ◌*◌, ◌/◌, ◌%◌, ◌<◌, ◌≤◌, Bool, true, false, ◌||◌, All, if◌then◌else◌, cond, List, [], ◌∷◌, ◌++◌, length, take, drop, get_or, refl, sym, ap, arith, inl, inr, ⊎_elim}
+use Rattle.std.proofs.Common.{Option, ◌≡◌, ◌∙◌, ℕ, zero, suc, ◌+◌, ◌-◌, ◌*◌, ◌/◌, ◌%◌, ◌<◌, ◌≤◌, Bool, true, false, ◌||◌, All, if◌then◌else◌, cond, List, [], ◌∷◌, ◌++◌, length, take, drop, get_or, refl, sym, ap, arith, ⊎_elim}
 use Rattle.std.specs.List.{list_any}
 use Rattle.std.proofs.Math.Bool.{or-false}
-use Rattle.std.proofs.lemmas.Bool.{and_left, and_parts, and_right, cases_Bool, cases_lt, false≢true, le-ltb, leb-true, lt-leb, ltb-true}
+use Rattle.std.proofs.lemmas.Bool.{and_left, and_right, cases_lt, le-ltb, lt-leb}
 use Rattle.std.specs.Prelude.{nat_le, nat_lt}
 use Rattle.std.proofs.lemmas.List.Folds.{list_any-append}
 use Rattle.std.proofs.lemmas.List.{get_or-append_right, get_or-drop, get_or-take, get_or_append_left, length-append, length-drop, length-take, length-take-le, take_more}
@@ -14,7 +14,7 @@ use Rattle.clip.specs.declared.rows.Rows.{Rows}
 use Rattle.mapdefs.specs.declared.colour.Rgb.{Rgb}
 use Rattle.mapdefs.specs.declared.picture.PictureFields.{PictureFields}
 use Rattle.scanfill.proofs.Covering.{spans-test, spans-within}
-use Rattle.scanfill.specs.Runs.{AreRunsFrom, has_column, is_in_spans}
+use Rattle.scanfill.specs.Runs.{AreRunsFrom, is_in_spans}
 use Rattle.scanfill.specs.declared.span.Span.{Span}
 use Rattle.compose.specs.Painted.{AreFilled, AreRowsFilled, HasRowsFilled, IsFilled, colour_of}
 
@@ -68,22 +68,21 @@ filled-more test colour width from at past a b c first last area p q = record {
   after = λ k h high. q.after k (omega (arith, area)) high ∙ p.after k h (omega arith);
 }
 
--- one row is filled by its spans
-pub filled-row : (spans : List Span) (colour : ℕ → ℕ → Option Rgb) (width r a k : ℕ) (pixels row : List (Option Rgb)) → 0 < width → a ≡ r * width → k ≡ width →
-    a + k ≤ length pixels → length row ≡ k → ((i : ℕ) → colour_of row i ≡ (if is_in_spans spans i then colour i r else colour_of (mid_of a k pixels) i)) →
-    AreRowsFilled (λ i j. is_in_spans spans i) colour width r (r + 1) pixels (put_mid a k pixels row)
-filled-row spans colour width r a k pixels row some start is within wide filled = record {
+-- one row has its colours
+pub filled-row : (has : ℕ → Bool) (colour : ℕ → Option Rgb) (width r a k : ℕ) (pixels row : List (Option Rgb)) → 0 < width → a ≡ r * width → k ≡ width →
+    a + k ≤ length pixels → length row ≡ k → ((i : ℕ) → colour_of row i ≡ (if has i then colour i else colour_of (mid_of a k pixels) i)) →
+    AreRowsFilled (λ i j. has i) (λ i j. colour i) width r (r + 1) pixels (put_mid a k pixels row)
+filled-row has colour width r a k pixels row some start is within wide filled = record {
   filled = λ at h low high.
       let j : ℕ = at % width in
       let here : at / width ≡ r = omega arith in
       let below : j < width = mod_below at width some in
       let place : at ≡ a + j = sym (div-add-mod' at width) ∙ rw (here, start) refl in
-      let shown : colour j r ≡ colour j (at / width) = ap (λ n. colour j n) (sym here) in
       let old : colour_of (mid_of a k pixels) j ≡ colour_of pixels at =
       get_or-take k (drop a pixels) j _ (omega arith) ∙ (get_or-drop a pixels j _ ∙ ap (λ n. colour_of pixels n) (sym place)) in
       ap (λ n. colour_of (put_mid a k pixels row) n) place
       ∙ (put-within a k pixels row j (omega arith) wide (omega arith)
-      ∙ (filled j ∙ rw (old, shown) refl));
+      ∙ (filled j ∙ rw old refl));
   before = λ at h low.
       let less : (at / width + 1) * width ≤ r * width = mul-le-mul_right width (omega arith) in
       put-before a k pixels row at (omega arith) (omega (arith, less, start, div-add-mod' at width, mod_below at width some));
@@ -99,14 +98,6 @@ filled-row spans colour width r a k pixels row some start is within wide filled 
 pub runs-fit : (test : ℕ → Bool) (spans runs : List Span) (width : ℕ) → spans ≡ runs → AreRunsFrom test 0 width runs →
     All (λ (span : Span). (span.from ≤ span.to) × (span.to ≤ width)) spans
 runs-fit test spans runs width read all = λ j d h. rw read (spans-within test 0 width j runs d all (omega (arith, ap length read)))
-
--- a pixel that lies in one of the runs passes
-pub spans-inside : (test : ℕ → Bool) (from end i : ℕ) (spans : List Span) → AreRunsFrom test from end spans → is_in_spans spans i ≡ true → test i ≡ true
-spans-inside test from end i [] runs h = absurd (false≢true h)
-spans-inside test from end i (span ∷ spans) runs h = elim (cases_Bool (has_column span i)) [
-  | inl here ↦ let both = and_parts (nat_le span.from i) (nat_lt i span.to) here in runs.0.inside i (leb-true span.from i both.0) (ltb-true i span.to both.1)
-  | inr later ↦ spans-inside test span.to end i spans runs.1 (rw later at h)
-]
 
 -- a picture that has a pixel has a column
 pub some-columns : (at width height : ℕ) → at < width * height → 0 < width
@@ -131,11 +122,6 @@ filled-runs test colour spans runs j a b area read all f = record {
     after = f.rows.after;
   };
 }
-
--- each pixel that lies in the spans is covered
-pub spans-covered : (test : ℕ → Bool) (width : ℕ) (spans runs : List Span) → spans ≡ runs → AreRunsFrom test 0 width runs →
-    (i : ℕ) → is_in_spans spans i ≡ true → test i ≡ true
-spans-covered test width spans runs read all i h = spans-inside test 0 width i runs all (rw read at h)
 
 -- a part of as many pixels as a row has
 pub part-wide : (a width k : ℕ) (pixels row : List (Option Rgb)) → k ≡ width → a + k ≤ length pixels → length row ≡ length (mid_of a k pixels) → length row ≡ width

@@ -19,6 +19,7 @@ pub mod Quieting
 pub mod RingBlocks
 pub mod Skipping
 pub mod Sparing
+pub mod Stamps
 pub mod Stripping
 pub mod StrokeBlocks
 pub mod Stroking

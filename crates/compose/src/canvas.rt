@@ -1,8 +1,8 @@
-ghost use Rattle.std.specs.Prelude.{◌≡◌, [], ℕ, ◌*◌, ◌+◌, ◌≤◌, ◌<◌, true, All, length, replicate, IfOk};
+ghost use Rattle.std.specs.Prelude.{◌≡◌, [], ◌*◌, ◌+◌, ◌≤◌, ◌<◌, All, Some, length, replicate, IfOk};
 ghost use Rattle.scanfill.specs.Runs.{is_in_spans};
 ghost use Rattle.compose.specs.Painted.{HasRowsFilled};
 
-use crate::colouring::{Colouring, fill_spans};
+use crate::colouring::{ColouredSpans, Colouring};
 use crate::latitudes::RowLatitudes;
 use geom::PictureSide;
 use mapdefs::{Items, Picture, PictureFields, PixelColour, Rgb};
@@ -101,16 +101,24 @@ impl Canvas {
         self.height
     }
 
-    /// Gives their colours to the pixels of the row `j` that lie in the spans.
-    pub fn fill_row<K: Colouring>(&mut self, j: u16, spans: &[Span], colouring: &K)
+    /// Gives the colour to the pixels of the row `j` that lie in the spans.
+    pub fn fill_row(&mut self, j: u16, spans: &[Span], colour: Rgb)
         requires row { j < self.old.height }
         requires within { All (λ span. (span.from ≤ span.to) × (span.to ≤ self.old.width)) spans.now }
-        requires has { (i : ℕ) → is_in_spans spans.now i ≡ true → K.has colouring.now i j ≡ true }
-        ensures { HasRowsFilled (λ i k. is_in_spans spans.now i) (K.colour colouring.now) j (j + 1) self.old self.new }
+        ensures { HasRowsFilled (λ i k. is_in_spans spans.now i) (λ i k. Some colour) j (j + 1) self.old self.new }
+    {
+        self.colour_row(j, &ColouredSpans { spans, colour });
+    }
+
+    /// Gives their colours to the pixels of the row `j`.
+    pub fn colour_row<K: Colouring>(&mut self, j: u16, colouring: &K)
+        requires row { j < self.old.height }
+        requires fits { K.fits colouring.now self.old.width }
+        ensures { HasRowsFilled (λ i k. K.has colouring.now i) (λ i k. K.colour colouring.now i) j (j + 1) self.old self.new }
     {
         let width = usize::from(self.width.pixels());
         let start = usize::from(j) * width;
-        fill_spans(&mut self.pixels[start..start + width], j, spans, colouring);
+        colouring.fill(&mut self.pixels[start..start + width]);
     }
 
     /// The picture as it has been painted.

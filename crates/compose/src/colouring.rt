@@ -1,58 +1,83 @@
-ghost use Rattle.std.specs.Prelude.{◌≡◌, ℕ, ◌≤◌, ◌<◌, Bool, true, if◌then◌else◌, length, All, pos, Option, Some};
+ghost use Rattle.std.specs.Prelude.{◌≡◌, ℕ, ◌+◌, ◌<◌, ◌≤◌, Bool, if◌then◌else◌, length, All, Option, Some};
 ghost use Rattle.mapdefs.specs.declared.colour.Rgb.{Rgb as RgbValue};
 ghost use Rattle.scanfill.specs.Runs.{has_column, is_in_spans};
+ghost use Rattle.symbols.specs.Stamp.{is_coloured, is_transparent, pixel_from};
 ghost use Rattle.compose.specs.Painted.{colour_of};
 
 use mapdefs::{PixelColour, Rgb};
 use scanfill::Span;
-use symbols::Stamp;
+use symbols::{RowPixels, is_transparent};
 
-/// What gives pixels their colours: one colour to all, or a pixmap its own.
+/// What gives pixels of a row their colours: one colour to those of some spans, or a row of a pixmap its own.
 pub trait Colouring {
-    // Whether it has a colour for the pixel in a column and a row, and that colour.
-    ghost has: { Self → ℕ → ℕ → Bool };
+    // Whether it lies within a row of so many columns.
+    ghost fits: { Self → ℕ → Type 0 };
 
-    ghost colour: { Self → ℕ → ℕ → Option RgbValue };
+    // Whether it has a colour for the pixel in a column, and that colour.
+    ghost has: { Self → ℕ → Bool };
 
-    /// Gives their colours to the pixels of a span. `row` has the pixels of the row `j`.
-    fn fill(&self, row: &mut [PixelColour], j: u16, span: Span)
-        requires some { span.from ≤ span.to }
-        requires within { span.to ≤ length row.old }
-        requires has { (i : ℕ) → has_column span i ≡ true → has self.now i j ≡ true }
-        ensures { (i : ℕ) → colour_of row.new i ≡ (if has_column span i then colour self.now i j else colour_of row.old i) };
+    ghost colour: { Self → ℕ → Option RgbValue };
+
+    /// Gives their colours to the pixels of a row.
+    fn fill(&self, row: &mut [PixelColour])
+        requires { fits self.now (length row.old) }
+        ensures { (i : ℕ) → colour_of row.new i ≡ (if has self.now i then colour self.now i else colour_of row.old i) };
 }
 
-impl Colouring for Rgb {
-    ghost has = { λ c i j. true };
-
-    ghost colour = { λ c i j. Some c };
-
-    fn fill(&self, row: &mut [PixelColour], _j: u16, span: Span) {
-        row[usize::from(span.from)..usize::from(span.to)].fill(PixelColour::new(Some(*self)));
-    }
+/// Spans of one colour.
+#[derive(Drop)]
+pub struct ColouredSpans<'a> {
+    pub spans: &'a [Span],
+    pub colour: Rgb,
 }
 
-impl Colouring for Stamp<'_> {
-    ghost use Rattle.symbols.specs.Stamp.{covers_pixel, pixel_at};
+impl Colouring for ColouredSpans<'_> {
+    ghost fits = { λ c width. All (λ span. (span.from ≤ span.to) × (span.to ≤ width)) c.spans.now };
 
-    ghost has = { λ s i j. covers_pixel s (pos i) (pos j) };
+    ghost has = { λ c i. is_in_spans c.spans.now i };
 
-    ghost colour = { λ s i j. pixel_at s (pos i) (pos j) };
+    ghost colour = { λ c i. Some c.colour };
 
-    fn fill(&self, row: &mut [PixelColour], j: u16, span: Span) {
-        for i in span.from..span.to {
-            row[usize::from(i)] = PixelColour::new(Some(self.colour(i, j)));
+    fn fill(&self, row: &mut [PixelColour]) {
+        for span in self.spans {
+            fill_span(row, *span, self.colour);
         }
     }
 }
 
-/// Gives their colours to the pixels of a row that lie in the spans.
-pub fn fill_spans<K: Colouring>(row: &mut [PixelColour], j: u16, spans: &[Span], colouring: &K)
-    requires within { All (λ span. (span.from ≤ span.to) × (span.to ≤ length row.old)) spans.now }
-    requires has { (i : ℕ) → is_in_spans spans.now i ≡ true → K.has colouring.now i j ≡ true }
-    ensures { (i : ℕ) → colour_of row.new i ≡ (if is_in_spans spans.now i then K.colour colouring.now i j else colour_of row.old i) }
+// Gives the colour to the pixels of a span.
+fn fill_span(row: &mut [PixelColour], span: Span, colour: Rgb)
+    requires some { span.from ≤ span.to }
+    requires within { span.to ≤ length row.old }
+    ensures { (i : ℕ) → colour_of row.new i ≡ (if has_column span i then Some colour else colour_of row.old i) }
 {
-    for span in spans {
-        colouring.fill(row, j, *span);
+    row[usize::from(span.from)..usize::from(span.to)].fill(PixelColour::new(Some(colour)));
+}
+
+impl Colouring for RowPixels<'_> {
+    ghost fits = { λ p width. p.from + length p.colours.now ≤ width };
+
+    ghost has = { λ p i. is_coloured (pixel_from p.from p.colours.now i) };
+
+    ghost colour = { λ p i. pixel_from p.from p.colours.now i };
+
+    fn fill(&self, row: &mut [PixelColour]) {
+        let first = usize::from(self.from);
+        for (k, colour) in self.colours.iter().enumerate() {
+            put_pixel(row, first + k, *colour);
+        }
+    }
+}
+
+// Gives a pixel's colour to the pixel at an index, if it stands for one.
+fn put_pixel(row: &mut [PixelColour], at: usize, colour: Rgb)
+    requires { at < length row.old }
+    ensures wide { length row.new ≡ length row.old }
+    ensures put { colour_of row.new at ≡ (if is_transparent colour then colour_of row.old at else Some colour) }
+    ensures left { (i : ℕ) → i < at → colour_of row.new i ≡ colour_of row.old i }
+    ensures right { (i : ℕ) → at < i → colour_of row.new i ≡ colour_of row.old i }
+{
+    if !is_transparent(colour) {
+        row[at] = PixelColour::new(Some(colour));
     }
 }

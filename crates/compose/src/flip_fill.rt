@@ -22,6 +22,6 @@ pub fn fill_flips(canvas: &mut Canvas, flips: &RowFlips, colour: Rgb)
             from: span.from,
             to: span.to,
         };
-        canvas.fill_row(span.row, &[columns], &colour);
+        canvas.fill_row(span.row, &[columns], colour);
     }
 }

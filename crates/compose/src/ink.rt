@@ -84,7 +84,7 @@ fn paint_outlines(
     ensures { OnOk result (IsFilled (λ i j. list_any (λ g. outlines_glyph g (pos i) (pos j)) glyphs.now) (λ i j. Some colour) canvas.old canvas.new) }
 {
     for glyph in glyphs {
-        paint_cover(canvas, &GlyphOutline::of(glyph), &colour)?;
+        paint_cover(canvas, &GlyphOutline::of(glyph), colour)?;
     }
     Ok(())
 }

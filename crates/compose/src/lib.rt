@@ -1,6 +1,6 @@
 //! From a map to its picture: what is painted, and in which order.
 //!
-//! Proved: `picture` gives the picture of the chosen layers in a view. Each pixel has the colour of
+//! Proved: `draw` and `picture` give the picture of the chosen layers in a view. Each pixel has the colour of
 //! the last thing of the paint list, and then of the ink of the labels, that covers it, else the
 //! background, which may be nothing (`IsPictureOf`). The labels are the placement of the candidates of
 //! the features that are met. There is one such picture (`laws::one_picture`), and it doesn't depend on
@@ -10,7 +10,7 @@
 //! Words: a *thing* is what is painted at once: the rings of a polygon, a line or a square in one colour,
 //! or a pixmap. The *paint list* has the things of the chosen layers in order: a layer's features, a
 //! feature's styles, the points of a feature. A *canvas* is the picture while it is painted. A *colouring*
-//! gives the pixels of a cover their colours. A *run* is a stretch of a ring's vertices in one row of the
+//! gives pixels of a row their colours. A *run* is a stretch of a ring's vertices in one row of the
 //! picture, and a *band* two latitudes between which all are of one row. *Flips* are those of `scanfill`. They
 //! *stand for* edges where the same pixels of the picture lie inside by both. A *step* of a line is a segment and
 //! the square round its second vertex, and a box is *quiet* where a step within it needs no painting. A feature is
@@ -44,4 +44,4 @@ mod stroke;
 mod sweep;
 mod trail;
 
-pub use paint::picture;
+pub use paint::{draw, picture};

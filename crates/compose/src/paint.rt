@@ -19,7 +19,7 @@ use scene::Scene;
 use std::alloc::{AllocError, Global};
 use viewport::View;
 
-/// The picture of the chosen layers in the view. `chosen` has their indices in the map. They are painted
+/// The picture of the chosen layers of a scene. `chosen` has their indices in the map. They are painted
 /// in that order, one that is chosen twice also twice, and whether they are switched on or not. Layers
 /// and classes that aren't visible at the scale are left out. Where nothing is painted the picture has the
 /// background, which may be nothing. The labels of the features that are met are placed and painted after
@@ -32,6 +32,25 @@ use viewport::View;
 /// until the picture is done, and for one feature at a time: for the edges of a polygon whose rows have too many flips,
 /// and for a row. Of labels it takes memory for the candidates, which borrow their texts, for the labels, for what
 /// tests ask of them, and for the glyphs of one text at a time. `AllocError` comes only where that is refused.
+pub fn draw<N: Near>(
+    alloc: Global,
+    scene: &Scene<'_>,
+    near: &N,
+    chosen: &[usize],
+    background: Option<Rgb>,
+) -> Result<Picture, AllocError>
+    requires near { N.map_of near.now ≡ scene.now.map }
+    requires layers { All (λ index. index < length scene.now.map.layers) chosen.now }
+    ensures { IfOk result (IsPictureOf scene.now.map scene.now.view scene.now.scale chosen.now background) }
+{
+    let mut drawing = Drawing::new(alloc, scene, background)?;
+    for index in chosen {
+        draw_layer(&mut drawing, scene, near, *index)?;
+    }
+    Ok(drawing.into_labelled(scene)?.into_picture())
+}
+
+/// What `draw` gives in the scene of a map in a view, at a scale.
 pub fn picture<N: Near>(
     alloc: Global,
     map: &Map,
@@ -45,12 +64,13 @@ pub fn picture<N: Near>(
     requires layers { All (λ index. index < length map.now.layers) chosen.now }
     ensures { IfOk result (IsPictureOf map.now view scale chosen.now background) }
 {
-    let scene = Scene::new(map, view, scale);
-    let mut drawing = Drawing::new(alloc, &scene, background)?;
-    for index in chosen {
-        draw_layer(&mut drawing, &scene, near, *index)?;
-    }
-    Ok(drawing.into_labelled(&scene)?.into_picture())
+    draw(
+        alloc,
+        &Scene::new(map, view, scale),
+        near,
+        chosen,
+        background,
+    )
 }
 
 // Draws the layer of an index, where it shows at the scale.
@@ -129,6 +149,9 @@ fn paint_feature(
     match met.layer().kind {
         Kind::Polygon => paint_polygon(canvas, scene, parts, styles),
         Kind::Line => paint_lines(canvas, scene, parts, styles),
-        Kind::Point => paint_points(canvas, scene, parts, styles),
+        Kind::Point => {
+            paint_points(canvas, scene, parts, styles);
+            Ok(())
+        }
     }
 }

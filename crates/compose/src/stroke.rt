@@ -10,7 +10,7 @@ ghost use Rattle.compose.specs.Chain.{HasChain, chain_end};
 ghost use Rattle.compose.specs.Painted.{IsFilled};
 ghost use Rattle.compose.specs.Stroked.{HasAlready, IsOf, IsTrail, chain_covers, part_covers, pen_covers, segment_covers, step_covers, vertex_covers};
 
-use crate::boxes::fill_box;
+use crate::boxes::fill_square;
 use crate::canvas::Canvas;
 use crate::chain::last_of;
 use crate::pen::{Pen, has_box, has_place};
@@ -192,7 +192,7 @@ fn paint_segment(
 {
     let (edge, width) = (Edge::new(from, to), pen.width());
     if !is_small(edge) {
-        return paint_cover(canvas, &Segment::new(edge, width), &pen.colour());
+        return paint_cover(canvas, &Segment::new(edge, width), pen.colour());
     }
     fill_segment(canvas, edge, width, pen.colour());
     Ok(())
@@ -219,7 +219,5 @@ fn fill_vertex(canvas: &mut Canvas, pen: &Pen<'_>, vertex: Device)
     ensures { IsFilled (vertex_covers pen.now.width vertex) (λ i j. Some pen.now.colour) canvas.old canvas.new }
 {
     let square = Square::new(vertex.pixel(), u16::from(pen.width()));
-    let columns = square.across(canvas.width().pixels());
-    let rows = square.down(canvas.height().pixels());
-    fill_box(canvas, columns, rows, pen.colour());
+    fill_square(canvas, square, pen.colour());
 }

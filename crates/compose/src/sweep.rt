@@ -41,6 +41,6 @@ fn fill_next(
     if !sweep.next(spans)? {
         return Ok(false);
     }
-    canvas.fill_row(row, spans.as_slice(), &colour);
+    canvas.fill_row(row, spans.as_slice(), colour);
     Ok(true)
 }

@@ -162,8 +162,8 @@ fn first_hits(
     Ok(Items::of(hits))
 }
 
-/// The first features of a layer that are seen near a pixel of the picture, by their indices: those of a layer that
-/// shows at the scale which have a class, and whose plain cover has a pixel of the picture within the layer's
+/// The first features of a layer that are seen near a pixel of a scene's picture, by their indices: those of a layer
+/// that shows at the scale which have a class, and whose plain cover has a pixel of the picture within the layer's
 /// tolerance of both the column and the row.
 ///
 /// The features that may be seen are those that `near` finds in the view and a pixel more than the tolerance round
@@ -171,6 +171,29 @@ fn first_hits(
 ///
 /// It takes memory for what `near` finds, for the hits, and for one feature at a time. `AllocError` comes only where that
 /// is refused.
+pub fn hits_in<N: Near>(
+    alloc: Global,
+    scene: &Scene<'_>,
+    near: &N,
+    layer: usize,
+    asked: Asked,
+) -> Result<Items<u32>, AllocError>
+    requires near { N.map_of near.now ≡ scene.now.map }
+    requires layer { layer < length scene.now.map.layers }
+    requires column { asked.column < scene.now.view.width }
+    requires row { asked.row < scene.now.view.height }
+    ensures { IfOk result (AreHitsOf scene.now layer asked.column asked.row asked.count) }
+{
+    let fields = scene.layer(layer);
+    if !scene.shows(fields) {
+        return Ok(Items::new(alloc));
+    }
+    let margin = u16::from(fields.tolerance) + 1;
+    let found = near.candidates(layer, scene.window(margin))?;
+    first_hits(alloc, scene, fields, &found, asked)
+}
+
+/// What `hits_in` gives in the scene of a map in a view, at a scale.
 pub fn hits<N: Near>(
     alloc: Global,
     map: &Map,
@@ -186,12 +209,5 @@ pub fn hits<N: Near>(
     requires row { asked.row < view.height }
     ensures { IfOk result (AreHitsOf (record { map = map.now; view = view; scale = scale }) layer asked.column asked.row asked.count) }
 {
-    let scene = Scene::new(map, view, scale);
-    let fields = scene.layer(layer);
-    if !scene.shows(fields) {
-        return Ok(Items::new(alloc));
-    }
-    let margin = u16::from(fields.tolerance) + 1;
-    let found = near.candidates(layer, scene.window(margin))?;
-    first_hits(alloc, &scene, fields, &found, asked)
+    hits_in(alloc, &Scene::new(map, view, scale), near, layer, asked)
 }

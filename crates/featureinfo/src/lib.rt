@@ -1,6 +1,6 @@
 //! Feature information: which features of a layer are seen near a pixel of a picture, and the text of them.
 //!
-//! Proved: `hits` gives the first features of a layer that are hit (`AreHitsOf`), for every `near`: those of a
+//! Proved: `hits_in` and `hits` give the first features of a layer that are hit (`AreHitsOf`), for every `near`: those of a
 //! layer that shows at the scale which have a class, and whose plain cover has a pixel of the picture within the
 //! layer's tolerance of the asked one. `text` gives the text of the hits of some layers, byte by byte.
 //! `laws::nearby` says which pixels are near the asked one, and `laws::far` that a feature is not hit whose
@@ -17,5 +17,5 @@ mod reach;
 mod side;
 mod text_lines;
 
-pub use asked::{Asked, LayerHits, hits};
+pub use asked::{Asked, LayerHits, hits, hits_in};
 pub use text_lines::text;

@@ -2,3 +2,4 @@ pub mod Covering
 pub mod Hits
 pub mod Orders
 pub mod Rising
+pub mod InOrder

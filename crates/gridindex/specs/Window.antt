@@ -1,5 +1,5 @@
 -- The boxes of a list that meet a window (docs/PROFILE.md, "From the world to the picture").
-use Rattle.std.specs.Prelude.{ℕ, List, ◌≡◌, ◌↔◌, Some}
+use Rattle.std.specs.Prelude.{ℕ, List, ◌≡◌, ◌↔◌, ◌<◌, Some}
 use Rattle.std.specs.List.{Contains, slice_get}
 use Rattle.std.specs.List.Sorted.{IsStrictlyIncreasing}
 use Rattle.geom.specs.World.{Area, Meets}
@@ -12,6 +12,11 @@ MeetsAt window boxes k = (area : Area) × (slice_get boxes k ≡ Some area) × M
 pub record IsAnswer (window : Area) (boxes : List Area) (found : List ℕ) : Type 0 where
   pub rising : IsStrictlyIncreasing found
   pub exact : (k : ℕ) → Contains found k ↔ MeetsAt window boxes k
+
+-- the same of the first so many boxes
+pub record IsAnswerOfFirst (window : Area) (boxes : List Area) (count : ℕ) (found : List ℕ) : Type 0 where
+  pub rising : IsStrictlyIncreasing found
+  pub exact : (k : ℕ) → Contains found k ↔ ((k < count) × MeetsAt window boxes k)
 
 -- the law that a window has one answer
 abbrev pub AnswersAreOne : Type 0

@@ -1,13 +1,16 @@
-ghost use Rattle.std.specs.Prelude.{nat_eq, ◌≡◌, ◌≤◌, ◌<◌, ◌^◌, ◌↔◌, [], ◌∷◌, ◌++◌, List, length, IsTrue, IfOk, OnOk, OnErr};
+ghost use Rattle.std.specs.Prelude.{nat_eq, ◌≡◌, ◌≤◌, ◌<◌, ◌+◌, ◌^◌, ◌↔◌, [], ◌∷◌, ◌++◌, List, length, IsTrue, IfOk, OnOk, OnErr};
 ghost use Rattle.std.specs.List.{IsDistinct};
 ghost use Rattle.geom.specs.World.{Area};
 ghost use Rattle.gridindex.specs.Groups.{HasFound, IsKept};
-ghost use Rattle.gridindex.specs.Window.{IsAnswer, MeetsAt};
+ghost use Rattle.gridindex.specs.Window.{IsAnswer, IsAnswerOfFirst, MeetsAt};
 
 use crate::level::{Level, SMALLEST, copied, levels_of, past_missed};
 use crate::order::order_of;
 use geom::WorldBox;
 use std::alloc::{AllocError, Global};
+
+// Where more than one box in so many is found, a pass over all boxes takes less than a sort of what was found.
+const MANY: usize = 8;
 
 /// The order of some boxes. The first `grouped` indices of it are in the groups of the levels, those
 /// of boxes that were added later follow.
@@ -88,7 +91,18 @@ impl Groups {
         while at < self.grouped {
             at = self.step(boxes, window, at, &mut found)?;
         }
-        add_hits(boxes, &self.order, at, self.order.len(), window, &mut found)?;
+        add_hits(
+            boxes,
+            &self.order,
+            (at, self.order.len()),
+            window,
+            &mut found,
+        )?;
+        if found.len() > boxes.len() / MANY {
+            found.clear();
+            add_in_order(boxes, window, &mut found)?;
+            return Ok(found);
+        }
         found.sort_unstable();
         Ok(found)
     }
@@ -114,27 +128,57 @@ impl Groups {
             return Ok(past);
         }
         let end = at.saturating_add(SMALLEST).min(self.grouped);
-        add_hits(boxes, &self.order, at, end, window, found)?;
+        add_hits(boxes, &self.order, (at, end), window, found)?;
         Ok(end)
     }
 }
 
-// Adds the indices from `from` to before `end` of the order whose boxes meet the window.
+// Adds to the empty list the indices of the boxes that meet the window, in their order.
+fn add_in_order(
+    boxes: &[WorldBox],
+    window: WorldBox,
+    found: &mut Vec<u32>,
+) -> Result<(), AllocError>
+    requires empty { found.old.items ≡ [] }
+    requires count { length boxes.now ≤ 2 ^ 32 }
+    ensures { OnOk result (IsAnswer window boxes.now found.new.items) }
+{
+    for index in 0..boxes.len() {
+        add_hit(boxes, index as u32, window, found)?;
+    }
+    Ok(())
+}
+
+// Adds the index if its box meets the window.
+fn add_hit(
+    boxes: &[WorldBox],
+    index: u32,
+    window: WorldBox,
+    found: &mut Vec<u32>,
+) -> Result<(), AllocError>
+    ensures { OnOk result (IsAnswerOfFirst window boxes.now index found.old.items → IsAnswerOfFirst window boxes.now (index + 1) found.new.items) }
+{
+    if is_hit(boxes, index, window) {
+        found.push(index)?;
+    }
+    Ok(())
+}
+
+// Adds the indices of a part of the order whose boxes meet the window: those from its start to before its end.
 fn add_hits(
     boxes: &[WorldBox],
     order: &[u32],
-    from: usize,
-    end: usize,
+    part: (usize, usize),
     window: WorldBox,
     found: &mut Vec<u32>,
 ) -> Result<(), AllocError>
     requires once { IsDistinct nat_eq order.now }
-    requires rising { from ≤ end }
-    requires bound { end ≤ length order.now }
-    ensures { OnOk result (HasFound window boxes.now order.now from found.old.items →
-        HasFound window boxes.now order.now end found.new.items) }
+    requires rising { part.0 ≤ part.1 }
+    requires bound { part.1 ≤ length order.now }
+    ensures { OnOk result (HasFound window boxes.now order.now part.0 found.old.items →
+        HasFound window boxes.now order.now part.1 found.new.items) }
 {
-    for at in from..end {
+    for at in part.0..part.1 {
         let index = order[at];
         if is_hit(boxes, index, window) {
             found.push(index)?;

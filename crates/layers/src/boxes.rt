@@ -1,10 +1,10 @@
-ghost use Rattle.std.specs.Prelude.{◌≡◌, ◌≤◌, ◌+◌, ◌++◌, map, fold, length, IfOk, OnOk};
+ghost use Rattle.std.specs.Prelude.{◌≡◌, ◌≤◌, ◌+◌, ◌++◌, map, length, IfOk, OnOk};
 ghost use Rattle.mapdefs.specs.declared.limits.TheConstants.{MAX_FEATURES};
-ghost use Rattle.mapdefs.specs.Blocks.{box_of_places, greater, less, nowhere, with_place};
+ghost use Rattle.mapdefs.specs.Blocks.{box_of_places, greater, less, nowhere};
 ghost use Rattle.layers.specs.Boxes.{box_of, with_box};
 
 use crate::grids::SharedGrid;
-use geom::{Micro, World, WorldBox};
+use geom::{Micro, WorldBox};
 use gridindex::Grid;
 use mapdefs::{BlockBox, Feature, FeatureFields, Part, Shared};
 use std::alloc::{AllocError, Global};
@@ -21,30 +21,6 @@ fn greater(a: Micro, b: Micro) -> Micro
     ensures { result ≡ greater a b }
 {
     if a < b { b } else { a }
-}
-
-// The box that a box and a place lie in.
-fn with_place(area: WorldBox, place: World) -> WorldBox
-    ensures { result ≡ with_place area place }
-{
-    let (x, y) = (place.x().get(), place.y().get());
-    WorldBox::new(
-        less(area.minx(), x),
-        less(area.miny(), y),
-        greater(area.maxx(), x),
-        greater(area.maxy(), y),
-    )
-}
-
-// The box that a box and some places lie in.
-fn with_places(area: WorldBox, places: &[World]) -> WorldBox
-    ensures { result ≡ fold with_place area places.now }
-{
-    let mut grown = area;
-    for place in places {
-        grown = with_place(grown, *place);
-    }
-    grown
 }
 
 // The box that two boxes lie in.
@@ -72,8 +48,7 @@ fn box_of_block(block: BlockBox) -> WorldBox
 fn nowhere() -> WorldBox
     ensures { result ≡ nowhere }
 {
-    let (most, least) = (Micro::new(1_000_000_000), Micro::new(-1_000_000_000));
-    WorldBox::new(most, most, least, least)
+    box_of_block(BlockBox::of(&[]))
 }
 
 // The box of the vertices of a part. It looks at the boxes of blocks alone, if there are any.
@@ -82,7 +57,7 @@ fn box_of_part(part: &Part) -> WorldBox
 {
     let boxes = part.boxes();
     if boxes.is_empty() {
-        return with_places(nowhere(), part.as_slice());
+        return box_of_block(BlockBox::of(part.as_slice()));
     }
     let mut grown = nowhere();
     for block in boxes {

@@ -6,13 +6,14 @@ ghost use Rattle.mapmachine.specs.Machine.{written_picture};
 use crate::reply::{Answer, Event, Reply};
 use batches::{BatchError, BatchFault, BatchKind, MAX_BATCH, apply_batch};
 use capabilities::document;
-use compose::picture as picture_of;
-use featureinfo::{Asked, LayerHits, hits, text};
+use compose::draw;
+use featureinfo::{Asked, LayerHits, hits_in, text};
 use geom::{PictureSide, WorldBox};
 use layers::Layers;
 use mapdefs::{Items, Map, Picture};
 use operations::Mime;
 use scaledenom::Scale;
+use scene::Scene;
 use std::alloc::{AllocError, Global};
 use std::marker::Model;
 use symbols::{write_pam, write_ppm};
@@ -69,7 +70,7 @@ fn written_picture(alloc: Global, format: Format, picture: &Picture) -> Result<A
 
 impl Machine {
     ghost use Rattle.batches.specs.Batch.{IsBatchErrorOf, batched};
-    ghost use Rattle.mapmachine.specs.Machine.{AreAskedHits, Answers, IsAnswer, Steps, Runs};
+    ghost use Rattle.mapmachine.specs.Machine.{AreAskedHits, Answers, IsAnswer, Steps, Runs, scene_of};
     ghost use Rattle.wmsquery.specs.Within.{IsMapWithin, IsInformationWithin, IsWithin};
 
     /// The machine as it begins: with this map, and nothing published. It keeps the allocator. The one error
@@ -121,21 +122,28 @@ impl Machine {
         })
     }
 
+    // What a request for a picture looks at.
+    fn scene(&self, request: &MapRequest) -> Scene<'_>
+        requires { IsExtent request.now.area }
+        ensures { result ≡ scene_of self.now.map request.now }
+    {
+        Scene::new(
+            self.layers.map(),
+            View::new(request.area, request.width, request.height),
+            scale_of(request.area, request.width),
+        )
+    }
+
     // The answer to a request for a picture.
     fn picture_answer(&self, request: &MapRequest) -> Result<Answer, AllocError>
         requires within { IsMapWithin (length self.now.map.layers) request.now }
         ensures { IfOk result (Answers self.now (Ok (Request.Map request.now))) }
     {
-        let view = View::new(request.area, request.width, request.height);
-        let chosen = request.chosen.as_slice();
-        let scale = scale_of(request.area, request.width);
-        let picture = picture_of(
+        let picture = draw(
             self.alloc,
-            self.layers.map(),
+            &self.scene(request),
             &self.layers,
-            view,
-            scale,
-            chosen,
+            request.chosen.as_slice(),
             request.background,
         )?;
         written_picture(self.alloc, request.format, &picture)
@@ -146,8 +154,7 @@ impl Machine {
         requires within { IsInformationWithin (length self.now.map.layers) request.now }
         ensures { IfOk result (λ found. AllZip (AreAskedHits self.now.map request.now) request.now.asked found) }
     {
-        let view = View::new(request.map.area, request.map.width, request.map.height);
-        let scale = scale_of(request.map.area, request.map.width);
+        let scene = self.scene(&request.map);
         let asked = Asked {
             column: request.column as u16,
             row: request.row as u16,
@@ -156,15 +163,7 @@ impl Machine {
         let mut found = Items::new(self.alloc);
         for layer in request.asked.as_slice() {
             let layer = *layer;
-            let features = hits(
-                self.alloc,
-                self.layers.map(),
-                &self.layers,
-                view,
-                scale,
-                layer,
-                asked,
-            )?;
+            let features = hits_in(self.alloc, &scene, &self.layers, layer, asked)?;
             found.push(LayerHits { layer, features })?;
         }
         Ok(found)

@@ -137,12 +137,12 @@ fn vertex(text: &str) -> Option<World> {
     ]))
 }
 
-// A ring of at most eight vertices.
+// A ring of at most a hundred vertices.
 fn ring(alloc: Global, text: &str) -> Result<Part, AllocError>
-    ensures { IfOk result (λ ring. length ring ≤ 8) }
+    ensures { IfOk result (λ ring. length ring ≤ 100) }
 {
     let vertices: Vec<&str> = text.split_whitespace().collect(alloc)?;
-    if vertices.len() > 8 {
+    if vertices.len() > 100 {
         return Err(AllocError);
     }
     let mut ring = Vec::new(alloc);

@@ -1,4 +1,5 @@
 use crate::painted_maps::drawn_row;
+use std::alloc::{AllocError, Global};
 use test_tables::{TableFault, check_rows};
 
 // Polygons, and the pixels that they cover, in the form of `drawn_row`.
@@ -34,6 +35,46 @@ const POLYGONS: &str = "\
 #[test]
 fn polygons_cover_worked_pixels(rt: HostRuntime) -> Result<(), TableFault> {
     check_rows(rt.alloc(), POLYGONS, ';', 15, drawn_row)
+}
+
+// Adds the 82 vertices of a chain that goes to and fro between two coordinates on an axis, a tenth of a degree further
+// along the other axis each time: from 0 to 4 degrees.
+fn add_chain(text: &mut String, axis: &str, ends: &str) -> Result<(), AllocError> {
+    let (from, to) = ends.split_once(' ').unwrap_or(("", ""));
+    for k in 0..41u8 {
+        if axis == "x" {
+            write!(text, "{from},{k} {to},{k} ")?;
+        } else {
+            write!(text, "{k},{from} {k},{to} ")?;
+        }
+    }
+    Ok(())
+}
+
+// The picture of a ring: the axis of its chain and the two coordinates, and the vertices after it.
+fn drawn_chain(alloc: Global, fields: &str) -> Result<String, AllocError> {
+    let (chain, rest) = fields.split_once(';').unwrap_or(("", ""));
+    let (axis, ends) = chain.split_once(' ').unwrap_or(("", ""));
+    let mut row = String::from_str(alloc, ".;0;polygon #/- none;")?;
+    add_chain(&mut row, axis, ends)?;
+    row.push_str(rest)?;
+    drawn_row(alloc, row.as_str())
+}
+
+// The chain lies left of the picture, right of it, above it, below it, and between the heights of two rows of pixel
+// centres. Such a chain tells by where it begins and ends alone. The last ring has another edge on its left.
+const CHAINS: &str = "\
+##.. ##.. ##.. ##..;x -30 -10;20,40 20,0
+..## ..## ..## ..##;x 50 70;20,40 20,0
+#### #### .... ....;y 45 60;40,20 0,20
+.... .... #### ####;y -60 -45;40,20 0,20
+#### #### .... ....;y 16 24;40,40 0,40
+.... .... #### ####;y 16 24;40,0 0,0
+.... ##.. ##.. ....;x -30 -10;-10,30 20,30 20,10 -30,10";
+
+#[test]
+fn rings_of_many_edges_cover_worked_pixels(rt: HostRuntime) -> Result<(), TableFault> {
+    check_rows(rt.alloc(), CHAINS, ';', 7, drawn_chain)
 }
 
 // All of the picture, and the square within it.

@@ -1,5 +1,5 @@
 -- The pixels of a pixmap that is stamped on the picture (docs/PROFILE.md, "When a pixel belongs to a symbol").
-use Rattle.std.specs.Prelude.{ℕ, ◌+◌, ◌*◌, ◌/◌, ◌==◌, ◌&&◌, not, Bool, false, if◌then◌else◌, ℤ, pos, ◌-ℤ◌, int_le, int_lt, Option, None, Some, slice_get}
+use Rattle.std.specs.Prelude.{ℕ, ◌+◌, ◌-◌, ◌*◌, ◌/◌, ◌==◌, ◌&&◌, not, Bool, false, if◌then◌else◌, nat_le, ℤ, pos, ◌-ℤ◌, int_le, int_lt, List, Option, None, Some, slice_get}
 use Rattle.std.specs.Option.{option_and_then}
 use Rattle.clip.specs.Class.{at_least_zero}
 use Rattle.geom.specs.Device.{PixelPlace}
@@ -22,6 +22,14 @@ abbrev pub pixel_at : StampValue → ℤ → ℤ → Option Rgb
 pixel_at s i j =
     option_and_then (λ column. option_and_then (λ row. slice_get s.pixmap.pixels (row * s.pixmap.width + column)) (position_on s.pixmap.height s.pixel.j j))
     (position_on s.pixmap.width s.pixel.i i)
+
+-- how many columns, or rows, of a pixmap's side lie before the first one of the picture
+abbrev pub skipped : ℕ → ℤ → ℕ
+skipped side at = at_least_zero (pos (side / 2) -ℤ at)
+
+-- what some colours of a row, from a column on, have in a column, if they have one there
+abbrev pub pixel_from : ℕ → List Rgb → ℕ → Option Rgb
+pixel_from from colours i = if nat_le from i then slice_get colours (i - from) else None
 
 -- 255 0 255 stands for no colour
 abbrev pub is_transparent : Rgb → Bool

@@ -3,7 +3,7 @@
 //!
 //! Proved: `read` gives the pixmap that some bytes are or their first fault, by its clauses `pixmap` and
 //! `fault`, which cite `pixmap_of`. `Stamp` is a cover, transparent where the pixmap is 255 0 255, and
-//! `Stamp::colour` the pixmap's colour there. `write_ppm` and `write_pam` give the bytes of a picture.
+//! `Stamp::colour` the pixmap's colour there; `Stamp::row_pixels` gives what falls into a row at once. `write_ppm` and `write_pam` give the bytes of a picture.
 //! `laws::files` states that a file is read as the parts that it is made of, `laws::pictures` that a small
 //! picture is read as it was written, `laws::maps` that an arbitrary map shows the picture that it is of.
 //!
@@ -23,7 +23,7 @@ pub use fault::PixFault;
 pub use netpbm::write_ppm;
 pub use pam::write_pam;
 pub use pixels::read;
-pub use stamp::Stamp;
+pub use stamp::{RowPixels, Stamp, is_transparent};
 
 // How many pixels are written at once: so many that their bytes are added in few steps a pixel.
 const BLOCK: usize = 32;

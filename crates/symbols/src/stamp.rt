@@ -1,9 +1,9 @@
-ghost use Rattle.std.specs.Prelude.{◌≡◌, ℕ, ◌<◌, ◌≤◌, ◌^◌, ◌&&◌, [], true, false, pos, ◌-ℤ◌, ◌/◌, None, Some, slice_get, OnOk};
+ghost use Rattle.std.specs.Prelude.{◌≡◌, ℕ, ◌<◌, ◌≤◌, ◌^◌, ◌&&◌, ◌+◌, ◌-◌, [], true, false, pos, ◌-ℤ◌, ◌/◌, None, Some, length, min, slice_get, OnOk};
 ghost use Rattle.clip.specs.Class.{has_row};
 ghost use Rattle.geom.specs.Range.{IsBelow};
 ghost use Rattle.geom.specs.declared.side.TheConstants.{MAX_PICTURE_SIDE};
 ghost use Rattle.scanfill.specs.Runs.{AreRunsFrom};
-ghost use Rattle.symbols.specs.Stamp.{covers_pixel, is_transparent, pixel_at, position_on};
+ghost use Rattle.symbols.specs.Stamp.{covers_pixel, is_transparent, pixel_at, pixel_from, position_on, skipped};
 
 use clip::{Rows, clamped};
 use geom::{PictureSide, Pixel};
@@ -45,6 +45,28 @@ impl<'a> Stamp<'a> {
         self.pixel_at(i, j).unwrap()
     }
 
+    /// What of the pixmap falls into a row of a picture of so many columns, 255 0 255 included.
+    pub fn row_pixels(&self, j: u16, end: u16) -> RowPixels<'a>
+        ensures within { result.from + length result.colours.now ≤ end }
+        ensures pixels { (i : ℕ) → i < end → pixel_from result.from result.colours.now i ≡ pixel_at self.now (pos i) (pos j) }
+    {
+        let fields = self.pixmap.get();
+        let columns = span_on(fields.width, self.pixel.i(), end);
+        let Some(row) = position_on(fields.height, self.pixel.j(), j) else {
+            return no_pixels();
+        };
+        if columns.from >= columns.to {
+            return no_pixels();
+        }
+        let left = skipped(fields.width, self.pixel.i());
+        let start = usize::from(row) * usize::from(fields.width) + usize::from(left);
+        let count = usize::from(columns.to - columns.from);
+        RowPixels {
+            from: columns.from,
+            colours: part_of(fields.pixels.as_slice(), start, count),
+        }
+    }
+
     // The pixmap's pixel that falls into a column and a row.
     fn pixel_at(&self, i: u16, j: u16) -> Option<Rgb>
         ensures { result ≡ pixel_at self.now (pos i) (pos j) }
@@ -55,6 +77,26 @@ impl<'a> Stamp<'a> {
         let index = usize::from(row) * usize::from(fields.width) + usize::from(column);
         colour_at(fields.pixels.as_slice(), index)
     }
+}
+
+// No pixels of a row.
+fn no_pixels<'a>() -> RowPixels<'a>
+    ensures from { result.from ≡ 0 }
+    ensures colours { result.colours.now ≡ [] }
+{
+    RowPixels {
+        from: 0,
+        colours: &[],
+    }
+}
+
+// So many colours from an index on.
+fn part_of(pixels: &[Rgb], start: usize, count: usize) -> &[Rgb]
+    requires { start + count ≤ length pixels.now }
+    ensures count { length result.now ≡ count }
+    ensures part { (k : ℕ) → k < count → slice_get result.now k ≡ slice_get pixels.now (start + k) }
+{
+    &pixels[start..start + count]
 }
 
 // The colour of an index, if there is one.
@@ -75,6 +117,14 @@ fn position_on(side: u16, at: i64, index: u16) -> Option<u16>
     } else {
         None
     }
+}
+
+/// Some colours of a pixmap that fall into a row of a picture, from a column on.
+#[derive(Clone, Copy)]
+pub struct RowPixels<'a> {
+    /// The column that the first one falls into.
+    pub from: u16,
+    pub colours: &'a [Rgb],
 }
 
 impl Cover for Stamp<'_> {
@@ -140,6 +190,14 @@ impl Stamp<'_> {
     }
 }
 
+// How many columns, or rows, of a side of the pixmap lie before the picture's first one, or all.
+fn skipped(side: u16, at: i64) -> u16
+    requires { IsBelow (2 ^ 44) at }
+    ensures { result ≡ min (skipped side at) side }
+{
+    clamped(i128::from(i64::from(side / 2) - at), side)
+}
+
 // The columns, or the rows, of so many, that lie on a side of the pixmap.
 fn span_on(side: u16, at: i64, end: u16) -> Span
     requires { IsBelow (2 ^ 44) at }
@@ -147,6 +205,8 @@ fn span_on(side: u16, at: i64, end: u16) -> Span
     ensures within { result.to ≤ end }
     ensures before { (i : ℕ) → i < result.from → position_on side at (pos i) ≡ None }
     ensures after { (i : ℕ) → result.to ≤ i → i < end → position_on side at (pos i) ≡ None }
+    ensures on { (i : ℕ) → result.from ≤ i → i < result.to → position_on side at (pos i) ≡ Some (i - result.from + skipped side at) }
+    ensures part { result.from < result.to → result.to - result.from + skipped side at ≤ side }
 {
     let first = at - i64::from(side / 2);
     Span {
@@ -155,8 +215,8 @@ fn span_on(side: u16, at: i64, end: u16) -> Span
     }
 }
 
-// Whether the colour stands for none.
-fn is_transparent(colour: Rgb) -> bool
+/// Whether the colour stands for none.
+pub fn is_transparent(colour: Rgb) -> bool
     ensures { result ≡ is_transparent colour }
 {
     colour.red == 255 && colour.green == 0 && colour.blue == 255

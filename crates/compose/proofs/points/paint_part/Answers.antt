@@ -9,7 +9,7 @@ loop-place-init c = painted-none c.args.canvas.now
 pub loop-place-preserved : goal.loop-place-preserved
 loop-place-preserved c =
     painted_next (point_things c.args.scene.now.view c.args.scene.now.map.symbols c.args.style.now) c.args.part.now c.loop-place.place-index c.place-item.result _ c.loop-place.canvas _
-    c.loop-place-test.true c.place-item.is c.loop-place.invariant c.in_ok-paint_point.ensures
+    c.loop-place-test.true c.place-item.is c.loop-place.invariant c.paint_point.ensures
 
 pub returns : goal.returns
 returns c = painted_end (point_things c.args.scene.now.view c.args.scene.now.map.symbols c.args.style.now) c.args.part.now c.loop-place.place-index c.args.canvas.now c.loop-place.canvas (omega arith) c.loop-place.invariant

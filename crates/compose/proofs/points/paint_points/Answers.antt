@@ -10,7 +10,7 @@ loop-style-init c = painted-none c.args.canvas.now
 pub loop-style-preserved : goal.loop-style-preserved
 loop-style-preserved c =
     painted_next (λ style. flat_map (λ part. flat_map (point_things c.args.scene.now.view c.args.scene.now.map.symbols style) part) c.args.parts.now) c.args.styles.now c.loop-style.style-index c.style-item.result _ c.loop-style.canvas _
-    c.loop-style-test.true c.style-item.is c.loop-style.invariant c.in_ok-paint_by_style.ensures
+    c.loop-style-test.true c.style-item.is c.loop-style.invariant c.paint_by_style.ensures
 
 pub returns : goal.returns
 returns c = painted_end (λ style. flat_map (λ part. flat_map (point_things c.args.scene.now.view c.args.scene.now.map.symbols style) part) c.args.parts.now) c.args.styles.now c.loop-style.style-index c.args.canvas.now c.loop-style.canvas (omega arith) c.loop-style.invariant

@@ -1,5 +1,5 @@
-use Rattle.std.proofs.Common.{◌≡◌, ◌∙◌, ◌+◌, ◌*◌, ℕ, length, sym, arith}
-use Rattle.compose.proofs.Filling.{filled-runs, rows-all, rows-more, runs-fit, spans-covered}
+use Rattle.std.proofs.Common.{Some, ◌≡◌, ◌∙◌, ◌+◌, ◌*◌, ℕ, length, sym, arith}
+use Rattle.compose.proofs.Filling.{filled-runs, rows-all, rows-more, runs-fit}
 use Rattle.compose.proofs.rows.paint_cover.Goals as goal
 
 pub fill_row-requires-clause-within : goal.fill_row-requires-clause-within
@@ -7,25 +7,20 @@ fill_row-requires-clause-within g c =
     let wide : c.width-width.result ≡ c.loop-row.canvas.width = c.width-width.ensures.value ∙ sym c.loop-row.invariant.filled.width in
     runs-fit (λ (i : ℕ). g.C.Cover.covered c.args.cover.now i c.loop-row.row) c.as_slice.result.now c.row.new.out c.loop-row.canvas.width c.as_slice.ensures (rw wide at c.in_ok-row.ensures.ok)
 
-pub fill_row-requires-clause-has : goal.fill_row-requires-clause-has
-fill_row-requires-clause-has g c = λ i h.
-    c.requires i c.loop-row.row
-    (spans-covered (λ (k : ℕ). g.C.Cover.covered c.args.cover.now k c.loop-row.row) c.width-width.result c.as_slice.result.now c.row.new.out c.as_slice.ensures c.in_ok-row.ensures.ok i h)
-
 pub loop-row-preserved : goal.loop-row-preserved
 loop-row-preserved g c =
     let before = c.loop-row.invariant.filled in
     let wide : c.width-width.result ≡ c.loop-row.canvas.width = c.width-width.ensures.value ∙ sym before.width in
     let area : length c.loop-row.canvas.pixels ≡ c.loop-row.canvas.width * c.loop-row.canvas.height = rw (before.area, before.width, before.height) c.width-width.ensures.area in
-    let one = filled-runs (g.C.Cover.covered c.args.cover.now) (g.K.Colouring.colour c.args.colouring.now) c.as_slice.result.now c.row.new.out c.loop-row.row c.loop-row.canvas c.fill_row.new.self
+    let one = filled-runs (g.C.Cover.covered c.args.cover.now) (λ i j. Some c.args.colour) c.as_slice.result.now c.row.new.out c.loop-row.row c.loop-row.canvas c.fill_row.new.self
     area c.as_slice.ensures (rw wide at c.in_ok-row.ensures.ok) c.fill_row.ensures in
     record {
       first = omega (arith, c.loop-row.invariant.first);
-      filled = rows-more (g.C.Cover.covered c.args.cover.now) (g.K.Colouring.colour c.args.colouring.now) c.rows-rows.result.from c.loop-row.row (c.loop-row.row + 1)
+      filled = rows-more (g.C.Cover.covered c.args.cover.now) (λ i j. Some c.args.colour) c.rows-rows.result.from c.loop-row.row (c.loop-row.row + 1)
           c.args.canvas.now c.loop-row.canvas c.fill_row.new.self c.loop-row.invariant.first (omega arith) before one;
     }
 
 pub returns : goal.returns
-returns g c = rows-all (g.C.Cover.covered c.args.cover.now) (g.K.Colouring.colour c.args.colouring.now) c.rows-rows.result c.loop-row.row
+returns g c = rows-all (g.C.Cover.covered c.args.cover.now) (λ i j. Some c.args.colour) c.rows-rows.result c.loop-row.row
     c.args.canvas.now c.loop-row.canvas c.width-width.ensures.area (omega (arith, c.loop-row-test.false))
     (rw (c.width-width.ensures.value, c.height-height.ensures) at c.rows-rows.ensures.none) c.loop-row.invariant.filled

@@ -1,4 +1,4 @@
-use Rattle.std.proofs.Common.{◌≤◌}
+use Rattle.std.proofs.Common.{Some, ◌≤◌}
 use Rattle.compose.specs.Painted.{HasRowsFilled}
 use Rattle.compose.proofs.rows.paint_cover.Given as goal
 
@@ -6,5 +6,5 @@ use Rattle.compose.proofs.rows.paint_cover.Given as goal
 abbrev pub invariant-loop-row : goal.invariant-loop-row
 invariant-loop-row g l = record {
   first : l.initial.row ≤ l.row;
-  filled : HasRowsFilled (g.C.Cover.covered l.cover) (g.K.Colouring.colour l.colouring) l.initial.row l.row l.fn.canvas l.canvas;
+  filled : HasRowsFilled (g.C.Cover.covered l.cover) (λ i j. Some l.colour) l.initial.row l.row l.fn.canvas l.canvas;
 }

@@ -12,4 +12,4 @@ loop-at-preserved c = λ start. let before = c.loop-at.invariant start in elim c
 ]
 
 pub returns : goal.returns
-returns c = let e : c.loop-at.at ≡ c.args.end = omega (arith, c.loop-at-test.false, c.loop-at.auto.at-end c.requires.rising) in rw (← e) c.loop-at.invariant
+returns c = let e : c.loop-at.at ≡ c.args.part.1 = omega (arith, c.loop-at-test.false, c.loop-at.auto.at-end c.requires.rising) in rw (← e) c.loop-at.invariant

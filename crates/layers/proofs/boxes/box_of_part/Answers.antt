@@ -19,15 +19,15 @@ loop-block-preserved c =
     let l = c.loop-block in
     let part = c.args.part.now in
     let left = drop (64 * l.block-index) part in
-    let box : c.box_of_block.result ≡ box_of_places (take 65 left) = c.box_of_block.ensures ∙ (c.block-item.is ∙ c.boxes-boxes.ensures.each l.block-index c.block-item.result c.loop-block-test.true) in
+    let box : c.box_of_block-in-loop-block.result ≡ box_of_places (take 65 left) = c.box_of_block-in-loop-block.ensures ∙ (c.block-item.is ∙ c.boxes-boxes.ensures.each l.block-index c.block-item.result c.loop-block-test.true) in
     let on : 64 * l.block-index + 64 ≡ 64 * (l.block-index + 1) = omega arith in
     let behind : drop 64 left ≡ drop (64 * (l.block-index + 1)) part = drop-drop 64 (64 * l.block-index) part ∙ ap (λ n. drop n part) on in
     let next : c.with_box-grown.result ≡ fold with_place l.grown (take 65 left) =
     c.with_box-grown.ensures ∙ (ap (λ b. with_box l.grown b) box ∙ with-places l.grown (take 65 left) l.invariant.wide) in
     record {
       box = ap (λ xs. fold with_place c.with_box-grown.result xs) (sym behind)
-          ∙ (block-joined l.grown c.with_box-grown.result c.box_of_block.result left l.invariant.wide c.with_box-grown.ensures box ∙ l.invariant.box);
-      wide = rw c.with_box-grown.ensures (box-wider l.grown c.box_of_block.result nowhere l.invariant.wide);
+          ∙ (block-joined l.grown c.with_box-grown.result c.box_of_block-in-loop-block.result left l.invariant.wide c.with_box-grown.ensures box ∙ l.invariant.box);
+      wide = rw c.with_box-grown.ensures (box-wider l.grown c.box_of_block-in-loop-block.result nowhere l.invariant.wide);
       again = λ h v more e. rw next (again-next 64 l.grown left v more (behind ∙ e));
     }
 
