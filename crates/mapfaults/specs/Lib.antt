@@ -1,3 +1,4 @@
 pub mod Explained
 pub mod Opening
+pub mod Unused
 pub mod Warning

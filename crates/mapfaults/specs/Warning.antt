@@ -1,11 +1,14 @@
 -- What of a map isn't as its clients need it, though it has no fault (docs/MAPFILE.md, "Warnings").
-use Rattle.std.specs.Prelude.{◌==◌, ℕ, ◌+◌, nat_eq, Bool, true, false, List, [], ◌∷◌, ◌++◌, Option, None, Some, codes}
+use Rattle.std.specs.Prelude.{◌==◌, ◌&&◌, ◌||◌, not, ℕ, ◌+◌, pos, neg_ℤ, int_lt, is_some, nat_eq, Bool, true, false, List, [], ◌∷◌, ◌++◌, Option, None, Some, codes}
 use Rattle.std.specs.Cmp.Lexicographic.{pointwise}
 use Rattle.std.specs.Fmt.{decimal}
 use Rattle.std.specs.List.{flat_map, list_any}
+use Rattle.geom.specs.World.{Area}
+use Rattle.mapdefs.specs.declared.class.ClassFields.{ClassFields}
 use Rattle.mapdefs.specs.declared.map.MapFields.{MapFields}
 use Rattle.mapdefs.specs.declared.layer.LayerFields.{LayerFields}
 use Rattle.xmltext.specs.Characters.{has_forbidden}
+use Rattle.mapfaults.specs.Unused.{has_label, is_bare, is_unclassed, lacks_named, lacks_of_rule}
 use Rattle.mapfaults.specs.declared.warning.Concern.{Concern}
 use Rattle.mapfaults.specs.declared.warning.Concern.TheVariants as concern
 use Rattle.mapfaults.specs.declared.warning.Warning.{Warning}
@@ -30,17 +33,40 @@ is_comma b = b == 44
 unfoldable pub is_default_address : List ℕ → Bool
 is_default_address url = pointwise nat_eq url (codes "http://localhost/wms?")
 
--- those on a layer of a number: its name can't be asked for, its name and its title can't stand in a document of XML
-abbrev pub layer_warnings : ℕ → LayerFields → List Warning
-layer_warnings number layer =
+-- a box reaches beyond 180 degrees of longitude or 90 of latitude
+unfoldable pub is_beyond_degrees : Area → Bool
+is_beyond_degrees area =
+    int_lt area.minx (neg_ℤ (pos 180000000)) || int_lt (pos 180000000) area.maxx || int_lt area.miny (neg_ℤ (pos 90000000)) || int_lt (pos 90000000) area.maxy
+
+-- those on the texts of a layer of a number: its name can't be asked for, its name and its title can't stand in a document of XML
+abbrev pub text_warnings : ℕ → LayerFields → List Warning
+text_warnings number layer =
     warned (list_any is_comma layer.name) (on_layer number concern.CommaInName)
     ++ (warned (has_forbidden layer.name) (on_layer number concern.ForbiddenInName)
     ++ warned (has_forbidden layer.title) (on_layer number concern.ForbiddenInTitle))
 
+-- those on what looks at items that the layer hasn't
+abbrev pub item_warnings : ℕ → LayerFields → List Warning
+item_warnings number layer =
+    warned (lacks_named layer.items layer.labelitem) (on_layer number concern.UnknownLabelItem)
+    ++ (warned (lacks_named layer.items layer.classitem) (on_layer number concern.UnknownClassItem)
+    ++ warned (list_any (λ (class : ClassFields). lacks_of_rule layer.items class.rule) layer.classes) (on_layer number concern.UnknownItem))
+
+-- those on what is never drawn: labels without a font, features without a class, a class without a style and a label
+abbrev pub drawing_warnings : Bool → ℕ → LayerFields → List Warning
+drawing_warnings has_font number layer =
+    warned (not has_font && has_label layer) (on_layer number concern.NoFont)
+    ++ (warned (is_unclassed layer) (on_layer number concern.NoClass)
+    ++ warned (list_any is_bare layer.classes) (on_layer number concern.BareClass))
+
+-- all of those on a layer of a number
+abbrev pub layer_warnings : Bool → ℕ → LayerFields → List Warning
+layer_warnings has_font number layer = text_warnings number layer ++ (item_warnings number layer ++ drawing_warnings has_font number layer)
+
 -- those on some layers, of which the first has this number
-abbrev pub layers_warnings : ℕ → List LayerFields → List Warning
-layers_warnings number [] = []
-layers_warnings number (layer ∷ layers) = layer_warnings number layer ++ layers_warnings (number + 1) layers
+abbrev pub layers_warnings : Bool → ℕ → List LayerFields → List Warning
+layers_warnings has_font number [] = []
+layers_warnings has_font number (layer ∷ layers) = layer_warnings has_font number layer ++ layers_warnings has_font (number + 1) layers
 
 -- all: those on the service, and then those on the layers in the order of the mapfile
 abbrev pub warnings : MapFields → List Warning
@@ -48,7 +74,8 @@ warnings map =
     warned (is_default_address map.url) (on_service concern.NoAddress)
     ++ (warned (has_forbidden map.title) (on_service concern.ForbiddenInTitle)
     ++ (warned (has_forbidden map.url) (on_service concern.ForbiddenInAddress)
-    ++ layers_warnings 1 map.layers))
+    ++ (warned (is_beyond_degrees map.extent) (on_service concern.BeyondDegrees)
+    ++ layers_warnings (is_some map.font) 1 map.layers)))
 
 -- what a warning is on, in words
 unfoldable pub subject_of : Option ℕ → List ℕ
@@ -62,6 +89,13 @@ words_of concern.CommaInName = codes " has a NAME with a comma, so that LAYERS c
 words_of concern.ForbiddenInName = codes " has a NAME with a character that XML forbids"
 words_of concern.ForbiddenInTitle = codes " has a title with a character that XML forbids"
 words_of concern.ForbiddenInAddress = codes " has an address with a character that XML forbids"
+words_of concern.BeyondDegrees = codes " has an EXTENT beyond 180 degrees of longitude or 90 of latitude"
+words_of concern.UnknownLabelItem = codes " has a LABELITEM that is none of its items"
+words_of concern.UnknownClassItem = codes " has a CLASSITEM that is none of its items"
+words_of concern.UnknownItem = codes " has an EXPRESSION that looks at none of its items"
+words_of concern.NoFont = codes " has a LABEL, and the map has no LABELFONT"
+words_of concern.NoClass = codes " has features and no CLASS"
+words_of concern.BareClass = codes " has a CLASS without STYLE and LABEL"
 
 -- what stands between the name of a mapfile and a warning
 unfoldable pub marked : List ℕ

@@ -16,6 +16,7 @@ mod foreign;
 mod openings;
 mod place;
 mod sentence;
+mod unused;
 mod wanted;
 mod warning;
 

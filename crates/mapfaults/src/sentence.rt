@@ -2,19 +2,21 @@ use crate::foreign::{advice, has_tilde};
 use crate::openings::Opening;
 use crate::place::Explained;
 use crate::wanted::wanted;
+use expressions::{ExprError, read};
 use mapdefs::{
     MAX_CLASSES, MAX_FEATURES, MAX_ITEMS, MAX_LAYERS, MAX_STYLES, MAX_SYMBOLS, MAX_VERTICES,
 };
-use maplex::{Shape, Token};
+use maplex::{LexKind, Shape, Token};
 use maptree::Context;
 use mapwords::{Block, Expected, Keyword, ParseKind};
 use std::alloc::{AllocError, Global};
+use std::str;
 
 // The most characters that are shown of a word.
 const SHOWN: usize = 40;
 
 // A word as it is shown: no longer than may be read, and without control characters.
-fn shown(alloc: Global, word: &str) -> Result<String, AllocError> {
+fn cut(alloc: Global, word: &str) -> Result<String, AllocError> {
     let mut text = String::new(alloc);
     for (i, character) in word.chars().enumerate() {
         if i == SHOWN {
@@ -32,7 +34,7 @@ fn shown(alloc: Global, word: &str) -> Result<String, AllocError> {
 
 // A token as it is shown, with what stands round its text.
 fn found(alloc: Global, token: &Token) -> Result<String, AllocError> {
-    let text = shown(alloc, token.text)?;
+    let text = cut(alloc, token.text)?;
     match token.shape {
         Shape::Word | Shape::Logic => Ok(text),
         Shape::Text => format!(in alloc; "\"{text}\""),
@@ -44,7 +46,7 @@ fn found(alloc: Global, token: &Token) -> Result<String, AllocError> {
 fn opener(alloc: Global, word: &str) -> Result<String, AllocError> {
     match Keyword::of(word) {
         Some(keyword) => String::from_str(alloc, keyword.spelling()),
-        None => shown(alloc, word),
+        None => cut(alloc, word),
     }
 }
 
@@ -107,10 +109,23 @@ fn unknown_word(alloc: Global, e: &Explained, token: &Token) -> Result<String, A
             let shown = found(alloc, token)?;
             if e.noted.begun {
                 format!(in alloc; "{shown} stands after the END of MAP")
+            } else if token.text.starts_with('\u{FEFF}') {
+                String::from_str(
+                    alloc,
+                    "the mapfile begins with a byte order mark: save it without one",
+                )
             } else {
                 format!(in alloc; "{shown} stands where MAP has to begin")
             }
         }
+    }
+}
+
+// What is left of the text of an expression where no reading of it can go on.
+fn unread(alloc: Global, text: &str) -> Option<&str> {
+    match read(alloc, text.as_bytes()) {
+        Err(ExprError::Fault(fault)) => text.get(fault.at..),
+        Ok(_) | Err(ExprError::NoMemory) => None,
     }
 }
 
@@ -124,7 +139,14 @@ fn no_expression(alloc: Global, token: &Token, shown: &str) -> Result<String, Al
     if has_tilde(token.text) {
         return format!(in alloc; "{shown} is no expression: ~ is MapServer's and isn't supported");
     }
-    format!(in alloc; "{shown} is no expression")
+    let Some(rest) = unread(alloc, token.text) else {
+        return format!(in alloc; "{shown} is no expression");
+    };
+    if rest.is_empty() {
+        return format!(in alloc; "{shown} is no expression: it ends too early");
+    }
+    let rest = cut(alloc, rest)?;
+    format!(in alloc; "{shown} is no expression: nothing is read from {rest} on")
 }
 
 // The words on a token that is no value.
@@ -219,6 +241,34 @@ fn limit(alloc: Global, e: &Explained, inner: &Opening, word: &str) -> Result<St
     }
 }
 
+// A line of a source, counted from 1, without its end.
+fn line_at(source: &[u8], line: u64) -> &[u8] {
+    let mut rest = source;
+    for _ in 1..line {
+        let end = rest.iter().position(|byte| *byte == b'\n');
+        rest = match end {
+            Some(end) => &rest[end + 1..],
+            None => &[],
+        };
+    }
+    match rest.iter().position(|byte| *byte == b'\n') {
+        Some(end) => &rest[..end],
+        None => rest,
+    }
+}
+
+// The words on a line with a byte that no token may have.
+fn bad_byte(line: &[u8]) -> &'static str {
+    let is_control = |byte: &u8| (*byte < 32 && !matches!(*byte, 9..=13)) || *byte == 127;
+    if str::from_utf8(line).is_err() {
+        "a byte that is not UTF-8: convert the mapfile, as with iconv -f ISO-8859-1 -t UTF-8"
+    } else if line.iter().any(is_control) {
+        "a control character"
+    } else {
+        "a bracket that closes nothing"
+    }
+}
+
 impl<'a> Explained<'a> {
     // The words on a fault at a token, inside the innermost of what is open.
     fn words_inside(
@@ -233,7 +283,7 @@ impl<'a> Explained<'a> {
             ParseKind::MissingValue => missing_value(alloc, self, inner),
             ParseKind::Limit => limit(alloc, self, inner, token.text),
             ParseKind::DuplicateName => {
-                let name = shown(alloc, self.noted.name)?;
+                let name = cut(alloc, self.noted.name)?;
                 format!(in alloc; "an earlier LAYER has the NAME {name}")
             }
             ParseKind::BadExpression => no_expression(alloc, token, found.as_str()),
@@ -250,10 +300,15 @@ impl<'a> Explained<'a> {
         format!(in alloc; "the mapfile ends inside {block}, which has no END")
     }
 
-    /// The words on the fault: one sentence without a full stop, which shows no control characters.
-    pub fn words(&self, alloc: Global) -> Result<String, AllocError> {
-        if let ParseKind::Lex(kind) = self.kind {
-            return format!(in alloc; "{kind}");
+    /// The words on the fault, which is one of this source: one sentence without a full stop, which shows no control
+    /// characters.
+    pub fn words(&self, alloc: Global, source: &[u8]) -> Result<String, AllocError> {
+        match self.kind {
+            ParseKind::Lex(LexKind::BadByte) => {
+                return String::from_str(alloc, bad_byte(line_at(source, self.line)));
+            }
+            ParseKind::Lex(kind) => return format!(in alloc; "{kind}"),
+            _ => {}
         }
         match (&self.token, self.openings.as_slice()) {
             (Some(token), [.., inner]) => self.words_inside(alloc, inner, token),

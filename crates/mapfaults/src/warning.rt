@@ -1,9 +1,12 @@
 ghost use Rattle.std.specs.Prelude.{◌≡◌, ◌++◌, IfOk, OnOk};
 ghost use Rattle.std.specs.List.{flat_map, list_any};
-ghost use Rattle.mapfaults.specs.Warning.{is_comma, is_default_address, layer_warnings, layers_warnings, marked, subject_of, warned, warning_line, warning_lines, warnings, words_of};
+ghost use Rattle.mapfaults.specs.Unused.{is_bare, lacks_of_rule};
+ghost use Rattle.mapfaults.specs.Warning.{drawing_warnings, is_beyond_degrees, is_comma, is_default_address, item_warnings, layer_warnings, layers_warnings, marked, subject_of, text_warnings, warned, warning_line, warning_lines, warnings, words_of};
 
+use crate::unused::{has_label, is_bare, is_unclassed, lacks_named, lacks_of_rule};
+use geom::{Micro, WorldBox};
 use itoa::Buffer;
-use mapdefs::{Items, Layer, LayerFields, Map};
+use mapdefs::{Class, Items, Layer, LayerFields, Map, Text};
 use std::alloc::{AllocError, Global};
 use xmltext::has_forbidden;
 
@@ -20,6 +23,20 @@ pub enum Concern {
     ForbiddenInTitle,
     /// The address has one.
     ForbiddenInAddress,
+    /// The extent reaches beyond 180 degrees of longitude or 90 of latitude.
+    BeyondDegrees,
+    /// The item that labels show is none of the layer's.
+    UnknownLabelItem,
+    /// The item that classes look at is none of the layer's.
+    UnknownClassItem,
+    /// An item in the expression of a class is none of the layer's.
+    UnknownItem,
+    /// A class has a label, and the map no font.
+    NoFont,
+    /// The layer has features, and no class that they could be of.
+    NoClass,
+    /// A class paints and labels nothing.
+    BareClass,
 }
 
 /// That something isn't as clients need it.
@@ -45,6 +62,15 @@ impl Concern {
             Concern::ForbiddenInName => " has a NAME with a character that XML forbids",
             Concern::ForbiddenInTitle => " has a title with a character that XML forbids",
             Concern::ForbiddenInAddress => " has an address with a character that XML forbids",
+            Concern::BeyondDegrees => {
+                " has an EXTENT beyond 180 degrees of longitude or 90 of latitude"
+            }
+            Concern::UnknownLabelItem => " has a LABELITEM that is none of its items",
+            Concern::UnknownClassItem => " has a CLASSITEM that is none of its items",
+            Concern::UnknownItem => " has an EXPRESSION that looks at none of its items",
+            Concern::NoFont => " has a LABEL, and the map has no LABELFONT",
+            Concern::NoClass => " has features and no CLASS",
+            Concern::BareClass => " has a CLASS without STYLE and LABEL",
         }
     }
 }
@@ -74,9 +100,20 @@ fn is_default_address(url: &str) -> bool
     url == "http://localhost/wms?"
 }
 
-// Adds the warnings on a layer of a number.
-fn add_layer(out: &mut Vec<Warning>, number: usize, fields: &LayerFields) -> Result<(), AllocError>
-    ensures { OnOk result (out.new.items ≡ out.old.items ++ layer_warnings number fields.now) }
+// Whether a box reaches beyond 180 degrees of longitude or 90 of latitude.
+#[tactic(auto, unfolding(crate::specs::Warning::is_beyond_degrees))]
+fn is_beyond_degrees(area: WorldBox) -> bool
+    ensures { result ≡ is_beyond_degrees area }
+{
+    area.minx() < Micro::new(-180_000_000)
+        || area.maxx() > Micro::new(180_000_000)
+        || area.miny() < Micro::new(-90_000_000)
+        || area.maxy() > Micro::new(90_000_000)
+}
+
+// Adds the warnings on the texts of a layer of a number.
+fn add_texts(out: &mut Vec<Warning>, number: usize, fields: &LayerFields) -> Result<(), AllocError>
+    ensures { OnOk result (out.new.items ≡ out.old.items ++ text_warnings number fields.now) }
 {
     let (name, title) = (fields.name.as_str(), fields.title.as_str());
     let layer = Some(number);
@@ -88,12 +125,85 @@ fn add_layer(out: &mut Vec<Warning>, number: usize, fields: &LayerFields) -> Res
     add(out, has_forbidden(title), Warning { layer, concern })
 }
 
+// Whether the expression of some class looks at an item that there isn't.
+fn lacks_of_classes(items: &[Text], classes: &[Class]) -> bool
+    ensures { result ≡ list_any (λ class. lacks_of_rule items.now class.rule) classes.now }
+{
+    classes
+        .iter()
+        .any(|class| lacks_of_rule(items, &class.get().rule))
+}
+
+// Adds those on what looks at items that the layer hasn't.
+fn add_items(out: &mut Vec<Warning>, number: usize, fields: &LayerFields) -> Result<(), AllocError>
+    ensures { OnOk result (out.new.items ≡ out.old.items ++ item_warnings number fields.now) }
+{
+    let items = fields.items.as_slice();
+    let layer = Some(number);
+    let concern = Concern::UnknownLabelItem;
+    add(
+        out,
+        lacks_named(items, &fields.labelitem),
+        Warning { layer, concern },
+    )?;
+    let concern = Concern::UnknownClassItem;
+    add(
+        out,
+        lacks_named(items, &fields.classitem),
+        Warning { layer, concern },
+    )?;
+    let concern = Concern::UnknownItem;
+    let lacks = lacks_of_classes(items, fields.classes.as_slice());
+    add(out, lacks, Warning { layer, concern })
+}
+
+// Whether some class paints and labels nothing.
+fn has_bare(classes: &[Class]) -> bool
+    ensures { result ≡ list_any is_bare classes.now }
+{
+    classes.iter().any(|class| is_bare(class.get()))
+}
+
+// Adds those on what is never drawn, by whether the map has a font.
+fn add_drawing(
+    out: &mut Vec<Warning>,
+    has_font: bool,
+    number: usize,
+    fields: &LayerFields,
+) -> Result<(), AllocError>
+    ensures { OnOk result (out.new.items ≡ out.old.items ++ drawing_warnings has_font number fields.now) }
+{
+    let layer = Some(number);
+    let concern = Concern::NoFont;
+    let lacks = !has_font && has_label(fields);
+    add(out, lacks, Warning { layer, concern })?;
+    let concern = Concern::NoClass;
+    add(out, is_unclassed(fields), Warning { layer, concern })?;
+    let concern = Concern::BareClass;
+    let bare = has_bare(fields.classes.as_slice());
+    add(out, bare, Warning { layer, concern })
+}
+
+// Adds the warnings on a layer of a number.
+fn add_layer(
+    out: &mut Vec<Warning>,
+    has_font: bool,
+    number: usize,
+    fields: &LayerFields,
+) -> Result<(), AllocError>
+    ensures { OnOk result (out.new.items ≡ out.old.items ++ layer_warnings has_font number fields.now) }
+{
+    add_texts(out, number, fields)?;
+    add_items(out, number, fields)?;
+    add_drawing(out, has_font, number, fields)
+}
+
 // Adds the warnings on layers, of which the first has the number 1.
-fn add_layers(out: &mut Vec<Warning>, layers: &[Layer]) -> Result<(), AllocError>
-    ensures { OnOk result (out.new.items ≡ out.old.items ++ layers_warnings 1 layers.now) }
+fn add_layers(out: &mut Vec<Warning>, has_font: bool, layers: &[Layer]) -> Result<(), AllocError>
+    ensures { OnOk result (out.new.items ≡ out.old.items ++ layers_warnings has_font 1 layers.now) }
 {
     for (index, layer) in layers.iter().enumerate() {
-        add_layer(out, index + 1, layer.get())?;
+        add_layer(out, has_font, index + 1, layer.get())?;
     }
     Ok(())
 }
@@ -124,7 +234,13 @@ pub fn warnings(alloc: Global, map: &Map) -> Result<Vec<Warning>, AllocError>
         has_forbidden(map.url.as_str()),
         Warning { layer, concern },
     )?;
-    add_layers(&mut out, map.layers.as_slice())?;
+    let concern = Concern::BeyondDegrees;
+    add(
+        &mut out,
+        is_beyond_degrees(map.extent),
+        Warning { layer, concern },
+    )?;
+    add_layers(&mut out, map.font.is_some(), map.layers.as_slice())?;
     Ok(out)
 }
 

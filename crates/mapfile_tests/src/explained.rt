@@ -8,7 +8,7 @@ fn told(alloc: Global, source: &str) -> Result<String, AllocError> {
     match explain(alloc, source.as_bytes()) {
         Finding::Sound => String::from_str(alloc, "sound"),
         Finding::Faulty(fault) => {
-            let (line, words) = (fault.line, fault.words(alloc)?);
+            let (line, words) = (fault.line, fault.words(alloc, source.as_bytes())?);
             format!(in alloc; "{line}: {words}")
         }
         Finding::NoMemory => Err(AllocError),
@@ -82,8 +82,11 @@ sound|MAP END
 2: SIZE lacks a value|MAP SIZE 9~END
 4: CLASS of line 3 has one LABEL too many|MAP LAYER~CLASS LABEL END END~CLASS LABEL END~LABEL END
 4: an earlier LAYER has the NAME b|MAP LAYER~NAME a TYPE LINE END~LAYER NAME b TYPE LINE END LAYER~NAME b TYPE LINE~END
-2: ('[a]' = ) is no expression|MAP LAYER CLASS~EXPRESSION ('[a]' = )
-2: a bracket that closes nothing, a control character, or a byte that is not UTF-8|MAP~)
+2: ('[a]' = ) is no expression: nothing is read from ) on|MAP LAYER CLASS~EXPRESSION ('[a]' = )
+2: ([a] > 1 AND [b] 2) is no expression: nothing is read from 2) on|MAP LAYER CLASS~EXPRESSION ([a] > 1 AND [b] 2)
+2: a bracket that closes nothing|MAP~)
+3: a control character|MAP~~a\u{1}b
+1: the mapfile begins with a byte order mark: save it without one|\u{FEFF}MAP END
 2: the quoted text, expression or list that begins here is not closed|MAP LAYER~NAME 'a
 2: \"a?b?c\" is no keyword of MAP|MAP~'a~b\tc'
 1: 1234567890123456789012345678901234567890 is no keyword of MAP|MAP 1234567890123456789012345678901234567890
@@ -111,11 +114,11 @@ sound|MAP END
 2: /a/ is no expression: regular expressions are MapServer's and aren't supported|MAP LAYER CLASS EXPRESSION~/a/
 2: ('[a]' ~ 'b') is no expression: ~ is MapServer's and isn't supported|MAP LAYER CLASS EXPRESSION~('[a]' ^ 'b')
 2: ('[a]' ~* 'b') is no expression: ~ is MapServer's and isn't supported|MAP LAYER CLASS EXPRESSION~('[a]' ^* 'b')
-2: ('[a]' = \"'~\" = ) is no expression|MAP LAYER CLASS EXPRESSION~('[a]' = \"'^\" = )";
+2: ('[a]' = \"'~\" = ) is no expression: nothing is read from = ) on|MAP LAYER CLASS EXPRESSION~('[a]' = \"'^\" = )";
 
 #[test]
 fn faults_are_told_in_words(rt: HostRuntime) -> Result<(), TableFault> {
-    check_rows(rt.alloc(), ROWS, '|', 86, told_row)
+    check_rows(rt.alloc(), ROWS, '|', 89, told_row)
 }
 
 // What is told of sources with a block, a vertex or an item more than a map may have.
@@ -145,4 +148,23 @@ fn told_after_layers(alloc: Global, end: &str) -> Result<String, AllocError> {
 fn a_layer_too_many_is_told_in_words(rt: HostRuntime) -> Result<(), TableFault> {
     const ROW: &str = "130: MAP of line 1 has more than 128 LAYER blocks|LAYER";
     check_rows(rt.alloc(), ROW, '|', 1, told_after_layers)
+}
+
+// The words on a mapfile with a byte that isn't UTF-8 on its second line.
+fn told_of_bytes(alloc: Global, _row: &str) -> Result<String, AllocError> {
+    let source = b"MAP\nNAME 'caf\xE9'\nEND";
+    match explain(alloc, source) {
+        Finding::Faulty(fault) => {
+            let (line, words) = (fault.line, fault.words(alloc, source)?);
+            format!(in alloc; "{line}: {words}")
+        }
+        Finding::Sound | Finding::NoMemory => Err(AllocError),
+    }
+}
+
+#[test]
+fn bytes_that_are_no_text_are_named(rt: HostRuntime) -> Result<(), TableFault> {
+    let row =
+        "2: a byte that is not UTF-8: convert the mapfile, as with iconv -f ISO-8859-1 -t UTF-8|a";
+    check_rows(rt.alloc(), row, '|', 1, told_of_bytes)
 }

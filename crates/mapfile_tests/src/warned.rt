@@ -44,10 +44,25 @@ a.map: warning: the service has an address with a character that XML forbids~|MA
 a.map: warning: LAYER 2 has a NAME with a comma, so that LAYERS can't ask for it~|MAP WEB METADATA wms_onlineresource b END END LAYER NAME a TYPE LINE END LAYER NAME a,b TYPE LINE END END
 a.map: warning: LAYER 1 has a title with a character that XML forbids~|MAP WEB METADATA wms_onlineresource b END END LAYER NAME a TYPE LINE METADATA wms_title 'a^b' END END END
 a.map: warning: LAYER 1 has a NAME with a character that XML forbids~|MAP WEB METADATA wms_onlineresource b END END LAYER NAME 'a^b' TYPE LINE METADATA wms_title 'a' END END END
-# all of them, in order
+# items that a layer hasn't, and others
+a.map: warning: LAYER 1 has a LABELITEM that is none of its items~|MAP WEB METADATA wms_onlineresource b END END LAYER NAME a TYPE LINE PROCESSING ITEMS=c,d LABELITEM e CLASSITEM D END END
+a.map: warning: LAYER 2 has a CLASSITEM that is none of its items~|MAP WEB METADATA wms_onlineresource b END END LAYER NAME a TYPE LINE PROCESSING ITEMS=c,d LABELITEM C END LAYER NAME b TYPE LINE CLASSITEM c END END
+a.map: warning: LAYER 1 has an EXPRESSION that looks at none of its items~|MAP WEB METADATA wms_onlineresource b END END LAYER NAME a TYPE LINE PROCESSING ITEMS=c CLASS EXPRESSION ([C] > 1) STYLE END END CLASS EXPRESSION (1 = 2 OR NOT ('[c]' = 'x' AND 'y' IN '[d]')) STYLE END END END END
+|MAP WEB METADATA wms_onlineresource b END END LAYER NAME a TYPE LINE PROCESSING ITEMS=c CLASS EXPRESSION {c,d} STYLE END END CLASS EXPRESSION '[d]' STYLE END END END END
+# what is never drawn
+a.map: warning: LAYER 1 has features and no CLASS~|MAP WEB METADATA wms_onlineresource b END END LAYER NAME a TYPE POINT FEATURE POINTS 1 2 END END END LAYER NAME b TYPE POINT END END
+a.map: warning: LAYER 2 has a CLASS without STYLE and LABEL~|MAP WEB METADATA wms_onlineresource b END END LAYER NAME a TYPE LINE CLASS STYLE END END END LAYER NAME b TYPE LINE CLASS STYLE END END CLASS END END END
+a.map: warning: LAYER 1 has a LABEL, and the map has no LABELFONT~|MAP WEB METADATA wms_onlineresource b END END LAYER NAME a TYPE LINE CLASS STYLE END END CLASS LABEL END END END END
+# an extent on the borders of the world, and beyond each
+|MAP EXTENT -180 -90 180 90 WEB METADATA wms_onlineresource b END END END
+a.map: warning: the service has an EXTENT beyond 180 degrees of longitude or 90 of latitude~|MAP EXTENT -180.000001 -90 180 90 WEB METADATA wms_onlineresource b END END END
+a.map: warning: the service has an EXTENT beyond 180 degrees of longitude or 90 of latitude~|MAP EXTENT -180 -90.000001 180 90 WEB METADATA wms_onlineresource b END END END
+a.map: warning: the service has an EXTENT beyond 180 degrees of longitude or 90 of latitude~|MAP EXTENT -180 -90 180.000001 90 WEB METADATA wms_onlineresource b END END END
+a.map: warning: the service has an EXTENT beyond 180 degrees of longitude or 90 of latitude~|MAP EXTENT -180 -90 180 90.000001 WEB METADATA wms_onlineresource b END END END
+# several, in order
 a.map: warning: the service has no wms_onlineresource, and http://localhost/wms? has no port~a.map: warning: the service has a title with a character that XML forbids~a.map: warning: LAYER 1 has a NAME with a comma, so that LAYERS can't ask for it~a.map: warning: LAYER 1 has a NAME with a character that XML forbids~a.map: warning: LAYER 1 has a title with a character that XML forbids~a.map: warning: LAYER 3 has a NAME with a comma, so that LAYERS can't ask for it~|MAP NAME '^' LAYER NAME ',^' TYPE LINE END LAYER NAME b TYPE LINE END LAYER NAME ',' TYPE LINE END END";
 
 #[test]
 fn maps_have_worked_warnings(rt: HostRuntime) -> Result<(), TableFault> {
-    check_rows(rt.alloc(), ROWS, '|', 14, told_row)
+    check_rows(rt.alloc(), ROWS, '|', 26, told_row)
 }
