@@ -92,7 +92,7 @@ module _ {O : Type 0} (opening : State) (held : O → Option (List ℕ)) (taken 
     }
 
     -- these bytes are no command
-    all-done : (after : Option (List ℕ)) (piece : List ℕ) → Consumes left after piece → HasDoneAll opening start after come.commands old come.lines piece now
+    pub all-done : (after : Option (List ℕ)) (piece : List ℕ) → Consumes left after piece → HasDoneAll opening start after come.commands old come.lines piece now
     all-done after piece taken_in =
         let done : AreDone opening (come.commands ++ []) old (come.bytes ++ piece) (come.lines ++ []) piece now = come.follows [] piece [] piece now (refl, refl, refl) in
         record {

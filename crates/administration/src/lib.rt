@@ -9,11 +9,13 @@
 #![tactic(auto)]
 
 mod done;
+mod keeping;
 mod line;
 mod reading;
 mod serving;
 
 pub use done::Done;
+pub use keeping::{AdministerFault, administer_kept};
 pub use line::{LINE, Line};
 pub use reading::Asked;
 pub use serving::administer;

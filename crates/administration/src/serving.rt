@@ -1,52 +1,28 @@
-ghost use Rattle.std.specs.Prelude.{◌≡◌, ℕ, List, OnOk, OnErr, IfSome, MatchResult, true};
+ghost use Rattle.std.specs.Prelude.{◌≡◌, ℕ, List, OnOk, OnErr, MatchResult, true};
 ghost use Rattle.streams.specs.Sent.{IsSent, IsCutSomewhere};
 ghost use Rattle.mapshare.specs.Admin.{Batches};
-ghost use Rattle.administration.specs.Commands.{Command, Submit, Publish, front_command};
+ghost use Rattle.administration.specs.Commands.{Command, front_command};
 ghost use Rattle.administration.specs.Reading.{IsHeldOf};
 ghost use Rattle.administration.specs.Serving.{HasDone, HasDoneAll, IsServed, IsStopped};
 ghost use Rattle.administration.specs.declared.done.Done.{Done};
 
 use crate::done::{Done, send_line};
+use crate::keeping::perform_kept;
 use crate::reading::{Asked, read_command};
-use mapshare::{Admin, Retried, Sharing, Submitted};
+use journalfile::Nowhere;
+use mapshare::{Admin, KeepFailed, Sharing};
 use std::alloc::Global;
 use std::sync::Wait;
 use streams::{PutFailed, Sink, Source};
 
-// Submits a batch, where its bytes are held.
-fn submit<S: Sharing, R: Wait>(rt: &R, admin: Admin<S>, held: Option<Vec<u8>>) -> (Admin<S>, Done)
-    ensures { (batch : List ℕ) → IfSome held (λ bytes. bytes.items ≡ batch) → HasDone S.opening admin (Submit batch) result.1 result.0 }
-{
-    let Some(batch) = held else {
-        return (admin, Done::NoMemory);
-    };
-    match admin.submit(rt, batch) {
-        (admin, Submitted::Published(receipt)) => (admin, Done::Published(receipt.sequence())),
-        (admin, Submitted::Held) => (admin, Done::Held),
-        (admin, Submitted::Refused(fault)) => (admin, Done::Refused(fault)),
-        (admin, Submitted::NoMemory) => (admin, Done::NoMemory),
-    }
-}
-
-// Publishes what is pending.
-fn retry<S: Sharing, R: Wait>(rt: &R, admin: Admin<S>) -> (Admin<S>, Done)
-    ensures { HasDone S.opening admin Publish result.1 result.0 }
-{
-    match admin.retry(rt) {
-        (admin, Retried::Published(receipt)) => (admin, Done::Published(receipt.sequence())),
-        (admin, Retried::Held) => (admin, Done::Held),
-        (admin, Retried::Idle) => (admin, Done::Idle),
-    }
-}
-
-// Does what was asked for.
+// Does what was asked for. No batch is kept, so that nothing that keeps them fails.
 fn perform<S: Sharing, R: Wait>(rt: &R, admin: Admin<S>, asked: Asked) -> (Admin<S>, Done)
     ensures { (command : Command) → IsHeldOf command asked → HasDone S.opening admin command result.1 result.0 }
 {
-    match asked {
-        Asked::Batch(held) => submit(rt, admin, held),
-        Asked::Retry => retry(rt, admin),
-        Asked::Malformed => (admin, Done::Malformed),
+    let mut nowhere = Nowhere;
+    match perform_kept(rt, admin, &mut nowhere, asked) {
+        (admin, Ok(done)) => (admin, done),
+        (admin, Err(KeepFailed)) => (admin, Done::NoMemory),
     }
 }
 

@@ -1,5 +1,6 @@
 -- What a batch does to a state (docs/PROFILE.md, "Batches").
 use Rattle.std.specs.Prelude.{◌≡◌, ℕ, ◌+◌, ◌-◌, ◌^◌, ◌==◌, true, false, nat_lt, if◌then◌else◌, List, [], ◌∷◌, length, Option, None, Some, Result, Ok, Err, IfSome, MatchResult, slice_get}
+use Rattle.std.specs.Result.{result_ok}
 use Rattle.csvpoints.specs.Source.{records_of}
 use Rattle.csvpoints.specs.Table.{table_of}
 use Rattle.csvpoints.specs.declared.fault.CsvFault.{CsvFault}
@@ -80,6 +81,10 @@ batched bytes s =
     if nat_lt MAX_BATCH (length bytes) then Err (record { index = 0; kind = kind.TooLong })
     else if s.sequence == 2 ^ 64 - 1 then Err (record { index = 0; kind = kind.SequenceEnd })
     else and_then (batch bytes s.map) (λ m. Ok (record { map = m; sequence = s.sequence + 1 }))
+
+-- the state after a batch, if it has no fault
+abbrev pub accepted : State → List ℕ → Option State
+accepted state bytes = result_ok (batched bytes state)
 
 -- the law that an empty batch leaves the map, and counts
 abbrev pub EmptyBatchCounts : Type 0

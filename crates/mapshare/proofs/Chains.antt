@@ -5,7 +5,7 @@ use Rattle.std.proofs.Math.Seq.{take-append_seam, take-length}
 use Rattle.std.proofs.lemmas.List.{append-nil, drop_all, drop-append-le, length-append, length-drop, length-take, take-append-drop, take-append-le}
 use Rattle.std.specs.Result.{result_ok}
 use mathlib.Core.List.{IsPrefix}
-use Rattle.batches.specs.Batch.{IsBatchErrorOf, State, batched}
+use Rattle.batches.specs.Batch.{IsBatchErrorOf, State, batched, accepted}
 use Rattle.batches.specs.declared.fault.BatchError.{BatchError}
 use Rattle.batches.specs.declared.fault.BatchError.TheVariants as batch_error
 use Rattle.mapshare.specs.Admin.{Batches, IsFaultOf, all_of}
@@ -13,7 +13,6 @@ use Rattle.sharing.specs.Sharing.{after}
 use Rattle.sharing.proofs.Accepting.{after_append}
 use Rattle.mapshare.specs.declared.edition.Edition.{Edition}
 use Rattle.mapshare.specs.declared.edition.Shape.{Shape}
-use Rattle.mapshare.specs.Accepted.{accepted}
 use Rattle.mapshare.specs.Edition.{applied, IsMade, shape_of}
 use Rattle.mapshare.specs.Queue.{IsChain, IsNext}
 

@@ -1,5 +1,4 @@
 pub mod Chains
-pub mod Counting
 pub mod Crossing
 pub mod Entering
 pub mod ReaderCrossing

@@ -1,11 +1,10 @@
 -- What an administrator does (docs/PROFILE.md, "Sharing").
 use Rattle.std.specs.Prelude.{◌≡◌, ℕ, List, [], ◌∷◌, ◌++◌, Some, IsSome, Err}
-use Rattle.batches.specs.Batch.{State, batched}
+use Rattle.batches.specs.Batch.{State, batched, accepted}
 use Rattle.batches.specs.declared.fault.BatchError.{BatchError}
 use Rattle.batches.specs.declared.fault.BatchError.TheVariants as batch_error
 use Rattle.batches.specs.declared.fault.BatchFault.{BatchFault}
 use Rattle.sharing.specs.Sharing.{after}
-use Rattle.mapshare.specs.Accepted.{accepted}
 use Rattle.mapshare.specs.declared.admin.Submitted.{Submitted}
 use Rattle.mapshare.specs.declared.admin.Submitted.TheVariants as submitted
 use Rattle.mapshare.specs.declared.admin.Retried.{Retried}

@@ -1,8 +1,7 @@
 -- What is published: a state of the map machine, and the batches that led to it.
 use Rattle.std.specs.Prelude.{◌≡◌, Some}
-use Rattle.batches.specs.Batch.{State}
+use Rattle.batches.specs.Batch.{State, accepted}
 use Rattle.sharing.specs.Sharing.{after}
-use Rattle.mapshare.specs.Accepted.{accepted}
 use Rattle.mapshare.specs.declared.edition.Edition.{Edition}
 use Rattle.mapshare.specs.declared.edition.Shape.{Shape}
 

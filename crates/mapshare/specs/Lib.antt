@@ -1,6 +1,7 @@
-pub mod Accepted
+pub mod Unopened
 pub mod Admin
 pub mod Edition
+pub mod Kept
 pub mod Queue
 pub mod Reader
 pub mod Seeing

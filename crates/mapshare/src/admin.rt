@@ -1,7 +1,8 @@
-ghost use Rattle.std.specs.Prelude.{◌≡◌, ◌↔◌, ◌++◌, [], drop, Some, IsSome, IfOk, IfErr, IsTrue, MatchBool, OnErr, OnOk};
+ghost use Rattle.std.specs.Prelude.{◌≡◌, ◌↔◌, ◌⊎◌, ◌++◌, ℕ, List, [], ◌∷◌, drop, Some, IsSome, IfOk, IfErr, IsTrue, MatchBool, MatchResult, OnErr, OnOk};
 ghost use Rattle.sharing.specs.Sharing.{after};
-ghost use Rattle.mapshare.specs.Accepted.{accepted};
+ghost use Rattle.batches.specs.Batch.{accepted};
 ghost use Rattle.mapshare.specs.Admin.{HasRetried, HasSubmitted, IsAccepted, IsFaultOf, IsIdle, IsPublished, all_of, with_batch};
+ghost use Rattle.mapshare.specs.Kept.{HasKept, IsAcceptFault, IsUnkept};
 ghost use Rattle.mapshare.specs.Queue.{IsChain};
 
 use crate::edition::{Edition, Shape};
@@ -9,6 +10,7 @@ use crate::receipt::Receipt;
 use crate::rule::{MapWriter, Moves, Ruled, Sharing, View};
 use crossbeam_utils::rule::Protocol;
 use history::{Front, History, MAX_HISTORY};
+use journalfile::{KeepFault, Keeps, Nowhere};
 use left_right::Absorb;
 use mapmachine::{BatchError, BatchFault, Machine};
 use std::alloc::{AllocError, Global};
@@ -27,6 +29,21 @@ pub enum Submitted<S: Sharing> {
     Refused(BatchFault),
     /// Memory was refused, and nothing has changed.
     NoMemory,
+}
+
+/// What keeps batches failed. Whether the batch that was submitted is kept isn't known, and nothing was published.
+#[derive(Clone, Copy, Debug, PartialEq, Eq)]
+pub struct KeepFailed;
+
+// Why a batch isn't accepted.
+#[derive(Clone, Copy)]
+pub(crate) enum AcceptFault {
+    // It has this first fault.
+    Fault(BatchFault),
+    // Memory was refused.
+    NoMemory,
+    // What keeps batches failed.
+    Failed,
 }
 
 /// What became of what was pending.
@@ -63,7 +80,7 @@ where
 {
     ghost use Rattle.std.specs.Prelude.{◌≡◌, ◌++◌, Some, drop, length};
     ghost use Rattle.sharing.specs.Sharing.{after};
-    ghost use Rattle.mapshare.specs.Accepted.{accepted};
+    ghost use Rattle.batches.specs.Batch.{accepted};
     ghost use Rattle.mapshare.specs.Admin.{Batches};
     ghost use Rattle.mapshare.specs.Queue.{IsChain};
 
@@ -178,26 +195,38 @@ impl<S: Sharing> Admin<S> {
         }
     }
 
-    // Accepts a batch: it is the last that is pending then.
-    fn accept(&mut self, batch: Vec<u8>) -> Result<(), BatchError>
+    // Accepts a batch: it is kept, and the last that is pending then.
+    fn accept<K: Keeps>(&mut self, keeper: &mut K, batch: Vec<u8>) -> Result<(), AcceptFault>
+        requires ready { (batches : List (List ℕ)) × K.keeps keeper.old batches }
         ensures accepted { OnOk result (IsAccepted S.opening self.new × (self.new ≡ with_batch batch.items self.old)) }
-        ensures refused { IfErr result (IsFaultOf S.opening self.old batch.items) }
-        ensures kept { OnErr result (self.new ≡ self.old) }
+        ensures refused { IfErr result (IsAcceptFault S.opening self.old batch.items) }
+        ensures unchanged { OnErr result (self.new ≡ self.old) }
+        ensures kept { OnOk result ((batches : List (List ℕ)) → K.keeps keeper.old batches → K.keeps keeper.new (batches ++ batch.items ∷ [])) }
+        ensures unkept { IfErr result (λ fault. IsUnkept fault keeper.old keeper.new) }
+        ensures any_moment { (batches : List (List ℕ)) → K.keeps keeper.old batches → (file : List ℕ) → K.may_leave keeper.old keeper.new file
+            → K.stands keeper.old file batches
+            ⊎ (IsAccepted S.opening (with_batch batch.items self.old) × K.stands keeper.old file (batches ++ batch.items ∷ [])) }
     {
         if self.last.len() >= MAX_HISTORY || self.queue.reserve(1).is_err() {
-            return Err(BatchError::NoMemory);
+            return Err(AcceptFault::NoMemory);
         }
         let checked = match self.after_batch(&batch) {
             Ok(checked) => checked,
-            Err(error) => return Err(error),
+            Err(BatchError::Fault(fault)) => return Err(AcceptFault::Fault(fault)),
+            Err(BatchError::NoMemory) => return Err(AcceptFault::NoMemory),
         };
-        // All memory is taken before the history grows.
+        // All memory is taken before the batch is kept.
         let Ok(machine) = checked.copy() else {
-            return Err(BatchError::NoMemory);
+            return Err(AcceptFault::NoMemory);
         };
+        match keeper.keep(batch.as_slice()) {
+            Ok(()) => {}
+            Err(KeepFault::NoMemory) => return Err(AcceptFault::NoMemory),
+            Err(KeepFault::Failed) => return Err(AcceptFault::Failed),
+        }
         let mut front = self.last.copy();
         if !front.add(&self.history, &batch) {
-            return Err(BatchError::NoMemory);
+            return Err(AcceptFault::Failed);
         }
         let edition = Edition {
             machine,
@@ -246,20 +275,51 @@ impl<S: Sharing> Admin<S> {
 
     /// Submits a batch: it is looked at in the state after all that were accepted. One without a fault is accepted, and
     /// then all that is pending is published at once. It waits for readers that still read the older copy.
-    pub fn submit<R: Wait>(mut self, rt: &R, batch: Vec<u8>) -> (Self, Submitted<S>)
+    pub fn submit<R: Wait>(self, rt: &R, batch: Vec<u8>) -> (Self, Submitted<S>)
         ensures submitted { HasSubmitted S.opening self batch.items result.1 result.0 }
     {
-        match self.accept(batch) {
-            Err(BatchError::Fault(fault)) => return (self, Submitted::Refused(fault)),
-            Err(BatchError::NoMemory) => return (self, Submitted::NoMemory),
+        let mut nowhere = Nowhere;
+        match self.submit_kept(rt, &mut nowhere, batch) {
+            (admin, Ok(submitted)) => (admin, submitted),
+            (admin, Err(KeepFailed)) => (admin, Submitted::NoMemory),
+        }
+    }
+
+    /// Submits a batch as `submit` does, and keeps it between its check and its publishing: one that is accepted is kept before
+    /// anything is published or reported, and one that isn't accepted is never kept.
+    ///
+    /// The error is that it may be kept or not, and that nothing was published. Nothing may be submitted after it.
+    pub fn submit_kept<K: Keeps, R: Wait>(
+        mut self,
+        rt: &R,
+        keeper: &mut K,
+        batch: Vec<u8>,
+    ) -> (Self, Result<Submitted<S>, KeepFailed>)
+        requires ready { (batches : List (List ℕ)) × K.keeps keeper.old batches }
+        ensures submitted { MatchResult result.1 (λ submitted. HasSubmitted S.opening self batch.items submitted result.0)
+            (λ _. IsAccepted S.opening (with_batch batch.items self) × (result.0 ≡ self)) }
+
+        // It is kept exactly where it is published or held.
+        ensures kept { (batches : List (List ℕ)) → K.keeps keeper.old batches
+            → IfOk result.1 (λ submitted. HasKept K.keeps keeper.old batches batch.items submitted keeper.new) }
+
+        // A crash at any moment leaves the batches, with this one, where it is accepted, or without.
+        ensures any_moment { (batches : List (List ℕ)) → K.keeps keeper.old batches → (file : List ℕ) → K.may_leave keeper.old keeper.new file
+            → K.stands keeper.old file batches
+            ⊎ (IsAccepted S.opening (with_batch batch.items self) × K.stands keeper.old file (batches ++ batch.items ∷ [])) }
+    {
+        match self.accept(keeper, batch) {
+            Err(AcceptFault::Fault(fault)) => return (self, Ok(Submitted::Refused(fault))),
+            Err(AcceptFault::NoMemory) => return (self, Ok(Submitted::NoMemory)),
+            Err(AcceptFault::Failed) => return (self, Err(KeepFailed)),
             Ok(()) => {}
         }
         let (admin, done) = self.publish(rt);
         if done {
             let receipt = admin.receipt();
-            return (admin, Submitted::Published(receipt));
+            return (admin, Ok(Submitted::Published(receipt)));
         }
-        (admin, Submitted::Held)
+        (admin, Ok(Submitted::Held))
     }
 
     /// Publishes what is pending, if anything is. It waits for readers that still read the older copy.

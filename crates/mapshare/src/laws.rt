@@ -2,9 +2,8 @@
 
 ghost use Rattle.std.specs.Prelude.{ℕ, List};
 ghost use Rattle.sharing.specs.Law.{AnswersAreRight, Grows, KeepsPromises};
-ghost use Rattle.batches.specs.Batch.{State};
+ghost use Rattle.batches.specs.Batch.{State, accepted};
 ghost use Rattle.mapmachine.specs.Machine.{IsAnswer};
-ghost use Rattle.mapshare.specs.Accepted.{accepted};
 
 /// Whatever happens, and from whatever state the map is opened in, each answer is one of the map machine in the
 /// state after published batches that begin with all that its reader was shown or told of; what is known

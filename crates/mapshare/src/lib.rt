@@ -31,7 +31,7 @@ mod receipt;
 mod rule;
 mod threads;
 
-pub use admin::{Admin, Retried, Submitted};
+pub use admin::{Admin, KeepFailed, Retried, Submitted};
 pub use opening::{MAX_READERS, ShareFault, open};
 pub use reader::{Closed, Entered, Reader};
 pub use receipt::Receipt;

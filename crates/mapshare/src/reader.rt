@@ -3,7 +3,7 @@ ghost use Rattle.std.specs.Borrow.{sem, RestsIfErr};
 ghost use mathlib.Core.List.{IsPrefix};
 ghost use Rattle.sharing.specs.Reply.{IsAnswerAfter};
 ghost use Rattle.mapmachine.specs.Machine.{IsAnswer};
-ghost use Rattle.mapshare.specs.Accepted.{accepted};
+ghost use Rattle.batches.specs.Batch.{accepted};
 ghost use Rattle.mapshare.specs.Reader.{entered, free, freed};
 ghost use Rattle.mapshare.specs.contracts.reader.Reader.{the_row as reader_row};
 
@@ -124,15 +124,15 @@ impl<S: Sharing> Shown<S> {
 }
 
 impl<S: Sharing> Reader<S> {
-    // A reader that knows this, which has no batch.
-    pub(crate) fn new(end: MapReader<S>, known: Front<S>) -> Self
-        requires empty { known ≡ [] }
-        ensures { result ≡ free known }
+    // A reader that knows no batch, by the front that has none.
+    pub(crate) fn new(end: MapReader<S>, none: Front<S>) -> Self
+        requires empty { none ≡ [] }
+        ensures { result ≡ free [] }
     {
         Reader {
             end: Some(end),
-            seen: known.copy(),
-            known,
+            seen: none.copy(),
+            known: none,
         }
     }
 
@@ -146,8 +146,9 @@ impl<S: Sharing> Reader<S> {
         self.known = self.known.longer(receipt.front());
     }
 
-    /// Enters: the entry shows batches that begin with all that the reader knows, and which it knows from then on. They
-    /// begin with what earlier entries showed, since the copies keep that; they are compared with receipts alone.
+    /// Enters: the entry shows batches that begin with all that the reader knows, and which it knows from then on. That
+    /// they begin with what earlier entries showed is kept by the copies, so they are fewer than the reader knows only
+    /// where it learned of more by a receipt.
     pub fn enter(&mut self) -> Result<Entered<'_, S>, Closed>
         ensures* closed { sem 𝓛 (RestsIfErr (reader_row S.row (record { opening = S.opening }) (record { book = S.book })) self.entry (λ e. e.home.ghost_name) result (λ n. n ≡ self.old)) }
         ensures same_reference { IfOk result (λ e. e.home.ghost_name ≡ self.entry.ghost_name) }

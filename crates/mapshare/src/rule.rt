@@ -18,7 +18,7 @@ pub trait Sharing: Naming {
 }
 
 impl Sharing for Brand {
-    ghost use Rattle.mapshare.specs.Accepted.{no_state};
+    ghost use Rattle.mapshare.specs.Unopened.{no_state};
 
     ghost opening = { no_state };
 }

@@ -1,7 +1,7 @@
 use Rattle.sharing.proofs.Answering.{answers_are_right}
 use Rattle.sharing.proofs.Keeping.{keeps, grows}
 use Rattle.mapmachine.specs.Machine.{IsAnswer}
-use Rattle.mapshare.specs.Accepted.{accepted}
+use Rattle.batches.specs.Batch.{accepted}
 use Rattle.mapshare.proofs.laws.shared.Goals as goal
 
 pub returns-clause-answers : goal.returns-clause-answers

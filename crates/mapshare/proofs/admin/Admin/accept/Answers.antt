@@ -1,6 +1,6 @@
 use Rattle.std.proofs.Common.{ℕ, List, ◌≡◌, ◌∙◌, ◌++◌, ◌∷◌, [], Some, IsSome, drop, length, ap, refl, subst, sym}
 use Rattle.sharing.specs.Sharing.{after}
-use Rattle.mapshare.specs.Accepted.{accepted}
+use Rattle.batches.specs.Batch.{accepted}
 use Rattle.mapshare.specs.Admin.{Batches, IsAccepted, all_of, with_batch}
 use Rattle.mapshare.specs.declared.edition.Edition.{Edition}
 use Rattle.mapshare.specs.Queue.{IsNext}

@@ -1,7 +1,6 @@
 use Rattle.std.proofs.Common.{◌≡◌, ◌∙◌, ◌++◌, Some, Ok, drop, length, ap, sym, subst}
-use Rattle.batches.specs.Batch.{IsBatchErrorOf, batched}
+use Rattle.batches.specs.Batch.{IsBatchErrorOf, batched, accepted}
 use Rattle.sharing.specs.Sharing.{after}
-use Rattle.mapshare.specs.Accepted.{accepted}
 use Rattle.mapshare.specs.Admin.{Batches, all_of}
 use Rattle.mapshare.proofs.Chains.{after_one, chain_all, fault_of, last_all}
 use Rattle.mapshare.proofs.admin.Admin.after_batch.Goals as goal

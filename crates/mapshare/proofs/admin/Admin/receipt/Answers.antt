@@ -1,6 +1,6 @@
 use Rattle.std.proofs.Common.{◌≡◌, ◌∙◌, ◌+◌, ◌++◌, length, drop, ap, sym}
 use Rattle.mapshare.proofs.Chains.{idle_last}
-use Rattle.mapshare.proofs.Counting.{after_counts}
+use Rattle.journalfile.proofs.Counting.{after_counts}
 use Rattle.mapshare.proofs.admin.Admin.receipt.Goals as goal
 
 pub new-requires : goal.new-requires

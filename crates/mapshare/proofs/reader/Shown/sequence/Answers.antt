@@ -1,5 +1,5 @@
 use Rattle.std.proofs.Common.{◌∙◌, ap}
-use Rattle.mapshare.proofs.Counting.{after_counts}
+use Rattle.journalfile.proofs.Counting.{after_counts}
 use Rattle.mapshare.proofs.reader.Shown.sequence.Goals as goal
 
 pub returns : goal.returns

@@ -2,14 +2,13 @@
 use Rattle.std.proofs.Common.{◌≡◌, ℕ, ◌+◌, List, [], ◌∷◌, length, Option, None, Some, Result, Ok, Err, refl, ap, arith}
 use Rattle.std.specs.Result.{result_ok}
 use Rattle.std.specs.Prelude.{option_and_then}
-use Rattle.batches.specs.Batch.{State, batched}
+use Rattle.batches.specs.Batch.{State, batched, accepted}
 use Rattle.batches.specs.declared.fault.BatchFault.{BatchFault}
 use Rattle.mapmachine.proofs.Counting.{counted}
 use Rattle.mapmachine.specs.Machine.{published}
 use Rattle.mapmachine.specs.declared.reply.Event.TheVariants.{Batch}
 use Rattle.mapmachine.specs.declared.reply.Reply.TheVariants.{Published}
 use Rattle.sharing.specs.Sharing.{after}
-use Rattle.mapshare.specs.Accepted.{accepted}
 
 ok_is : (r : Result State BatchFault) (t : State) → result_ok r ≡ Some t → r ≡ Ok t
 ok_is (Ok s) t e = cc e

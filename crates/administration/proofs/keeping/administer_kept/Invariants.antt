@@ -1,0 +1,15 @@
+use Rattle.std.proofs.Common.{◌≡◌, ℕ, List}
+use Rattle.administration.specs.Keeping.{IsKeptSince}
+use Rattle.administration.proofs.Steps.{HasCome}
+use Rattle.administration.proofs.keeping.administer_kept.Given as goal
+
+-- all that was read so far is done and reported, and what was accepted is kept
+abbrev pub invariant-loop : goal.invariant-loop
+invariant-loop g l = record {
+  can_next : (goal.iterator-loop g).can_next l.iterator';
+  is_finite : (goal.iterator-loop g).is_finite l.iterator';
+  come : HasCome g.S.Sharing.opening g.O.Sink.held g.O.Sink.taken l.fn.admin (g.I.Source.left l.fn.reader) l.fn.writer (g.I.Source.left l.reader) l.admin l.writer;
+  flag : g.O.Sink.put_failed l.writer ≡ g.O.Sink.put_failed l.fn.writer;
+  ready : (kept : List (List ℕ)) × g.K.Keeps.keeps l.keeper kept;
+  keeps : (kept : List (List ℕ)) → g.K.Keeps.keeps l.fn.keeper kept → IsKeptSince g.K.Keeps.keeps l.fn.admin kept l.admin l.keeper;
+}

@@ -1,0 +1,6 @@
+pub mod Stuffing
+pub mod Frames
+pub mod Readings
+pub mod Digests
+pub mod Growing
+pub mod Standing

@@ -1,0 +1,22 @@
+-- Why a file isn't read as the journal of a map (docs/PROFILE.md, "Journal").
+use Rattle.std.specs.Prelude.{◌≡◌, ℕ, List, ◌++◌, length, map, Vec}
+use Rattle.std.specs.declared.alloc.Global.{Global}
+use Rattle.sha2.specs.Sha256.{sha256}
+use Rattle.journal.specs.Record.{signature, header}
+use Rattle.journal.specs.Reading.{ContainsRecord, Reads}
+use Rattle.journal.specs.declared.header.HeaderFault.TheVariants as header_fault
+use Rattle.journal.specs.declared.reading.ReadFault.{ReadFault}
+use Rattle.journal.specs.declared.reading.ReadFault.TheVariants as fault
+
+-- the bytes of each
+abbrev pub texts_of : List (Vec ℕ Global) → List (List ℕ)
+texts_of texts = map (λ text. text.items) texts
+
+-- a file has this fault: it doesn't begin with the signature, or not with the header of the map; or after some records, as many as the
+-- fault says, the next one doesn't stand, but a record stands further on; or memory was refused
+abbrev pub IsFault : List ℕ → List ℕ → ReadFault → Type 0
+IsFault fingerprint file (fault.Header header_fault.NotAJournal) = (rest : List ℕ) → file ≡ signature ++ rest → ⊥
+IsFault fingerprint file (fault.Header header_fault.OtherMap) = (rest : List ℕ) → file ≡ header fingerprint ++ rest → ⊥
+IsFault fingerprint file (fault.Damaged count) =
+    (batches : List (List ℕ)) × (tail : List ℕ) × Reads sha256 fingerprint file batches tail × ContainsRecord sha256 fingerprint tail × (count ≡ length batches)
+IsFault fingerprint file fault.NoMemory = Unit {0}

@@ -1,0 +1,6 @@
+pub mod Slip
+pub mod Record
+pub mod Reading
+pub mod Law
+pub mod Fingerprint
+pub mod Fault

@@ -1,0 +1,38 @@
+-- What is read of a file, whatever became of its end (docs/PROFILE.md, "Journal").
+use Rattle.std.specs.Prelude.{◌≡◌, ◌⊎◌, ℕ, ◌+◌, List, [], ◌∷◌, ◌++◌, length}
+use Rattle.sha2.specs.Sha256.{sha256}
+use Rattle.journal.specs.Record.{sequence_bytes, record_of, journal_of}
+
+module _ (digest : List ℕ → List ℕ) (fingerprint : List ℕ) where
+  -- some bytes begin with the whole record of this number, whatever its batch
+  abbrev pub StartsWithNumber : ℕ → List ℕ → Type 0
+  StartsWithNumber number bytes = (batch more : List ℕ) × (bytes ≡ record_of digest fingerprint (sequence_bytes number) batch ++ more)
+
+  -- some bytes begin with a whole record, whatever its number
+  abbrev pub StartsWithRecord : List ℕ → Type 0
+  StartsWithRecord bytes = (sequence batch more : List ℕ) × (length sequence ≡ 8) × (bytes ≡ record_of digest fingerprint sequence batch ++ more)
+
+  -- a whole record stands somewhere in some bytes
+  abbrev pub ContainsRecord : List ℕ → Type 0
+  ContainsRecord bytes = (front rest : List ℕ) × (bytes ≡ front ++ rest) × StartsWithRecord rest
+
+  -- a file is the journal of these batches and a tail, and the tail doesn't begin with the record that would be the next
+  pub record Reads (file : List ℕ) (batches : List (List ℕ)) (tail : List ℕ) : Type 0 where
+    pub whole : file ≡ journal_of digest fingerprint batches ++ tail
+    pub longest : StartsWithNumber (length batches + 1) tail → ⊥
+
+  -- a tail is torn where it contains no whole record: an append that wasn't completed can have left it, and nothing is lost with it
+  abbrev pub IsTorn : List ℕ → Type 0
+  IsTorn tail = ContainsRecord tail → ⊥
+
+-- a file stands for these batches: it is their journal, perhaps with a torn tail
+abbrev pub StandsFor : List ℕ → List ℕ → List (List ℕ) → Type 0
+StandsFor fingerprint file batches = (tail : List ℕ) × Reads sha256 fingerprint file batches tail × IsTorn sha256 fingerprint tail
+
+-- it stands for these batches, with one more or without it
+abbrev pub IsBeforeOrAfter : List ℕ → List (List ℕ) → List ℕ → List ℕ → Type 0
+IsBeforeOrAfter fingerprint batches batch file = StandsFor fingerprint file batches ⊎ StandsFor fingerprint file (batches ++ batch ∷ [])
+
+-- both stand for the same batches
+abbrev pub StandAlike : List ℕ → List ℕ → List ℕ → Type 0
+StandAlike fingerprint file other = (batches : List (List ℕ)) × StandsFor fingerprint file batches × StandsFor fingerprint other batches

@@ -1,0 +1,117 @@
+//! Byte stuffing and frames (RFC 1055, "SLIP").
+
+ghost use Rattle.std.specs.Prelude.{◌≡◌, ◌↔◌, IsTrue, ◌<◌, ◌++◌, ℕ, List, [], ◌∷◌, length, IfOk, IfSome, OnOk, MatchOption};
+ghost use Rattle.journal.specs.Slip.{escaped, stuffed, HasNoEnd};
+
+use std::alloc::{AllocError, Global};
+
+// The byte before and after each frame.
+pub(crate) const END: u8 = 192;
+
+const ESC: u8 = 219;
+
+const ESC_END: u8 = 220;
+
+const ESC_ESC: u8 = 221;
+
+// Whether two lists of bytes are equal.
+pub(crate) fn is_equal(one: &[u8], other: &[u8]) -> bool
+    ensures { IsTrue result ↔ (one.now ≡ other.now) }
+{
+    one == other
+}
+
+// Adds a byte as it stands in a frame.
+fn push_escaped(out: &mut Vec<u8>, byte: u8) -> Result<(), AllocError>
+    ensures ok { OnOk result (out.new.items ≡ out.old.items ++ escaped byte []) }
+{
+    match byte {
+        END => out.extend_from_slice(&[ESC, ESC_END]),
+        ESC => out.extend_from_slice(&[ESC, ESC_ESC]),
+        byte => Ok(out.push(byte)?),
+    }
+}
+
+// Adds bytes as they stand in a frame.
+pub(crate) fn push_stuffed(out: &mut Vec<u8>, bytes: &[u8]) -> Result<(), AllocError>
+    ensures ok { OnOk result (out.new.items ≡ out.old.items ++ stuffed bytes.now) }
+{
+    for byte in bytes {
+        push_escaped(out, *byte)?;
+    }
+    Ok(())
+}
+
+// The byte that an ESC and some bytes stand for, and what follows them.
+fn after_escape(bytes: &[u8]) -> Option<(u8, &[u8])>
+    ensures byte { MatchOption result ((v : List ℕ) → 219 ∷ bytes.now ≡ stuffed v → ⊥) (λ r. 219 ∷ bytes.now ≡ escaped r.0 r.1.now) }
+    ensures shorter { IfSome result (λ r. length r.1.now < length bytes.now) }
+{
+    let [code, rest @ ..] = bytes else {
+        return None;
+    };
+    let code = *code;
+    if code == ESC_END {
+        return Some((END, rest));
+    }
+    if code == ESC_ESC {
+        return Some((ESC, rest));
+    }
+    None
+}
+
+// The first byte that a frame stands for, and what follows it.
+fn first_byte(bytes: &[u8]) -> Option<(u8, &[u8])>
+    ensures byte { MatchOption result ((v : List ℕ) → bytes.now ≡ stuffed v → bytes.now ≡ []) (λ r. bytes.now ≡ escaped r.0 r.1.now) }
+    ensures shorter { IfSome result (λ r. length r.1.now < length bytes.now) }
+{
+    let [byte, rest @ ..] = bytes else {
+        return None;
+    };
+    match *byte {
+        END => None,
+        ESC => after_escape(rest),
+        byte => Some((byte, rest)),
+    }
+}
+
+// The bytes that are stuffed in some bytes, if these are stuffed.
+pub(crate) fn unstuff(alloc: Global, bytes: &[u8]) -> Result<Option<Vec<u8>>, AllocError>
+    ensures { IfOk result (λ found. MatchOption found ((v : List ℕ) → bytes.now ≡ stuffed v → ⊥) (λ v. bytes.now ≡ stuffed v.items)) }
+{
+    let mut out = Vec::new(alloc);
+    let mut rest = bytes;
+    while !rest.is_empty() {
+        let Some((byte, after)) = first_byte(rest) else {
+            return Ok(None);
+        };
+        out.push(byte)?;
+        rest = after;
+    }
+    Ok(Some(out))
+}
+
+// What stands before the first END of some bytes, and what after it.
+pub(crate) fn first_frame(bytes: &[u8]) -> Option<(&[u8], &[u8])>
+    ensures { MatchOption result (HasNoEnd bytes.now) (λ r. HasNoEnd r.0.now × (bytes.now ≡ r.0.now ++ 192 ∷ r.1.now)) }
+{
+    for at in 0..bytes.len() {
+        if bytes[at] == END {
+            return Some((&bytes[..at], &bytes[at + 1..]));
+        }
+    }
+    None
+}
+
+// What follows the END that some bytes begin with.
+pub(crate) fn after_end(bytes: &[u8]) -> Option<&[u8]>
+    ensures { MatchOption result ((rest : List ℕ) → bytes.now ≡ 192 ∷ rest → ⊥) (λ rest. bytes.now ≡ 192 ∷ rest.now) }
+{
+    let [byte, rest @ ..] = bytes else {
+        return None;
+    };
+    if *byte != END {
+        return None;
+    }
+    Some(rest)
+}

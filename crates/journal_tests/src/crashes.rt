@@ -1,0 +1,112 @@
+// A service over a tape that stops at each byte, and what a crash leaves of it.
+
+use crate::maps::machine;
+use crate::tape::Tape;
+use journal::{encode, push_header};
+use journalfile::{Journal, recover};
+use std::alloc::{AllocError, Global};
+use std::test::Fail;
+
+const FINGERPRINT: [u8; 32] = [7; 32];
+
+// The layer's name is U+06DC, whose first byte is an ESC.
+const NAME: &str = "\u{6dc}";
+
+const BATCHES: [&[u8]; 3] = [b"OFF \xdb\x9c\n", b"", b"ON \xdb\x9c\n"];
+
+// The journal of the first batches.
+fn journal_of(alloc: Global, count: usize) -> Result<Vec<u8>, AllocError> {
+    let mut bytes = Vec::new(alloc);
+    push_header(&mut bytes, &FINGERPRINT)?;
+    for at in 0..count.min(BATCHES.len()) {
+        let record = encode(alloc, &FINGERPRINT, at as u64 + 1, BATCHES[at])?;
+        bytes.extend_from_slice(record.as_slice())?;
+    }
+    Ok(bytes)
+}
+
+// How many batches a start finds in some bytes; 99 stands for a fault.
+fn found(alloc: Global, bytes: &[u8]) -> Result<u64, AllocError> {
+    let mut tape = Tape::new(alloc, bytes.to_vec(alloc)?, 0);
+    let mut machine = machine(alloc, NAME)?;
+    match recover(alloc, &FINGERPRINT, &mut tape, &mut machine) {
+        Ok(count) => Ok(count),
+        Err(_) => Ok(99),
+    }
+}
+
+// Starts on a tape, and keeps a batch. It says whether that was done.
+fn keep(alloc: Global, tape: Tape, batch: &[u8]) -> Result<(Tape, bool), AllocError> {
+    let mut tape = tape;
+    let mut machine = machine(alloc, NAME)?;
+    let Ok(count) = recover(alloc, &FINGERPRINT, &mut tape, &mut machine) else {
+        return Ok((tape, false));
+    };
+    if count > 9 {
+        return Ok((tape, false));
+    }
+    let mut journal = Journal {
+        alloc,
+        log: tape,
+        fingerprint: FINGERPRINT,
+        count,
+    };
+    let is_kept = journal.put(batch).is_ok();
+    Ok((journal.log, is_kept))
+}
+
+// How many batches a tape has taken that stops after so many bytes.
+fn run(alloc: Global, room: usize) -> Result<(Tape, u64), AllocError> {
+    let mut tape = Tape::new(alloc, journal_of(alloc, 0)?, room);
+    let mut kept = 0;
+    for batch in BATCHES {
+        let (after, is_kept) = keep(alloc, tape, batch)?;
+        tape = after;
+        if !is_kept || kept >= 9 {
+            break;
+        }
+        kept += 1;
+    }
+    Ok((tape, kept))
+}
+
+#[test]
+fn what_was_kept_is_found_wherever_it_stops(rt: HostRuntime) -> Result<(), Fail> {
+    let alloc = rt.alloc();
+    let whole = journal_of(alloc, 3)?;
+    for room in 0..whole.len() {
+        let (tape, kept) = run(alloc, room)?;
+        let bytes = tape.bytes();
+        for left in tape.synced()..bytes.len() {
+            let count = found(alloc, &bytes[..left])?;
+            assert!(rt;
+                kept <= count && count - kept <= 1,
+                "room {room}, left {left}: {count} of {kept}"
+            );
+        }
+        let count = found(alloc, bytes)?;
+        assert!(rt;
+            kept <= count && count - kept <= 1,
+            "room {room}: {count} of {kept}"
+        );
+    }
+    Ok(())
+}
+
+#[test]
+fn damage_to_each_byte_is_refused_or_cut_off(rt: HostRuntime) -> Result<(), Fail> {
+    let alloc = rt.alloc();
+    let whole = journal_of(alloc, 2)?;
+    assert_eq!(rt; found(alloc, whole.as_slice())?, 2);
+    let first = journal_of(alloc, 1)?.len();
+    for at in 0..whole.len() {
+        let mut bytes = whole.clone()?;
+        if at < bytes.len() {
+            bytes[at] = if bytes[at] == 1 { 2 } else { 1 };
+        }
+        let count = found(alloc, bytes.as_slice())?;
+        let wanted = if at < first { 99 } else { 1 };
+        assert_eq!(rt; count, wanted, "byte {at}");
+    }
+    Ok(())
+}

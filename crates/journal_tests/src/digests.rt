@@ -1,0 +1,64 @@
+// Bytes that were worked by another program: Python's `hashlib` gave the digests.
+
+use journal::{HeaderFault, ReadFault, UsedFile, encode, fingerprint_of, first_record};
+use std::test::Fail;
+
+// SHA-256 of 8, `MAP LF END LF`, 9, `roads.csv`, a 1, 8, `x,y LF 1,2 LF`, 5, `a.bdf` and a 0, each number of a length in 8 bytes.
+const FINGERPRINT: [u8; 32] = [
+    88, 63, 223, 33, 106, 14, 29, 3, 58, 131, 172, 100, 1, 90, 75, 65, 226, 131, 242, 87, 181, 152,
+    167, 3, 235, 191, 116, 190, 209, 17, 108, 153,
+];
+
+// Record 258 of the map whose fingerprint is 32 bytes of 7: the batch is an END, an `A` and an ESC.
+const RECORD: [u8; 47] = [
+    192, 0, 0, 0, 0, 0, 0, 1, 2, 219, 220, 65, 219, 221, 147, 100, 204, 69, 78, 180, 61, 33, 89,
+    217, 39, 188, 55, 208, 218, 2, 250, 50, 130, 223, 109, 94, 203, 110, 42, 108, 116, 12, 89, 142,
+    246, 188, 192,
+];
+
+#[test]
+fn the_fingerprint_is_of_lengths_and_bytes(rt: HostRuntime) {
+    let files = [
+        UsedFile {
+            name: b"roads.csv",
+            content: Some(b"x,y\n1,2\n"),
+        },
+        UsedFile {
+            name: b"a.bdf",
+            content: None,
+        },
+    ];
+    let found = fingerprint_of(b"MAP\nEND\n", &files);
+    assert_eq!(rt; found, FINGERPRINT);
+}
+
+#[test]
+fn a_record_is_spelled_and_read(rt: HostRuntime) -> Result<(), Fail> {
+    let alloc = rt.alloc();
+    let record = encode(alloc, &[7; 32], 258, &[192, 65, 219])?;
+    assert!(rt; record.as_slice() == RECORD.as_slice());
+    let found = first_record(alloc, &[7; 32], 258, &RECORD)?;
+    let is_found = found.is_some_and(|(batch, rest)| {
+        batch.as_slice() == [192, 65, 219].as_slice() && rest.is_empty()
+    });
+    assert!(rt; is_found);
+    assert!(rt; first_record(alloc, &[7; 32], 257, &RECORD)?.is_none());
+    assert!(rt; first_record(alloc, &[8; 32], 258, &RECORD)?.is_none());
+    Ok(())
+}
+
+#[test]
+fn messages_of_faults(rt: HostRuntime) -> Result<(), Fail> {
+    let alloc = rt.alloc();
+    let found = format!(in alloc;
+        "{}, {}, {}, {}",
+        HeaderFault::NotAJournal,
+        ReadFault::Header(HeaderFault::OtherMap),
+        ReadFault::Damaged(3),
+        ReadFault::NoMemory
+    )?;
+    let expected =
+        "the file is not a journal, the journal is of another map, the journal is damaged after record 3, out of memory";
+    assert_eq!(rt; found.as_str(), expected);
+    Ok(())
+}

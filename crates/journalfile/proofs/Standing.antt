@@ -1,0 +1,56 @@
+-- What a file stands for after an append or a cut.
+use Rattle.std.proofs.Common.{◌≡◌, ◌⊎◌, inl, inr, ℕ, ◌+◌, ◌≤◌, List, [], ◌∷◌, ◌++◌, length, take, sym, ◌∙◌, ap, subst, arith, length-append}
+use Rattle.std.proofs.lemmas.List.{append-nil, take_at}
+use mathlib.Core.List.{IsPrefix}
+use Rattle.sha2.specs.Sha256.{sha256}
+use Rattle.sha2.proofs.Facts256.{length-sha256}
+use Rattle.journal.specs.Record.{sequence_bytes, record_of, journal_of}
+use Rattle.journal.specs.Reading.{IsTorn, StandsFor, StandAlike, IsBeforeOrAfter}
+use Rattle.journal.proofs.Readings.{Overlaps, overlap}
+use Rattle.journal.proofs.Readings.Overlaps.{Within, Beyond}
+use Rattle.journal.proofs.Frames.{torn_front}
+use Rattle.journal.proofs.Standing.{stands, stands_torn, stops_at}
+use Rattle.journalfile.specs.Log.{Torn, Cut}
+use Rattle.journalfile.specs.Settled.{GarblesNoRecord}
+use Rattle.journalfile.specs.Steps.{MayCut}
+
+module _ (fingerprint : List ℕ) where
+  -- what a crash leaves of the append of a record
+  pub add_crash : (garbled : List ℕ → Type 0) → GarblesNoRecord garbled fingerprint → (batches : List (List ℕ)) (batch c : List ℕ)
+      → Torn garbled (record_of sha256 fingerprint (sequence_bytes (length batches + 1)) batch) (journal_of sha256 fingerprint batches) c → IsBeforeOrAfter fingerprint batches batch c
+  add_crash garbled shown batches batch c (left, is, how) = subst (IsBeforeOrAfter fingerprint batches batch) (sym is) (by how)
+    where
+      by : IsPrefix left (record_of sha256 fingerprint (sequence_bytes (length batches + 1)) batch) ⊎ garbled left → IsBeforeOrAfter fingerprint batches batch (journal_of sha256 fingerprint batches ++ left)
+      by (inl first) = stops_at fingerprint batches batch left first.0 first.1
+      by (inr garbled) = inl (stands_torn fingerprint batches left (shown left garbled))
+
+  keeps_by : (batches : List (List ℕ)) (tail c rest : List ℕ) → IsTorn sha256 fingerprint tail → length (journal_of sha256 fingerprint batches) ≤ length c
+      → Overlaps sha256 fingerprint length-sha256 c rest (journal_of sha256 fingerprint batches) tail → StandsFor fingerprint c batches
+  keeps_by batches tail c rest torn long (Within more some is split) =
+      subst (λ (file : List ℕ). StandsFor fingerprint file batches) (sym is) (stands_torn fingerprint batches more (torn_front sha256 fingerprint more rest (subst (IsTorn sha256 fingerprint) split torn)))
+  keeps_by batches tail c rest torn long (Beyond [] is split) =
+      subst (λ (file : List ℕ). StandsFor fingerprint file batches) (is ∙ append-nil c) (stands fingerprint batches)
+  keeps_by batches tail c rest torn long (Beyond (m ∷ more) is split) = absurd (omega (arith, ap length is, length-append c (m ∷ more)))
+
+  -- any cut of a torn end leaves the batches
+  pub cut_keeps : (batches : List (List ℕ)) (tail file c : List ℕ) (end : ℕ) → IsTorn sha256 fingerprint tail → file ≡ journal_of sha256 fingerprint batches ++ tail
+      → end + length tail ≡ length file → Cut end file c → StandsFor fingerprint c batches
+  cut_keeps batches tail file c end torn is ends cut =
+      let J = journal_of sha256 fingerprint batches in
+      let long : length J ≤ length c = omega (arith, cut.no_shorter, ends, ap length is, length-append J tail) in
+      keeps_by batches tail c cut.front.0 torn long (overlap sha256 fingerprint length-sha256 c cut.front.0 J tail (cut.front.1 ∙ is))
+
+  pub cut_done : (batches : List (List ℕ)) (tail file : List ℕ) (end : ℕ) → file ≡ journal_of sha256 fingerprint batches ++ tail → end + length tail ≡ length file → take end file ≡ journal_of sha256 fingerprint batches
+  cut_done batches tail file end is ends =
+      let J = journal_of sha256 fingerprint batches in
+      ap (λ (l : List ℕ). take end l) is ∙ take_at J tail end (omega (arith, ends, ap length is, length-append J tail))
+
+  -- what a crash may leave of the cut of a torn end
+  pub cut_crash : (may_leave : List ℕ → Type 0) (batches : List (List ℕ)) (tail file c : List ℕ) (end : ℕ) → IsTorn sha256 fingerprint tail → file ≡ journal_of sha256 fingerprint batches ++ tail
+      → end + length tail ≡ length file → ((f : List ℕ) → may_leave f → f ≡ file) → MayCut end may_leave c → StandAlike fingerprint file c
+  cut_crash may_leave batches tail file c end torn is ends only (inl now) =
+      let here = subst (λ (f : List ℕ). StandsFor fingerprint f batches) (sym is) (stands_torn fingerprint batches tail torn) in
+      (batches, here, subst (λ (f : List ℕ). StandsFor fingerprint f batches) (sym (only c now)) here)
+  cut_crash may_leave batches tail file c end torn is ends only (inr (d, left, cut)) =
+      let here = subst (λ (f : List ℕ). StandsFor fingerprint f batches) (sym is) (stands_torn fingerprint batches tail torn) in
+      (batches, here, cut_keeps batches tail file c end torn is ends (subst (λ (f : List ℕ). Cut end f c) (only d left) cut))

@@ -1,0 +1,5 @@
+pub mod Log
+pub mod Steps
+pub mod Settled
+pub mod Keeping
+pub mod Recovery

@@ -1,0 +1,37 @@
+-- What the calls of a log do to its bytes, and what a crash may leave of these (docs/VERIFICATION.md, "The file of a journal").
+use Rattle.std.specs.Prelude.{◌≡◌, ◌⊎◌, ℕ, ◌≤◌, List, ◌++◌, length, min}
+use mathlib.Core.List.{IsPrefix}
+
+-- after an append that a crash cuts short: the first of its bytes, or others in their place, where a crash can garble them so
+abbrev pub Torn : (List ℕ → Type 0) → List ℕ → List ℕ → List ℕ → Type 0
+Torn garbled bytes old new = (left : List ℕ) × (new ≡ old ++ left) × (IsPrefix left bytes ⊎ garbled left)
+
+-- after a cut that a crash interrupts: some length between
+pub record Cut (end : ℕ) (old new : List ℕ) : Type 0 where
+  pub no_shorter : min end (length old) ≤ length new
+  pub front : IsPrefix new old
+
+-- each new outcome of a crash is an old outcome after a step
+abbrev pub Follows : (List ℕ → List ℕ → Type 0) → (List ℕ → Type 0) → (List ℕ → Type 0) → Type 0
+Follows step old new = (c : List ℕ) → new c → (d : List ℕ) × old d × step d c
+
+-- a crash leaves nothing that it wouldn't have left before
+abbrev pub NoOther : (List ℕ → Type 0) → (List ℕ → Type 0) → Type 0
+NoOther old new = (c : List ℕ) → new c → old c
+
+-- a crash leaves this and nothing else
+abbrev pub Only : List ℕ → (List ℕ → Type 0) → Type 0
+Only file outcomes = (c : List ℕ) → outcomes c → c ≡ file
+
+-- time goes on: a crash since t might have left what it might have left before, or what it may leave now
+pub record Elapses (before now : ℕ) (past since : ℕ → List ℕ → Type 0) (outcomes : List ℕ → Type 0) : Type 0 where
+  pub later : before ≤ now
+  pub nothing_else : (t : ℕ) (c : List ℕ) → t ≤ before → since t c → past t c ⊎ outcomes c
+  pub keeps : (t : ℕ) (c : List ℕ) → t ≤ before → past t c → since t c
+
+-- a crash at any moment from the old state to the new one leaves bytes that have P
+pub record LeavesOnly {L : Type 0} (moment : L → ℕ) (left_since : L → ℕ → List ℕ → Type 0) (old new : L) (P : List ℕ → Type 0) : Type 0 where
+  pub later : moment old ≤ moment new
+  pub each : (c : List ℕ) → left_since new (moment old) c → P c
+  -- for a run that began earlier
+  pub before : (t : ℕ) (c : List ℕ) → t ≤ moment old → left_since new t c → left_since old t c ⊎ P c

@@ -1,0 +1,63 @@
+-- What it means that a journal is opened (docs/PROFILE.md, "Journal").
+use Rattle.std.specs.Prelude.{◌≡◌, ℕ, ◌+◌, List, ◌++◌, Some, None, length}
+use Rattle.sha2.specs.Sha256.{sha256}
+use Rattle.batches.specs.Batch.{State, accepted}
+use Rattle.sharing.specs.Sharing.{after}
+use Rattle.journal.specs.Record.{signature, header, records, journal_of}
+use Rattle.journal.specs.Reading.{StartsWithNumber, ContainsRecord, Reads, StandsFor}
+use Rattle.journal.specs.declared.header.HeaderFault.{HeaderFault}
+use Rattle.journal.specs.declared.header.HeaderFault.TheVariants as header_fault
+use Rattle.journalfile.specs.Log.{Only}
+use Rattle.journalfile.specs.declared.recovery.RecoverFault.{RecoverFault}
+use Rattle.journalfile.specs.declared.recovery.RecoverFault.TheVariants as recover_fault
+use Rattle.journalfile.specs.declared.recovery.ReplayFault.{ReplayFault}
+use Rattle.journalfile.specs.declared.recovery.ReplayFault.TheVariants as replay_fault
+
+module _ (fingerprint : List ℕ) where
+  -- some bytes begin with the records of some batches, as many as the count, which led from one state to another; the rest follows them,
+  -- and doesn't begin with the next record
+  abbrev pub IsReplayed : List ℕ → State → ℕ → List ℕ → State → Type 0
+  IsReplayed bytes old count rest new =
+      (batches : List (List ℕ)) × (bytes ≡ records sha256 fingerprint 1 batches ++ rest) × (count ≡ length batches)
+      × (after accepted old batches ≡ Some new) × (StartsWithNumber sha256 fingerprint (count + 1) rest → ⊥)
+
+  -- some bytes begin with the records of some batches, of which the last, whose number this is, isn't accepted
+  abbrev pub IsRefusedAt : List ℕ → State → ℕ → Type 0
+  IsRefusedAt bytes old number =
+      (batches : List (List ℕ)) × (rest : List ℕ) × (bytes ≡ records sha256 fingerprint 1 batches ++ rest) × (number ≡ length batches) × (after accepted old batches ≡ None)
+
+  -- a batch isn't accepted, or memory was refused
+  abbrev pub IsReplayFault : List ℕ → State → ReplayFault → Type 0
+  IsReplayFault bytes old (replay_fault.Refused number) = IsRefusedAt bytes old number
+  IsReplayFault bytes old replay_fault.NoMemory = Unit {0}
+
+  module _ {L : Type 0} (content : L → List ℕ) where
+    -- the bytes stood for some batches, as many as the count; the log has their journal now, which each crash leaves, and the machine is in
+    -- the state after them
+    abbrev pub HasRecovered : (L → List ℕ → Type 0) → L → L → State → State → ℕ → Type 0
+    HasRecovered may_leave old new first last count =
+        (batches : List (List ℕ)) × StandsFor fingerprint (content old) batches × (content new ≡ journal_of sha256 fingerprint batches)
+        × Only (content new) (may_leave new) × (count ≡ length batches) × (after accepted first batches ≡ Some last)
+
+    -- the header isn't that of the map's journal
+    abbrev pub IsHeaderFault : L → HeaderFault → Type 0
+    IsHeaderFault old header_fault.NotAJournal = (rest : List ℕ) → content old ≡ signature ++ rest → ⊥
+    IsHeaderFault old header_fault.OtherMap = (rest : List ℕ) → content old ≡ header fingerprint ++ rest → ⊥
+
+    -- why it isn't opened; and the bytes are as they were, unless the log failed
+    abbrev pub IsFaultOf : {F : Type 0} → L → L → State → RecoverFault F → Type 0
+    IsFaultOf old new first (recover_fault.Header fault) = IsHeaderFault old fault × (content new ≡ content old)
+    IsFaultOf old new first (recover_fault.Damaged count) =
+        ((batches : List (List ℕ)) × (tail : List ℕ) × Reads sha256 fingerprint (content old) batches tail × ContainsRecord sha256 fingerprint tail × (count ≡ length batches)) × (content new ≡ content old)
+    IsFaultOf old new first (recover_fault.Refused number) =
+        ((rest : List ℕ) × (content old ≡ header fingerprint ++ rest) × IsRefusedAt rest first number) × (content new ≡ content old)
+    IsFaultOf old new first recover_fault.NoMemory = content new ≡ content old
+    IsFaultOf old new first (recover_fault.Failed failure) = Unit {0}
+
+-- memory was refused or the log failed
+abbrev pub IsTransient : {F : Type 0} → RecoverFault F → Type 0
+IsTransient (recover_fault.Header fault) = ⊥
+IsTransient (recover_fault.Damaged count) = ⊥
+IsTransient (recover_fault.Refused number) = ⊥
+IsTransient recover_fault.NoMemory = Unit {0}
+IsTransient (recover_fault.Failed failure) = Unit {0}

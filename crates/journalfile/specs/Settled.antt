@@ -1,0 +1,17 @@
+-- A journal whose log keeps all of it (docs/PROFILE.md, "Journal").
+use Rattle.std.specs.Prelude.{◌≡◌, ℕ, List, length}
+use Rattle.sha2.specs.Sha256.{sha256}
+use Rattle.journal.specs.Record.{journal_of}
+use Rattle.journal.specs.Reading.{IsTorn}
+use Rattle.journalfile.specs.Log.{Only}
+use Rattle.journalfile.specs.declared.writing.Journal.{Journal}
+
+-- what a crash may leave in the place of appended bytes contains no record: the digests show it
+abbrev pub GarblesNoRecord : (List ℕ → Type 0) → List ℕ → Type 0
+GarblesNoRecord garbled fingerprint = (left : List ℕ) → garbled left → IsTorn sha256 fingerprint left
+
+-- the log has the journal of these batches, and each crash leaves all of it
+pub record IsSettled {L : Type 0} (content : L → List ℕ) (may_leave : L → List ℕ → Type 0) (journal : Journal L) (batches : List (List ℕ)) : Type 0 where
+  pub file : content journal.log ≡ journal_of sha256 journal.fingerprint batches
+  pub count : journal.count ≡ length batches
+  pub durable : Only (content journal.log) (may_leave journal.log)

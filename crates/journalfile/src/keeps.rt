@@ -1,0 +1,81 @@
+//! What keeps batches that are accepted.
+
+ghost use Rattle.std.specs.Prelude.{◌≡◌, ◌⊎◌, ◌++◌, [], ◌∷◌, ℕ, List, OnOk, Err};
+ghost use Rattle.journal.specs.Reading.{StandsFor};
+ghost use Rattle.journalfile.specs.Settled.{GarblesNoRecord, IsSettled};
+ghost use Rattle.journalfile.specs.Keeping.{settled_stands};
+
+use crate::log::Log;
+use crate::writing::{Journal, PutFault};
+
+/// Why a batch isn't kept.
+#[derive(Clone, Copy, Debug, PartialEq, Eq)]
+pub enum KeepFault {
+    /// Memory was refused, and nothing was done.
+    NoMemory,
+    /// It failed. Whether the batch is kept isn't known, and no further one may be.
+    Failed,
+}
+
+/// What keeps accepted batches before they are published: a journal, or nothing where they needn't outlive the process.
+pub trait Keeps {
+    /// These are the batches that it keeps.
+    ghost keeps: { Self → List (List ℕ) → Type 0 };
+
+    /// A crash at some moment from one state to a later one may leave this file.
+    ghost may_leave: { Self → Self → List ℕ → Type 0 };
+
+    /// A file stands for these batches.
+    ghost stands: { Self → List ℕ → List (List ℕ) → Type 0 };
+
+    /// Keeps one batch more. A crash at any moment leaves the batches with it or without.
+    fn keep(&mut self, batch: &[u8]) -> Result<(), KeepFault>
+        requires ready { (batches : List (List ℕ)) × keeps self.old batches }
+        ensures kept { OnOk result ((batches : List (List ℕ)) → keeps self.old batches → keeps self.new (batches ++ batch.now ∷ [])) }
+        ensures any_moment { (batches : List (List ℕ)) → keeps self.old batches → (file : List ℕ) → may_leave self.old self.new file
+            → stands self.old file batches ⊎ stands self.old file (batches ++ batch.now ∷ []) }
+        ensures no_memory { result ≡ Err KeepFault.NoMemory → self.new ≡ self.old };
+
+    /// Where nothing is done, a crash leaves the batches.
+    ghost stays: { (keeper : Self) (batches : List (List ℕ)) (file : List ℕ) → keeps keeper batches → may_leave keeper keeper file → stands keeper file batches };
+}
+
+/// Keeps nothing: batches end with the process.
+#[derive(Clone, Copy)]
+pub struct Nowhere;
+
+impl Keeps for Nowhere {
+    ghost keeps = { λ _ _. Unit {0} };
+
+    ghost may_leave = { λ _ _ _. ⊥ };
+
+    ghost stands = { λ _ _ _. Unit {0} };
+
+    ghost stays = { λ _ _ _ _ _. tt };
+
+    fn keep(&mut self, _batch: &[u8]) -> Result<(), KeepFault> {
+        Ok(())
+    }
+}
+
+/// A journal keeps batches where its log is reliable.
+impl<L: Log> Keeps for Journal<L> {
+    ghost keeps = { λ journal batches. L.reliable → GarblesNoRecord L.garbled journal.fingerprint × IsSettled L.content L.may_leave journal batches };
+
+    ghost may_leave = { λ old new file. L.reliable × L.left_since new.log (L.moment old.log) file };
+
+    ghost stands = { λ journal. StandsFor journal.fingerprint };
+
+    ghost stays = { λ journal batches file kept left. settled_stands L.content L.may_leave journal batches (kept left.0).1 file (L.only_now left.0 journal.log file left.1) };
+
+    fn keep(&mut self, batch: &[u8]) -> Result<(), KeepFault> {
+        if self.count == u64::MAX {
+            return Err(KeepFault::NoMemory);
+        }
+        match self.put(batch) {
+            Ok(()) => Ok(()),
+            Err(PutFault::NoMemory) => Err(KeepFault::NoMemory),
+            Err(PutFault::Failed(_)) => Err(KeepFault::Failed),
+        }
+    }
+}

@@ -1,0 +1,73 @@
+//! What a journal is written to.
+
+ghost use Rattle.std.specs.Prelude.{◌≡◌, ◌≤◌, ◌++◌, List, ℕ, length, take, IfOk, OnOk};
+ghost use Rattle.journalfile.specs.Log.{Torn, Cut, Follows, NoOther, Only, Elapses};
+
+use std::alloc::Global;
+
+/// Why a log can't be read.
+#[derive(Drop)]
+pub enum ReadError<F> {
+    /// Memory was refused.
+    NoMemory,
+    /// The log failed.
+    Failed(F),
+}
+
+/// Bytes that grow at their end and outlive a crash, as a file on a disk. Each call may fail. A crash may come at any moment, also
+/// within a call. Each clause holds of a log that is reliable.
+pub trait Log {
+    /// What a call fails with. Nothing but a log makes one.
+    type Failure: Drop;
+
+    /// The log is as its clauses say. Of a file of the system that isn't known.
+    ghost reliable: { Type 0 };
+
+    /// The bytes that a read returns.
+    ghost content: { Self → List ℕ };
+
+    /// What a crash at this moment may leave.
+    ghost may_leave: { Self → List ℕ → Type 0 };
+
+    /// The moment, as a number that doesn't fall.
+    ghost moment: { Self → ℕ };
+
+    /// What a crash at some moment from that one on might have left, during a call or between two.
+    ghost left_since: { Self → ℕ → List ℕ → Type 0 };
+
+    /// What a crash may leave in the place of appended bytes, where it doesn't leave the first of them.
+    ghost garbled: { List ℕ → Type 0 };
+
+    /// Reads all the bytes.
+    fn read(&mut self, alloc: Global) -> Result<Vec<u8>, ReadError<Self::Failure>>
+        ensures bytes { reliable → IfOk result (λ bytes. bytes.items ≡ content self.old) }
+        ensures content { reliable → content self.new ≡ content self.old }
+        ensures crash { reliable → NoOther (may_leave self.old) (may_leave self.new) }
+        ensures time { reliable → Elapses (moment self.old) (moment self.new) (left_since self.old) (left_since self.new) (may_leave self.new) };
+
+    /// Adds bytes at the end. Until a sync, a crash may leave some of them.
+    fn append(&mut self, bytes: &[u8]) -> Result<(), Self::Failure>
+        ensures appended { reliable → OnOk result (content self.new ≡ content self.old ++ bytes.now) }
+        ensures crash { reliable → Follows (Torn garbled bytes.now) (may_leave self.old) (may_leave self.new) }
+        ensures time { reliable → Elapses (moment self.old) (moment self.new) (left_since self.old) (left_since self.new) (may_leave self.new) };
+
+    /// Cuts off all bytes from an offset on.
+    fn cut(&mut self, end: usize) -> Result<(), Self::Failure>
+        requires { reliable → end ≤ length (content self.old) }
+        ensures cut { reliable → OnOk result (content self.new ≡ take end (content self.old)) }
+        ensures crash { reliable → Follows (Cut end) (may_leave self.old) (may_leave self.new) }
+        ensures time { reliable → Elapses (moment self.old) (moment self.new) (left_since self.old) (left_since self.new) (may_leave self.new) };
+
+    /// Keeps all bytes: after it, a crash leaves what a read returns.
+    fn sync(&mut self) -> Result<(), Self::Failure>
+        ensures durable { reliable → OnOk result (Only (content self.old) (may_leave self.new)) }
+        ensures content { reliable → content self.new ≡ content self.old }
+        ensures crash { reliable → NoOther (may_leave self.old) (may_leave self.new) }
+        ensures time { reliable → Elapses (moment self.old) (moment self.new) (left_since self.old) (left_since self.new) (may_leave self.new) };
+
+    /// This moment is one of those since an earlier one.
+    ghost counts_now: { reliable → (log : Self) (t : ℕ) (c : List ℕ) → t ≤ moment log → may_leave log c → left_since log t c };
+
+    /// Since this moment there is no other.
+    ghost only_now: { reliable → (log : Self) (c : List ℕ) → left_since log (moment log) c → may_leave log c };
+}

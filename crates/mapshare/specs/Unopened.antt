@@ -1,0 +1,17 @@
+-- What names a sharing that nobody has opened.
+use Rattle.std.specs.Prelude.{pos, [], None}
+use Rattle.batches.specs.Batch.{State}
+
+-- the state of an empty map, which names a sharing that nobody has opened
+abbrev pub no_state : State
+no_state = record {
+  map = record {
+    title = [];
+    url = [];
+    extent = record { minx = pos 0; miny = pos 0; maxx = pos 1; maxy = pos 1 };
+    font = None;
+    symbols = [];
+    layers = [];
+  };
+  sequence = 0;
+}
