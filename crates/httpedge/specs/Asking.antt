@@ -1,9 +1,8 @@
 -- What whoever is asked says to a query (docs/PROFILE.md, "HTTP").
 use Rattle.std.specs.Prelude.{◌≡◌, ℕ, true, List, Result, IfOk}
 use mathlib.Core.List.{IsPrefix}
-use Rattle.batches.specs.Batch.{State}
+use Rattle.batches.specs.Batch.{State, accepted}
 use Rattle.mapmachine.specs.Machine.{IsAnswer}
-use Rattle.mapshare.specs.Accepted.{accepted}
 use Rattle.mapshare.specs.Reader.{ReaderValue}
 use Rattle.sharing.specs.Reply.{IsAnswerAfter}
 use Rattle.mapmachine.specs.declared.reply.Answer.{Answer}

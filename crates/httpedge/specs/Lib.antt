@@ -4,10 +4,12 @@ pub mod Exchange
 pub mod Fields
 pub mod Head
 pub mod Meaning
+pub mod Outgoing
 pub mod Reads
 pub mod Received
 pub mod Response
 pub mod Serving
+pub mod Session
 pub mod Stopped
 pub mod Turn
 pub mod Verdict

@@ -11,8 +11,9 @@ ghost use Rattle.httpedge.specs.Serving.{IsReading, Serves, requests_left, came_
 ghost use Rattle.httpedge.specs.Stopped.{HasExchanged, HasStopped, HasKeptUp, is_read, written_of};
 ghost use Rattle.httpedge.specs.declared.asks.Busy.{Busy};
 
-use crate::{Asks, Busy, Conn, Decision, Outcome, respond};
-use streams::{PutFailed, Sink, Source};
+use crate::session::reply;
+use crate::{Asks, Busy, Conn, Decision, Outcome};
+use streams::{PutFailed, Sink, Source, put_pieces};
 use thiserror::Error;
 
 // How many bytes are read at once, at most.
@@ -45,8 +46,8 @@ fn ask<A: Asks>(asks: &mut A, query: &[u8]) -> Outcome
     }
 }
 
-// What is written where that is decided.
-fn outcome<A: Asks>(conn: &Conn, decision: Decision, asks: &mut A) -> Outcome
+/// What is written where that is decided.
+pub(crate) fn outcome<A: Asks>(conn: &Conn, decision: Decision, asks: &mut A) -> Outcome
     requires decided { step_of conn.now.progress ≡ Some decision }
     ensures { (closing : Bool) → IsReply A.answers closing (decision_meaning decision (query_of conn.now.progress)) asks.old (response result closing) asks.new }
 {
@@ -72,11 +73,10 @@ fn answer<W: Sink, A: Asks>(
     ensures forgets { OnOk result (conn.new ≡ (if goes_on conn.old then forgotten conn.old else conn.old)) }
     ensures flag { MatchResult result (λ _. W.put_failed writer.new ≡ W.put_failed writer.old) (λ _. W.put_failed writer.new ≡ true) }
 {
-    let outcome = outcome(conn, decision, asks);
-    match respond(&outcome, conn.closing(), writer) {
-        Ok(()) => Ok(conn.next()),
-        Err(_) => Err(PutFailed),
-    }
+    let (outgoing, goes_on) = reply(conn, decision, asks);
+    let (head, body) = outgoing.parts();
+    put_pieces(writer, &[head, body])?;
+    Ok(goes_on)
 }
 
 // Answers the heads that end in a piece, one after the other, and says whether the connection goes on.

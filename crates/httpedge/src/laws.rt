@@ -1,5 +1,10 @@
 //! Laws of the definitions. A law is a function without arguments whose contract states it.
 
+ghost use Rattle.std.specs.Prelude.{◌≡◌, ◌++◌, ℕ, List, [], true};
+ghost use Rattle.httpedge.specs.Session.{SessionState, HasRespondedWith, QueryOutcome, new_session, is_done, is_reading, says_as_listed};
+ghost use Rattle.httpedge.specs.Exchange.{IsExchange, IsBegun};
+ghost use Rattle.httpedge.specs.declared.conn.TheConstants.{REQUESTS};
+ghost use Rattle.httpedge.specs.declared.stage.Stage.TheVariants.{Closed};
 ghost use Rattle.httpedge.specs.Turn.{TurnIsOne};
 ghost use Rattle.httpedge.specs.Reads.{FrontsWant};
 ghost use Rattle.httpedge.specs.Exchange.{ExchangeIsOne, HeadsAreAnsweredAlone, HeadsAnswerInTurn, BegunIsFront, StepsAnswer};
@@ -38,4 +43,17 @@ pub fn steps_answer()
 /// Where a read is wanted, each read before it was.
 pub fn fronts_want()
     ensures { FrontsWant }
+{}
+
+/// What a session has sent, at any moment and however its stream was cut. One that is new has sent nothing. Where it is
+/// done, what it sent answers the bytes that it took; where a head closed it, whatever follows them. While it reads, what
+/// it sent and is to send begins what answers them, whatever follows.
+pub fn session_answers()
+    ensures starts { HasRespondedWith [] [] [] new_session }
+    ensures done { (s : SessionState) (read written : List ℕ) (queries : List QueryOutcome) → is_done s ≡ true → HasRespondedWith read queries written s
+        → IsExchange says_as_listed REQUESTS read queries written [] }
+    ensures begun { (s : SessionState) (read written more : List ℕ) (queries : List QueryOutcome) → is_reading s.stage ≡ true → HasRespondedWith read queries written s
+        → IsBegun says_as_listed REQUESTS (read ++ more) queries (written ++ s.outgoing) [] }
+    ensures closed { (s : SessionState) (read written more : List ℕ) (queries : List QueryOutcome) → s.stage ≡ Closed → HasRespondedWith read queries written s
+        → IsExchange says_as_listed REQUESTS (read ++ more) queries (written ++ s.outgoing) [] }
 {}

@@ -6,7 +6,9 @@
 //! while no whole head stands unanswered and none has ended the connection (`reads`), at most 16,384,000 times
 //! (`most`). `Conn::feed` takes the bytes of a head and no more, and decides only what no continuation could change
 //! (`feeds`); `Conn::end` says what the bytes mean that came. `respond` writes an outcome. A stream and outcomes have
-//! one text, and heads that don't end the connection are answered as each alone (`laws`).
+//! one text, and heads that don't end the connection are answered as each alone (`laws`). A `Session` is a connection
+//! without its stream, for callers that can't wait: what it has sent answers what it was fed (`Session::feed`,
+//! `Session::sent`, `laws::session_answers`), however both are cut.
 //!
 //! Words: a *head* is what `httparse` reads as a request. Of what is left of a stream the first *turn* is what
 //! it asks for first: a *meaning*, which is nothing, a *refusal*, or a *query* that is asked, and whether the
@@ -21,9 +23,12 @@ mod edge;
 mod fields;
 pub mod laws;
 mod outcome;
+mod outgoing;
 mod received;
 mod refusal;
 mod response;
+mod session;
+mod stage;
 mod verdict;
 
 pub use asks::{Asks, Busy};
@@ -33,3 +38,5 @@ pub use edge::{EdgeFault, exchange};
 pub use outcome::Outcome;
 pub use refusal::Refusal;
 pub use response::respond;
+pub use session::Session;
+pub use stage::Stage;

@@ -1,4 +1,4 @@
-ghost use Rattle.std.specs.Prelude.{◌≡◌, OnOk, OnErr, IfErr, MatchResult, true, codes};
+ghost use Rattle.std.specs.Prelude.{◌≡◌, ◌≤◌, length, OnOk, OnErr, IfErr, MatchResult, true, codes};
 ghost use Rattle.streams.specs.Sent.{IsSent, IsCut, IsCutSomewhere};
 ghost use Rattle.httpedge.specs.Response.{head_end, refusal_lines, busy_lines, body_text, answer_text, response};
 
@@ -7,10 +7,11 @@ use itoa::Buffer;
 use mapmachine::Answer;
 use streams::{PutFailed, Sink, WriteFault, put_pieces};
 
-// The end of a head.
+/// The end of a head.
 #[tactic(auto, unfolding(crate::specs::Response::head_end))]
-fn head_end<'a>(closing: bool) -> &'a [u8]
-    ensures { result.now ≡ head_end closing }
+pub(crate) fn head_end<'a>(closing: bool) -> &'a [u8]
+    ensures text { result.now ≡ head_end closing }
+    ensures short { length result.now ≤ 80 }
 {
     if closing {
         b"Connection: close\r\n\r\n"
@@ -19,10 +20,11 @@ fn head_end<'a>(closing: bool) -> &'a [u8]
     }
 }
 
-// The lines of a refusal.
+/// The lines of a refusal.
 #[tactic(auto, unfolding(crate::specs::Response::refusal_lines))]
-fn refusal_lines(refusal: Refusal) -> &'static [u8]
-    ensures { result.now ≡ refusal_lines refusal }
+pub(crate) fn refusal_lines(refusal: Refusal) -> &'static [u8]
+    ensures text { result.now ≡ refusal_lines refusal }
+    ensures short { length result.now ≤ 80 }
 {
     match refusal {
         Refusal::BadRequest => b"HTTP/1.1 400 Bad Request\r\nContent-Length: 0\r\n",
@@ -33,10 +35,11 @@ fn refusal_lines(refusal: Refusal) -> &'static [u8]
     }
 }
 
-// The lines of a server that is busy.
+/// The lines of a server that is busy.
 #[tactic(auto, unfolding(crate::specs::Response::busy_lines))]
-fn busy_lines() -> &'static [u8]
-    ensures { result.now ≡ busy_lines }
+pub(crate) fn busy_lines() -> &'static [u8]
+    ensures text { result.now ≡ busy_lines }
+    ensures short { length result.now ≤ 80 }
 {
     b"HTTP/1.1 503 Service Unavailable\r\nContent-Length: 0\r\n"
 }

@@ -1,0 +1,71 @@
+-- What a session has sent of what answers the bytes that it was fed (docs/PROFILE.md, "HTTP").
+use Rattle.std.specs.Prelude.{◌≡◌, ◌⊎◌, ℕ, List, [], ◌∷◌, ◌++◌, length, Bool, true, false, not, ◌&&◌, ◌==◌}
+use Rattle.httpedge.specs.Connection.{Course, Open}
+use Rattle.httpedge.specs.Exchange.{Said, IsExchange}
+use Rattle.httpedge.specs.Serving.{IsReading, HasCome, requests_left, came_of}
+use Rattle.httpedge.specs.declared.conn.TheConstants.{REQUESTS}
+use Rattle.httpedge.specs.declared.stage.Stage.{Stage}
+use Rattle.httpedge.specs.declared.stage.Stage.TheVariants.{Reading, Closed, Ended}
+
+-- how far its heads have come, the bytes that are to be sent, and whether heads are read
+pub record SessionState : Type 0 where
+  pub course : Course
+  pub outgoing : List ℕ
+  pub stage : Stage
+
+-- heads are read
+abbrev pub is_reading : Stage → Bool
+is_reading Reading = true
+is_reading Closed = false
+is_reading Ended = false
+
+-- nothing is to be sent
+abbrev pub owes_nothing : SessionState → Bool
+owes_nothing state = length state.outgoing == 0
+
+-- further bytes are wanted: nothing is to be sent, and heads are read
+abbrev pub wants : SessionState → Bool
+wants state = is_reading state.stage && owes_nothing state
+
+-- it has ended, and nothing is to be sent
+abbrev pub is_done : SessionState → Bool
+is_done state = not (is_reading state.stage) && owes_nothing state
+
+-- while heads are read, nothing is decided, and a request is left
+abbrev pub ReadsOn : Stage → Course → Type 0
+ReadsOn Reading course = IsReading course
+ReadsOn Closed course = Unit {0}
+ReadsOn Ended course = Unit {0}
+
+-- the heads in the bytes `read` are answered by `said`: further ones may come; or that is all, whatever follows; or that is all, and nothing follows
+abbrev pub HasRespondedAt : {A : Type 0} → Stage → (A → List ℕ → Said → A → Type 0) → List ℕ → A → List ℕ → Course → A → Type 0
+HasRespondedAt Reading answers read first said course now = HasCome answers REQUESTS read first said (requests_left course) (came_of course.progress) now
+HasRespondedAt Closed answers read first said course now = (more : List ℕ) → IsExchange answers REQUESTS (read ++ more) first said now
+HasRespondedAt Ended answers read first said course now = IsExchange answers REQUESTS read first said now
+
+-- the bytes `read` were taken, and `written` went out: with what is to be sent that is what answers them
+abbrev pub HasResponded : {A : Type 0} → (A → List ℕ → Said → A → Type 0) → List ℕ → A → List ℕ → SessionState → A → Type 0
+HasResponded answers read first written state now = HasRespondedAt state.stage answers read first (written ++ state.outgoing) state.course now
+
+-- a query, and what was said to it
+pub record QueryOutcome : Type 0 where
+  pub query : List ℕ
+  pub said : Said
+
+-- whoever is asked has a list of queries with what to say to them, and says the next of it
+abbrev pub says_as_listed : List QueryOutcome → List ℕ → Said → List QueryOutcome → Type 0
+says_as_listed old query said new = old ≡ record { query = query; said = said } ∷ new
+
+-- the bytes `read` were taken, these queries of theirs were asked, and `written` went out: with what is to be sent that is what answers them.
+-- Whoever is asked may answer others in between
+abbrev pub HasRespondedWith : List ℕ → List QueryOutcome → List ℕ → SessionState → Type 0
+HasRespondedWith read queries written state = (later : List QueryOutcome) → HasResponded says_as_listed read (queries ++ later) written state later
+
+-- nobody was asked, or one query was
+abbrev pub HasAsked : {A : Type 0} → (A → List ℕ → Said → A → Type 0) → A → List QueryOutcome → A → Type 0
+HasAsked answers old queries new =
+    ((queries ≡ []) × (new ≡ old)) ⊎ ((one : QueryOutcome) × (queries ≡ one ∷ []) × answers old one.query one.said new)
+
+-- a session from which nothing came
+abbrev pub new_session : SessionState
+new_session = record { course = record { done = 0; progress = Open [] }; outgoing = []; stage = Reading }

@@ -1,0 +1,139 @@
+ghost use Rattle.std.specs.Prelude.{◌≡◌, ◌≤◌, ◌++◌, [], ℕ, List, Bool, Some, true, false, if◌then◌else◌, length, take, drop, IfOk, OnOk};
+ghost use Rattle.httpedge.specs.Connection.{step_of, query_of, is_closing, goes_on, forgotten};
+ghost use Rattle.httpedge.specs.Exchange.{Said, IsReply, IsExchange};
+ghost use Rattle.httpedge.specs.Meaning.{decision_meaning};
+ghost use Rattle.httpedge.specs.Session.{new_session, wants, is_done, HasResponded, HasRespondedWith, QueryOutcome, HasAsked, says_as_listed};
+ghost use Rattle.httpedge.specs.Serving.{IsReading, requests_left, came_of};
+ghost use Rattle.httpedge.specs.declared.stage.Stage.TheVariants.{Ended};
+
+use crate::edge::outcome;
+use crate::outgoing::Outgoing;
+use crate::stage::Stage;
+use crate::{Asks, Conn, Decision, Outcome, Refusal};
+use std::alloc::{AllocError, Global};
+use std::marker::Model;
+
+/// What is to be sent where that is decided, and whether the connection goes on. Then the head is forgotten.
+pub(crate) fn reply<A: Asks>(conn: &mut Conn, decision: Decision, asks: &mut A) -> (Outgoing, bool)
+    requires decided { step_of conn.old.progress ≡ Some decision }
+    ensures replies { IsReply A.answers (is_closing conn.old) (decision_meaning decision (query_of conn.old.progress)) asks.old result.0 asks.new }
+    ensures next { result.1 ≡ goes_on conn.old }
+    ensures forgets { conn.new ≡ (if goes_on conn.old then forgotten conn.old else conn.old) }
+{
+    let outcome = outcome(conn, decision, asks);
+    let outgoing = Outgoing::of(outcome, conn.closing());
+    (outgoing, conn.next())
+}
+
+// What is to be sent at the end of a stream: bytes without a head are refused.
+fn end_reply(conn: &mut Conn) -> Outgoing
+    requires reading { IsReading conn.old }
+    ensures { (later : List QueryOutcome) → IsExchange says_as_listed (requests_left conn.old) (came_of conn.old.progress) later result later }
+{
+    match conn.end() {
+        None => Outgoing::nothing(),
+        Some(_) => Outgoing::of(Outcome::Refused(Refusal::BadRequest), true),
+    }
+}
+
+/// A connection without its stream: bytes of a client are fed into it, and bytes that answer them are sent from it, at
+/// any times and in any pieces. It keeps one response at most, and takes no byte while that is to be sent.
+///
+/// What it has sent answers what it was fed (`said`, `laws::session_answers`), also where whoever is asked answers
+/// queries of other sessions in between. Where it alone asks, `responded` says the same of whoever is asked.
+#[derive(Drop)]
+pub struct Session {
+    conn: Conn,
+    outgoing: Outgoing,
+    stage: Stage,
+}
+
+impl Model for Session {
+    ghost use Rattle.httpedge.specs.Session.{SessionState, ReadsOn};
+
+    ghost Value = { SessionState };
+
+    ghost view = { λ s. record { course = s.conn; outgoing = s.outgoing; stage = s.stage } };
+
+    ghost invariant = { λ s. ReadsOn s.stage s.conn };
+}
+
+impl Session {
+    /// A session that was fed nothing. It takes the memory for a head, and no more later.
+    pub fn new(alloc: Global) -> Result<Self, AllocError>
+        ensures { IfOk result (λ session. session ≡ new_session) }
+    {
+        Ok(Session {
+            conn: Conn::new(alloc)?,
+            outgoing: Outgoing::nothing(),
+            stage: Stage::Reading,
+        })
+    }
+
+    /// Whether further bytes are wanted: nothing is to be sent, and heads are read.
+    pub fn wants_more(&self) -> bool
+        ensures { result ≡ wants self.now }
+    {
+        matches!(self.stage, Stage::Reading) && self.outgoing.is_empty()
+    }
+
+    /// Whether it has ended, and nothing is to be sent.
+    pub fn is_done(&self) -> bool
+        ensures { result ≡ is_done self.now }
+    {
+        !matches!(self.stage, Stage::Reading) && self.outgoing.is_empty()
+    }
+
+    /// Takes bytes of a piece where further ones are wanted, and says how many: all, or those up to the end of a head,
+    /// which is answered. Where a response is to be sent it takes none, and nobody is asked.
+    pub fn feed<A: Asks>(&mut self, piece: &[u8], asks: &mut A) -> usize
+        ensures count { result ≤ length piece.now }
+        ensures all { wants self.new ≡ true → wants self.old ≡ true → result ≡ length piece.now }
+        ensures none { wants self.old ≡ false → (result ≡ 0) × (self.new ≡ self.old) × (asks.new ≡ asks.old) }
+        ensures goes_on { self.new.stage ≡ Ended → self.old.stage ≡ Ended }
+        ensures responded { (read written : List ℕ) (first : A) → HasResponded A.answers read first written self.old asks.old
+            → HasResponded A.answers (read ++ take result piece.now) first written self.new asks.new }
+        ensures said { (queries : List QueryOutcome) × HasAsked A.answers asks.old queries asks.new × ((read written : List ℕ) (earlier : List QueryOutcome) → HasRespondedWith read earlier written self.old
+            → HasRespondedWith (read ++ take result piece.now) (earlier ++ queries) written self.new) }
+    {
+        if !self.wants_more() {
+            return 0;
+        }
+        let fed = self.conn.feed(piece);
+        if let Some(decision) = fed.step {
+            let (outgoing, goes_on) = reply(&mut self.conn, decision, asks);
+            self.outgoing = outgoing;
+            if !goes_on {
+                self.stage = Stage::Closed;
+            }
+        }
+        fed.taken
+    }
+
+    /// Takes the end of the stream, where further bytes are wanted: bytes without a head are refused.
+    pub fn end(&mut self)
+        requires wanted { wants self.old ≡ true }
+        ensures ended { self.new.stage ≡ Ended }
+        ensures said { (read written : List ℕ) (queries : List QueryOutcome) → HasRespondedWith read queries written self.old → HasRespondedWith read queries written self.new }
+    {
+        self.outgoing = end_reply(&mut self.conn);
+        self.stage = Stage::Ended;
+    }
+
+    /// What is to be sent, in two parts: the rest of a response's head, and that of its body, from where it stands.
+    pub fn outgoing(&self) -> (&[u8], &[u8])
+        ensures { result.0.now ++ result.1.now ≡ self.now.outgoing }
+    {
+        self.outgoing.parts()
+    }
+
+    /// Notes that the first so many bytes of what is to be sent went out. The memory of a body is given back with its last byte.
+    pub fn sent(&mut self, count: usize)
+        requires { count ≤ length self.old.outgoing }
+        ensures rest { self.new ≡ record self.old { outgoing = drop count self.old.outgoing } }
+        ensures said { (read written : List ℕ) (queries : List QueryOutcome) → HasRespondedWith read queries written self.old
+            → HasRespondedWith read queries (written ++ take count self.old.outgoing) self.new }
+    {
+        self.outgoing.sent(count);
+    }
+}

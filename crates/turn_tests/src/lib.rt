@@ -1,0 +1,12 @@
+//! Tests of the turns of connections, by their public calls alone: each test checks a value that was worked by hand,
+//! or that no clause can say.
+#![tactic(auto)]
+
+#[cfg(test)]
+mod clients;
+#[cfg(test)]
+mod cut_streams;
+#[cfg(test)]
+mod times;
+#[cfg(test)]
+mod ways_out;

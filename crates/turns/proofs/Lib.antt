@@ -1,0 +1,3 @@
+pub mod Advancing
+pub mod Order
+pub mod Ranks

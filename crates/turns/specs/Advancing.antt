@@ -1,0 +1,63 @@
+-- How a connection goes on by a turn (docs/PROFILE.md, "HTTP").
+use Rattle.std.specs.Prelude.{◌≡◌, ◌⊎◌, ℕ, List, [], ◌∷◌, ◌++◌, length, Option, Bool, true, false}
+use Rattle.std.specs.Io.KnownBytes.{Appends}
+use Rattle.httpedge.specs.Exchange.{Said}
+use Rattle.httpedge.specs.Session.{QueryOutcome, HasRespondedWith, is_done}
+use Rattle.httpedge.specs.declared.stage.Stage.TheVariants.{Ended}
+use Rattle.turns.specs.declared.buffered_session.BufferedSession.{BufferedSession}
+use Rattle.turns.specs.declared.outcomes.ReadOutcome.{ReadOutcome}
+use Rattle.turns.specs.declared.outcomes.ReadOutcome.TheVariants as read
+use Rattle.turns.specs.declared.outcomes.WriteOutcome.{WriteOutcome}
+use Rattle.turns.specs.declared.outcomes.WriteOutcome.TheVariants as write
+use Rattle.turns.specs.declared.turn.Next.{Next}
+use Rattle.turns.specs.declared.turn.Next.TheVariants.{Turn, Readable, Writable, Room, Done, Failed}
+
+-- the bytes `read` came, and all but those in the buffer were taken; these queries of theirs were asked, and `written` went out:
+-- with what is to be sent that is what answers the bytes that were taken
+abbrev pub HasServed : List ℕ → List QueryOutcome → List ℕ → BufferedSession → Type 0
+HasServed read queries written exchange =
+    (front : List ℕ) × (read ≡ front ++ exchange.buffer) × HasRespondedWith front queries written exchange.session × (exchange.session.stage ≡ Ended → exchange.buffer ≡ [])
+
+-- whoever is asked said this to some queries, one after the other
+abbrev pub HasSaid : {A : Type 0} → (A → List ℕ → Said → A → Type 0) → A → List QueryOutcome → A → Type 0
+HasSaid answers old [] new = new ≡ old
+HasSaid {A} answers old (one ∷ others) new = (between : A) × answers old one.query one.said between × HasSaid answers between others new
+
+-- a connection went on: some bytes came of its client, some queries of it were asked, and so many bytes went out to it
+pub record Advances {A T : Type 0} (answers : A → List ℕ → Said → A → Type 0) (delivered accepted : T → Option (List ℕ)) (old : BufferedSession) (before : T) (asker : A) (new : BufferedSession) (after : T) (asks : A) (sent : ℕ) : Type 0 where
+  pub came : List ℕ
+  pub went : List ℕ
+  pub queries : List QueryOutcome
+  pub reads : Appends (delivered before) (delivered after) came
+  pub writes : Appends (accepted before) (accepted after) went
+  pub count : length went ≡ sent
+  pub says : HasSaid answers asker queries asks
+  pub keeps : (read written : List ℕ) (earlier : List QueryOutcome) → HasServed read earlier written old → HasServed (read ++ came) (earlier ++ queries) (written ++ went) new
+
+-- so many bytes went out, and none came
+pub record Sends {T : Type 0} (delivered accepted : T → Option (List ℕ)) (old : BufferedSession) (before : T) (new : BufferedSession) (after : T) (sent : ℕ) : Type 0 where
+  pub went : List ℕ
+  pub reads : Appends (delivered before) (delivered after) []
+  pub writes : Appends (accepted before) (accepted after) went
+  pub count : length went ≡ sent
+  pub keeps : (read written : List ℕ) (queries : List QueryOutcome) → HasServed read queries written old → HasServed read queries (written ++ went) new
+
+-- some bytes came, and none went out
+pub record Receives {T : Type 0} (delivered accepted : T → Option (List ℕ)) (old : BufferedSession) (before : T) (new : BufferedSession) (after : T) : Type 0 where
+  pub came : List ℕ
+  pub reads : Appends (delivered before) (delivered after) came
+  pub writes : Appends (accepted before) (accepted after) []
+  pub keeps : (read written : List ℕ) (queries : List QueryOutcome) → HasServed read queries written old → HasServed (read ++ came) queries written new
+
+-- bytes of the client were taken: all that were in the buffer, or that a read brought
+abbrev pub HasTaken : {T : Type 0} → (T → ReadOutcome → T → Type 0) → BufferedSession → T → BufferedSession → T → Type 0
+HasTaken reads old before new after = (new.buffer ≡ []) × (old.buffer ≡ [] → (n : ℕ) × reads before (read.Bytes n) after)
+
+-- why a connection has no further turn: the last read or write would have waited, or failed; or no answer may be made; or all went out
+abbrev pub IsNext : {T : Type 0} → (T → ReadOutcome → T → Type 0) → (T → WriteOutcome → T → Type 0) → Bool → Next → BufferedSession → T → Type 0
+IsNext reads writes may_ask Turn exchange after = Unit {0}
+IsNext {T} reads writes may_ask Readable exchange after = (before : T) × reads before read.WouldBlock after
+IsNext {T} reads writes may_ask Writable exchange after = (before : T) × writes before write.WouldBlock after
+IsNext reads writes may_ask Room exchange after = may_ask ≡ false
+IsNext reads writes may_ask Done exchange after = is_done exchange.session ≡ true
+IsNext {T} reads writes may_ask Failed exchange after = (before : T) × (reads before read.Failed after ⊎ writes before write.Failed after)

@@ -1,0 +1,10 @@
+pub mod Advancing
+pub mod Connection
+pub mod Drain
+pub mod Owed
+pub mod Pressure
+pub mod Queue
+pub mod Slots
+pub mod Table
+pub mod Times
+pub mod Transport

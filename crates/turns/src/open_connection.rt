@@ -1,0 +1,123 @@
+ghost use Rattle.std.specs.Prelude.{◌≡◌, ◌≤◌, ◌<◌, ◌^◌, [], IfOk, false};
+ghost use Rattle.httpedge.specs.Session.{new_session};
+ghost use Rattle.turns.specs.declared.times.Phase.TheVariants.{Idle};
+ghost use Rattle.turns.specs.Drain.{brought, next_drained, phase_drained};
+
+use crate::drained::DRAINED_BYTES;
+use crate::{BufferedSession, Next, Phase, ReadOutcome, Transport, serve_turn};
+use httpedge::Asks;
+use std::alloc::{AllocError, Global};
+
+/// A connection of a worker.
+#[derive(Drop)]
+pub struct OpenConnection<T> {
+    /// What is answered.
+    pub exchange: BufferedSession,
+    /// The connection to the client.
+    pub transport: T,
+    /// What it does, and since when.
+    pub phase: Phase,
+    /// How many bytes of its client were dropped after its last answer.
+    pub dropped: usize,
+}
+
+// How many bytes a read brought.
+fn brought(outcome: ReadOutcome) -> usize
+    ensures { result ≡ brought outcome }
+{
+    match outcome {
+        ReadOutcome::Bytes(count) => count,
+        _ => 0,
+    }
+}
+
+// What is waited for after a read that dropped what came, and so many bytes in all.
+fn next_drained(outcome: ReadOutcome, dropped: usize) -> Next
+    ensures { result ≡ next_drained outcome dropped }
+{
+    match outcome {
+        ReadOutcome::Bytes(_) if dropped <= DRAINED_BYTES => Next::Turn,
+        ReadOutcome::WouldBlock => Next::Readable,
+        ReadOutcome::Failed => Next::Failed,
+        _ => Next::Done,
+    }
+}
+
+// What a connection does after a turn in which it was drained.
+fn phase_drained(next: Next, phase: Phase) -> Phase
+    ensures { result ≡ phase_drained next phase }
+{
+    match next {
+        Next::Done | Next::Failed => Phase::Over,
+        _ => phase,
+    }
+}
+
+impl<T: Transport> OpenConnection<T> {
+    ghost use Rattle.turns.specs.Connection.{owed_by, IsServed, IsDrained, IsTurn};
+
+    /// A connection that is opened now: it is between requests.
+    pub fn new(alloc: Global, transport: T, now: u64) -> Result<Self, AllocError>
+    where
+        T: Drop,
+        ensures transport { IfOk result (λ connection. connection.transport ≡ transport) }
+        ensures session { IfOk result (λ connection. connection.exchange.session ≡ new_session) }
+        ensures buffer { IfOk result (λ connection. connection.exchange.buffer ≡ []) }
+        ensures phase { IfOk result (λ connection. connection.phase ≡ Idle now) }
+    {
+        Ok(OpenConnection {
+            exchange: BufferedSession::new(alloc)?,
+            transport,
+            phase: Phase::Idle { since: now },
+            dropped: 0,
+        })
+    }
+
+    /// How many bytes of an answer are to be sent.
+    pub fn owed(&self) -> u128
+        ensures value { result ≡ owed_by self.now }
+        ensures small { result < 2 ^ 66 }
+    {
+        let (first, second) = self.exchange.session.outgoing();
+        first.len() as u128 + second.len() as u128
+    }
+
+    // A turn before the last answer went out. After it the side that is written to is closed, and further turns drain.
+    fn serve<A: Asks>(&mut self, asks: &mut A, may_ask: bool, now: u64) -> Next
+        ensures served { IsServed A.answers T.delivered T.accepted T.reads T.writes T.shuts may_ask now self.old asks.old self.new asks.new result }
+        ensures no_more { may_ask ≡ false → (owed_by self.new ≤ owed_by self.old) × (asks.new ≡ asks.old) }
+    {
+        let turned = serve_turn(&mut self.exchange, &mut self.transport, asks, may_ask);
+        let owes = self.owed() > 0;
+        self.phase = self.phase.after(turned, owes, now);
+        if turned.next != Next::Done {
+            return turned.next;
+        }
+        self.transport.shut_down();
+        Next::Turn
+    }
+
+    // A turn after the last answer: what still comes is dropped.
+    fn drain(&mut self) -> Next
+        ensures { IsDrained T.accepted T.reads self.old self.new result }
+    {
+        let left = self.exchange.buffer.bytes().len();
+        self.exchange.buffer.consume(left);
+        let outcome = self.exchange.buffer.fill(&mut self.transport);
+        self.dropped = self.dropped.saturating_add(brought(outcome));
+        let next = next_drained(outcome, self.dropped);
+        self.phase = phase_drained(next, self.phase);
+        next
+    }
+
+    /// The connection's turn.
+    pub fn turn<A: Asks>(&mut self, asks: &mut A, may_ask: bool, now: u64) -> Next
+        ensures { IsTurn A.answers T.delivered T.accepted T.reads T.writes T.shuts may_ask now self.old asks.old self.new asks.new result }
+    {
+        match self.phase {
+            Phase::Over => Next::Failed,
+            Phase::Drain { .. } => self.drain(),
+            _ => self.serve(asks, may_ask, now),
+        }
+    }
+}

@@ -1,0 +1,78 @@
+ghost use Rattle.std.specs.Prelude.{◌≡◌, ◌≤◌, ◌<◌, ◌∷◌, ◌++◌, [], ◌==◌, length, false, IfOk, IfSome, MatchOption, true, ℕ};
+ghost use Rattle.turns.specs.Queue.{has, joined};
+
+use std::alloc::{AllocError, Global};
+use std::collections::VecDeque;
+use std::marker::Model;
+
+/// Which slots have a turn next: each stands in it once, behind those that came before.
+#[derive(Drop)]
+pub struct ReadyQueue {
+    order: VecDeque<usize>,
+    is_in: Vec<bool>,
+}
+
+impl Model for ReadyQueue {
+    ghost use Rattle.std.specs.Prelude.{length};
+    ghost use Rattle.std.specs.VecDeque.{deque_len, deque_capacity};
+    ghost use Rattle.turns.specs.Queue.{Queue, IsQueue};
+
+    ghost Value = { Queue };
+
+    ghost view = { λ q. record { slots = length q.is_in.items; order = q.order.items } };
+
+    ghost invariant = { λ q. IsQueue q.is_in.items q.order.items (deque_len q.order) (deque_capacity q.order) };
+}
+
+impl ReadyQueue {
+    /// An empty one for so many slots, which are numbered from 0. It takes the memory for all of them, and no more later.
+    pub fn new(alloc: Global, slots: usize) -> Result<Self, AllocError>
+        ensures { IfOk result (λ queue. queue ≡ record { slots = slots; order = [] }) }
+    {
+        Ok(ReadyQueue {
+            order: VecDeque::with_capacity(alloc, slots)?,
+            is_in: Vec::from_elem(alloc, false, slots)?,
+        })
+    }
+
+    // A slot that isn't in it comes to its end.
+    fn enqueue(&mut self, slot: usize)
+        requires known { slot < self.old.slots }
+        requires out { has slot self.old.order ≡ false }
+        ensures { self.new ≡ record self.old { order = self.old.order ++ slot ∷ [] } }
+    {
+        self.is_in[slot] = true;
+        self.order.push_back_reserved(slot);
+    }
+
+    /// A slot has a turn. If it is in the queue it stays where it is, else it comes to the end.
+    pub fn add(&mut self, slot: usize)
+        ensures joins { slot < self.old.slots → self.new ≡ record self.old { order = joined self.old.order slot } }
+        ensures none { self.old.slots ≤ slot → self.new ≡ self.old }
+        ensures stays { (other : ℕ) → has other self.old.order ≡ true → has other self.new.order ≡ true }
+    {
+        if slot < self.is_in.len() && !self.is_in[slot] {
+            self.enqueue(slot);
+        }
+    }
+
+    /// Whether no slot has a turn.
+    pub fn is_empty(&self) -> bool
+        ensures { result ≡ (length self.now.order == 0) }
+    {
+        self.order.is_empty()
+    }
+
+    /// The slot that has waited longest, which leaves the queue.
+    pub fn next(&mut self) -> Option<usize>
+        ensures first { MatchOption result ((self.old.order ≡ []) × (self.new.order ≡ [])) (λ slot. self.old.order ≡ slot ∷ self.new.order) }
+        ensures below { IfSome result (λ slot. slot < self.old.slots) }
+        ensures slots { self.new.slots ≡ self.old.slots }
+    {
+        let slot = self.order.pop_front()?;
+        if slot < self.is_in.len() {
+            self.is_in[slot] = false;
+        }
+        Some(slot)
+    }
+}

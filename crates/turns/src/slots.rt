@@ -1,0 +1,182 @@
+ghost use Rattle.std.specs.Prelude.{◌≡◌, ◌⊎◌, ◌≤◌, ◌<◌, ◌+◌, ◌^◌, ℕ, None, Some, length, IfOk, IfSome, IfNone, MatchOption, IsSomeAnd, is_some, is_none, true};
+ghost use Rattle.std.specs.List.{list_all};
+ghost use Rattle.turns.specs.Connection.{IsTurn, owed_by};
+ghost use Rattle.turns.specs.Owed.{owed_at, owed_in_all};
+ghost use Rattle.turns.specs.Pressure.{IsFirst, rank_of, first_of};
+ghost use Rattle.turns.specs.Slots.{at_slot, OthersStay, HasTurn};
+
+use crate::{Next, OpenConnection, Phase, Pressure, Transport};
+use httpedge::Asks;
+use std::alloc::{AllocError, Global};
+
+/// The connections of a worker, each at its slot, and how many bytes of responses are to be sent to them in all.
+#[derive(Drop)]
+pub struct Slots<T: Drop> {
+    /// Who is at each slot, if anyone is.
+    pub items: Vec<Option<OpenConnection<T>>>,
+    /// How many bytes are to be sent in all.
+    pub owed: u128,
+}
+
+// A connection has its turn. It says how many bytes are to be sent to it before and after.
+fn turn_of<T: Transport, A: Asks>(
+    connection: &mut OpenConnection<T>,
+    asks: &mut A,
+    may_ask: bool,
+    now: u64,
+) -> (Next, u128, u128)
+    ensures turn { IsTurn A.answers T.delivered T.accepted T.reads T.writes T.shuts may_ask now connection.old asks.old connection.new asks.new result.0 }
+    ensures before { result.1 ≡ owed_by connection.old }
+    ensures after { result.2 ≡ owed_by connection.new }
+    ensures small { result.2 < 2 ^ 66 }
+{
+    let before = connection.owed();
+    let next = connection.turn(asks, may_ask, now);
+    (next, before, connection.owed())
+}
+
+// The rank of whoever is at a slot.
+fn rank_of<T: Drop>(connection: &Option<OpenConnection<T>>, pressure: Pressure) -> Option<u64>
+    ensures { result ≡ rank_of pressure connection.now }
+{
+    match connection {
+        Some(connection) => pressure.rank(connection.phase),
+        None => None,
+    }
+}
+
+// The lesser of two ranks, with their slots.
+fn first_of(found: Option<(usize, u64)>, slot: usize, rank: Option<u64>) -> Option<(usize, u64)>
+    ensures { result ≡ first_of found slot rank }
+{
+    match (found, rank) {
+        (Some((_, least)), Some(rank)) if rank < least => Some((slot, rank)),
+        (None, Some(rank)) => Some((slot, rank)),
+        _ => found,
+    }
+}
+
+impl<T: Transport + Drop> Slots<T> {
+    /// So many slots, with nobody at any.
+    pub fn new(alloc: Global, slots: usize) -> Result<Self, AllocError>
+        ensures len { IfOk result (λ made. length made.items.items ≡ slots) }
+        ensures free { IfOk result (λ made. (slot : ℕ) → at_slot made.items.items slot ≡ None) }
+        ensures owed { IfOk result (λ made. made.owed ≡ 0) }
+        ensures counted { IfOk result (λ made. made.owed ≡ owed_in_all made.items.items) }
+    {
+        let mut items = Vec::with_capacity(alloc, slots)?;
+        for _ in 0..slots {
+            items.push(None)?;
+        }
+        Ok(Slots { items, owed: 0 })
+    }
+
+    /// Whoever is at a slot has its turn.
+    pub fn turn<A: Asks>(
+        &mut self,
+        slot: usize,
+        asks: &mut A,
+        may_ask: bool,
+        now: u64,
+    ) -> Option<Next>
+        requires counted { self.old.owed ≡ owed_in_all self.old.items.items }
+        requires small { self.old.owed < 2 ^ 67 }
+        ensures counted { self.new.owed ≡ owed_in_all self.new.items.items }
+        ensures balance { self.new.owed + owed_at (at_slot self.old.items.items slot) ≡ self.old.owed + owed_at (at_slot self.new.items.items slot) }
+        ensures small { owed_at (at_slot self.new.items.items slot) < 2 ^ 66 ⊎ (self.new.owed ≡ self.old.owed) }
+        ensures len { length self.new.items.items ≡ length self.old.items.items }
+        ensures others { OthersStay slot self.old.items.items self.new.items.items }
+        ensures nobody { IfNone result ((self.new.items.items ≡ self.old.items.items) × (asks.new ≡ asks.old)) }
+        ensures own { IfSome result (λ next. HasTurn A.answers T.delivered T.accepted T.reads T.writes T.shuts may_ask now slot self.old.items.items asks.old self.new.items.items asks.new next) }
+    {
+        if slot >= self.items.len() {
+            return None;
+        }
+        let Some(connection) = &mut self.items[slot] else {
+            return None;
+        };
+        let (next, before, after) = turn_of(connection, asks, may_ask, now);
+        self.owed = self.owed - before + after;
+        Some(next)
+    }
+
+    /// Whoever is at a slot leaves it.
+    pub fn take(&mut self, slot: usize) -> Option<OpenConnection<T>>
+        requires counted { self.old.owed ≡ owed_in_all self.old.items.items }
+        ensures counted { self.new.owed ≡ owed_in_all self.new.items.items }
+        ensures balance { self.new.owed + owed_at (at_slot self.old.items.items slot) ≡ self.old.owed }
+        ensures len { length self.new.items.items ≡ length self.old.items.items }
+        ensures others { OthersStay slot self.old.items.items self.new.items.items }
+        ensures left { at_slot self.new.items.items slot ≡ None }
+        ensures taken { result ≡ at_slot self.old.items.items slot }
+        ensures nobody { IfNone result (self.new.items.items ≡ self.old.items.items) }
+    {
+        if slot >= self.items.len() {
+            return None;
+        }
+        let connection = self.items[slot].take()?;
+        self.owed -= connection.owed();
+        Some(connection)
+    }
+
+    /// A connection comes to a free slot, to which nothing is to be sent.
+    pub fn put(&mut self, slot: usize, connection: OpenConnection<T>)
+        requires counted { self.old.owed ≡ owed_in_all self.old.items.items }
+        requires known { slot < length self.old.items.items }
+        requires free { at_slot self.old.items.items slot ≡ None }
+        requires fresh { owed_by connection ≡ 0 }
+        ensures counted { self.new.owed ≡ owed_in_all self.new.items.items }
+        ensures owed { self.new.owed ≡ self.old.owed }
+        ensures len { length self.new.items.items ≡ length self.old.items.items }
+        ensures others { OthersStay slot self.old.items.items self.new.items.items }
+        ensures here { at_slot self.new.items.items slot ≡ Some connection }
+    {
+        self.items[slot] = Some(connection);
+    }
+
+    /// What whoever is at a slot does, if anyone is.
+    pub fn phase(&self, slot: usize) -> Option<Phase>
+        ensures { MatchOption result (at_slot self.now.items.items slot ≡ None) (λ phase. IsSomeAnd (at_slot self.now.items.items slot) (λ connection. connection.phase ≡ phase)) }
+    {
+        match self.items.get(slot) {
+            Some(Some(connection)) => Some(connection.phase),
+            _ => None,
+        }
+    }
+
+    /// The slot of the connection that gives way first, if one may.
+    pub fn first(&self, pressure: Pressure) -> Option<usize>
+        ensures found { IfSome result (λ slot. IsFirst pressure self.now.items.items slot) }
+        ensures none { IfNone result ((slot : ℕ) → rank_of pressure (at_slot self.now.items.items slot) ≡ None) }
+    {
+        let mut found = None;
+        for slot in 0..self.items.len() {
+            found = first_of(found, slot, rank_of(&self.items[slot], pressure));
+        }
+        match found {
+            Some((slot, _)) => Some(slot),
+            None => None,
+        }
+    }
+
+    /// Whether nobody is at any.
+    pub fn is_empty(&self) -> bool
+        ensures { result ≡ list_all is_none self.now.items.items }
+    {
+        self.items.iter().all(|item| item.is_none())
+    }
+
+    /// The first slot at which nobody is.
+    pub fn free(&self) -> Option<usize>
+        ensures known { IfSome result (λ slot. slot < length self.now.items.items) }
+        ensures free { IfSome result (λ slot. at_slot self.now.items.items slot ≡ None) }
+        ensures full { IfNone result ((slot : ℕ) → slot < length self.now.items.items → is_some (at_slot self.now.items.items slot) ≡ true) }
+    {
+        for slot in 0..self.items.len() {
+            if self.items[slot].is_none() {
+                return Some(slot);
+            }
+        }
+        None
+    }
+}

@@ -1,0 +1,267 @@
+ghost use Rattle.std.specs.Prelude.{◌≡◌, ◌≤◌, ◌<◌, ◌+◌, ◌^◌, [], ◌∷◌, length, true, false};
+ghost use Rattle.turns.specs.Owed.{owed_at, owed_in_all};
+ghost use Rattle.turns.specs.Slots.{at_slot};
+
+use crate::queues::{admit, settle};
+use crate::slots::Slots;
+use crate::{Next, OpenConnection, Pressure, ReadyQueue, Timeouts, Transport};
+use httpedge::Asks;
+use std::alloc::{AllocError, Global};
+
+/// The connections of a worker, each at a slot, and which of them has the next turn.
+///
+/// The responses that are to be sent to them have at most `room` bytes and one response more (`bounded`): a query is
+/// asked only while they have less than `room` bytes. Where there is room and a connection waits for it, some
+/// connection has a turn (`admitted`). No call but `close_overdue`, `close_unanswered`, `close_for_slot` and
+/// `close_for_room` has a connection leave its slot.
+#[derive(Drop)]
+pub struct ConnectionTable<T: Drop> {
+    slots: Slots<T>,
+    // Those that have a turn.
+    ready: ReadyQueue,
+    // Those that wait until an answer may be made.
+    waiting: ReadyQueue,
+    timeouts: Timeouts,
+    // A query is asked while fewer bytes are to be sent.
+    room: usize,
+    // The slot of the last turn in which a query might be asked.
+    last_asked: usize,
+    ghost counted: { slots.owed ≡ owed_in_all slots.items.items },
+    ghost bounded: { slots.owed ≤ room + owed_at (at_slot slots.items.items last_asked) },
+    ghost small: { slots.owed < 2 ^ 67 },
+    ghost ready_slots: { ready.slots ≡ length slots.items.items },
+    ghost waiting_slots: { waiting.slots ≡ length slots.items.items },
+    ghost admitted: { slots.owed < room → ready.order ≡ [] → waiting.order ≡ [] },
+}
+
+/// A turn.
+#[derive(Clone, Copy, Debug)]
+pub struct Served {
+    /// Of which slot.
+    pub slot: usize,
+    /// What the connection at it waits for, if one is at it.
+    pub next: Option<Next>,
+}
+
+/// A connection that gave way.
+#[derive(Drop)]
+pub struct Closed<T> {
+    /// The slot that it left.
+    pub slot: usize,
+    /// The connection.
+    pub connection: OpenConnection<T>,
+}
+
+impl<T: Transport + Drop> ConnectionTable<T> {
+    ghost use Rattle.std.specs.Prelude.{◌⊎◌, ℕ, List, None, Some, IfOk, IfSome, IfNone, MatchOption, is_some, is_none, not, ◌==◌};
+    ghost use Rattle.std.specs.List.{list_all};
+    ghost use Rattle.turns.specs.Connection.{owed_by};
+    ghost use Rattle.turns.specs.Pressure.{IsFirst, rank_of};
+    ghost use Rattle.turns.specs.declared.pressure.Pressure.TheVariants.{Slot};
+    ghost use Rattle.turns.specs.declared.pressure.Pressure.TheVariants as pressure;
+    ghost use Rattle.turns.specs.Queue.{has, joins};
+    ghost use Rattle.turns.specs.Slots.{OthersStay, HasTurn};
+    ghost use Rattle.turns.specs.Table.{connections, ready_slots, waiting_slots, timeouts_of, room_of, has_room, KeepsReady, KeepsWaiting};
+    ghost use Rattle.turns.specs.Times.{deadline, is_unanswered};
+    ghost use Rattle.turns.specs.declared.turn.Next.TheVariants.{Turn, Room};
+
+    /// A table of so many slots, with nobody at any. A query is asked while fewer than `room` bytes are to be sent.
+    pub fn new(
+        alloc: Global,
+        slots: usize,
+        timeouts: Timeouts,
+        room: usize,
+    ) -> Result<Self, AllocError>
+        ensures len { IfOk result (λ table. length (connections table) ≡ slots) }
+        ensures free { IfOk result (λ table. (slot : ℕ) → at_slot (connections table) slot ≡ None) }
+        ensures ready { IfOk result (λ table. ready_slots table ≡ []) }
+        ensures limits { IfOk result (λ table. (timeouts_of table ≡ timeouts) × (room_of table ≡ room)) }
+    {
+        Ok(ConnectionTable {
+            slots: Slots::new(alloc, slots)?,
+            ready: ReadyQueue::new(alloc, slots)?,
+            waiting: ReadyQueue::new(alloc, slots)?,
+            timeouts,
+            room,
+            last_asked: 0,
+        })
+    }
+
+    /// How many slots there are.
+    pub fn len(&self) -> usize
+        ensures { result ≡ length (connections self.now) }
+    {
+        self.slots.items.len()
+    }
+
+    /// Whether nobody is at any slot. It looks at each.
+    pub fn is_empty(&self) -> bool
+        ensures { result ≡ list_all is_none (connections self.now) }
+    {
+        self.slots.is_empty()
+    }
+
+    /// The first slot at which nobody is.
+    pub fn free_slot(&self) -> Option<usize>
+        ensures known { IfSome result (λ slot. slot < length (connections self.now)) }
+        ensures free { IfSome result (λ slot. at_slot (connections self.now) slot ≡ None) }
+        ensures full { IfNone result ((slot : ℕ) → slot < length (connections self.now) → is_some (at_slot (connections self.now) slot) ≡ true) }
+    {
+        self.slots.free()
+    }
+
+    /// A connection comes to a free slot and has a turn. Nothing is to be sent to it.
+    pub fn open(&mut self, slot: usize, connection: OpenConnection<T>)
+        requires known { slot < length (connections self.old) }
+        requires free { at_slot (connections self.old) slot ≡ None }
+        requires fresh { owed_by connection ≡ 0 }
+        ensures here { at_slot (connections self.new) slot ≡ Some connection }
+        ensures others { OthersStay slot (connections self.old) (connections self.new) }
+        ensures ready { has slot (ready_slots self.new) ≡ true }
+        ensures keeps { KeepsWaiting self.old self.new }
+        ensures keeps_ready { KeepsReady self.old self.new }
+    {
+        self.slots.put(slot, connection);
+        self.ready.add(slot);
+    }
+
+    /// Whoever is at a slot may have something to do: it has a turn.
+    pub fn wake(&mut self, slot: usize)
+        ensures ready { slot < length (connections self.old) → has slot (ready_slots self.new) ≡ true }
+        ensures joins { (slots : List ℕ) × (ready_slots self.new ≡ joins (ready_slots self.old) slots) }
+        ensures connections { connections self.new ≡ connections self.old }
+        ensures keeps { KeepsWaiting self.old self.new }
+        ensures keeps_ready { KeepsReady self.old self.new }
+    {
+        self.ready.add(slot);
+    }
+
+    /// Whether a slot has a turn.
+    pub fn is_ready(&self) -> bool
+        ensures { result ≡ not (length (ready_slots self.now) == 0) }
+    {
+        !self.ready.is_empty()
+    }
+
+    /// The next turn: that of the slot that has waited longest. Where there is none, no slot has one.
+    pub fn serve_next<A: Asks>(&mut self, asks: &mut A, now: u64) -> Option<Served>
+        ensures first { MatchOption result (ready_slots self.old ≡ []) (λ served. (rest : List ℕ) × (slots : List ℕ) × (ready_slots self.old ≡ served.slot ∷ rest) × (ready_slots self.new ≡ joins rest slots)) }
+        ensures none { IfNone result ((connections self.new ≡ connections self.old) × (asks.new ≡ asks.old)) }
+        ensures nobody { IfSome result (λ served. IfNone served.next ((connections self.new ≡ connections self.old) × (asks.new ≡ asks.old))) }
+        ensures own { IfSome result (λ served. IfSome served.next (λ next. HasTurn A.answers T.delivered T.accepted T.reads T.writes T.shuts (has_room self.old) now served.slot (connections self.old) asks.old (connections self.new) asks.new next)) }
+        ensures others { IfSome result (λ served. OthersStay served.slot (connections self.old) (connections self.new)) }
+        ensures turns { IfSome result (λ served. served.next ≡ Some Turn → has served.slot (ready_slots self.new) ≡ true) }
+        ensures waits { IfSome result (λ served. served.next ≡ Some Room → (has served.slot (ready_slots self.new) ≡ true) ⊎ (has served.slot (waiting_slots self.new) ≡ true)) }
+        ensures keeps { KeepsWaiting self.old self.new }
+    {
+        let slot = self.ready.next()?;
+        let may_ask = self.slots.owed < self.room as u128;
+        let next = self.slots.turn(slot, asks, may_ask, now);
+        if may_ask && next.is_some() {
+            self.last_asked = slot;
+        }
+        let has_room = self.slots.owed < self.room as u128;
+        settle(&mut self.ready, &mut self.waiting, slot, next);
+        admit(&mut self.ready, &mut self.waiting, has_room);
+        Some(Served { slot, next })
+    }
+
+    // Whoever is at a slot leaves it.
+    fn close(&mut self, slot: usize) -> Option<OpenConnection<T>>
+        ensures taken { result ≡ at_slot (connections self.old) slot }
+        ensures left { at_slot (connections self.new) slot ≡ None }
+        ensures others { OthersStay slot (connections self.old) (connections self.new) }
+        ensures nobody { IfNone result (connections self.new ≡ connections self.old) }
+        ensures keeps { KeepsWaiting self.old self.new }
+        ensures keeps_ready { KeepsReady self.old self.new }
+    {
+        let connection = self.slots.take(slot);
+        let has_room = self.slots.owed < self.room as u128;
+        admit(&mut self.ready, &mut self.waiting, has_room);
+        connection
+    }
+
+    /// Whoever is at a slot leaves it, if its time is over: where it has failed, where its client has sent all, and at
+    /// the deadline of what it does.
+    pub fn close_overdue(&mut self, slot: usize, now: u64) -> Option<OpenConnection<T>>
+        ensures overdue { IfSome result (λ connection. deadline (timeouts_of self.old) connection.phase ≤ now) }
+        ensures closed { IfSome result (λ connection. (at_slot (connections self.old) slot ≡ Some connection) × (at_slot (connections self.new) slot ≡ None)) }
+        ensures stays { IfNone result (connections self.new ≡ connections self.old) }
+        ensures in_time { IfNone result (IfSome (at_slot (connections self.old) slot) (λ connection. now < deadline (timeouts_of self.old) connection.phase)) }
+        ensures others { OthersStay slot (connections self.old) (connections self.new) }
+        ensures keeps { KeepsWaiting self.old self.new }
+        ensures keeps_ready { KeepsReady self.old self.new }
+    {
+        let phase = self.slots.phase(slot)?;
+        if now < phase.deadline(&self.timeouts) {
+            return None;
+        }
+        self.close(slot)
+    }
+
+    /// Whoever is at a slot leaves it, if it is between requests or has sent a part of a head: for a worker that ends.
+    pub fn close_unanswered(&mut self, slot: usize) -> Option<OpenConnection<T>>
+        ensures unanswered { IfSome result (λ connection. is_unanswered connection.phase ≡ true) }
+        ensures closed { IfSome result (λ connection. (at_slot (connections self.old) slot ≡ Some connection) × (at_slot (connections self.new) slot ≡ None)) }
+        ensures stays { IfNone result (connections self.new ≡ connections self.old) }
+        ensures answered { IfNone result (IfSome (at_slot (connections self.old) slot) (λ connection. is_unanswered connection.phase ≡ false)) }
+        ensures others { OthersStay slot (connections self.old) (connections self.new) }
+        ensures keeps { KeepsWaiting self.old self.new }
+        ensures keeps_ready { KeepsReady self.old self.new }
+    {
+        let phase = self.slots.phase(slot)?;
+        if !phase.is_unanswered() {
+            return None;
+        }
+        self.close(slot)
+    }
+
+    // The connection that gives way first leaves, if one may.
+    fn give_way(&mut self, pressure: Pressure) -> Option<Closed<T>>
+        ensures first { IfSome result (λ closed. IsFirst pressure (connections self.old) closed.slot) }
+        ensures closed { IfSome result (λ closed. (at_slot (connections self.old) closed.slot ≡ Some closed.connection) × (at_slot (connections self.new) closed.slot ≡ None)) }
+        ensures others { IfSome result (λ closed. OthersStay closed.slot (connections self.old) (connections self.new)) }
+        ensures stays { IfNone result (connections self.new ≡ connections self.old) }
+        ensures none { IfNone result ((slot : ℕ) → rank_of pressure (at_slot (connections self.old) slot) ≡ None) }
+        ensures keeps { KeepsWaiting self.old self.new }
+        ensures keeps_ready { KeepsReady self.old self.new }
+    {
+        let slot = self.slots.first(pressure)?;
+        let connection = self.close(slot)?;
+        Some(Closed { slot, connection })
+    }
+
+    /// Where all slots are taken, the connection leaves that has been between requests for longest, if one is.
+    pub fn close_for_slot(&mut self) -> Option<Closed<T>>
+        ensures full { IfSome result (λ _. (slot : ℕ) → slot < length (connections self.old) → is_some (at_slot (connections self.old) slot) ≡ true) }
+        ensures first { IfSome result (λ closed. IsFirst Slot (connections self.old) closed.slot) }
+        ensures closed { IfSome result (λ closed. (at_slot (connections self.old) closed.slot ≡ Some closed.connection) × (at_slot (connections self.new) closed.slot ≡ None)) }
+        ensures others { IfSome result (λ closed. OthersStay closed.slot (connections self.old) (connections self.new)) }
+        ensures stays { IfNone result (connections self.new ≡ connections self.old) }
+        ensures keeps { KeepsWaiting self.old self.new }
+        ensures keeps_ready { KeepsReady self.old self.new }
+    {
+        if self.free_slot().is_some() {
+            return None;
+        }
+        self.give_way(Pressure::Slot)
+    }
+
+    /// Where a connection waits until an answer may be made, the slowest leaves of those whose answers have been going
+    /// for over a second, if one is.
+    pub fn close_for_room(&mut self, now: u64) -> Option<Closed<T>>
+        ensures no_room { IfSome result (λ _. has_room self.old ≡ false) }
+        ensures wanted { IfSome result (λ _. waiting_slots self.old ≡ [] → ⊥) }
+        ensures first { IfSome result (λ closed. IsFirst (pressure.Room now) (connections self.old) closed.slot) }
+        ensures closed { IfSome result (λ closed. (at_slot (connections self.old) closed.slot ≡ Some closed.connection) × (at_slot (connections self.new) closed.slot ≡ None)) }
+        ensures others { IfSome result (λ closed. OthersStay closed.slot (connections self.old) (connections self.new)) }
+        ensures stays { IfNone result (connections self.new ≡ connections self.old) }
+        ensures keeps { KeepsWaiting self.old self.new }
+        ensures keeps_ready { KeepsReady self.old self.new }
+    {
+        if self.waiting.is_empty() || self.slots.owed < self.room as u128 {
+            return None;
+        }
+        self.give_way(Pressure::Room { now })
+    }
+}

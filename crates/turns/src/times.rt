@@ -1,0 +1,103 @@
+ghost use Rattle.std.specs.Prelude.{◌≡◌};
+ghost use Rattle.turns.specs.Times.{deadline, phase_after, is_over, is_unanswered};
+
+use crate::{Next, TurnResult};
+
+/// How long a connection may take, in milliseconds.
+#[derive(Clone, Copy, Debug)]
+pub struct Timeouts {
+    /// Between requests: from the opening, or from the last byte of an answer, up to the first byte of a head.
+    pub idle: u64,
+    /// A head, from its first byte on; an answer of which no byte is taken.
+    pub timeout: u64,
+    /// A whole answer, besides the time that its bytes have at the least rate.
+    pub grace: u64,
+    /// The least rate of an answer, in bytes per millisecond: 1 where it is 0.
+    pub rate: u64,
+    /// After the last answer, up to the end of what the client sends.
+    pub drain: u64,
+}
+
+/// What a connection does, and since when, in milliseconds of its worker's clock.
+#[derive(Clone, Copy, Debug)]
+pub enum Phase {
+    /// It is between requests: no byte of a head was taken.
+    Idle { since: u64 },
+    /// Bytes of a head came.
+    Head { since: u64 },
+    /// An answer is to be sent: since when, when its last bytes went out, and how many have.
+    Answer { since: u64, moved: u64, sent: u64 },
+    /// Its last answer went out, and what its client still sends is dropped.
+    Drain { since: u64 },
+    /// It has failed, or its client has sent all.
+    Over,
+}
+
+impl Phase {
+    /// When its time is over, if nothing happens: at that millisecond, and not before.
+    pub fn deadline(&self, timeouts: &Timeouts) -> u64
+        ensures { result ≡ deadline timeouts.now self.now }
+    {
+        match *self {
+            Phase::Idle { since } => since.saturating_add(timeouts.idle),
+            Phase::Head { since } => since.saturating_add(timeouts.timeout),
+            Phase::Answer { since, moved, sent } => {
+                let still = moved.saturating_add(timeouts.timeout);
+                let whole = since
+                    .saturating_add(timeouts.grace)
+                    .saturating_add(sent / timeouts.rate.max(1));
+                still.min(whole)
+            }
+            Phase::Drain { since } => since.saturating_add(timeouts.drain),
+            Phase::Over => 0,
+        }
+    }
+
+    /// Whether it is over.
+    pub fn is_over(&self) -> bool
+        ensures { result ≡ is_over self.now }
+    {
+        matches!(*self, Phase::Over)
+    }
+
+    /// Whether it is between requests, or bytes of a head came.
+    pub fn is_unanswered(&self) -> bool
+        ensures { result ≡ is_unanswered self.now }
+    {
+        matches!(*self, Phase::Idle { .. } | Phase::Head { .. })
+    }
+
+    /// What a connection does after a turn, where some or no bytes are still to be sent.
+    pub(crate) fn after(self, turned: TurnResult, owes: bool, now: u64) -> Self
+        ensures { result ≡ phase_after self turned owes now }
+    {
+        match turned.next {
+            Next::Done => return Phase::Drain { since: now },
+            Next::Failed => return Phase::Over,
+            _ => {}
+        }
+        if owes {
+            return match self {
+                Phase::Answer { since, moved, sent } => Phase::Answer {
+                    since,
+                    moved: if turned.sent == 0 { moved } else { now },
+                    sent: sent.saturating_add(turned.sent as u64),
+                },
+                _ => Phase::Answer {
+                    since: now,
+                    moved: now,
+                    sent: turned.sent as u64,
+                },
+            };
+        }
+        if turned.sent > 0 {
+            return Phase::Idle { since: now };
+        }
+        match self {
+            Phase::Idle { .. } if turned.next == Next::Turn || turned.next == Next::Room => {
+                Phase::Head { since: now }
+            }
+            other => other,
+        }
+    }
+}

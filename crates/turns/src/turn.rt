@@ -1,0 +1,198 @@
+ghost use Rattle.std.specs.Prelude.{◌≡◌, ◌++◌, ◌≤◌, ◌<◌, ◌⊎◌, ℕ, List, [], Bool, None, Some, length, true, false, IfSome};
+ghost use Rattle.httpedge.specs.Session.{wants, HasAsked, QueryOutcome};
+ghost use Rattle.turns.specs.Advancing.{HasServed, HasTaken, Advances, Sends, Receives, IsNext};
+ghost use Rattle.turns.specs.Transport.{count_of};
+ghost use Rattle.turns.specs.declared.outcomes.ReadOutcome.TheVariants.{End, WouldBlock, Failed};
+ghost use Rattle.turns.specs.declared.outcomes.WriteOutcome.TheVariants.{Bytes};
+ghost use Rattle.turns.specs.declared.turn.Next.TheVariants.{Turn};
+
+use crate::{BufferedSession, ReadOutcome, Transport, WriteOutcome};
+use httpedge::Asks;
+
+/// What a connection waits for after its turn.
+#[derive(Clone, Copy, Debug, PartialEq, Eq)]
+pub enum Next {
+    /// Its next turn: there may be more to do at once.
+    Turn,
+    /// Bytes of its client.
+    Readable,
+    /// That its client takes bytes.
+    Writable,
+    /// That an answer may be made: bytes came.
+    Room,
+    /// Nothing: its last answer went out.
+    Done,
+    /// Nothing: it failed.
+    Failed,
+}
+
+/// What a turn came to.
+#[derive(Clone, Copy, Debug, PartialEq, Eq)]
+pub struct TurnResult {
+    /// What is waited for.
+    pub next: Next,
+    /// How many bytes went out.
+    pub sent: usize,
+}
+
+// Sends what is to be sent, as much as is taken at once.
+fn send<T: Transport>(exchange: &mut BufferedSession, transport: &mut T) -> WriteOutcome
+    ensures sends { Sends T.delivered T.accepted exchange.old transport.old exchange.new transport.new (count_of result) }
+    ensures writes { T.writes transport.old result transport.new }
+    ensures some { result ≡ Bytes 0 → ⊥ }
+    ensures less { length exchange.new.session.outgoing ≤ length exchange.old.session.outgoing }
+{
+    let (first, second) = exchange.session.outgoing();
+    let outcome = transport.write(first, second);
+    if let WriteOutcome::Bytes(count) = outcome {
+        exchange.session.sent(count);
+    }
+    outcome
+}
+
+// Sends what is to be sent, and says what is waited for.
+fn send_on<T: Transport>(exchange: &mut BufferedSession, transport: &mut T) -> TurnResult
+    ensures sends { Sends T.delivered T.accepted exchange.old transport.old exchange.new transport.new result.sent }
+    ensures next { (may_ask : Bool) → IsNext T.reads T.writes may_ask result.next exchange.new transport.new }
+    ensures sent { result.next ≡ Turn → 0 < result.sent }
+    ensures less { length exchange.new.session.outgoing ≤ length exchange.old.session.outgoing }
+{
+    match send(exchange, transport) {
+        WriteOutcome::WouldBlock => TurnResult {
+            next: Next::Writable,
+            sent: 0,
+        },
+        WriteOutcome::Failed => TurnResult {
+            next: Next::Failed,
+            sent: 0,
+        },
+        WriteOutcome::Bytes(sent) => TurnResult {
+            next: if exchange.session.is_done() {
+                Next::Done
+            } else {
+                Next::Turn
+            },
+            sent,
+        },
+    }
+}
+
+// Reads once, where the buffer is empty.
+fn receive<T: Transport>(exchange: &mut BufferedSession, transport: &mut T) -> ReadOutcome
+    requires wanted { wants exchange.old.session ≡ true }
+    ensures receives { Receives T.delivered T.accepted exchange.old transport.old exchange.new transport.new }
+    ensures session { exchange.new.session ≡ exchange.old.session }
+    ensures ends { result ≡ End → exchange.new.buffer ≡ [] }
+    ensures waits { result ≡ WouldBlock → T.reads transport.old WouldBlock transport.new }
+    ensures fails { result ≡ Failed → T.reads transport.old Failed transport.new }
+    ensures brings { exchange.old.buffer ≡ [] → T.reads transport.old result transport.new }
+{
+    if exchange.buffer.is_empty() {
+        exchange.buffer.fill(transport)
+    } else {
+        ReadOutcome::Bytes(1)
+    }
+}
+
+// Has bytes of the buffer taken: up to the end of a head, whose query is asked.
+fn take_bytes<A: Asks>(exchange: &mut BufferedSession, asks: &mut A)
+    ensures all { wants exchange.old.session ≡ true → wants exchange.new.session ≡ true → exchange.new.buffer ≡ [] }
+    ensures said { (queries : List QueryOutcome) × HasAsked A.answers asks.old queries asks.new
+        × ((read written : List ℕ) (earlier : List QueryOutcome) → HasServed read earlier written exchange.old → HasServed read (earlier ++ queries) written exchange.new) }
+{
+    let count = exchange.session.feed(exchange.buffer.bytes(), asks);
+    exchange.buffer.consume(count);
+}
+
+// Has the end of the stream taken.
+fn take_end(exchange: &mut BufferedSession)
+    requires wanted { wants exchange.old.session ≡ true }
+    requires empty { exchange.old.buffer ≡ [] }
+    ensures ended { wants exchange.new.session ≡ false }
+    ensures said { (read written : List ℕ) (queries : List QueryOutcome) → HasServed read queries written exchange.old → HasServed read queries written exchange.new }
+{
+    exchange.session.end();
+}
+
+// Takes what came, and says what is waited for where nothing did, or nothing may be asked.
+fn take<T: Transport, A: Asks>(
+    exchange: &mut BufferedSession,
+    transport: &mut T,
+    asks: &mut A,
+    may_ask: bool,
+) -> Option<Next>
+    requires wanted { wants exchange.old.session ≡ true }
+    ensures advances { Advances A.answers T.delivered T.accepted exchange.old transport.old asks.old exchange.new transport.new asks.new 0 }
+    ensures next { IfSome result (λ next. IsNext T.reads T.writes may_ask next exchange.new transport.new) }
+    ensures taken { result ≡ None → wants exchange.new.session ≡ true → HasTaken T.reads exchange.old transport.old exchange.new transport.new }
+    ensures turns { result ≡ Some Turn → ⊥ }
+    ensures unasked { may_ask ≡ false → exchange.new.session ≡ exchange.old.session }
+    ensures silent { may_ask ≡ false → asks.new ≡ asks.old }
+{
+    match receive(exchange, transport) {
+        ReadOutcome::WouldBlock => Some(Next::Readable),
+        ReadOutcome::Failed => Some(Next::Failed),
+        _ if !may_ask => Some(Next::Room),
+        ReadOutcome::Bytes(_) => {
+            take_bytes(exchange, asks);
+            None
+        }
+        ReadOutcome::End => {
+            take_end(exchange);
+            None
+        }
+    }
+}
+
+// Takes what came where it is wanted, and says what is waited for where nothing is to be sent.
+fn take_on<T: Transport, A: Asks>(
+    exchange: &mut BufferedSession,
+    transport: &mut T,
+    asks: &mut A,
+    may_ask: bool,
+) -> Option<Next>
+    ensures advances { Advances A.answers T.delivered T.accepted exchange.old transport.old asks.old exchange.new transport.new asks.new 0 }
+    ensures next { IfSome result (λ next. IsNext T.reads T.writes may_ask next exchange.new transport.new) }
+    ensures unasked { may_ask ≡ false → exchange.new.session ≡ exchange.old.session }
+    ensures silent { may_ask ≡ false → asks.new ≡ asks.old }
+    ensures answering { wants exchange.old.session ≡ false → asks.new ≡ asks.old }
+    ensures taken { result ≡ Some Turn → HasTaken T.reads exchange.old transport.old exchange.new transport.new }
+{
+    if !exchange.session.wants_more() {
+        return None;
+    }
+    if let Some(next) = take(exchange, transport, asks, may_ask) {
+        return Some(next);
+    }
+    if exchange.session.wants_more() {
+        return Some(Next::Turn);
+    }
+    if exchange.session.is_done() {
+        return Some(Next::Done);
+    }
+    None
+}
+
+/// The turn of a connection: at most one read, one query and one write. Where nothing may be asked, what came isn't taken.
+///
+/// What came, what was asked and what went out go on as its session says (`advances`), whatever other connections did
+/// before. It has no further turn only where a read or a write would have waited or has failed, where nothing may be
+/// asked, and where its last answer went out (`next`). It has one at once only where bytes went out, or were taken (`moves`).
+pub fn serve_turn<T: Transport, A: Asks>(
+    exchange: &mut BufferedSession,
+    transport: &mut T,
+    asks: &mut A,
+    may_ask: bool,
+) -> TurnResult
+    ensures advances { Advances A.answers T.delivered T.accepted exchange.old transport.old asks.old exchange.new transport.new asks.new result.sent }
+    ensures next { IsNext T.reads T.writes may_ask result.next exchange.new transport.new }
+    ensures moves { result.next ≡ Turn → (0 < result.sent) ⊎ HasTaken T.reads exchange.old transport.old exchange.new transport.new }
+    ensures no_more { may_ask ≡ false → length exchange.new.session.outgoing ≤ length exchange.old.session.outgoing }
+    ensures silent { may_ask ≡ false → asks.new ≡ asks.old }
+    ensures answering { wants exchange.old.session ≡ false → asks.new ≡ asks.old }
+{
+    match take_on(exchange, transport, asks, may_ask) {
+        Some(next) => TurnResult { next, sent: 0 },
+        None => send_on(exchange, transport),
+    }
+}
