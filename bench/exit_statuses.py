@@ -4,7 +4,7 @@
 What is played or checked ends with 0, also a faulty script; a faulty mapfile with 1 and its line on standard
 error alone, a file that can't be read with 1 and its name; words that are no form with 2 and a text on standard
 error alone; a full standard output with 3, and a port that is taken, either of the two, also by the other; too little
-memory for the map with 4. What was served ends with 0 once so many connections as were asked for came at each port.
+memory for the map with 4; with --explain these have a line on standard error. What was served ends with 0 once so many connections as were asked for came at each port.
 """
 import os
 import resource
@@ -68,8 +68,8 @@ def run(session, *words, limit=None, stdout=subprocess.PIPE):
     return done.returncode, done.stdout, done.stderr
 
 
-def not_in_range(number, name, numbers):
-    return 2, b"", NOT_IN_RANGE % (number, name, name, number, numbers)
+def not_in_range(number, name, value, numbers):
+    return 2, b"", NOT_IN_RANGE % (number, name, value, number, numbers)
 
 
 def free_port():
@@ -139,13 +139,16 @@ def main():
             ("serve taken admin port", run(b"", "serve", "good.map", "--port", "0", "--admin-port", taken), (3, b"", b"")),
             ("serve one port", run(b"", "serve", "good.map", "--port", free, "--admin-port", free), (3, b"", b"")),
             ("serve full output", run(b"", "serve", "good.map", "--port", "0", "--admin-port", "0", stdout=full), (3, None, b"")),
+            ("serve taken port explained", run(b"", "serve", "--explain", "good.map", "--port", taken, "--admin-port", "0"), (3, b"", NO_ADDRESS % b"good" + b"error: port %s of 127.0.0.1 is taken\n" % taken.encode())),
+            ("check full output explained", run(b"", "check", "--explain", "good.map", stdout=full), (3, None, b"error: standard output can't be written\n")),
+            ("check no memory explained", run(b"", "check", "--explain", "large.map", limit=16_000_000), (4, b"", b"error: out of memory\n")),
             ("serve faulty mapfile", run(b"", "serve", "bad.map", "--port", taken), (1, b"", b"fault line 3 kind 2\n")),
             ("serve no mapfile", run(b"", "serve", "no.map", "--port", taken), (1, b"", b"fault file no.map\n")),
             ("serve no words", run(b"", "serve"), (2, b"", NO_FILE)),
-            ("serve no such port", run(b"", "serve", "good.map", "--port", "65536"), not_in_range(b"65536", b"port", b"0..=65535")),
-            ("serve no such admin port", run(b"", "serve", "good.map", "--admin-port", "70000"), not_in_range(b"70000", b"admin-port", b"0..=65535")),
-            ("serve no workers", run(b"", "serve", "good.map", "--workers", "0"), not_in_range(b"0", b"workers", b"1..=32")),
-            ("serve too many workers", run(b"", "serve", "good.map", "--workers", "33"), not_in_range(b"33", b"workers", b"1..=32")),
+            ("serve no such port", run(b"", "serve", "good.map", "--port", "65536"), not_in_range(b"65536", b"port", b"PORT", b"0..=65535")),
+            ("serve no such admin port", run(b"", "serve", "good.map", "--admin-port", "70000"), not_in_range(b"70000", b"admin-port", b"PORT", b"0..=65535")),
+            ("serve no workers", run(b"", "serve", "good.map", "--workers", "0"), not_in_range(b"0", b"workers", b"COUNT", b"1..=32")),
+            ("serve too many workers", run(b"", "serve", "good.map", "--workers", "33"), not_in_range(b"33", b"workers", b"COUNT", b"1..=32")),
             ("words", run(MAP + QUERY, "run", "good.map"), (2, b"", REFUSED)),
             ("no text", run(MAP + QUERY, "check", b"\xff.map"), (2, b"", NOT_UTF8)),
         ]

@@ -3,16 +3,16 @@
 
 Usage: failing_calls.py PROGRAM [EVERY]
 
-A library that is loaded before the C library, built here with cc, counts the calls and fails the one of a number,
-or lets it move one byte alone. Maps of demo/ are checked and played; sessions of a map's own ask for a picture with
+A library that is loaded before the C library, built here with cc, counts the calls and fails the one of a number, or
+lets it move one byte alone. Maps of demo/ are checked and played; sessions of a map's own ask for a picture with
 labels, for the capabilities document and for feature information; and a map is served by two workers, to three clients
-and three administrators, who change it between the clients' requests. What comes out may be less than the right
-answer, never another: a reply is right or NOMEMORY; where a file or a stream fails, what was written is a front of the
-right output, with the status of that failure; words on a fault may be missing; where a call moves one byte, nothing
-changes. Of what is served each picture is, by hand, that of the state which the lines of the administration leave,
-where a line that is cut or missing leaves two or three; at most one of the six connections has less than its whole
-answer, 503, HELD or NOMEMORY; and where the service fails, nobody is answered. The program always ends by itself,
-once so many connections as were asked for came at each port.
+and three administrators, who change it between the clients' requests. What comes out may be less than the right answer,
+never another: a reply is right or NOMEMORY; where a file or a stream fails, what was written is a front of the right
+output, with the status of that failure; words on a fault may be missing, and with `--explain` the line on memory may
+stand in their place; where a call moves one byte, nothing changes. Of what is served each picture is, by hand, that of
+the state which the lines of the administration leave, where a line that is cut or missing leaves two or three; at most
+one of the six connections has less than its whole answer, 503, HELD or NOMEMORY; and where the service fails, nobody is
+answered. The program always ends by itself, once so many connections as were asked for came at each port.
 
 With EVERY only every so-many-th call fails. The script prints how many calls each kind has while it lets them fail,
 and at the end how many it let fail. It ends with 1 where something else came out, or a run took longer than 30 s.
@@ -280,8 +280,9 @@ def may_want_memory(run, right):
     """A run of which one call for memory failed."""
     if right.got:
         return may_have_served(run, (3, 4), lambda got, wanted: got in (wanted, BUSY, BUSY_ONCE, b""))
-    if (run.status, run.output, run.errors) == (4, b"", b""):
-        return True
+    explained = len(right.errors.splitlines()) > 1
+    if run.status == 4:
+        return run.output == b"" and run.errors in (b"", b"error: out of memory\n" * explained)
     if run.status != right.status:
         return False
     found, wanted = replies(run.output), replies(right.output)

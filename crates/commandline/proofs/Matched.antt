@@ -14,7 +14,7 @@ use Rattle.std.specs.Str.Parse.{ParsesUnsigned, ExplainsUnsignedError, HasUnsign
 use Rattle.std.specs.declared.num.ParseIntError.{ParseIntError}
 use Rattle.clap.specs.declared.parser.matches.Found.{Found}
 use Rattle.clap.specs.Words.{one_of, one_text, rows_of}
-use Rattle.commandline.specs.Words.{app, IsNumber}
+use Rattle.commandline.specs.Arguments.{app, IsNumber}
 
 pub named : {Z : Type 0} (o : Option (Box SubCommand Z)) (n : Text) (rows : List Row) → Some n ≡ option_map (λ b. (out-SubCommand (box_value b)).name.now) o
     → Some rows ≡ option_map (λ p. p.1) (subcommand_rows o) → subcommand_rows o ≡ Some (n, rows)
@@ -27,7 +27,7 @@ pub one-read : {E : Type 0} (gives : Text → Result ℕ E → Type 0) (o : Opti
 one-read gives None r n is none some = absurd (let bad : Some n ≡ None = sym is ∙ none refl in cc bad)
 one-read gives (Some t) r n is none some = (t, refl, rw is at some t refl)
 
--- words whose fault isn't out of memory are not taken
+-- arguments whose fault isn't out of memory are not taken
 so-not : (b : Bool) → ¬ (b ≡ true) → b ≡ false
 so-not true none = absurd (none refl)
 so-not false none = refl
@@ -38,7 +38,7 @@ not-taken forms line words refusal K same passes none is =
     let P : App → Type 0 = λ a. takes a words ≡ true → K in
     so-not (takes line words) (λ t. none is (subst P same passes t))
 
--- the forms are among those of which the definitions of words speak
+-- the command line is among those of which the definitions speak
 simple : is_simple app ≡ true
 unfolding clap_on_literals
 simple = refl
@@ -47,7 +47,7 @@ free : is_simple_and_free app ≡ true
 unfolding clap_on_literals
 free = refl
 
--- so the matches are those of the words, which are taken
+-- so the matches are those of the arguments, which are taken
 pub parsed : (forms : App) (words : List Text) (m : ArgMatches) → forms ≡ app → HasMatchesOf forms words m → subcommand_rows_of m ≡ subcommand_of app words
 parsed forms words m same has = (subst (λ a. HasMatchesOf a words m) same has simple).1
 

@@ -1,12 +1,12 @@
--- Which commands words that are written out may be.
+-- Which commands arguments that are written out may be.
 use Rattle.std.proofs.Common.{◌≡◌, ◌∙◌, List, [], ◌∷◌, Some, sym, ap, refl, true, false, codes, arith}
 use Rattle.std.proofs.Math.ListN.{get_or}
 use Rattle.clap.proofs.OnLiterals.{clap_on_literals}
-use Rattle.commandline.specs.declared.form.Command.{Command}
-use Rattle.commandline.specs.declared.form.Command.TheVariants.{Session, Check, Run, Serve}
+use Rattle.commandline.specs.declared.subcommand.Command.{Command}
+use Rattle.commandline.specs.declared.subcommand.Command.TheVariants.{Session, Check, Run, Serve}
 use Rattle.clap.specs.Words.{Row, one_of}
-use Rattle.commandline.specs.declared.form.Service.{Service}
-use Rattle.commandline.specs.Words.{IsSession, Checks, Plays, IsService, IsServedBy, OptionTexts, default_texts, Serves, May}
+use Rattle.commandline.specs.declared.subcommand.Service.{Service}
+use Rattle.commandline.specs.Arguments.{IsSession, Checks, Plays, IsService, IsServedBy, OptionTexts, default_texts, Serves, May}
 
 -- two optional texts that are equal have equal texts
 same : {X : Type 0} (a b : X) → Some a ≡ Some b → b ≡ a

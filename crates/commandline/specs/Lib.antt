@@ -1,2 +1,2 @@
-pub mod Forms
-pub mod Words
+pub mod Arguments
+pub mod Subcommands

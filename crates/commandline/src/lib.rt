@@ -1,15 +1,17 @@
-//! The command line of the program: what its words ask for.
+//! The command line of the program: what its arguments ask for.
 //!
-//! Proved: `command` finds the form of the words as `clap`'s matches have it (`command`), where the command
-//! line takes them (`taken`, `refused`). What some words ask for that are written out is a law (`laws`).
+//! Proved: `command` finds the command of the arguments as `clap`'s matches have it (`command`), where the command
+//! line takes them (`taken`, `refused`). What some arguments ask for that are written out is a law (`laws`).
 //!
-//! Words: the *words* are those after the program's name. They have a *form*: there are none, or the first
-//! is `check`, `run` or `serve`. A *command* is what they ask for.
+//! Words: the *arguments* are those after the program's name: there are none, or the first is a *subcommand*, `check`,
+//! `run` or `serve`. A *command* is what they ask for.
 #![tactic(auto)]
 
-mod form;
+mod arguments;
+mod commands;
 pub mod laws;
-mod words;
+mod options;
+mod subcommand;
 
-pub use form::{Command, MAX_IDLE, MAX_TIMEOUT, MAX_WORKERS, Service};
-pub use words::{WordsFault, command};
+pub use arguments::{WordsFault, command};
+pub use subcommand::{Command, MAX_IDLE, MAX_TIMEOUT, MAX_WORKERS, Service};

@@ -1,28 +1,31 @@
-//! The program. Without words on its command line it plays a session from standard input: a mapfile,
-//! a line of two percent signs, and a script, whose transcript it writes. `check FILE` reads a mapfile
-//! and says how much its map has, `run FILE SCRIPT` plays a script on the map of a mapfile, `serve FILE`
-//! answers connections on a port, and takes batches on another. With `--explain` each tells a fault of the mapfile in words, too, and
-//! warnings on its map.
+//! The program. Without arguments it plays a session from standard input: a mapfile, a line of two percent signs, and a
+//! script, whose transcript it writes. `check FILE` reads a mapfile and says how much its map has, `run FILE SCRIPT` plays
+//! a script on the map of a mapfile, `serve FILE` answers connections on a port, and takes batches on another. With
+//! `--explain` each reports a fault of the mapfile in words, too, and warnings on its map.
 //!
-//! What is proved stands in the crates below: `answer` of `hosting` does what words ask for, with the files and
-//! the ports of a host, and makes the `Ending` that `main` returns. Here the words, the streams and the host are
-//! those of the machine that the program runs on, and what they held or got is no promise of any proof.
+//! What is proved stands in the crates below: `answer` of `program` does what arguments ask for, with the files and the
+//! ports of a host, and makes the `Ending` that `main` returns. Here the arguments, the streams and the host are those of
+//! the machine that the program runs on, and what they held or got is no promise of any proof.
 #![tactic(auto)]
 
-use hosting::{Ending, SystemHost, answer, read_words};
-use mapmachine::Flagged;
+use console::Console;
+use program::{Ending, Program, SystemHost, read_arguments};
+use service::SocketPort;
 use std::io::{self, BufWriter};
+use streams::Flagged;
 
-fn main(rt: HostRuntime) -> Ending {
+fn main(rt: HostRuntime) -> Ending<SocketPort> {
     let Ok(output) = BufWriter::new(rt.alloc(), io::writer(&rt)) else {
         return Ending::without_memory();
     };
-    answer(
-        &rt,
-        &SystemHost::new(&rt),
-        read_words(&rt),
-        &mut Flagged::new(rt.reader()),
-        &mut Flagged::new(output),
-        &mut Flagged::new(rt.stderr()),
-    )
+    let program = Program {
+        rt,
+        host: &SystemHost::new(&rt),
+    };
+    let mut console = Console {
+        input: Flagged::new(rt.reader()),
+        output: Flagged::new(output),
+        errors: Flagged::new(rt.stderr()),
+    };
+    program.answer(read_arguments(&rt), &mut console)
 }

@@ -11,42 +11,46 @@ mod transcript;
 
 use crate::transcript::readable;
 use commandline::Command;
-use hosting::{SystemHost, perform};
-use mapmachine::Flagged;
+use console::Console;
+use program::{Program, SystemHost};
+use service::Runtime;
 use std::io::{self, BufWriter, Write};
-use std::sync::Wait;
-use std::thread::Threads;
+use streams::Flagged;
 
-// Plays the case of that name, and writes what came out: the transcript, what was told of a fault, and the exit
+// Plays the case of that name, and writes what came out: the transcript, what was reported of a fault, and the exit
 // status, where it isn't 0.
-fn play<R, W: Write>(rt: &R, system: &HostRuntime, name: &str, output: &mut W) -> io::Result<()>
-where
-    R: AllocGlobal + Wait + Threads + Send + Copy + Drop + 'static,
-{
+fn play<R: Runtime, W: Write>(
+    rt: &R,
+    system: &HostRuntime,
+    name: &str,
+    output: &mut W,
+) -> io::Result<()> {
     let alloc = rt.alloc();
     let file = format!(in alloc; "{name}/map")?;
     let script = format!(in alloc; "{name}/script")?;
-    let mut transcript = Flagged::new(Vec::new(alloc));
-    let mut errors = Flagged::new(Vec::new(alloc));
-    let outcome = perform(
-        rt,
-        &SystemHost::new(system),
-        Command::Run {
-            file: file.as_str(),
-            script: script.as_str(),
-            explains: false,
-        },
-        &mut Flagged::new(system.reader()),
-        &mut transcript,
-        &mut errors,
-    );
+    let host = SystemHost::new(system);
+    let program = Program {
+        rt: *rt,
+        host: &host,
+    };
+    let mut console = Console {
+        input: Flagged::new(system.reader()),
+        output: Flagged::new(Vec::new(alloc)),
+        errors: Flagged::new(Vec::new(alloc)),
+    };
+    let command = Command::Run {
+        file: file.as_str(),
+        script: script.as_str(),
+        explains: false,
+    };
+    let ending = program.perform(command, &mut console);
     writeln!(output, "== {name}")?;
-    match str::from_utf8(transcript.inner().as_slice()) {
+    match str::from_utf8(console.output.inner().as_slice()) {
         Ok(text) => output.write_all(readable(alloc, text)?.as_bytes())?,
         Err(_) => output.write_all(b"not UTF-8\n")?,
     }
-    output.write_all(errors.inner().as_slice())?;
-    match outcome {
+    output.write_all(console.errors.inner().as_slice())?;
+    match ending.outcome() {
         Ok(()) => Ok(()),
         Err(failure) => writeln!(output, "status {}", failure.status()),
     }

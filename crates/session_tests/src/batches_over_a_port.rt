@@ -1,7 +1,5 @@
-use crate::ports::{connected, ports_of, service};
+use crate::ports::{connected, ports_of, served, service};
 use crate::texts::{QUERY, SQUARE_MAP};
-use hosting::{SystemHost, serve_map};
-use mapmachine::Flagged;
 use mapparse::{Files, parse};
 use std::alloc::{AllocError, Global};
 use std::io::{self, Read, Write};
@@ -110,16 +108,16 @@ fn what_is_published_is_answered_by_each_worker(rt: HostRuntime) -> Result<(), F
     let alloc = rt.alloc();
     let map = parse(alloc, SQUARE_MAP.as_bytes(), &Files::new(alloc))?;
     let (ports, theirs) = untold(alloc)?;
-    let mut output = Flagged::new(Line {
+    let line = Line {
         written: Vec::new(alloc),
         ports,
-    });
+    };
     let client = thread::spawn(&rt, move || match converse(&rt, &theirs) {
         Ok(told) => told,
         Err(_) => String::new(rt.alloc()),
     })?;
     let service = service((0, 0), 2, 2);
-    let outcome = serve_map(&rt, &SystemHost::new(&rt), map, service, &mut output);
+    let (outcome, _) = served(&rt, &rt, map, service, line);
     let told = client.join(&rt);
     assert_eq!(rt; (outcome.is_ok(), told.as_str()), (true, CONVERSATION));
     Ok(())

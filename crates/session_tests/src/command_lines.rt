@@ -16,9 +16,9 @@ fn rest_of(alloc: Global, service: Service) -> Result<String, AllocError> {
     )
 }
 
-// What is told of some words: their form, or why they were refused.
-fn told(alloc: Global, words: &[&str]) -> Result<String, AllocError> {
-    match command(alloc, words) {
+// What some arguments ask for, or why they were refused.
+fn described(alloc: Global, arguments: &[&str]) -> Result<String, AllocError> {
+    match command(alloc, arguments) {
         Ok(Command::Session) => String::from_str(alloc, "a session"),
         Ok(Command::Check { file, explains }) => {
             format!(in alloc; "check {file}{}", ending(explains))
@@ -48,8 +48,8 @@ fn told(alloc: Global, words: &[&str]) -> Result<String, AllocError> {
     }
 }
 
-// Words with spaces between them, and what is told of them, with `~` for a line feed.
-const WORDS: &str = "\
+// Arguments with spaces between them, and what they ask for or the message on them, with `~` for a line feed.
+const ARGUMENTS: &str = "\
 |a session
 check m.map|check m.map
 run a b|run a and then b
@@ -82,40 +82,41 @@ serve m.map --port 0 --explain --idle 5|serve m.map on 0 for 0, idle 5, timeout 
 serve --explain --explain m.map|error: the argument '--explain' cannot be used multiple times~~Usage: mapservd serve [OPTIONS] <FILE>~~For more information, try '--help'.~
 serve m.map --admin-port 0 --workers 32|serve m.map on 8080 for 0, idle 200, timeout 30, batches on 0 and 32 workers
 serve --workers 1 --admin-port 65535 m.map|serve m.map on 8080 for 0, idle 200, timeout 30, batches on 65535 and 1 workers
-serve m.map --workers 0|error: invalid value '0' for '--workers <workers>': 0 is not in 1..=32~~For more information, try '--help'.~
-serve m.map --workers 33|error: invalid value '33' for '--workers <workers>': 33 is not in 1..=32~~For more information, try '--help'.~
-serve m.map --admin-port 65536|error: invalid value '65536' for '--admin-port <admin-port>': 65536 is not in 0..=65535~~For more information, try '--help'.~
-serve m.map --idle 0|error: invalid value '0' for '--idle <idle>': 0 is not in 1..=60000~~For more information, try '--help'.~
-serve m.map --timeout 3601|error: invalid value '3601' for '--timeout <timeout>': 3601 is not in 1..=3600~~For more information, try '--help'.~
-serve m.map --port 65536|error: invalid value '65536' for '--port <port>': 65536 is not in 0..=65535~~For more information, try '--help'.~
-serve m.map --connections 4294967296|error: invalid value '4294967296' for '--connections <connections>': 4294967296 is not in 0..=4294967295~~For more information, try '--help'.~
+serve m.map --workers 0|error: invalid value '0' for '--workers <COUNT>': 0 is not in 1..=32~~For more information, try '--help'.~
+serve m.map --workers 33|error: invalid value '33' for '--workers <COUNT>': 33 is not in 1..=32~~For more information, try '--help'.~
+serve m.map --admin-port 65536|error: invalid value '65536' for '--admin-port <PORT>': 65536 is not in 0..=65535~~For more information, try '--help'.~
+serve m.map --idle 0|error: invalid value '0' for '--idle <MILLISECONDS>': 0 is not in 1..=60000~~For more information, try '--help'.~
+serve m.map --timeout 3601|error: invalid value '3601' for '--timeout <SECONDS>': 3601 is not in 1..=3600~~For more information, try '--help'.~
+serve m.map --port 65536|error: invalid value '65536' for '--port <PORT>': 65536 is not in 0..=65535~~For more information, try '--help'.~
+serve m.map --connections 4294967296|error: invalid value '4294967296' for '--connections <COUNT>': 4294967296 is not in 0..=4294967295~~For more information, try '--help'.~
 draw m.map|error: unrecognized subcommand 'draw'~~Usage: mapservd [COMMAND]~~For more information, try '--help'.~
 CHECK a|error: unrecognized subcommand 'CHECK'~~Usage: mapservd [COMMAND]~~For more information, try '--help'.~
 --port 80|error: unexpected argument '--port' found~~Usage: mapservd [COMMAND]~~For more information, try '--help'.~
-check --help|Reads a mapfile, and says how many layers and features it has~~Usage: mapservd check [OPTIONS] <FILE>~~Arguments:~  <FILE>  ~~Options:~      --explain  Tells the mapfile's fault in words, too, or warnings on its map~  -h, --help     Print help~
-run --help|Plays a script on the map of a mapfile~~Usage: mapservd run [OPTIONS] <FILE> <SCRIPT>~~Arguments:~  <FILE>    ~  <SCRIPT>  ~~Options:~      --explain  Tells the mapfile's fault in words, too, or warnings on its map~  -h, --help     Print help~
---help|Plays map requests~~Usage: mapservd [COMMAND]~~Commands:~  check  Reads a mapfile, and says how many layers and features it has~  run    Plays a script on the map of a mapfile~  serve  Answers connections on a port of this machine~  help   Print this message or the help of the given subcommand(s)~~Options:~  -h, --help  Print help~";
+check --help|Check a mapfile, and count its layers and features~~Usage: mapservd check [OPTIONS] <FILE>~~Arguments:~  <FILE>  The mapfile~~Options:~      --explain  Explain the mapfile's first fault, or print warnings~  -h, --help     Print help~
+run --help|Run a script against a map~~Usage: mapservd run [OPTIONS] <FILE> <SCRIPT>~~Arguments:~  <FILE>    The mapfile~  <SCRIPT>  The script: queries and batches~~Options:~      --explain  Explain the mapfile's first fault, or print warnings~  -h, --help     Print help~
+serve --help|Serve the map over HTTP on 127.0.0.1~~Usage: mapservd serve [OPTIONS] <FILE>~~Arguments:~  <FILE>  The mapfile~~Options:~      --explain              Explain the mapfile's first fault, or print warnings~      --port <PORT>          Port for clients, 0 for a free one [default: 8080]~      --connections <COUNT>  Connections that each port takes in all, 0 for no end [default: 0]~      --idle <MILLISECONDS>  How long a connection may wait for its next request [default: 200]~      --timeout <SECONDS>    How long a request's head or an unread answer may take [default: 30]~      --admin-port <PORT>    Port for batches, 0 for a free one [default: 8081]~      --workers <COUNT>      Threads that answer clients [default: 4]~  -h, --help                 Print help~
+--help|Serve maps by WMS. Without a command, play a session from standard input~~Usage: mapservd [COMMAND]~~Commands:~  check  Check a mapfile, and count its layers and features~  run    Run a script against a map~  serve  Serve the map over HTTP on 127.0.0.1~  help   Print this message or the help of the given subcommand(s)~~Options:~  -h, --help  Print help~";
 
-// Whether words have the form of their row.
-fn is_form(alloc: Global, row: &str) -> Result<bool, AllocError> {
-    let (line, form, _) = columns(row);
-    let form = form.replace(alloc, '~', "\n")?;
-    let words: Vec<&str> = line.split_whitespace().collect(alloc)?;
-    Ok(told(alloc, &words)?.as_str() == form.as_str())
+// Whether arguments ask for the command of their row.
+fn is_command(alloc: Global, row: &str) -> Result<bool, AllocError> {
+    let (line, expected, _) = columns(row);
+    let expected = expected.replace(alloc, '~', "\n")?;
+    let arguments: Vec<&str> = line.split_whitespace().collect(alloc)?;
+    Ok(described(alloc, &arguments)?.as_str() == expected.as_str())
 }
 
 #[test]
-fn words_have_their_forms(rt: HostRuntime) -> Result<(), TableFault> {
-    check_all(rt.alloc(), WORDS, 45, is_form)
+fn arguments_ask_for_their_commands(rt: HostRuntime) -> Result<(), TableFault> {
+    check_all(rt.alloc(), ARGUMENTS, 46, is_command)
 }
 
-// What is told of words that were refused with this text, and of those for which there was no memory.
+// The messages on arguments that were refused with this text, and on those for which there was no memory.
 fn refusals(alloc: Global, text: &str) -> Result<String, AllocError> {
     let text = String::from_str(alloc, text)?;
     let refused = WordsFault::Refused { text };
-    let told = format!(in alloc; "{refused}, {}", WordsFault::NoMemory);
+    let messages = format!(in alloc; "{refused}, {}", WordsFault::NoMemory);
     drop(refused);
-    told
+    messages
 }
 
 #[test]

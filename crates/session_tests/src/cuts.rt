@@ -1,9 +1,10 @@
 use crate::memory::{Memory, stream_of};
 use crate::texts::{SOME_MAP, SQUARE_MAP, spelt};
-use mapmachine::{Flagged, Machine, WriteFault};
+use mapmachine::Machine;
 use mapparse::{Files, parse};
-use sessions::{play_script, summary};
 use std::alloc::{AllocError, Global};
+use streams::{Flagged, WriteFault};
+use subcommands::{play_script, summary};
 use test_tables::{TableFault, check_rows};
 
 /// The machine of a mapfile. Its error is out of memory, or a fault, which the tests don't expect.

@@ -1,26 +1,27 @@
 use crate::memory::{Memory, SomeFiles, stream_of};
 use crate::texts::{columns, spelt};
-use mapmachine::Flagged;
-use sessions::{Failure, NamedFile, ReadFault, check_file, run_files, serve_session};
+use console::{Console, Failure, ReadFault};
 use std::alloc::{AllocError, Global};
 use std::str;
+use streams::Flagged;
+use subcommands::{Job, NamedFile, check, run, session};
 use test_tables::{TableFault, check_all, check_rows};
 
-// Does what a form says with its files, the mapfile or session and the script.
+// A stream in memory.
+type Stream<'a> = Flagged<Memory<'a>>;
+
+// Does what a form says with its job and its script, or with the session that is the input.
 fn performed(
     alloc: Global,
     form: &str,
-    file: &mut NamedFile<'_, Flagged<Memory<'_>>>,
-    script: &mut NamedFile<'_, Flagged<Memory<'_>>>,
-    output: &mut Flagged<Memory<'_>>,
-    errors: &mut Flagged<Memory<'_>>,
+    job: &mut Job<'_, SomeFiles, Stream<'_>>,
+    script: &mut NamedFile<'_, Stream<'_>>,
+    console: &mut Console<Stream<'_>, Stream<'_>, Stream<'_>>,
 ) -> Result<(), Failure> {
     match form {
-        "session" => serve_session(alloc, &SomeFiles, &mut file.reader, output, errors),
-        "check" => check_file(alloc, &SomeFiles, file, false, output, errors),
-        "explain" => check_file(alloc, &SomeFiles, file, true, output, errors),
-        "run" => run_files(alloc, &SomeFiles, file, script, false, output, errors),
-        _ => run_files(alloc, &SomeFiles, file, script, true, output, errors),
+        "session" => session(alloc, &SomeFiles, console),
+        "check" | "explain" => check(alloc, job, console),
+        _ => run(alloc, job, script, console),
     }
 }
 
@@ -52,36 +53,36 @@ pub fn ended(
     failing: Option<(usize, usize)>,
 ) -> Result<(String, [usize; 3]), AllocError> {
     let (form, name) = form.split_once(' ').unwrap_or((form, "m.map"));
-    let mut file = NamedFile {
-        name,
-        reader: stream_of(alloc, texts.0, at_once, call_of(failing, 0)),
+    let is_session = form == "session";
+    let mut job = Job {
+        folder: &SomeFiles,
+        mapfile: NamedFile {
+            name,
+            reader: stream_of(alloc, texts.0, at_once, call_of(failing, 0)),
+        },
+        explains: form == "explain" || form == "run_explained",
     };
     let mut script = NamedFile {
         name: "s.txt",
         reader: stream_of(alloc, texts.1, at_once, None),
     };
-    let mut output = stream_of(alloc, "", at_once, call_of(failing, 1));
-    let mut errors = stream_of(alloc, "", at_once, call_of(failing, 2));
-    let outcome = performed(
-        alloc,
-        form,
-        &mut file,
-        &mut script,
-        &mut output,
-        &mut errors,
-    );
-    let (input, output, errors) = (
-        file.reader.into_inner(),
-        output.into_inner(),
-        errors.into_inner(),
-    );
+    let input = if is_session { texts.0 } else { "" };
+    let mut console = Console {
+        input: stream_of(alloc, input, at_once, call_of(failing, 0)),
+        output: stream_of(alloc, "", at_once, call_of(failing, 1)),
+        errors: stream_of(alloc, "", at_once, call_of(failing, 2)),
+    };
+    let outcome = performed(alloc, form, &mut job, &mut script, &mut console);
+    let (input, mapfile) = (console.input.into_inner(), job.mapfile.reader.into_inner());
+    let read = if is_session { input.calls } else { mapfile.calls };
+    let (output, errors) = (console.output.into_inner(), console.errors.into_inner());
     let end = end_of(alloc, outcome)?;
     let text = format!(in alloc;
         "{end}|{}|{}",
         str::from_utf8(&output.held).unwrap_or("?"),
         str::from_utf8(&errors.held).unwrap_or("?")
     )?;
-    Ok((text, [input.calls, output.calls, errors.calls]))
+    Ok((text, [read, output.calls, errors.calls]))
 }
 
 /// Whether all that is written of a script is this.
@@ -102,7 +103,7 @@ check|MAP~~FOO END||1 MapfileFault||fault line 3 kind 2~
 check|(||1 MapfileFault||fault line 1 kind 1~
 check|||1 MapfileFault||fault line 1 kind 4~
 check|!||1 FileFailed||fault file m.map~
-explain|*||0 done|ok 2 layers 3 features~|m.map: warning: the service has no wms_onlineresource, and http://localhost/wms? has no port~
+explain|*||0 done|ok 2 layers 3 features~|m.map: warning: the service has no wms_onlineresource, and http://localhost/wms? has no port~m.map: warning: LAYER 1 has features and no CLASS~m.map: warning: LAYER 2 has features and no CLASS~
 # Warnings: on the service, and on layers by their numbers. The title and the name of the last row have a form feed.
 explain|MAP WEB METADATA wms_onlineresource 'http://h/?' END END END||0 done|ok 0 layers 0 features~|
 check|MAP LAYER NAME 'a,b' TYPE LINE END END||0 done|ok 1 layers 0 features~|
@@ -160,7 +161,7 @@ explain|MAP SYMBOL NAME s TYPE PIXMAP IMAGE 'a\u{a0}b' END END||1 MapfileFault||
 explain|MAP SYMBOL NAME s TYPE PIXMAP~IMAGE bad.ppm END~SYMBOL NAME t TYPE PIXMAP IMAGE none.ppm END END||1 MapfileFault||fault line 2 kind 10~m.map:2: the file that IMAGE names is no pixmap in Netpbm's P6 format of at most 256 by 256 pixels~
 check|MAP SYMBOL NAME s TYPE PIXMAP~IMAGE none.ppm END END||1 MapfileFault||fault line 2 kind 7~
 # Mapfiles with the table of a file. Empty lines of a table are no rows.
-explain maps/m.map|MAP LAYER NAME a TYPE POINT~DATA p.csv~END END||0 done|ok 1 layers 1 features~|maps/m.map: warning: the service has no wms_onlineresource, and http://localhost/wms? has no port~
+explain maps/m.map|MAP LAYER NAME a TYPE POINT~DATA p.csv~END END||0 done|ok 1 layers 1 features~|maps/m.map: warning: the service has no wms_onlineresource, and http://localhost/wms? has no port~maps/m.map: warning: LAYER 1 has features and no CLASS~
 explain maps/m.map|MAP LAYER NAME a TYPE POINT~DATA bad.csv~END END||1 MapfileFault||fault line 2 kind 10~maps/m.map:2: the file that DATA names is no table of points: row 3: a coordinate that can't be read, or beyond 1,000 degrees~
 explain maps/m.map|MAP LAYER NAME a TYPE POINT~DATA none.csv~END END||1 MapfileFault||fault line 2 kind 7~maps/m.map:2: the file none.csv, which DATA names, can't be read~
 explain|MAP CONFIG LABELFONT f.bdf~END||1 MapfileFault||fault line 1 kind 7~m.map:1: the file f.bdf, which CONFIG names, can't be read~

@@ -26,6 +26,8 @@ mod parts;
 #[cfg(test)]
 mod ports;
 #[cfg(test)]
+mod shelf;
+#[cfg(test)]
 mod stops;
 #[cfg(test)]
 mod texts;

@@ -1,8 +1,8 @@
 use mapdefs::Items;
-use mapmachine::Flagged;
-use sessions::Folder;
 use std::alloc::{AllocError, Global};
 use std::io::{self, Read, Write};
+use streams::Flagged;
+use subcommands::Folder;
 
 /// A stream in memory: it gives and takes so many bytes at once, and one of its calls fails.
 #[derive(Drop)]

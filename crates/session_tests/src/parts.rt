@@ -1,6 +1,6 @@
 use crate::texts::columns;
-use sessions::{front_of, path_of, split_session};
 use std::alloc::{AllocError, Global};
+use subcommands::{front_of, path_of, split_session};
 use test_tables::{TableFault, check_all, check_rows};
 
 // Sessions, their mapfiles and their scripts, with `~` for a line feed.

@@ -1,15 +1,15 @@
 use commandline::Service;
-use hosting::{Host, SystemHost, serve_map};
-use mapmachine::Flagged;
+use console::{Failure, read_all};
+use mapdefs::Map;
 use mapparse::{Files, parse};
-use sessions::{Failure, read_all};
+use program::{Files as HostFiles, Program, SystemHost};
+use service::Runtime;
 use std::io::{self, Read, Write};
 use std::net::{Ipv4Addr, Shutdown, TcpListener, TcpStream};
-use std::sync::Wait;
 use std::test::Fail;
-use std::thread::Threads;
 use std::time::{Duration, Instant};
 use std::{env, fs, str};
+use streams::Flagged;
 
 /// A head without a query that ends its connection, of 40 bytes.
 pub const LAST: &str = "GET /wms HTTP/1.1\r\nConnection: close\r\n\r\n";
@@ -114,28 +114,43 @@ pub fn service(ports: (u16, u16), workers: u16, connections: u32) -> Service {
     }
 }
 
+/// Serves a map at ports of the machine, with that output, which is given back.
+pub fn served<R: Runtime, W: Write + Drop>(
+    rt: &R,
+    system: &HostRuntime,
+    map: Map,
+    service: Service,
+    output: W,
+) -> (Result<(), Failure>, W) {
+    let host = SystemHost::new(system);
+    let program = Program {
+        rt: *rt,
+        host: &host,
+    };
+    let mut output = Flagged::new(output);
+    let ending = program.serve_map(map, service, &mut output);
+    (ending.outcome(), output.into_inner())
+}
+
 // How the connections of some texts are answered by one worker: whether all were, and all that came back.
-fn answered<R>(
+fn answered<R: Runtime>(
     rt: &R,
     system: &HostRuntime,
     texts: &[&str],
     connections: u32,
-) -> Result<(Result<(), Failure>, Vec<u8>), Fail>
-where
-    R: AllocGlobal + Wait + Threads + Send + Copy + Drop + 'static,
-{
+) -> Result<(Result<(), Failure>, Vec<u8>), Fail> {
     let alloc = rt.alloc();
     let map = parse(alloc, b"MAP END", &Files::new(alloc))?;
-    let mut output = Flagged::new(Clients {
+    let clients = Clients {
         rt: system,
         texts,
         told: Vec::new(alloc),
         streams: Vec::new(alloc),
-    });
+    };
     let service = service((0, 0), 1, connections);
-    let outcome = serve_map(rt, &SystemHost::new(system), map, service, &mut output);
+    let (outcome, clients) = served(rt, system, map, service, clients);
     let mut answers = Vec::new(alloc);
-    for mut stream in output.into_inner().streams {
+    for mut stream in clients.streams {
         stream.read_to_end(&mut answers)?;
     }
     Ok((outcome, answers))
@@ -171,10 +186,11 @@ fn a_connection_has_its_requests_answered(rt: HostRuntime) -> Result<(), Fail> {
 }
 
 // For how long two connections are answered, of which the first stays, and how many bytes come back.
-fn waited<R>(rt: &R, system: &HostRuntime, first: &str) -> Result<(Duration, usize), Fail>
-where
-    R: AllocGlobal + Wait + Threads + Send + Copy + Drop + 'static,
-{
+fn waited<R: Runtime>(
+    rt: &R,
+    system: &HostRuntime,
+    first: &str,
+) -> Result<(Duration, usize), Fail> {
     let stays = format!(in rt.alloc(); "{first}|stays")?;
     let began = Instant::now(system)?;
     let (_, answers) = answered(rt, system, &[stays.as_str(), LAST], 3)?;
@@ -194,19 +210,16 @@ fn a_client_that_stays_is_left(rt: HostRuntime) -> Result<(), Fail> {
 }
 
 // Whether serving ended since a port can't be listened on, and how many bytes were told, where these ports are asked for.
-fn told_of_taken<R>(rt: &R, system: &HostRuntime, ports: (u16, u16)) -> Result<(bool, usize), Fail>
-where
-    R: AllocGlobal + Wait + Threads + Send + Copy + Drop + 'static,
-{
+fn told_of_taken<R: Runtime>(
+    rt: &R,
+    system: &HostRuntime,
+    ports: (u16, u16),
+) -> Result<(bool, usize), Fail> {
     let alloc = rt.alloc();
     let map = parse(alloc, b"MAP END", &Files::new(alloc))?;
-    let mut output = Flagged::new(Vec::new(alloc));
     let service = service(ports, 1, 1);
-    let outcome = serve_map(rt, &SystemHost::new(system), map, service, &mut output);
-    Ok((
-        matches!(outcome, Err(Failure::SocketFailed)),
-        output.into_inner().len(),
-    ))
+    let (outcome, written) = served(rt, system, map, service, Vec::new(alloc));
+    Ok((matches!(outcome, Err(Failure::SocketFailed)), written.len()))
 }
 
 #[test]

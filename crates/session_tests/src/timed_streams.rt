@@ -1,4 +1,4 @@
-use hosting::{Answered, Closing, TimedReader, TimedWriter, Waits};
+use service::{Answered, Closing, TimedReader, TimedWriter, Waits};
 use std::alloc::{AllocError, Global};
 use std::cell::Cell;
 use std::io::{self, Read, Write};

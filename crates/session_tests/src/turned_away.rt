@@ -1,5 +1,5 @@
 use crate::ports::connected;
-use hosting::{Port, SocketPort, Waits};
+use service::{Port, SocketPort, Waits};
 use std::io::{self, Read, Write};
 use std::net::{Ipv4Addr, TcpListener};
 use std::test::Fail;

@@ -6,7 +6,7 @@ use std::collections::VecDeque;
 use std::io::{self, Write};
 use std::sync::{Arc, OnceLock};
 use streams::Flagged;
-use workers::{Connection, Opens, Sides, Streams, serve_one};
+use workers::{Connection, NothingLeft, Opens, Sides, Streams, serve_one};
 
 /// A head without a query, of 30 bytes.
 pub const HEAD: &[u8] = b"GET /wms HTTP/1.1\r\nHost: x\r\n\r\n";
@@ -60,6 +60,12 @@ impl Opens for Call {
 
     type Writer = Flagged<Told>;
 
+    type Closed = NothingLeft;
+
+    ghost opens = { λ _ _. Unit {0} };
+
+    ghost closes = { λ _ _ _ _. Unit {0} };
+
     fn open(self, _alloc: Global) -> Option<Sides<Flagged<Coming>, Flagged<Told>>> {
         let Call { coming, told } = self;
         Some(Sides {
@@ -68,10 +74,13 @@ impl Opens for Call {
         })
     }
 
-    fn close(sides: Sides<Flagged<Coming>, Flagged<Told>>, fault: Option<EdgeFault>) {
+    fn close(sides: Sides<Flagged<Coming>, Flagged<Told>>, fault: Option<EdgeFault>) -> NothingLeft
+        ensures { Unit {0} }
+    {
         let Told { going, place } = sides.writer.into_inner();
         let held = going.held;
         let _ = place.try_set(Ended { held, fault });
+        NothingLeft
     }
 }
 

@@ -1,8 +1,8 @@
-ghost use Rattle.std.specs.Prelude.{◌≡◌, ◌⊎◌, ◌||◌, ◌+◌, ◌≤◌, ℕ, List, not, OnOk, IfErr, IfSome, MatchResult, true};
+ghost use Rattle.std.specs.Prelude.{◌≡◌, ◌⊎◌, ◌||◌, ◌+◌, ◌≤◌, ℕ, List, not, OnOk, None, IfErr, IfSome, MatchOption, MatchResult, true};
 ghost use Rattle.std.specs.Io.KnownBytes.{Consumes};
 ghost use Rattle.httpedge.specs.Reads.{ReadsToPiece, ReadsToFault};
 ghost use Rattle.httpedge.specs.Stopped.{HasKeptUp, is_read, written_of};
-ghost use Rattle.workers.specs.Connections.{HasServed, HasLeft};
+ghost use Rattle.workers.specs.Connections.{Exchanges, HasServed, HasLeft, IsServedOne};
 
 use httpedge::{Asks, Conn, EdgeFault, Outcome, exchange, respond};
 use std::alloc::Global;
@@ -17,19 +17,37 @@ pub struct Sides<R, W> {
     pub writer: W,
 }
 
+/// What a closed connection leaves where nothing of it is looked at.
+#[derive(Clone, Copy)]
+pub struct NothingLeft;
+
 /// A connection whose two sides can be opened.
 pub trait Opens {
+    ghost use Rattle.std.specs.Prelude.{Option, option_map};
+    ghost use Rattle.httpedge.specs.declared.edge.EdgeFault.{EdgeFault};
+
     /// What a client sends.
     type Reader: Source + Drop;
 
     /// What a client gets.
     type Writer: Sink + Drop;
 
+    /// What is left of it when it is closed.
+    type Closed: Drop;
+
+    // What opening it may give: its two sides, or none.
+    ghost opens: { Self → Option (Self.Reader × Self.Writer) → Type 0 };
+
+    // What closing its two sides with a fault, or none, may leave.
+    ghost closes: { Self.Reader → Self.Writer → Option EdgeFault → Self.Closed → Type 0 };
+
     /// Begins to serve it, in the thread that does so. There are no sides where that fails: then it is dropped.
-    fn open(self, alloc: Global) -> Option<Sides<Self::Reader, Self::Writer>>;
+    fn open(self, alloc: Global) -> Option<Sides<Self::Reader, Self::Writer>>
+        ensures { opens self (option_map (λ sides. (sides.reader, sides.writer)) result) };
 
     /// Ends it, which had this fault or none.
-    fn close(sides: Sides<Self::Reader, Self::Writer>, fault: Option<EdgeFault>);
+    fn close(sides: Sides<Self::Reader, Self::Writer>, fault: Option<EdgeFault>) -> Self::Closed
+        ensures { closes sides.reader sides.writer fault result };
 }
 
 /// A connection that waits for a worker. Its sides stay out of sight: they are opened and closed in the worker's
@@ -71,11 +89,13 @@ pub fn serve_connection<R: Source, W: Sink, A: Asks>(
     }
 }
 
-/// Opens a connection, answers it by whoever is asked, and closes it.
-pub fn serve_one<C: Opens, A: Asks>(alloc: Global, asks: &mut A, connection: C) {
-    let Some(mut sides) = connection.open(alloc) else {
-        return;
-    };
+/// Opens a connection, answers it by whoever is asked as [`serve_connection`] does, and closes it with the fault of that, if
+/// it had one. Nothing is left of a connection that can't be opened.
+pub fn serve_one<C: Opens, A: Asks>(alloc: Global, asks: &mut A, connection: C) -> Option<C::Closed>
+    ensures { MatchOption result (C.opens connection None × (asks.new ≡ asks.old))
+        (λ closed. IsServedOne C.opens C.closes (Exchanges A.answers C.Reader.Source.left C.Writer.Sink.held) connection asks.old asks.new closed) }
+{
+    let mut sides = connection.open(alloc)?;
     let served = serve_connection(alloc, asks, &mut sides.reader, &mut sides.writer);
-    C::close(sides, served.err());
+    Some(C::close(sides, served.err()))
 }

@@ -15,6 +15,6 @@ mod queue;
 mod worker;
 mod working;
 
-pub use connection::{Connection, Opens, Sides, serve_connection, serve_one};
+pub use connection::{Connection, NothingLeft, Opens, Sides, serve_connection, serve_one};
 pub use gate::{Gate, OpenGate};
 pub use working::{Start, Streams, work};

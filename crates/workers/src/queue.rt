@@ -4,7 +4,7 @@ use std::sync::{Condvar, Mutex, Wait};
 
 // What waits for one worker.
 #[derive(Drop)]
-struct Line<T> {
+struct QueueState<T> {
     waiting: VecDeque<T>,
     closed: bool,
 }
@@ -12,7 +12,7 @@ struct Line<T> {
 /// Connections that wait for one worker, in the order in which they came.
 #[derive(Drop)]
 pub(crate) struct Queue<T: Drop> {
-    line: Mutex<Line<T>>,
+    state: Mutex<QueueState<T>>,
     changed: Condvar,
 }
 
@@ -20,7 +20,7 @@ impl<T: Drop> Queue<T> {
     /// An empty one. It takes no memory.
     pub fn new(alloc: Global) -> Self {
         Queue {
-            line: Mutex::new(Line {
+            state: Mutex::new(QueueState {
                 waiting: VecDeque::new(alloc),
                 closed: false,
             }),
@@ -30,8 +30,8 @@ impl<T: Drop> Queue<T> {
 
     /// Puts a connection at the end, or gives it back where memory for it is refused.
     pub fn put<R: Wait>(&self, rt: &R, item: T) -> Result<(), T> {
-        let mut line = self.line.lock(rt);
-        match line.waiting.push_back(item) {
+        let mut state = self.state.lock(rt);
+        match state.waiting.push_back(item) {
             Ok(()) => {
                 self.changed.notify_one();
                 Ok(())
@@ -42,16 +42,16 @@ impl<T: Drop> Queue<T> {
 
     /// No more is put.
     pub fn close<R: Wait>(&self, rt: &R) {
-        let mut line = self.line.lock(rt);
-        line.closed = true;
+        let mut state = self.state.lock(rt);
+        state.closed = true;
         self.changed.notify_all();
     }
 
     /// Waits for a connection. There is none where the queue is closed and empty.
     pub fn take<R: Wait>(&self, rt: &R) -> Option<T> {
-        let mut line = self.changed.wait_while(rt, self.line.lock(rt), |line| {
-            line.waiting.is_empty() && !line.closed
+        let mut state = self.changed.wait_while(rt, self.state.lock(rt), |state| {
+            state.waiting.is_empty() && !state.closed
         });
-        line.waiting.pop_front()
+        state.waiting.pop_front()
     }
 }

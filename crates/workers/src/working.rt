@@ -27,40 +27,46 @@ pub trait Streams<C> {
 }
 
 // The connections that wait for a worker, with their numbers.
-type Line<C> = Arc<Queue<(u64, C)>, Global>;
+type WorkerQueue<C> = Arc<Queue<(u64, C)>, Global>;
 
-// Workers that were started, each with its line.
+// Workers that were started, each with its queue.
 #[derive(Drop)]
-struct Crew<C: Drop> {
-    lines: Vec<Line<C>>,
+struct Workers<C: Drop> {
+    alloc: Global,
+    queues: Vec<WorkerQueue<C>>,
     threads: Vec<JoinHandle<()>>,
 }
 
-impl<C: Connection + Drop> Crew<C> {
+impl<C: Connection + Drop> Workers<C> {
     // Nobody yet, with room for so many.
-    fn new(alloc: Global, workers: usize) -> Result<Self, AllocError> {
-        Ok(Crew {
-            lines: Vec::with_capacity(alloc, workers)?,
-            threads: Vec::with_capacity(alloc, workers)?,
+    fn new(alloc: Global, count: usize) -> Result<Self, AllocError> {
+        Ok(Workers {
+            alloc,
+            queues: Vec::with_capacity(alloc, count)?,
+            threads: Vec::with_capacity(alloc, count)?,
         })
     }
 
     // Gives a connection to its worker. Where memory is refused, it is answered that the server is busy.
-    fn give<R: Wait>(&self, rt: &R, alloc: Global, number: u64, connection: C) {
-        let worker = number.checked_rem(self.lines.len() as u64).unwrap_or(0) as usize;
-        let Some(line) = self.lines.get(worker) else {
+    fn dispatch<R: Wait>(&self, rt: &R, number: u64, connection: C) {
+        let worker = number.checked_rem(self.queues.len() as u64).unwrap_or(0) as usize;
+        let Some(queue) = self.queues.get(worker) else {
             return;
         };
-        if let Err((_, connection)) = line.put(rt, (number, connection)) {
-            connection.turn_away(alloc);
+        if let Err((_, connection)) = queue.put(rt, (number, connection)) {
+            connection.turn_away(self.alloc);
         }
     }
 
     // Waits until all that was given is served.
     fn end<R: Wait + Threads>(self, rt: &R) {
-        let Crew { lines, threads } = self;
-        for line in &lines {
-            line.close(rt);
+        let Workers {
+            queues,
+            threads,
+            ..
+        } = self;
+        for queue in &queues {
+            queue.close(rt);
         }
         for thread in threads {
             thread.join(rt);
@@ -71,8 +77,7 @@ impl<C: Connection + Drop> Crew<C> {
 // Starts one worker more.
 fn start_worker<R, A, C, G>(
     rt: &R,
-    alloc: Global,
-    crew: &mut Crew<C>,
+    workers: &mut Workers<C>,
     worker: Worker<A, G>,
 ) -> Result<(), AllocError>
 where
@@ -81,13 +86,14 @@ where
     C: Connection + Send + Drop + 'static,
     G: Gate + Send + Sync + Drop + 'static,
 {
-    let line = Arc::new(alloc, Queue::new(alloc))?;
-    let theirs = Arc::try_clone(&line)?;
-    crew.lines.push(line)?;
+    let alloc = workers.alloc;
+    let queue = Arc::new(alloc, Queue::new(alloc))?;
+    let theirs = Arc::try_clone(&queue)?;
+    workers.queues.push(queue)?;
     let handle = *rt;
     match thread::spawn(rt, move || run(&handle, alloc, worker, &theirs)) {
         Ok(thread) => {
-            crew.threads.push(thread)?;
+            workers.threads.push(thread)?;
             Ok(())
         }
         Err(_) => Err(AllocError),
@@ -97,8 +103,7 @@ where
 // Starts a worker for each member.
 fn start_all<R, A, C, G>(
     rt: &R,
-    alloc: Global,
-    crew: &mut Crew<C>,
+    workers: &mut Workers<C>,
     members: Vec<A>,
     gate: &Arc<G, Global>,
 ) -> Result<(), AllocError>
@@ -110,16 +115,15 @@ where
 {
     for member in members {
         let worker = Worker::new(member, Arc::try_clone(gate)?);
-        start_worker(rt, alloc, crew, worker)?;
+        start_worker(rt, workers, worker)?;
     }
     Ok(())
 }
 
 // Gives each connection to its worker, until no more come.
-fn hand_out<R: Wait, C: Connection + Drop, T: Streams<C>>(
+fn dispatch_all<R: Wait, C: Connection + Drop, T: Streams<C>>(
     rt: &R,
-    alloc: Global,
-    crew: &Crew<C>,
+    workers: &Workers<C>,
     streams: &mut T,
 )
     ensures { T.ended streams.new }
@@ -130,7 +134,7 @@ fn hand_out<R: Wait, C: Connection + Drop, T: Streams<C>>(
             return;
         };
         number = number.saturating_add(1);
-        crew.give(rt, alloc, number, connection);
+        workers.dispatch(rt, number, connection);
     }
     unreachable!()
 }
@@ -161,14 +165,14 @@ where
     if members.is_empty() {
         return Err(Start);
     }
-    let Ok(mut crew) = Crew::new(alloc, members.len()) else {
+    let Ok(mut workers) = Workers::new(alloc, members.len()) else {
         return Err(Start);
     };
-    let started = start_all(rt, alloc, &mut crew, members, gate);
+    let started = start_all(rt, &mut workers, members, gate);
     if started.is_ok() {
-        hand_out(rt, alloc, &crew, streams);
+        dispatch_all(rt, &workers, streams);
     }
-    crew.end(rt);
+    workers.end(rt);
     match started {
         Ok(()) => Ok(()),
         Err(_) => Err(Start),

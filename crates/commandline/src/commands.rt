@@ -1,0 +1,122 @@
+ghost use Rattle.std.specs.Prelude.{◌≡◌, IfOk, map, fold, false};
+ghost use Rattle.clap.specs.Words.{app_of, rule_of};
+ghost use Rattle.clap.specs.declared.builder.command.Command.TheViews.{out-Command};
+ghost use Rattle.commandline.specs.Arguments.{app, check_app, file_app, number_rule, option_of, program_app, run_app, serve_app, with_option};
+ghost use Rattle.commandline.specs.Subcommands.{IsWithSubcommand};
+
+use crate::options::{NumberOption, SERVE_OPTIONS};
+use clap::builder::ValueParser;
+use clap::{Arg, ArgAction};
+use std::alloc::{AllocError, Global};
+
+// A subcommand of this name: the name of a mapfile follows, and `--explain` may.
+fn file_command<'a>(
+    alloc: Global,
+    name: &'a str,
+    about: &'a str,
+) -> Result<clap::Command<'a>, AllocError>
+    ensures app { IfOk result (λ c. app_of c ≡ file_app name.now) }
+    ensures local { IfOk result (λ c. (out-Command c).has_globals ≡ false) }
+{
+    let file = Arg::new(alloc, "FILE").required(true).help("The mapfile");
+    let form = clap::Command::new(alloc, name).about(about).arg(file)?;
+    let explain = Arg::new(alloc, "explain")
+        .long("explain")
+        .help("Explain the mapfile's first fault, or print warnings")
+        .action(ArgAction::SetTrue);
+    form.arg(explain)
+}
+
+// `check --explain FILE`.
+fn check_command<'a>(alloc: Global) -> Result<clap::Command<'a>, AllocError>
+    ensures app { IfOk result (λ c. app_of c ≡ check_app) }
+    ensures local { IfOk result (λ c. (out-Command c).has_globals ≡ false) }
+{
+    let about = "Check a mapfile, and count its layers and features";
+    file_command(alloc, "check", about)
+}
+
+// `run --explain FILE SCRIPT`.
+fn run_command<'a>(alloc: Global) -> Result<clap::Command<'a>, AllocError>
+    ensures app { IfOk result (λ c. app_of c ≡ run_app) }
+    ensures local { IfOk result (λ c. (out-Command c).has_globals ≡ false) }
+{
+    let form = file_command(alloc, "run", "Run a script against a map")?;
+    let script = Arg::new(alloc, "SCRIPT").required(true);
+    form.arg(script.help("The script: queries and batches"))
+}
+
+// The argument of an option.
+fn argument_of<'a>(alloc: Global, option: &NumberOption<'a>) -> Arg<'a>
+    ensures rule { rule_of result ≡ number_rule (option_of option.now) }
+    ensures local { result.global ≡ false }
+{
+    let parser = ValueParser::signed(i64::from(option.least), i64::from(option.most));
+    Arg::new(alloc, option.name)
+        .long(option.name)
+        .value_parser(parser)
+        .default_value(option.default)
+        .value_name(option.value)
+        .help(option.help)
+}
+
+// A subcommand with options more.
+fn with_options<'a>(
+    alloc: Global,
+    form: clap::Command<'a>,
+    options: &[NumberOption<'a>],
+) -> Result<clap::Command<'a>, AllocError>
+    requires local { (out-Command form).has_globals ≡ false }
+    ensures app { IfOk result (λ c. app_of c ≡ fold with_option (app_of form.entry) (map option_of options.now)) }
+    ensures local { IfOk result (λ c. (out-Command c).has_globals ≡ false) }
+{
+    let mut form = form;
+    for option in options {
+        form = form.arg(argument_of(alloc, option))?;
+    }
+    Ok(form)
+}
+
+// `serve --explain FILE` with its options.
+fn serve_command<'a>(alloc: Global) -> Result<clap::Command<'a>, AllocError>
+    ensures app { IfOk result (λ c. app_of c ≡ serve_app) }
+    ensures local { IfOk result (λ c. (out-Command c).has_globals ≡ false) }
+{
+    let form = file_command(alloc, "serve", "Serve the map over HTTP on 127.0.0.1")?;
+    with_options(alloc, form, &SERVE_OPTIONS)
+}
+
+// The program by its name, without subcommands.
+fn program<'a>(alloc: Global) -> Result<clap::Command<'a>, AllocError>
+    ensures { IfOk result (λ c. app_of c ≡ program_app) }
+{
+    let program = clap::Command::new(alloc, "mapservd").bin_name("mapservd")?;
+    let about = "Serve maps by WMS. Without a command, play a session from standard input";
+    Ok(program.about(about).no_binary_name(true))
+}
+
+// The program so far with one subcommand more, if that was made.
+fn with_subcommand<'a>(
+    program: clap::Command<'a>,
+    form: Result<clap::Command<'a>, AllocError>,
+) -> Result<clap::Command<'a>, AllocError>
+    ensures { IfOk result (λ c. IsWithSubcommand program.entry form.entry c) }
+{
+    match form {
+        Ok(form) => program.subcommand(form),
+        Err(error) => {
+            drop(program);
+            Err(error)
+        }
+    }
+}
+
+/// The program with all of its subcommands.
+pub(crate) fn all_commands<'a>(alloc: Global) -> Result<clap::Command<'a>, AllocError>
+    ensures { IfOk result (λ c. app_of c ≡ app) }
+{
+    let none = program(alloc)?;
+    let one = with_subcommand(none, check_command(alloc))?;
+    let two = with_subcommand(one, run_command(alloc))?;
+    with_subcommand(two, serve_command(alloc))
+}

@@ -1,0 +1,69 @@
+use crate::subcommand::{MAX_IDLE, MAX_TIMEOUT, MAX_WORKERS};
+
+/// An option of `serve`, which is a number.
+pub(crate) struct NumberOption<'a> {
+    /// Its name, which stands behind two hyphens.
+    pub name: &'a str,
+    /// The least that it may be.
+    pub least: u32,
+    /// The most that it may be.
+    pub most: u32,
+    /// The text of what it is where it isn't given.
+    pub default: &'a str,
+    /// What the help calls its number.
+    pub value: &'a str,
+    /// What it means, for the help.
+    pub help: &'a str,
+}
+
+/// The options of `serve`, in the order in which its help has them.
+pub(crate) const SERVE_OPTIONS: [NumberOption<'static>; 6] = [
+    NumberOption {
+        name: "port",
+        least: 0,
+        most: 65_535,
+        default: "8080",
+        value: "PORT",
+        help: "Port for clients, 0 for a free one",
+    },
+    NumberOption {
+        name: "connections",
+        least: 0,
+        most: 4_294_967_295,
+        default: "0",
+        value: "COUNT",
+        help: "Connections that each port takes in all, 0 for no end",
+    },
+    NumberOption {
+        name: "idle",
+        least: 1,
+        most: MAX_IDLE as u32,
+        default: "200",
+        value: "MILLISECONDS",
+        help: "How long a connection may wait for its next request",
+    },
+    NumberOption {
+        name: "timeout",
+        least: 1,
+        most: MAX_TIMEOUT as u32,
+        default: "30",
+        value: "SECONDS",
+        help: "How long a request's head or an unread answer may take",
+    },
+    NumberOption {
+        name: "admin-port",
+        least: 0,
+        most: 65_535,
+        default: "8081",
+        value: "PORT",
+        help: "Port for batches, 0 for a free one",
+    },
+    NumberOption {
+        name: "workers",
+        least: 1,
+        most: MAX_WORKERS as u32,
+        default: "4",
+        value: "COUNT",
+        help: "Threads that answer clients",
+    },
+];

@@ -1,0 +1,57 @@
+/// What the arguments of the program ask for.
+#[derive(Clone, Copy)]
+pub enum Command<'a> {
+    /// To play a session from standard input. There are no arguments.
+    Session,
+    /// To check a mapfile, and count its layers and features.
+    Check {
+        /// Its name.
+        file: &'a str,
+        /// Its fault is explained, or warnings on its map are printed.
+        explains: bool,
+    },
+    /// To play a script on the map of a mapfile.
+    Run {
+        /// The name of the mapfile.
+        file: &'a str,
+        /// The name of the script.
+        script: &'a str,
+        /// The mapfile's fault is explained, or warnings on its map are printed.
+        explains: bool,
+    },
+    /// To answer connections on a port, on the map of a mapfile.
+    Serve {
+        /// The name of the mapfile.
+        file: &'a str,
+        /// The mapfile's fault is explained, or warnings on its map are printed.
+        explains: bool,
+        /// How it is served.
+        service: Service,
+    },
+}
+
+/// For how many milliseconds a connection may be idle at most.
+pub const MAX_IDLE: u16 = 60_000;
+
+/// How many seconds a head, or an answer, may take at most.
+pub const MAX_TIMEOUT: u16 = 3_600;
+
+/// How many workers answer connections at most.
+pub const MAX_WORKERS: u16 = 32;
+
+/// How a map is served.
+#[derive(Clone, Copy)]
+pub struct Service {
+    /// The port, 0 for one that is free.
+    pub port: u16,
+    /// How many connections are answered, 0 without an end.
+    pub connections: u32,
+    /// How many milliseconds a connection may be idle after an answer, 1 to `MAX_IDLE`.
+    pub idle: u16,
+    /// How many seconds a head that has begun, and an answer, may take, 1 to `MAX_TIMEOUT`.
+    pub timeout: u16,
+    /// The port on which batches are taken, 0 for one that is free.
+    pub admin_port: u16,
+    /// How many workers answer connections, 1 to `MAX_WORKERS`.
+    pub workers: u16,
+}

@@ -1,0 +1,48 @@
+use streams::{Sink, Source};
+
+/// A source as contracts see its state.
+pub trait Reads: Source {
+    ghost use Rattle.console.specs.Streams.{InputState};
+
+    // Its state.
+    ghost state: { Self → InputState };
+}
+
+impl<I: Source> Reads for I {
+    ghost state = { λ s. record { left = I.left s; failed = I.take_failed s } };
+}
+
+/// A sink as contracts see its state.
+pub trait Writes: Sink {
+    ghost use Rattle.console.specs.Streams.{WriterState};
+
+    // Its state.
+    ghost state: { Self → WriterState };
+}
+
+impl<O: Sink> Writes for O {
+    ghost state = { λ s. record { held = O.held s; failed = O.put_failed s; flushed = O.is_flushed s } };
+}
+
+/// The three streams of a program as contracts see them.
+pub trait Terminal {
+    ghost use Rattle.console.specs.Streams.{Streams};
+
+    // Their states.
+    ghost streams: { Self → Streams };
+}
+
+/// The three streams of a program.
+#[derive(Drop)]
+pub struct Console<I, O, E> {
+    /// What a session is read from.
+    pub input: I,
+    /// Where answers go.
+    pub output: O,
+    /// Where faults and warnings are reported.
+    pub errors: E,
+}
+
+impl<I: Source, O: Sink, E: Sink> Terminal for Console<I, O, E> {
+    ghost streams = { λ c. record { input = ⟦<I as Reads>⟧.state c.input; output = ⟦<O as Writes>⟧.state c.output; errors = ⟦<E as Writes>⟧.state c.errors } };
+}

@@ -1,0 +1,13 @@
+-- What a host gives to the program: its files (docs/PROFILE.md, "The program").
+use Rattle.std.specs.Prelude.{◌≡◌, ℕ, List, Option, None, Some, IfSome, ⊤}
+use Rattle.subcommands.specs.Folder.{Giving, path_of}
+
+-- what is left of a file: all of it before it is opened
+abbrev pub left_of : {F : Type 0} → Option (List ℕ) → (F → Option (List ℕ)) → Option F → Option (List ℕ)
+left_of whole left None = whole
+left_of whole left (Some opened) = left opened
+
+-- what a folder gives under a name, by the bytes of the files of paths: those of the name's path. `front` stands before the names of its files
+abbrev pub gives_in : (List ℕ → Option (List ℕ)) → List ℕ → Giving
+gives_in file front name None = ⊤
+gives_in file front name (Some bytes) = IfSome (file (path_of front name)) (λ known. bytes ≡ known)

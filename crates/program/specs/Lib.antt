@@ -1,0 +1,5 @@
+pub mod Answering
+pub mod Endings
+pub mod Explaining
+pub mod Hosts
+pub mod Performing

@@ -1,0 +1,77 @@
+ghost use Rattle.std.specs.Prelude.{◌≡◌, None, Some, Err};
+ghost use Rattle.std.specs.Process.{exit_status};
+ghost use Rattle.console.specs.Streams.{status_of};
+
+use console::Failure;
+use service::Served;
+use std::io::Eprint;
+use std::marker::Model;
+use std::process::{ExitCode, Termination};
+
+/// How the program ended, and what it served on ports P, if anything. Only `Program::answer`, `Program::perform` and
+/// `without_memory` make one, and the exit status is 0 or that of its failure, so that a `main` which returns one ends
+/// as they say.
+#[derive(Drop)]
+pub struct Ending<P> {
+    outcome: Result<(), Failure>,
+    served: Option<Served<P>>,
+}
+
+impl<P> Model for Ending<P> {
+    ghost use Rattle.std.specs.Coded.{codes};
+    ghost use Rattle.mapdefs.specs.contracts.expr.Expr as expr;
+    ghost use Rattle.program.specs.Endings.{EndingValue};
+
+    ghost Value = { EndingValue P };
+
+    ghost coded = { Prim.hlevel (codes, expr.the_row.coded, P.code) };
+
+    ghost view = { λ ending. record { outcome = ending.outcome; served = ending.served } };
+}
+
+impl<P> Ending<P> {
+    // The end after this, where nothing was served.
+    pub(crate) fn after(done: Result<(), Failure>) -> Self
+        ensures { result ≡ record { outcome = done; served = None } }
+    {
+        Ending {
+            outcome: done,
+            served: None,
+        }
+    }
+
+    // The end after a service.
+    pub(crate) fn of_service(served: Served<P>) -> Self
+        ensures { result ≡ record { outcome = served.outcome; served = Some served } }
+    {
+        Ending {
+            outcome: served.outcome(),
+            served: Some(served),
+        }
+    }
+
+    /// The end of a program that has no memory for the buffer of its output.
+    pub fn without_memory() -> Self
+        ensures { result ≡ record { outcome = Err Failure.NoMemory; served = None } }
+    {
+        Ending::after(Err(Failure::NoMemory))
+    }
+
+    /// Whether all was done that was asked, or why not.
+    pub fn outcome(&self) -> Result<(), Failure>
+        ensures { result ≡ self.now.outcome }
+    {
+        self.outcome
+    }
+}
+
+impl<P: Drop> Termination for Ending<P> {
+    fn report<R: Eprint>(self, _rt: &R) -> ExitCode
+        ensures { exit_status result ≡ status_of self.outcome }
+    {
+        match self.outcome {
+            Ok(()) => ExitCode::from(0),
+            Err(failure) => ExitCode::from(failure.status()),
+        }
+    }
+}

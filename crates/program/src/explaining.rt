@@ -1,0 +1,68 @@
+ghost use Rattle.std.specs.Prelude.{◌≡◌, IfErr};
+ghost use Rattle.program.specs.Explaining.{ExplainsEnd, HasSaid, cause_words, explains_end, sentence_on};
+
+use commandline::Command;
+use console::{Failure, ListenCause, Writes, report};
+use itoa::Buffer;
+use streams::Sink;
+
+/// Whether a command explains how it ends.
+pub(crate) fn explains_end(command: Command<'_>) -> bool
+    ensures { result ≡ explains_end command.entry }
+{
+    match command {
+        Command::Session => false,
+        Command::Check { explains, .. } => explains,
+        Command::Run { explains, .. } => explains,
+        Command::Serve { explains, .. } => explains,
+    }
+}
+
+// Why a port can't be listened on.
+#[tactic(auto, unfolding(crate::specs::Explaining::cause_words))]
+fn cause_words(cause: ListenCause) -> &'static [u8]
+    ensures { result.now ≡ cause_words cause }
+{
+    match cause {
+        ListenCause::Taken => b" is taken\n",
+        ListenCause::NotAllowed => b" may not be listened on\n",
+        ListenCause::Other => b" can't be listened on\n",
+    }
+}
+
+// Reports the sentence on a failure, where there is one.
+#[tactic(auto, unfolding(crate::specs::Explaining::sentence_on))]
+fn report_failure<E: Sink>(failure: Failure, errors: &mut E)
+    ensures { HasSaid (sentence_on failure) (⟦<E as Writes>⟧.state errors.old) (⟦<E as Writes>⟧.state errors.new) }
+{
+    match failure {
+        Failure::OutputFailed => report(errors, &[b"error: standard output can't be written\n"]),
+        Failure::ListenFailed { port, cause } => {
+            let mut digits = Buffer::new();
+            let port = digits.format(port).as_bytes();
+            report(
+                errors,
+                &[b"error: port ", port, b" of 127.0.0.1", cause_words(cause)],
+            )
+        }
+        Failure::SocketFailed => report(
+            errors,
+            &[b"error: a port gives no connections, or a thread can't be started\n"],
+        ),
+        Failure::NoMemory => report(errors, &[b"error: out of memory\n"]),
+        Failure::MapfileFault
+        | Failure::FileFailed
+        | Failure::WordsRefused
+        | Failure::InputFailed => {}
+    }
+}
+
+/// Reports the sentence on how the program ends, where that is asked for, and no other line has said it.
+pub(crate) fn explain_end<E: Sink>(explains: bool, outcome: Result<(), Failure>, errors: &mut E)
+    ensures { ExplainsEnd explains outcome (⟦<E as Writes>⟧.state errors.old) (⟦<E as Writes>⟧.state errors.new) }
+{
+    match (explains, outcome) {
+        (true, Err(failure)) => report_failure(failure, errors),
+        _ => {}
+    }
+}

@@ -1,0 +1,92 @@
+ghost use Rattle.std.specs.Prelude.{◌≡◌, []};
+ghost use Rattle.subcommands.specs.Folder.{IsFront};
+ghost use Rattle.program.specs.Hosts.{left_of, gives_in};
+
+use crate::host::Files;
+use console::{ReadFault, read_all};
+use mapdefs::Items;
+use std::alloc::{AllocError, Global};
+use std::io::{self, Read};
+use streams::Flagged;
+use subcommands::{Folder, front_of, path_of};
+
+/// A file of a host by its path, which the first read opens.
+#[derive(Drop)]
+pub struct HostFile<'a, H: Files> {
+    host: &'a H,
+    path: &'a str,
+    file: Option<H::File>,
+}
+
+impl<'a, H: Files> HostFile<'a, H> {
+    /// The file of a path, not opened yet.
+    pub fn new(host: &'a H, path: &'a str) -> Self
+        ensures left { left_of (H.file host.now path.now) H.File.remaining result.file ≡ H.file host.now path.now }
+        ensures host { result.host.now ≡ host.now }
+        ensures path { result.path.now ≡ path.now }
+    {
+        HostFile {
+            host,
+            path,
+            file: None,
+        }
+    }
+}
+
+impl<H: Files> Read for HostFile<'_, H> {
+    ghost remaining = { λ f. left_of (H.file f.host.now f.path.now) H.File.remaining f.file };
+
+    fn read(&mut self, room: &mut [u8]) -> io::Result<usize> {
+        if let Some(file) = &mut self.file {
+            return file.read(room);
+        }
+        let mut file = self.host.open(self.path)?;
+        let count = file.read(room)?;
+        self.file = Some(file);
+        Ok(count)
+    }
+}
+
+/// A folder of a host.
+#[derive(Drop)]
+pub struct HostFolder<'a, H> {
+    host: &'a H,
+    // What stands before a name that doesn't begin with a slash: nothing for the current folder, or a path
+    // with its last slash.
+    front: &'a str,
+}
+
+impl<'a, H: Files> HostFolder<'a, H> {
+    /// The current folder.
+    pub fn current(host: &'a H) -> Self
+        ensures host { result.host.now ≡ host.now }
+        ensures front { result.front.now ≡ [] }
+    {
+        HostFolder { host, front: "" }
+    }
+
+    /// The folder that a file is in, by the file's path.
+    pub fn of(host: &'a H, file: &'a str) -> Self
+        ensures host { result.host.now ≡ host.now }
+        ensures front { IsFront file.now result.front.now }
+    {
+        HostFolder {
+            host,
+            front: front_of(file),
+        }
+    }
+}
+
+impl<H: Files> Folder for HostFolder<'_, H> {
+    ghost gives = { λ folder. gives_in (H.file folder.host.now) folder.front.now };
+
+    fn read(&self, alloc: Global, name: &str) -> Result<Option<Items<u8>>, AllocError> {
+        let path = path_of(alloc, self.front, name)?;
+        let mut file = Flagged::new(HostFile::new(self.host, path.as_str()));
+        match read_all(alloc, &mut file) {
+            Ok(bytes) => Ok(Some(Items::of(bytes))),
+            Err(ReadFault::Input) => Ok(None),
+            Err(ReadFault::NoMemory) => Err(AllocError),
+        }
+    }
+}

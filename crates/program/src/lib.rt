@@ -1,0 +1,26 @@
+//! The program on a host, which opens files by their paths and listens on ports: from its arguments to its exit status.
+//!
+//! Proved over every host: `Program::answer` does what the arguments ask for (`answers`), and
+//! `Program::perform` what a command asks for, with the files of the names in it (`performs`). `Program::serve_map`
+//! listens on the two ports of a service, and serves the map as it begins there: the `Ending` has what was served. `HostFile`
+//! and `HostFolder` give the bytes that the host is known to have.
+//!
+//! `SystemHost` is the machine that the program runs on. Nothing is known of what its files and sockets give.
+#![tactic(auto)]
+
+mod arguments;
+mod ending;
+mod explaining;
+mod files;
+mod host;
+mod performing;
+mod program;
+mod serving;
+mod system;
+
+pub use arguments::ArgumentsUnread;
+pub use ending::Ending;
+pub use files::{HostFile, HostFolder};
+pub use host::{Files, Host, ListenFailed};
+pub use program::Program;
+pub use system::{SystemHost, read_arguments};

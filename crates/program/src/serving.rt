@@ -1,0 +1,61 @@
+ghost use Rattle.std.specs.Prelude.{◌≡◌, IfErr, IfOk, true};
+ghost use Rattle.program.specs.Performing.{HostView, IsOfAdministrators, IsOfClients, ServesMap};
+ghost use Rattle.service.specs.Serving.{is_service_failure};
+ghost use Rattle.service.specs.declared.limits.Waits.{Waits as WaitsOf};
+
+use crate::ending::Ending;
+use crate::host::{Files, Host, ListenFailed};
+use crate::program::Program;
+use commandline::Service;
+use console::{Failure, Writes};
+use mapdefs::Map;
+use mapmachine::Machine;
+use service::{Network, Port, PortFor, Ports, Runtime, Waits, serve_by_threads};
+use streams::Sink;
+
+// A port of a host by its number.
+fn listen_on<H: Host>(host: &H, port: u16, waits: Waits) -> Result<H::Port, Failure>
+    ensures listens { IfOk result (λ p. H.listens host.now port waits p) }
+    ensures failed { IfErr result (λ failure. is_service_failure failure ≡ true) }
+{
+    match host.listen(port, waits) {
+        Ok(listened) => Ok(listened),
+        Err(ListenFailed { cause }) => Err(Failure::ListenFailed { port, cause }),
+    }
+}
+
+// The two ports of a service.
+fn listen<H: Host>(host: &H, service: Service) -> Result<Ports<H::Port, H::Waker>, Failure>
+    ensures clients { IfOk result (λ ports. (waits : WaitsOf) × IsOfClients service waits × H.listens host.now service.port waits ports.clients.port) }
+    ensures administration { IfOk result (λ ports. (waits : WaitsOf) × IsOfAdministrators waits × H.listens host.now service.admin_port waits ports.administration.port) }
+    ensures service { IfOk result (λ ports. ports.service ≡ service) }
+    ensures failed { IfErr result (λ failure. is_service_failure failure ≡ true) }
+{
+    let clients = listen_on(host, service.port, Waits::of(service))?;
+    let administration = listen_on(host, service.admin_port, Waits::of_administration())?;
+    let waker = host.waker(&administration);
+    Ok(Ports {
+        clients: PortFor::new(clients),
+        administration: PortFor::new(administration),
+        waker,
+        service,
+    })
+}
+
+impl<R: Runtime, H: Host> Program<'_, R, H> {
+    /// Listens on two ports, and serves a map there, as it begins.
+    pub fn serve_map<O: Sink>(&self, map: Map, service: Service, output: &mut O) -> Ending<H::Port>
+        ensures { ServesMap (record { file = H.Files.file self.now.host.now; listens = H.listens self.now.host.now; address = H.Port.address }) map service result
+            (⟦<O as Writes>⟧.state output.old) (⟦<O as Writes>⟧.state output.new) }
+    {
+        let Ok(machine) = Machine::open(self.rt.alloc(), map) else {
+            return Ending::after(Err(Failure::NoMemory));
+        };
+        match listen(self.host, service) {
+            Ok(ports) => Ending::of_service(serve_by_threads::<R, H, O>(
+                &self.rt, machine, ports, output,
+            )),
+            Err(failure) => Ending::after(Err(failure)),
+        }
+    }
+}

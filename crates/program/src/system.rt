@@ -1,0 +1,83 @@
+ghost use Rattle.std.specs.Prelude.{None};
+
+use crate::arguments::ArgumentsUnread;
+use crate::host::{Files, Host, ListenFailed};
+use console::ListenCause;
+use service::{Network, SocketConnection, SocketPort, SocketWaker, Waits};
+use std::fs::{self, File};
+use std::net::{Ipv4Addr, TcpListener};
+use std::{env, io};
+
+/// The machine that the program runs on: its files, and the ports of 127.0.0.1.
+#[derive(Drop)]
+pub struct SystemHost {
+    rt: HostRuntime,
+}
+
+impl SystemHost {
+    /// The machine of a runtime.
+    pub fn new(rt: &HostRuntime) -> Self {
+        SystemHost { rt: *rt }
+    }
+}
+
+impl Network for SystemHost {
+    type Connection = SocketConnection;
+
+    type Port = SocketPort;
+
+    type Waker = SocketWaker;
+}
+
+impl Files for SystemHost {
+    type File = File;
+
+    ghost file = { λ _ _. None };
+
+    fn open(&self, path: &str) -> io::Result<File> {
+        fs::open(&self.rt, path)
+    }
+}
+
+impl Host for SystemHost {
+    ghost listens = { λ _ _ _ _. Unit {0} };
+
+    fn listen(&self, number: u16, waits: Waits) -> Result<SocketPort, ListenFailed> {
+        match TcpListener::bind(&self.rt, (Ipv4Addr::LOCALHOST, number)) {
+            Ok(listener) => match SocketPort::new(&self.rt, listener, waits) {
+                Ok(port) => Ok(port),
+                Err(_) => Err(ListenFailed {
+                    cause: ListenCause::Other,
+                }),
+            },
+            Err(error) => Err(ListenFailed {
+                cause: cause_of(error.kind()),
+            }),
+        }
+    }
+
+    fn waker(&self, port: &SocketPort) -> Option<SocketWaker> {
+        port.waker()
+    }
+}
+
+// Why a port can't be listened on, by what the system says.
+fn cause_of(kind: io::ErrorKind) -> ListenCause {
+    match kind {
+        io::ErrorKind::AddrInUse => ListenCause::Taken,
+        io::ErrorKind::PermissionDenied => ListenCause::NotAllowed,
+        _ => ListenCause::Other,
+    }
+}
+
+/// The arguments after the program's name.
+pub fn read_arguments(rt: &HostRuntime) -> Result<Vec<String>, ArgumentsUnread> {
+    match env::args(rt) {
+        Ok(arguments) => match arguments.skip(1).collect(rt.alloc()) {
+            Ok(arguments) => Ok(arguments),
+            Err(_) => Err(ArgumentsUnread::NoMemory),
+        },
+        Err(error) if error.kind() == io::ErrorKind::InvalidData => Err(ArgumentsUnread::NoText),
+        Err(_) => Err(ArgumentsUnread::NoMemory),
+    }
+}

@@ -1,0 +1,5 @@
+pub mod Administering
+pub mod Closing
+pub mod Ports
+pub mod Serving
+pub mod Times

@@ -1,0 +1,60 @@
+-- How a service begins and ends (docs/PROFILE.md, "The program").
+use Rattle.std.specs.Prelude.{◌≡◌, ◌⊎◌, ◌++◌, ℕ, Bool, true, false, List, Option, IfSome, Ok, Err, MatchResult, codes}
+use Rattle.batches.specs.Batch.{State}
+use Rattle.commandline.specs.declared.subcommand.Service.{Service}
+use Rattle.console.specs.Streams.{Outcome, WriterState, IsWritten}
+use Rattle.console.specs.declared.failure.Failure.{Failure}
+use Rattle.console.specs.declared.failure.Failure.TheVariants.{ListenFailed, SocketFailed, NoMemory}
+
+-- what was served: the machine whose map it was, as it began, the ports of clients and of administration, how it was asked for, and how it ended
+pub record ServedValue (P : Type 0) : Type 0 where
+  pub machine : State
+  pub clients : P
+  pub administration : P
+  pub service : Service
+  pub outcome : Outcome
+
+-- why there is no service, or it ended early: a port or a thread failed, or memory was refused
+abbrev pub is_service_failure : Failure → Bool
+is_service_failure (ListenFailed port cause) = true
+is_service_failure SocketFailed = true
+is_service_failure NoMemory = true
+is_service_failure failure = false
+
+-- so it ended
+abbrev pub fails_service : Outcome → Bool
+fails_service (Ok done) = false
+fails_service (Err failure) = is_service_failure failure
+
+-- the line that says where the ports of a service are, that of clients first
+abbrev pub addresses_line : List ℕ → List ℕ → List ℕ
+addresses_line clients administration = codes "listening " ++ (clients ++ (codes " " ++ (administration ++ codes "\n")))
+
+-- two addresses are those of two ports, where these are known
+abbrev pub AreAddresses : Option (List ℕ) → Option (List ℕ) → List ℕ → List ℕ → Type 0
+AreAddresses clients administration first second = IfSome clients (λ known. first ≡ known) × IfSome administration (λ known. second ≡ known)
+
+-- that line was written to the output, with the addresses of both ports
+abbrev pub HasWrittenAddresses : Outcome → Option (List ℕ) → Option (List ℕ) → WriterState → WriterState → Type 0
+HasWrittenAddresses outcome clients administration old new =
+    (first second : List ℕ) × AreAddresses clients administration first second × IsWritten outcome old new (addresses_line first second)
+
+-- nothing was written, for want of a port's address, a port, a thread or memory
+abbrev pub IsUnserved : Outcome → WriterState → WriterState → Type 0
+IsUnserved outcome old new = (fails_service outcome ≡ true) × (new ≡ old)
+
+-- writing where two ports are had this outcome
+abbrev pub WritesAddresses : Outcome → Option (List ℕ) → Option (List ℕ) → WriterState → WriterState → Type 0
+WritesAddresses outcome clients administration old new =
+    HasWrittenAddresses outcome clients administration old new ⊎ IsUnserved outcome old new
+
+-- how it ended after the addresses were written: well, or for want of a port, a thread or memory; no mapfile is to blame, and no
+-- argument. It ends as writing them did, where that failed
+abbrev pub GoesOnAfter : Outcome → Outcome → Type 0
+GoesOnAfter (Ok done) outcome = MatchResult outcome (λ _. Unit {0}) (λ failure. is_service_failure failure ≡ true)
+GoesOnAfter (Err failure) outcome = outcome ≡ Err failure
+
+-- where the two ports of a service are was written once, and it went on after that; or it failed before
+abbrev pub HasAnnounced : Option (List ℕ) → Option (List ℕ) → Outcome → WriterState → WriterState → Type 0
+HasAnnounced clients administration outcome old new =
+    IsUnserved outcome old new ⊎ ((said : Outcome) × HasWrittenAddresses said clients administration old new × GoesOnAfter said outcome)

@@ -1,0 +1,88 @@
+ghost use Rattle.std.specs.Prelude.{◌≡◌, ◌-◌, Some, false, option_map, MatchOption};
+ghost use Rattle.service.specs.Ports.{HasEnded, HasOpened, wanted_of};
+
+use crate::port::Port;
+use workers::Streams;
+
+// How many calls for a connection fail one after the other, until the port is given up.
+const MAX_FAILURES: u32 = 100;
+
+// How many are wanted after one has come.
+fn one_less(wanted: Option<u32>) -> Option<u32>
+    ensures { result ≡ option_map (λ n. n - 1) wanted }
+{
+    match wanted {
+        Some(wanted) => Some(wanted.saturating_sub(1)),
+        None => None,
+    }
+}
+
+/// The connections of a port, up to the last that is wanted.
+#[derive(Drop)]
+pub struct Accepting<P> {
+    port: P,
+    // How many are still wanted, where there is an end.
+    wanted: Option<u32>,
+    is_given_up: bool,
+}
+
+impl<P> Accepting<P> {
+    /// So many connections of a port, or all that come where that is 0.
+    pub fn new(port: P, connections: u32) -> Self
+        ensures port { result.port ≡ port }
+        ensures wanted { result.wanted ≡ wanted_of connections }
+        ensures kept { result.is_given_up ≡ false }
+    {
+        Accepting {
+            port,
+            wanted: if connections == 0 {
+                None
+            } else {
+                Some(connections)
+            },
+            is_given_up: false,
+        }
+    }
+
+    /// Whether the port was given up.
+    pub fn is_given_up(&self) -> bool
+        ensures { result ≡ self.now.is_given_up }
+    {
+        self.is_given_up
+    }
+
+    /// The next connection. A call for one that fails is made again, and doesn't count; where 100 of them fail one
+    /// after the other, the port is given up. There is none after that, and none after the last that is wanted.
+    pub fn accept<C>(&mut self) -> Option<C>
+    where
+        P: Port<C>,
+        ensures accepts { MatchOption result
+            (HasEnded self.old.wanted (P.log self.old.port) (P.log self.new.port) self.new.wanted self.new.is_given_up)
+            (λ _. HasOpened self.old.wanted (P.log self.old.port) (P.log self.new.port) self.new.wanted) }
+        ensures kept { MatchOption result
+            (self.old.wanted ≡ Some 0 → self.new.is_given_up ≡ self.old.is_given_up)
+            (λ _. self.new.is_given_up ≡ self.old.is_given_up) }
+    {
+        if self.wanted == Some(0) {
+            return None;
+        }
+        for _ in 0..MAX_FAILURES {
+            if let Ok(connection) = self.port.accept() {
+                self.wanted = one_less(self.wanted);
+                return Some(connection);
+            }
+        }
+        self.is_given_up = true;
+        None
+    }
+}
+
+impl<C, P: Port<C>> Streams<C> for Accepting<P> {
+    ghost use Rattle.std.specs.Prelude.{◌≡◌, ◌⊎◌, Some, true};
+
+    ghost ended = { λ a. (a.wanted ≡ Some 0) ⊎ (a.is_given_up ≡ true) };
+
+    fn next(&mut self) -> Option<C> {
+        self.accept()
+    }
+}

@@ -1,0 +1,53 @@
+ghost use Rattle.std.specs.Prelude.{◌≡◌, ◌||◌, ◌≤◌, IsSome, None, true};
+ghost use Rattle.service.specs.Closing.{HasDrained};
+
+use httpedge::EdgeFault;
+use streams::Source;
+
+/// How many bytes of a client are read and dropped after its answer, at most.
+pub const DRAINED: usize = 1_048_576;
+
+// How many bytes are read at once, at most.
+const PIECE: usize = 65_536;
+
+/// A side of a connection that can be closed by itself.
+pub trait Closing {
+    ghost use Rattle.std.specs.Prelude.{Bool};
+
+    // Whether it was closed.
+    ghost is_shut: { Self → Bool };
+
+    /// Closes it.
+    fn shut(&mut self)
+        ensures { is_shut self.new ≡ true };
+}
+
+/// Reads and drops what a client still sends, up to its end, up to 1 MiB, or until the reader fails.
+pub fn drain<R: Source>(reader: &mut R)
+    ensures { HasDrained (R.left reader.old) (R.left reader.new) (R.take_failed reader.new) }
+{
+    let mut room = [0; PIECE];
+    let mut left = DRAINED;
+    while left > 0 {
+        match reader.take(&mut room[..left.min(PIECE)]) {
+            Ok(0) => return,
+            Ok(count) => left -= count,
+            Err(_) => return,
+        }
+    }
+}
+
+/// Ends an exchange, which had that fault or none. After an answer it closes the writing side, so that the client sees the
+/// end, and reads what the client still sends: bytes that stand unread would have the system throw away what the
+/// client hasn't read yet. After a fault there is nothing to save.
+pub fn hang_up<R: Source, C: Closing>(reader: &mut R, writer: &mut C, fault: Option<EdgeFault>)
+    ensures shut { fault ≡ None → C.is_shut writer.new ≡ true }
+    ensures drained { fault ≡ None → HasDrained (R.left reader.old) (R.left reader.new) (R.take_failed reader.new) }
+    ensures reader_kept { IsSome fault → reader.new ≡ reader.old }
+    ensures writer_kept { IsSome fault → writer.new ≡ writer.old }
+{
+    if fault.is_none() {
+        writer.shut();
+        drain(reader);
+    }
+}

@@ -1,0 +1,37 @@
+//! The service: what `serve` does once it has a map. Workers answer the connections of clients, and an administrator's
+//! batches are taken at a second port.
+//!
+//! Proved: `Accepting::accept` gives connections up to the last that is wanted, or up to 100 calls that fail one after the
+//! other. `hang_up` closes the writing side of a connection after its answer and reads what still comes, up to a limit. `serve_by_threads`
+//! writes where the ports are once, and ends as that did, or for want of a port, a thread or memory (`announced`); what it
+//! gives says which map it served, and where (`served`). What its threads do is said of each connection by `serve_connection` of `workers` and
+//! `administer` of `administration`. How long a connection may take is said by `TimeLimit`, and kept by `TimedReader` and
+//! `TimedWriter`.
+//!
+//! Words: a *port* is where connections come from. Its *events* are the calls for a connection that failed, and the
+//! connections that were opened.
+#![tactic(auto)]
+
+mod accepting;
+mod announcing;
+mod closing;
+mod limits;
+mod port;
+mod served;
+mod serving;
+mod sockets;
+mod threaded;
+mod timed;
+
+pub use accepting::Accepting;
+pub use closing::{Closing, DRAINED, drain, hang_up};
+pub use limits::{
+    ADMINISTRATION_SECONDS, ANSWER_TIMES, DRAIN_SECONDS, FAILURE_MILLISECONDS,
+    TURNED_AWAY_MILLISECONDS, TimeLimit, WRITE_SECONDS, Waits,
+};
+pub use port::{AcceptFailed, AddressFault, Port, Wakes};
+pub use served::Served;
+pub use serving::{Administrators, Clients, Network, PortFor, Ports, Runtime};
+pub use sockets::{SocketConnection, SocketPort, SocketWaker};
+pub use threaded::serve_by_threads;
+pub use timed::{Answered, TimedReader, TimedWriter};

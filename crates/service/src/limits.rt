@@ -1,0 +1,106 @@
+ghost use Rattle.std.specs.Prelude.{◌≡◌, ◌*◌, option_map};
+ghost use Rattle.std.specs.Duration.{as_nanos};
+ghost use Rattle.std.specs.Time.{instant_nanos};
+ghost use Rattle.service.specs.Times.{IsLeft};
+
+use commandline::Service;
+use std::io;
+use std::rt::Clock;
+use std::time::{Duration, Instant};
+
+/// How often the time that an answer may stand still fits into the time that it may take in all.
+pub const ANSWER_TIMES: u32 = 20;
+
+/// How many seconds a write waits, until it is made again or says how many bytes went.
+pub const WRITE_SECONDS: u64 = 1;
+
+/// For how many seconds in all is read what a client still sends after its answer.
+pub const DRAIN_SECONDS: u64 = 2;
+
+/// How many connections of a port wait for a worker. While so many wait, no further one is taken.
+pub const MAX_WAITING: u32 = 512;
+
+/// How many milliseconds pass between two looks whether fewer wait.
+pub const WAITING_MILLISECONDS: u64 = 1;
+
+/// For how many milliseconds in all that is read of a client that is turned away.
+pub const TURNED_AWAY_MILLISECONDS: u64 = 20;
+
+/// How many milliseconds are waited after a call for a connection has failed.
+pub const FAILURE_MILLISECONDS: u64 = 10;
+
+/// How many seconds an administrator may be silent, and how many a command may take.
+pub const ADMINISTRATION_SECONDS: u64 = 600;
+
+/// How long the calls of a connection may wait.
+#[derive(Clone, Copy)]
+pub struct Waits {
+    /// A read that follows an answer.
+    pub idle: Duration,
+    /// A head in all, from its first bytes on, or from the opening of its connection; and an answer of which the client
+    /// takes nothing.
+    pub timeout: Duration,
+}
+
+impl Waits {
+    /// Those that a service asks for.
+    pub fn of(service: Service) -> Self
+        ensures idle { as_nanos result.idle ≡ 1000000 * service.idle }
+        ensures timeout { as_nanos result.timeout ≡ 1000000000 * service.timeout }
+    {
+        Waits {
+            idle: Duration::from_millis(u64::from(service.idle)),
+            timeout: Duration::from_secs(u64::from(service.timeout)),
+        }
+    }
+
+    /// Those of an administrator.
+    pub fn of_administration() -> Self
+        ensures idle { as_nanos result.idle ≡ 1000000000 * 600 }
+        ensures timeout { as_nanos result.timeout ≡ 1000000000 * 600 }
+    {
+        Waits {
+            idle: Duration::from_secs(ADMINISTRATION_SECONDS),
+            timeout: Duration::from_secs(ADMINISTRATION_SECONDS),
+        }
+    }
+}
+
+/// A time that began at an instant.
+#[derive(Clone, Copy)]
+pub struct TimeLimit {
+    began: Instant,
+    whole: Duration,
+}
+
+impl TimeLimit {
+    /// So long, beginning at an instant.
+    pub fn new(began: Instant, whole: Duration) -> Self
+        ensures { result ≡ record { began = began; whole = whole } }
+    {
+        TimeLimit { began, whole }
+    }
+
+    /// So long from now on.
+    pub fn start(clock: &impl Clock, whole: Duration) -> io::Result<Self> {
+        Ok(TimeLimit::new(Instant::now(clock)?, whole))
+    }
+
+    /// How much of it is left at an instant, where any is.
+    pub fn left_at(self, now: Instant) -> Option<Duration>
+        ensures { IsLeft (instant_nanos self.began) (as_nanos self.whole) (instant_nanos now) (option_map as_nanos result) }
+    {
+        match self.whole.checked_sub(now.duration_since(self.began)) {
+            Some(left) if !left.is_zero() => Some(left),
+            _ => None,
+        }
+    }
+
+    /// How much of it is left now. Where none is, that is an error.
+    pub fn left(self, clock: &impl Clock) -> io::Result<Duration> {
+        match self.left_at(Instant::now(clock)?) {
+            Some(left) => Ok(left),
+            None => Err(io::Error::from(io::ErrorKind::TimedOut)),
+        }
+    }
+}

@@ -1,0 +1,49 @@
+ghost use Rattle.std.specs.Prelude.{◌≡◌, [], ◌∷◌, IfOk, IfSome, OnErr, OnOk};
+ghost use Rattle.service.specs.Ports.{Failed, Opened, Notes};
+
+use mapdefs::Text;
+use std::alloc::Global;
+use thiserror::Error;
+
+/// No connection came from a port.
+#[derive(Clone, Copy, Debug, Error)]
+#[error("no connection came")]
+pub struct AcceptFailed;
+
+/// Why the address of a port can't be told.
+#[derive(Clone, Copy, Debug, Error)]
+pub enum AddressFault {
+    /// The port doesn't tell it.
+    #[error("the port has no address")]
+    Unknown,
+    /// Memory was refused for its text.
+    #[error("out of memory")]
+    NoMemory,
+}
+
+/// What ends a wait for a connection.
+pub trait Wakes {
+    /// Opens a connection to the port, so that whoever waits for one there goes on.
+    fn wake(&self);
+}
+
+/// Where connections come from, which are of the type C.
+pub trait Port<C> {
+    ghost use Rattle.std.specs.Prelude.{ℕ, List, Option};
+    ghost use Rattle.service.specs.Ports.{PortEvent};
+
+    // What has happened so far, where that is known.
+    ghost log: { Self → Option (List PortEvent) };
+
+    // The text of the address, where it is known.
+    ghost address: { Self → Option (List ℕ) };
+
+    /// Where the port is.
+    fn address(&self, alloc: Global) -> Result<Text, AddressFault>
+        ensures { IfOk result (λ text. IfSome (address self.now) (λ known. text ≡ known)) };
+
+    /// Waits for the next connection.
+    fn accept(&mut self) -> Result<C, AcceptFailed>
+        ensures opened { OnOk result (Notes (log self.old) (log self.new) (Opened ∷ [])) }
+        ensures failed { OnErr result (Notes (log self.old) (log self.new) (Failed ∷ [])) };
+}

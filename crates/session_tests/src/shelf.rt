@@ -1,0 +1,295 @@
+//! A host in memory: its files, and ports at which letters happen.
+
+ghost use Rattle.std.specs.Prelude.{None};
+
+use crate::memory::{Memory, stream_of};
+use crate::ports::{LAST, RESPONSE};
+use console::ListenCause;
+use httpedge::{Asks, EdgeFault};
+use mapdefs::Text;
+use program::{Files, Host, ListenFailed};
+use service::{AcceptFailed, AddressFault, Network, Port, Waits, Wakes};
+use std::alloc::{AllocError, Global};
+use std::io::{self, Write};
+use std::sync::Arc;
+use std::sync::atomic::{AtomicU64, Ordering};
+use std::thread;
+use std::time::Duration;
+use streams::Flagged;
+use workers::{Connection, NothingLeft, Opens, Sides, serve_one};
+
+/// How many connections of clients were answered, how many were given up since nothing could be read, how many of
+/// administrators were told that nothing is pending, and how often the wait at a port was ended.
+#[derive(Drop)]
+pub struct Counts {
+    /// Connections that were answered.
+    pub answered: AtomicU64,
+    /// Connections that were given up unread.
+    pub unread: AtomicU64,
+    /// Connections of administrators.
+    pub idle: AtomicU64,
+    /// Ends of a wait.
+    pub woken: AtomicU64,
+}
+
+// What a client gets, and where it is counted.
+#[derive(Drop)]
+pub struct Counted {
+    memory: Memory<'static>,
+    counts: Arc<Counts, Global>,
+}
+
+impl Write for Counted {
+    fn write(&mut self, bytes: &[u8]) -> io::Result<usize> {
+        self.memory.write(bytes)
+    }
+
+    fn flush(&mut self) -> io::Result<()> {
+        self.memory.flush()
+    }
+}
+
+// Counts the end of a connection whose client got these bytes.
+fn count_end(counts: &Counts, held: &[u8], fault: Option<EdgeFault>) {
+    match fault {
+        None if held == RESPONSE => {
+            counts.answered.fetch_add(1, Ordering::SeqCst);
+        }
+        None if held == b"IDLE\n".as_slice() => {
+            counts.idle.fetch_add(1, Ordering::SeqCst);
+        }
+        Some(EdgeFault::Read { .. }) if held.is_empty() => {
+            counts.unread.fetch_add(1, Ordering::SeqCst);
+        }
+        _ => {}
+    }
+}
+
+/// A connection on which this is sent.
+#[derive(Drop)]
+pub struct Call {
+    sent: &'static str,
+    counts: Arc<Counts, Global>,
+}
+
+impl Opens for Call {
+    type Reader = Flagged<Memory<'static>>;
+
+    type Writer = Flagged<Counted>;
+
+    type Closed = NothingLeft;
+
+    ghost opens = { λ _ _. Unit {0} };
+
+    ghost closes = { λ _ _ _ _. Unit {0} };
+
+    fn open(self, alloc: Global) -> Option<Sides<Flagged<Memory<'static>>, Flagged<Counted>>> {
+        let Call { sent, counts } = self;
+        let memory = stream_of(alloc, "", 7, None).into_inner();
+        Some(Sides {
+            reader: stream_of(alloc, sent, 7, None),
+            writer: Flagged::new(Counted { memory, counts }),
+        })
+    }
+
+    fn close(
+        sides: Sides<Flagged<Memory<'static>>, Flagged<Counted>>,
+        fault: Option<EdgeFault>,
+    ) -> NothingLeft
+        ensures { Unit {0} }
+    {
+        let Counted { memory, counts } = sides.writer.into_inner();
+        count_end(&counts, &memory.held, fault);
+        NothingLeft
+    }
+}
+
+impl Connection for Call {
+    fn serve<A: Asks>(self, alloc: Global, asks: &mut A) {
+        serve_one(alloc, asks, self);
+    }
+
+    fn turn_away(self, _alloc: Global) {}
+}
+
+/// What ends a wait at a port, which is counted.
+#[derive(Drop)]
+pub struct Waker {
+    counts: Arc<Counts, Global>,
+}
+
+impl Wakes for Waker {
+    fn wake(&self) {
+        self.counts.woken.fetch_add(1, Ordering::SeqCst);
+    }
+}
+
+/// A port at which letters happen: `c` is a connection on which a head is sent, `r` one on which `RETRY` is, `x` one whose
+/// reader fails, `w` a call that waits until the port is woken, for ten seconds at most, and gives a connection of `RETRY`
+/// then, and any other a call that fails, as do all after the last letter. A port whose letters begin with `-` can't be woken.
+#[derive(Drop)]
+pub struct Letters {
+    rt: HostRuntime,
+    /// Where it is.
+    pub address: &'static str,
+    letters: Vec<u8>,
+    at: usize,
+    counts: Arc<Counts, Global>,
+}
+
+impl Letters {
+    // Waits until the port is woken, and says whether it was.
+    fn waits(&self) -> bool {
+        for _ in 0..10_000 {
+            if self.counts.woken.load(Ordering::SeqCst) > 0 {
+                return true;
+            }
+            thread::sleep(&self.rt, Duration::from_millis(1));
+        }
+        false
+    }
+
+    // A connection on which this is sent.
+    fn call(&self, sent: &'static str) -> Result<Call, AcceptFailed> {
+        match Arc::try_clone(&self.counts) {
+            Ok(counts) => Ok(Call { sent, counts }),
+            Err(_) => Err(AcceptFailed),
+        }
+    }
+}
+
+impl Port<Call> for Letters {
+    ghost log = { λ _. None };
+
+    ghost address = { λ _. None };
+
+    fn address(&self, alloc: Global) -> Result<Text, AddressFault> {
+        match Text::from_str(alloc, self.address) {
+            Ok(text) => Ok(text),
+            Err(_) => Err(AddressFault::NoMemory),
+        }
+    }
+
+    fn accept(&mut self) -> Result<Call, AcceptFailed> {
+        let letter = self.letters.get(self.at).copied();
+        self.at = self.at.saturating_add(1);
+        match letter {
+            Some(b'c') => self.call(LAST),
+            Some(b'r') => self.call("RETRY\n"),
+            Some(b'x') => self.call("!"),
+            Some(b'w') if self.waits() => self.call("RETRY\n"),
+            _ => Err(AcceptFailed),
+        }
+    }
+}
+
+// The files of a host by their paths.
+const FILES: [(&str, &str); 6] = [
+    ("a.map", "MAP END\n"),
+    ("t.map", "MAP WEB METADATA wms_title two END END END\n"),
+    ("b.txt", "QUERY a\n"),
+    (
+        "s.map",
+        "MAP SYMBOL NAME s TYPE PIXMAP\nIMAGE p.ppm END END\n",
+    ),
+    (
+        "maps/s.map",
+        "MAP SYMBOL NAME s TYPE PIXMAP\nIMAGE p.ppm END END\n",
+    ),
+    ("maps/p.ppm", "P6 1 1 255 abc"),
+];
+
+/// A host with those files, whose ports 81 and 82 have these letters. No other can be listened on.
+#[derive(Drop)]
+pub struct Shelf<'a> {
+    /// What it runs on.
+    pub rt: HostRuntime,
+    /// Where it takes memory.
+    pub alloc: Global,
+    /// The letters of port 81.
+    pub clients: &'a str,
+    /// The letters of port 82.
+    pub administration: &'a str,
+    /// What is counted.
+    pub counts: Arc<Counts, Global>,
+}
+
+impl Shelf<'_> {
+    // A port with these letters.
+    fn port(&self, address: &'static str, letters: &str) -> Result<Letters, AllocError> {
+        Ok(Letters {
+            rt: self.rt,
+            address,
+            letters: Vec::from_slice(self.alloc, letters.as_bytes())?,
+            at: 0,
+            counts: Arc::try_clone(&self.counts)?,
+        })
+    }
+}
+
+impl Network for Shelf<'_> {
+    type Connection = Call;
+
+    type Port = Letters;
+
+    type Waker = Waker;
+}
+
+impl Files for Shelf<'_> {
+    type File = Memory<'static>;
+
+    ghost file = { λ _ _. None };
+
+    fn open(&self, path: &str) -> io::Result<Memory<'static>> {
+        for (name, text) in FILES {
+            if name == path {
+                return Ok(stream_of(self.alloc, text, 7, None).into_inner());
+            }
+        }
+        Err(io::Error::from(io::ErrorKind::NotFound))
+    }
+}
+
+// That a port can't be listened on.
+fn refused<P>(cause: ListenCause) -> Result<P, ListenFailed> {
+    Err(ListenFailed { cause })
+}
+
+impl Host for Shelf<'_> {
+    ghost listens = { λ _ _ _ _. Unit {0} };
+
+    fn listen(&self, number: u16, _waits: Waits) -> Result<Letters, ListenFailed> {
+        let port = match number {
+            81 => self.port("a port", self.clients),
+            82 => self.port("another port", self.administration),
+            80 => return refused(ListenCause::NotAllowed),
+            8081 => return refused(ListenCause::Other),
+            _ => return refused(ListenCause::Taken),
+        };
+        match port {
+            Ok(port) => Ok(port),
+            Err(_) => refused(ListenCause::Other),
+        }
+    }
+
+    fn waker(&self, port: &Letters) -> Option<Waker> {
+        if port.letters.first() == Some(&b'-') {
+            return None;
+        }
+        match Arc::try_clone(&port.counts) {
+            Ok(counts) => Some(Waker { counts }),
+            Err(_) => None,
+        }
+    }
+}
+
+/// None yet.
+pub fn no_counts(alloc: Global) -> Result<Arc<Counts, Global>, AllocError> {
+    let counts = Counts {
+        answered: AtomicU64::new(0),
+        unread: AtomicU64::new(0),
+        idle: AtomicU64::new(0),
+        woken: AtomicU64::new(0),
+    };
+    Ok(Arc::new(alloc, counts)?)
+}

@@ -1,9 +1,0 @@
-pub mod Folder
-pub mod Forms
-pub mod Lines
-pub mod Missing
-pub mod Parts
-pub mod Reading
-pub mod Session
-pub mod Summary
-pub mod Told

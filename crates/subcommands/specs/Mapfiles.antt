@@ -1,0 +1,169 @@
+-- Checking a mapfile, and running a script on its map (docs/PROFILE.md, "The program").
+use Rattle.std.specs.Prelude.{◌≡◌, ◌||◌, Bool, true, false, ℕ, List, ◌++◌, Option, None, Some, IfSome, Result, Ok, Err, ◌⊎◌, codes}
+use Rattle.std.specs.Fmt.{decimal}
+use Rattle.std.specs.Io.KnownBytes.{Keeps, Appends, Consumes, IsAtEnd}
+use Rattle.console.specs.Streams.{Outcome, Streams, InputState, WriterState, IsReported, is_input_failed, is_output_failed}
+use Rattle.console.specs.declared.failure.Failure.{Failure}
+use Rattle.console.specs.declared.failure.Failure.TheVariants.{MapfileFault, FileFailed, OutputFailed, NoMemory}
+use Rattle.mapdefs.specs.declared.map.MapFields.{MapFields}
+use Rattle.batches.specs.Batch.{State}
+use Rattle.mapwords.specs.declared.fault.Fault.{Fault}
+use Rattle.mapwords.specs.declared.fault.ParseKind.TheVariants.{MissingFile}
+use Rattle.mapwords.specs.Fault.{number_of}
+use Rattle.mapfaults.specs.Warning.{warning_lines}
+use Rattle.subcommands.specs.Folder.{Giving, ComesTo}
+use Rattle.subcommands.specs.Missing.{NamesMissing}
+use Rattle.subcommands.specs.Reports.{file_fault, mapfile_fault}
+use Rattle.subcommands.specs.Session.{Ends, opened}
+use Rattle.subcommands.specs.Summary.{summary_line, HasPartlySummed}
+
+-- all of a file was read, up to its end
+pub record HasReadFile (before after : Option (List ℕ)) (bytes : List ℕ) : Type 0 where
+  pub consumed : Consumes before after bytes
+  pub end : IsAtEnd after
+
+-- the reader of a file failed
+abbrev pub is_file_failed : Failure → Bool
+is_file_failed FileFailed = true
+is_file_failed _ = false
+
+-- the reader of a file has failed where that is the outcome, or where it had before
+abbrev pub LeavesFile : {X : Type 0} → Result X Failure → InputState → InputState → Type 0
+LeavesFile (Ok x) old new = new.failed ≡ old.failed
+LeavesFile (Err failure) old new = new.failed ≡ (is_file_failed failure || old.failed)
+
+-- neither the reader of the input nor the writer of the output failed
+pub record TouchesNeither (failure : Failure) : Type 0 where
+  pub input : is_input_failed (Err failure) ≡ false
+  pub output : is_output_failed (Err failure) ≡ false
+
+-- a file was not read: that was reported by its name, or memory was refused and nothing reported
+abbrev pub IsUnread : Failure → List ℕ → WriterState → WriterState → Type 0
+IsUnread FileFailed name old new = IsReported old new (file_fault name)
+IsUnread NoMemory name old new = Keeps old.held new.held
+IsUnread _ name old new = ⊥
+
+-- a mapfile was read, and it describes a map
+pub record HasReadMap (gives : Giving) (before after : Option (List ℕ)) (map : MapFields) : Type 0 where
+  pub mapfile : List ℕ
+  pub read : HasReadFile before after mapfile
+  pub is_map : ComesTo gives mapfile (Ok map)
+
+-- what is reported of a fault: its line, and then words on it, with the name of the mapfile and the fault's line before them; or its
+-- line alone, where there are no words
+abbrev pub explained_fault : List ℕ → Fault → Option (List ℕ) → List ℕ
+explained_fault name fault None = mapfile_fault fault.line (number_of fault.kind)
+explained_fault name fault (Some words) =
+    mapfile_fault fault.line (number_of fault.kind) ++ (name ++ (codes ":" ++ (decimal fault.line ++ (codes ": " ++ (words ++ codes "\n")))))
+
+-- a mapfile was read, and its fault reported; without words where `explains` is false, where memory was refused for them, or where a file
+-- has changed since. The words on a file that can't be read name it
+pub record HasExplainedFault (gives : Giving) (explains : Bool) (name : List ℕ) (before after : Option (List ℕ)) (old new : WriterState) : Type 0 where
+  pub mapfile : List ℕ
+  pub read : HasReadFile before after mapfile
+  pub fault : Fault
+  pub is_fault : ComesTo gives mapfile (Err fault)
+  pub words : Option (List ℕ)
+  pub unasked : explains ≡ false → words ≡ None
+  pub named : fault.kind ≡ MissingFile → IfSome words (NamesMissing gives mapfile)
+  pub reported : IsReported old new (explained_fault name fault words)
+
+-- a mapfile gave no map: it has a fault, or was not read
+abbrev pub GivesNoMap : Giving → Bool → Failure → List ℕ → Option (List ℕ) → Option (List ℕ) → WriterState → WriterState → Type 0
+GivesNoMap gives explains MapfileFault name before after old new = HasExplainedFault gives explains name before after old new
+GivesNoMap gives explains failure name before after old new = IsUnread failure name old new
+
+-- nothing was reported
+pub record IsUnreported (old new : WriterState) : Type 0 where
+  pub held : Keeps old.held new.held
+  pub failed : new.failed ≡ old.failed
+  pub flushed : new.flushed ≡ old.flushed
+
+-- the warnings on the map of a mapfile are reported, or nothing is, since memory was refused for them; nothing where `explains` is false
+pub record ReportsWarnings (explains : Bool) (name : List ℕ) (map : MapFields) (old new : WriterState) : Type 0 where
+  pub reported : IsReported old new (warning_lines name map) ⊎ IsUnreported old new
+  pub unasked : explains ≡ false → IsUnreported old new
+
+-- what the output got of the line of a map, by the outcome: all of it; or exactly its first so many bytes, or all of them
+-- where the flush failed
+abbrev pub SumsUp : Outcome → MapFields → Option (List ℕ) → Option (List ℕ) → Type 0
+SumsUp (Ok done) map before after = Appends before after (summary_line map)
+SumsUp (Err OutputFailed) map before after =
+    ((written : ℕ) × HasPartlySummed map before after written) ⊎ Appends before after (summary_line map)
+SumsUp (Err _) map before after = ⊥
+
+-- a mapfile describes a map, whose line was written with this outcome, and then the warnings on it reported
+pub record IsChecked (gives : Giving) (explains : Bool) (outcome : Outcome) (name : List ℕ) (before after : Option (List ℕ)) (old new : Streams) : Type 0 where
+  pub map : MapFields
+  pub read : HasReadMap gives before after map
+  pub sums : SumsUp outcome map old.output.held new.output.held
+  pub warnings : ReportsWarnings explains name map old.errors new.errors
+
+-- what checking a mapfile makes of the streams by its outcome. `before` and `after` are what is left of the mapfile; `explains` says
+-- whether a fault is reported in words, too, and the warnings on a map whose whole line was written
+abbrev pub ChecksTo : Giving → Bool → Outcome → List ℕ → Option (List ℕ) → Option (List ℕ) → Streams → Streams → Type 0
+ChecksTo gives explains (Ok done) name before after old new = IsChecked gives explains (Ok done) name before after old new
+ChecksTo gives explains (Err OutputFailed) name before after old new = IsChecked gives false (Err OutputFailed) name before after old new
+ChecksTo gives explains (Err failure) name before after old new =
+    Keeps old.output.held new.output.held × GivesNoMap gives explains failure name before after old.errors new.errors
+
+-- what is read for a script: the bytes of the mapfile before and after, and those of the script
+pub record Readings : Type 0 where
+  pub mapfile_before : Option (List ℕ)
+  pub mapfile_after : Option (List ℕ)
+  pub script_before : Option (List ℕ)
+  pub script_after : Option (List ℕ)
+
+-- a mapfile describes a map, the warnings on it were reported, and a script was played on it with this outcome
+pub record IsRun (gives : Giving) (explains : Bool) (outcome : Outcome) (name : List ℕ) (files : Readings) (old new : Streams) : Type 0 where
+  pub map : MapFields
+  pub read : HasReadMap gives files.mapfile_before files.mapfile_after map
+  pub script : List ℕ
+  pub read_script : HasReadFile files.script_before files.script_after script
+  pub state : State
+  pub ends : Ends outcome (opened map) script state old.output.held new.output.held
+  pub warnings : ReportsWarnings explains name map old.errors new.errors
+
+-- the errors got the warnings on a map, and are in that state then
+pub record IsWarned (explains : Bool) (name : List ℕ) (map : MapFields) (old : WriterState) : Type 0 where
+  pub errors : WriterState
+  pub warnings : ReportsWarnings explains name map old errors
+
+-- a mapfile describes a map, and the warnings on it were reported, but the script was not played: it was not read, or memory was refused
+pub record IsWithoutScript (gives : Giving) (explains : Bool) (failure : Failure) (name script : List ℕ) (files : Readings) (old new : WriterState) : Type 0 where
+  pub map : MapFields
+  pub read : HasReadMap gives files.mapfile_before files.mapfile_after map
+  pub warned : IsWarned explains name map old
+  pub unread : IsUnread failure script warned.errors new
+
+-- what running a script makes of the streams by its outcome, with the names of the mapfile and of the script
+abbrev pub RunsTo : Giving → Bool → Outcome → List ℕ → List ℕ → Readings → Streams → Streams → Type 0
+RunsTo gives explains (Ok done) name script files old new = IsRun gives explains (Ok done) name files old new
+RunsTo gives explains (Err OutputFailed) name script files old new = IsRun gives explains (Err OutputFailed) name files old new
+RunsTo gives explains (Err failure) name script files old new =
+    Keeps old.output.held new.output.held
+    × (GivesNoMap gives explains failure name files.mapfile_before files.mapfile_after old.errors new.errors
+    ⊎ IsWithoutScript gives explains failure name script files old.errors new.errors)
+
+-- the errors got the warnings on a map, and then a script that was not read
+pub record ReportsScript (explains : Bool) (name script : List ℕ) (old new : WriterState) : Type 0 where
+  pub map : MapFields
+  pub warned : IsWarned explains name map old
+  pub reported : IsReported warned.errors new (file_fault script)
+
+-- a file that was not read was reported. It is the mapfile: its reader has failed, and that of the script stayed as it was, which
+-- `untouched` says; or it is the script: its reader has failed, and that of the mapfile has not
+abbrev pub ReportsUnread : Bool → List ℕ → List ℕ → WriterState → WriterState → InputState → InputState → InputState → Type 0 → Type 0
+ReportsUnread explains name script old new mapfile_before mapfile_after script_after untouched =
+    (IsReported old new (file_fault name) × (mapfile_after.failed ≡ true) × untouched)
+    ⊎ (ReportsScript explains name script old new × (script_after.failed ≡ true) × (mapfile_after.failed ≡ mapfile_before.failed))
+
+-- neither the reader of the mapfile nor that of the script has failed since
+pub record NoneFailed (mapfile_before mapfile_after script_before script_after : InputState) : Type 0 where
+  pub mapfile : mapfile_after.failed ≡ mapfile_before.failed
+  pub script : script_after.failed ≡ script_before.failed
+
+-- what an outcome leaves of the two: none has failed since, unless a file was not read
+abbrev pub LeavesFiles : Outcome → InputState → InputState → InputState → InputState → Type 0
+LeavesFiles (Ok done) a b c d = NoneFailed a b c d
+LeavesFiles (Err failure) a b c d = is_file_failed failure ≡ false → NoneFailed a b c d

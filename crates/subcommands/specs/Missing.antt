@@ -1,0 +1,47 @@
+-- The words on a file that a mapfile names and that can't be read (docs/MAPFILE.md, "Faults in words").
+use Rattle.std.specs.Prelude.{◌≡◌, ◌==◌, ◌&&◌, ◌||◌, if◌then◌else◌, ℕ, nat_lt, Bool, false, List, [], ◌∷◌, ◌++◌, find, Option, Some, Ok, codes}
+use Rattle.std.specs.Option.{is_none}
+use Rattle.mapparse.specs.declared.files.FileBytes.{FileBytes}
+use Rattle.mapparse.specs.Files.{bytes_in}
+use Rattle.mapparse.specs.Parsed.{wanted}
+use Rattle.subcommands.specs.Folder.{Giving, FilesOf}
+
+-- the byte is a character below U+0020, or U+007F
+abbrev pub is_control_byte : ℕ → Bool
+is_control_byte b = nat_lt b 32 || (b == 127)
+
+-- the bytes begin with a character from U+0080 to U+009F
+abbrev pub begins_with_late_control : List ℕ → Bool
+begins_with_late_control (a ∷ (b ∷ bs)) = (a == 194) && nat_lt b 160
+begins_with_late_control _ = false
+
+-- a name has a control character
+abbrev pub has_control : List ℕ → Bool
+has_control [] = false
+has_control (b ∷ bs) = is_control_byte b || begins_with_late_control (b ∷ bs) || has_control bs
+
+-- the words on a file that can't be read, by its name and the keyword that names it; a name with a control character isn't shown
+abbrev pub missing_words : List ℕ → List ℕ → List ℕ
+missing_words name keyword =
+    if has_control name
+    then codes "the file that " ++ (keyword ++ codes " names can't be read")
+    else codes "the file " ++ (name ++ (codes ", which " ++ (keyword ++ codes " names, can't be read")))
+
+-- a file isn't among those that are given
+abbrev pub is_missing : List FileBytes → List ℕ → Bool
+is_missing files name = is_none (bytes_in name files)
+
+-- the first of some files that isn't
+abbrev pub first_missing : List FileBytes → List (List ℕ) → Option (List ℕ)
+first_missing files names = find (is_missing files) names
+
+-- words name the first file that a mapfile wants and its folder doesn't give
+pub record NamesMissing (gives : Giving) (mapfile words : List ℕ) : Type 0 where
+  pub names : List (List ℕ)
+  pub are_wanted : wanted mapfile ≡ Ok names
+  pub files : List FileBytes
+  pub are_given : FilesOf gives names files
+  pub name : List ℕ
+  pub is_first : first_missing files names ≡ Some name
+  pub keyword : List ℕ
+  pub says : words ≡ missing_words name keyword

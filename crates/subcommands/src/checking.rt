@@ -1,0 +1,44 @@
+ghost use Rattle.std.specs.Prelude.{◌≡◌};
+ghost use Rattle.console.specs.Streams.{Leaves, LeavesOutput};
+ghost use Rattle.subcommands.specs.Mapfiles.{ChecksTo, LeavesFile, SumsUp};
+
+use crate::folder::Folder;
+use crate::job::Job;
+use crate::reading::{read_explained, report_warnings};
+use crate::summing::summary;
+use console::{Console, Failure, Reads, Terminal, Writes, flush};
+use mapdefs::Map;
+use std::alloc::Global;
+use streams::{Sink, Source};
+
+/// Writes the line of a map, and flushes it.
+pub fn sum_up<O: Sink>(map: &Map, output: &mut O) -> Result<(), Failure>
+    ensures sums { SumsUp result map.now (O.held output.old) (O.held output.new) }
+    ensures leaves { LeavesOutput result (⟦<O as Writes>⟧.state output.old) (⟦<O as Writes>⟧.state output.new) }
+{
+    match summary(map, output) {
+        Ok(()) => flush(output),
+        Err(_) => Err(Failure::OutputFailed),
+    }
+}
+
+/// Reads a mapfile up to its end, and writes the line of its map to the output, or reports its fault, or its name if it
+/// can't be read. Where the job explains, a fault is reported in words, too, and after the line of the map the warnings
+/// on it, unless memory is refused for these.
+pub fn check<F: Folder, I: Source, J: Source, O: Sink, E: Sink>(
+    alloc: Global,
+    job: &mut Job<'_, F, I>,
+    console: &mut Console<J, O, E>,
+) -> Result<(), Failure>
+    ensures checks { ChecksTo (F.gives job.old.folder.now) job.old.explains result job.old.mapfile.name.now
+        (I.left job.old.mapfile.reader) (I.left job.new.mapfile.reader)
+        (⟦<Console<J, O, E> as Terminal>⟧.streams console.old) (⟦<Console<J, O, E> as Terminal>⟧.streams console.new) }
+    ensures input { console.new.input ≡ console.old.input }
+    ensures file { LeavesFile result (⟦<I as Reads>⟧.state job.old.mapfile.reader) (⟦<I as Reads>⟧.state job.new.mapfile.reader) }
+    ensures leaves { Leaves result (⟦<Console<J, O, E> as Terminal>⟧.streams console.old) (⟦<Console<J, O, E> as Terminal>⟧.streams console.new) }
+{
+    let map = read_explained(alloc, job, &mut console.errors)?;
+    sum_up(&map, &mut console.output)?;
+    report_warnings(alloc, job, &map, &mut console.errors);
+    Ok(())
+}

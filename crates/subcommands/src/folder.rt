@@ -1,0 +1,86 @@
+ghost use Rattle.std.specs.Prelude.{◌≡◌, ℕ, List, [], ◌∷◌, ◌++◌, IfOk, OnOk};
+ghost use Rattle.mapparse.specs.Uses.{uses_of};
+ghost use Rattle.subcommands.specs.Folder.{FilesOf, IsFront, front_before, path_of};
+
+use mapdefs::{Items, Text};
+use mapparse::{Files, Mapfile};
+use std::alloc::{AllocError, Global};
+
+/// A folder, of which files are read by the names that mapfiles have for them.
+pub trait Folder {
+    ghost use Rattle.std.specs.Prelude.{ℕ, List, Option};
+
+    /// The folder gives these bytes under a name, or none where it has no such file that can be read.
+    ghost gives: { Self → List ℕ → Option (List ℕ) → Type 0 };
+
+    /// The bytes of the file of a name. There are none where it can't be read.
+    fn read(&self, alloc: Global, name: &str) -> Result<Option<Items<u8>>, AllocError>
+        ensures { IfOk result (λ bytes. gives self.now name.now bytes) };
+}
+
+/// What stands before the name of a file in its path: all up to the last slash, or nothing where there is
+/// none.
+pub fn front_of(path: &str) -> &str
+    ensures { IsFront path.now result.now }
+{
+    match path.rfind('/') {
+        Some(slash) => path.split_at(slash + 1).0,
+        None => "",
+    }
+}
+
+// What stands before a name in its path.
+fn front_before<'a>(front: &'a str, name: &str) -> &'a str
+    ensures { result.now ≡ front_before front.now name.now }
+{
+    if name.starts_with('/') { "" } else { front }
+}
+
+/// The path of a name in a folder, by what stands before the names of the folder's files: a name that begins
+/// with a slash is a path. The error is that memory was refused.
+pub fn path_of(alloc: Global, front: &str, name: &str) -> Result<Text, AllocError>
+    ensures { IfOk result (λ path. path ≡ path_of front.now name.now) }
+{
+    let front = front_before(front, name);
+    Ok(Text::of(format!(in alloc; "{front}{name}")?))
+}
+
+// Reads a file, and adds it if it can be read.
+fn add_file<F: Folder>(
+    alloc: Global,
+    folder: &F,
+    name: Text,
+    files: &mut Files,
+) -> Result<(), AllocError>
+    ensures { OnOk result ((names : List (List ℕ)) → FilesOf (F.gives folder.now) names files.old → FilesOf (F.gives folder.now) (names ++ name ∷ []) files.new) }
+{
+    match folder.read(alloc, name.as_str())? {
+        Some(bytes) => files.add(name, bytes)?,
+        None => {}
+    }
+    Ok(())
+}
+
+// Reads files by their names, in their order.
+fn read_files<F: Folder>(alloc: Global, folder: &F, names: Items<Text>) -> Result<Files, AllocError>
+    ensures { IfOk result (λ files. FilesOf (F.gives folder.now) names files) }
+{
+    let mut files = Files::new(alloc);
+    for name in names.into_vec() {
+        add_file(alloc, folder, name, &mut files)?;
+    }
+    Ok(files)
+}
+
+/// The files of a folder that a mapfile uses. A file that can't be read is left out, so that the mapfile
+/// has a fault where it is used.
+pub fn files_of<F: Folder>(
+    alloc: Global,
+    folder: &F,
+    mapfile: &Mapfile,
+) -> Result<Files, AllocError>
+    ensures { IfOk result (λ files. FilesOf (F.gives folder.now) (uses_of mapfile.now) files) }
+{
+    let names = mapfile.wanted(alloc)?;
+    read_files(alloc, folder, names)
+}

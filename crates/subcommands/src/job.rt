@@ -1,0 +1,19 @@
+/// A file that is read, and the name that it is reported by.
+#[derive(Drop)]
+pub struct NamedFile<'a, I> {
+    /// The name, as the command line has it.
+    pub name: &'a str,
+    /// The reader of its bytes.
+    pub reader: I,
+}
+
+/// What a subcommand works on: a mapfile, and the folder of the files that it names.
+#[derive(Drop)]
+pub struct Job<'a, F, I> {
+    /// The folder.
+    pub folder: &'a F,
+    /// The mapfile.
+    pub mapfile: NamedFile<'a, I>,
+    /// Whether a fault is reported in words, too, and warnings on the map.
+    pub explains: bool,
+}

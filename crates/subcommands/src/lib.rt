@@ -1,0 +1,31 @@
+//! The subcommands of the program, over its three streams: it plays sessions, checks mapfiles, and runs scripts on
+//! their maps.
+//!
+//! Proved: `session` reads its input up to the end and says by its result what was written: the whole transcript of
+//! the map machine's replies, or exactly the first bytes of it, or the fault of the mapfile (`plays`); `check` and `run`
+//! say the same of the files that they read, and which warnings are reported (`checks`, `runs`); `words_on` names the file
+//! that can't be read (`named`). `split_session` parts a session at its first line of two percent signs. `summary` says
+//! how many bytes went out where the writer fails.
+#![tactic(auto)]
+
+mod checking;
+mod folder;
+mod job;
+mod line;
+mod parts;
+mod playing;
+mod reading;
+mod reports;
+mod running;
+mod summing;
+mod words;
+
+pub use checking::check;
+pub use folder::{Folder, front_of, path_of};
+pub use job::{Job, NamedFile};
+pub use parts::split_session;
+pub use playing::session;
+pub use reading::read_map;
+pub use running::run;
+pub use scripts::play_script;
+pub use summing::summary;
