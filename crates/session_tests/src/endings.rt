@@ -74,7 +74,11 @@ pub fn ended(
     };
     let outcome = performed(alloc, form, &mut job, &mut script, &mut console);
     let (input, mapfile) = (console.input.into_inner(), job.mapfile.reader.into_inner());
-    let read = if is_session { input.calls } else { mapfile.calls };
+    let read = if is_session {
+        input.calls
+    } else {
+        mapfile.calls
+    };
     let (output, errors) = (console.output.into_inner(), console.errors.into_inner());
     let end = end_of(alloc, outcome)?;
     let text = format!(in alloc;

@@ -1,5 +1,5 @@
 use commandline::Service;
-use console::{Failure, read_all};
+use console::{Failure, ListenCause, read_all};
 use mapdefs::Map;
 use mapparse::{Files, parse};
 use program::{Files as HostFiles, Program, SystemHost};
@@ -209,17 +209,26 @@ fn a_client_that_stays_is_left(rt: HostRuntime) -> Result<(), Fail> {
     Ok(())
 }
 
-// Whether serving ended since a port can't be listened on, and how many bytes were told, where these ports are asked for.
+// Whether serving ended since a port is taken, which of the two, and how many bytes were written, where these ports are asked for.
 fn told_of_taken<R: Runtime>(
     rt: &R,
     system: &HostRuntime,
     ports: (u16, u16),
-) -> Result<(bool, usize), Fail> {
+) -> Result<(Option<u16>, usize), Fail> {
     let alloc = rt.alloc();
     let map = parse(alloc, b"MAP END", &Files::new(alloc))?;
     let service = service(ports, 1, 1);
     let (outcome, written) = served(rt, system, map, service, Vec::new(alloc));
-    Ok((matches!(outcome, Err(Failure::SocketFailed)), written.len()))
+    let taken = match outcome {
+        Err(
+            Failure::ListenFailed {
+                port,
+                cause: ListenCause::Taken,
+            },
+        ) => Some(port),
+        _ => None,
+    };
+    Ok((taken, written.len()))
 }
 
 #[test]
@@ -227,7 +236,7 @@ fn a_port_that_is_taken_is_told(rt: HostRuntime) -> Result<(), Fail> {
     let listener = TcpListener::bind(&rt, (Ipv4Addr::LOCALHOST, 0))?;
     let port = listener.local_addr()?.port();
     for ports in [(port, 0), (0, port)] {
-        assert_eq!(rt; told_of_taken(&rt, &rt, ports)?, (true, 0));
+        assert_eq!(rt; told_of_taken(&rt, &rt, ports)?, (Some(port), 0));
     }
     drop(listener);
     Ok(())
