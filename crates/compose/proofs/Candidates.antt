@@ -13,7 +13,8 @@ use Rattle.mapdefs.specs.declared.colour.Rgb.{Rgb}
 use Rattle.mapdefs.specs.declared.feature.FeatureFields.{FeatureFields}
 use Rattle.compose.specs.Near.{CandidatesPaintAll}
 use Rattle.compose.specs.Walk.{given_at}
-use Rattle.compose.proofs.Finding.{first_or, here, there}
+use Rattle.mapdefs.proofs.Containing.{first_or}
+use Rattle.compose.proofs.Finding.{here, there}
 
 -- things of which none covers the pixel leave its colour
 pub quiet : (background : Option Rgb) (things : List Thing) (i j : ℕ) → list_any (λ t. covers t i j) things ≡ false → colour_at background things i j ≡ background

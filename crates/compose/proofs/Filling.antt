@@ -199,7 +199,7 @@ filled-nothing colour a = record {
 }
 
 -- the same colour once more, or on what it didn't cover before
-cond-either : {X : Type 0} (s t : Bool) (x y : X) → cond t x (cond s x y) ≡ cond (s || t) x y
+pub cond-either : {X : Type 0} (s t : Bool) (x y : X) → cond t x (cond s x y) ≡ cond (s || t) x y
 cond-either true true x y = refl
 cond-either true false x y = refl
 cond-either false true x y = refl

@@ -1,5 +1,5 @@
 -- Filling the spans between sorted flips.
-use Rattle.std.proofs.Common.{Option, Some, ◌≡◌, ◌∙◌, ℕ, ◌+◌, ◌*◌, ◌/◌, ◌%◌, ◌<◌, Bool, true, false, ◌||◌, cond, List, [], ◌∷◌, length, refl, sym, ap, arith, inl, inr}
+use Rattle.std.proofs.Common.{Option, Some, ◌≡◌, ◌∙◌, ℕ, ◌+◌, ◌*◌, ◌/◌, ◌%◌, ◌<◌, Bool, ◌||◌, cond, List, [], ◌∷◌, length, refl, sym, ap, arith, inl, inr}
 use Rattle.std.proofs.Math.Bool.{or-false}
 use Rattle.std.proofs.lemmas.Bool.{cases_order, eq-eqb, ne_eqb}
 use Rattle.std.proofs.lemmas.Nat.{div_below, mod_below}
@@ -11,7 +11,7 @@ use Rattle.scanfill.specs.declared.row_spans.RowSpan.{RowSpan}
 use Rattle.scanfill.specs.declared.span.Span.{Span}
 use Rattle.compose.specs.Paint.{Thing, covers, colour_in}
 use Rattle.compose.specs.Painted.{HasRowsFilled, IsFilled, IsPainted, colour_of}
-use Rattle.compose.proofs.Filling.{some-columns}
+use Rattle.compose.proofs.Filling.{cond-either, some-columns}
 use Rattle.compose.proofs.Painting.{colour_at-one}
 use Rattle.compose.proofs.Sweeping.{one_colour}
 
@@ -30,12 +30,6 @@ filling-first flips colour a = record { width = refl; height = refl; area = refl
 -- the columns of a span
 abbrev pub columns-of : RowSpan → Span
 columns-of span = record { from = span.from; to = span.to }
-
-cond-either : {X : Type 0} (s t : Bool) (x y : X) → cond t x (cond s x y) ≡ cond (s || t) x y
-cond-either true true x y = refl
-cond-either true false x y = refl
-cond-either false true x y = refl
-cond-either false false x y = refl
 
 -- a span's pixels are those of its columns in its row
 span-filled : (span : RowSpan) (colour : Rgb) (b c : PictureFields) → HasRowsFilled (λ i k. is_in_spans (columns-of span ∷ []) i) (one_colour colour) span.row (span.row + 1) b c →

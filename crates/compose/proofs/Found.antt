@@ -21,7 +21,8 @@ use Rattle.compose.specs.Anchor.{shown_anchor}
 use Rattle.compose.specs.Labels.{FoundLabelAll, candidate_at, label_text, met_candidates}
 use Rattle.compose.specs.Walk.{given_at, met_feature}
 use Rattle.compose.proofs.Candidates.{AreFrom, at-start, first-below, first-least, one-on}
-use Rattle.compose.proofs.Finding.{first_or, here, there}
+use Rattle.mapdefs.proofs.Containing.{first_or}
+use Rattle.compose.proofs.Finding.{here, there}
 use Rattle.compose.proofs.NearAnchors.{anchors-near}
 use Rattle.compose.proofs.Walking.{nested}
 

@@ -1,29 +1,27 @@
 -- Points all round a pixel that a line covers.
-use Rattle.std.proofs.Common.{◌≡◌, ◌∙◌, ℕ, ◌+◌, ◌*◌, ◌<◌, ◌≤◌, Bool, true, false, ◌||◌, if◌then◌else◌, List, [], ◌∷◌, map, refl, ap, sym, arith, ⊎_elim}
-use Rattle.std.proofs.lemmas.Bool.{and_from, and_left, and_right}
+use Rattle.std.proofs.Common.{◌≡◌, ◌∙◌, ℕ, ◌+◌, ◌*◌, ◌<◌, ◌≤◌, Bool, true, false, ◌||◌, List, [], ◌∷◌, map, refl, ap, sym, arith, ⊎_elim}
+use Rattle.std.proofs.lemmas.Bool.{and_from}
 use Rattle.std.proofs.lemmas.Int.{ints}
 use Rattle.std.proofs.lemmas.List.Folds.{Any-from_list_any, list_any-append}
 use Rattle.std.specs.List.{flat_map, list_any}
 use Rattle.std.specs.Prelude.{int_le, int_lt}
-use lib.IntN.{ℤ, pos, neg_ℤ, ◌+ℤ◌, ◌-ℤ◌}
+use lib.IntN.{pos, neg_ℤ, ◌+ℤ◌, ◌-ℤ◌}
 use lib.Signed.{◌<ℤ◌, ◌≤ℤ◌}
-use Rattle.geom.proofs.Products.{is_not_le, le_of, not_le_of}
+use Rattle.geom.proofs.Products.{is_lt, le_of, not_le_of}
 use Rattle.geom.specs.Device.{DevicePoint, pixel_centre}
 use Rattle.geom.specs.Edge.{EdgeEnds, low_end, high_end}
 use Rattle.geom.specs.World.{Place}
 use Rattle.strokes.proofs.Beyond.{beyond-covers}
+use Rattle.strokes.proofs.Short.{or-cases}
+use Rattle.strokes.proofs.Sides.{above-rows, below-rows, both-ends, either-way, right-rows}
 use Rattle.strokes.specs.Line.{covers_centre, covers_pixel, edges_of, line_of, segment_along, segments_of, square_at}
-use Rattle.strokes.specs.Segment.{are_left_of, are_right_of, covers_by_rows, covers_segment, is_between, is_near, is_steep, turned, turned_edge}
+use Rattle.strokes.specs.Segment.{are_left_of, are_right_of, covers_by_rows, covers_segment, turned, turned_edge}
 use Rattle.strokes.specs.Square.{covers_square}
 use Rattle.viewport.specs.View.{ViewValue, device_point}
 use Rattle.compose.proofs.NearBoxes.{AreRound}
 use Rattle.compose.proofs.NearEdges.{FailsBetween, parts-fail}
-use Rattle.compose.proofs.Finding.{any-weaker, must-pass, or_cases}
-use Rattle.compose.proofs.NearShapes.{both-ends, by-round, square-by}
-
--- a number is less than another
-is_lt : (a b : ℤ) → a <ℤ b → int_lt a b ≡ true
-is_lt a b h = sym (omega (arith, ints))
+use Rattle.compose.proofs.Finding.{any-weaker, must-pass}
+use Rattle.compose.proofs.NearShapes.{by-round, square-by}
 
 -- a segment covers no point by its rows that lies beyond both ends
 right-covers : (w : ℕ) (e : EdgeEnds) (p : DevicePoint) → (p.x +ℤ pos (8 * w)) <ℤ (low_end e).x → (p.x +ℤ pos (8 * w)) <ℤ (high_end e).x → covers_by_rows w e p ≡ false
@@ -35,55 +33,30 @@ right-covers w e p a b =
     or-right true t h = refl
     or-right false t h = h
 
-left-covers : (w : ℕ) (e : EdgeEnds) (p : DevicePoint) → (low_end e).x <ℤ (p.x -ℤ pos (8 * w)) → (high_end e).x <ℤ (p.x -ℤ pos (8 * w)) → covers_by_rows w e p ≡ false
-left-covers w e p a b =
-    beyond-covers w e p.x p.y (or-left (are_left_of e (p.x -ℤ pos (8 * w))) (are_right_of e (p.x +ℤ pos (8 * w)))
-    (and_from (int_lt (low_end e).x (p.x -ℤ pos (8 * w))) (int_lt (high_end e).x (p.x -ℤ pos (8 * w))) (is_lt _ _ a) (is_lt _ _ b)))
-  where
-    or-left : (s t : Bool) → s ≡ true → (s || t) ≡ true
-    or-left s t h = rw h refl
-
-above-covers : (w : ℕ) (e : EdgeEnds) (p : DevicePoint) → p.y <ℤ (low_end e).y → covers_by_rows w e p ≡ false
-above-covers w e p a =
-    and_left (is_between e p.y) (is_near w e p) (and_left (int_le (low_end e).y p.y) (int_le p.y (high_end e).y) (is_not_le (low_end e).y p.y a))
-
-below-covers : (w : ℕ) (e : EdgeEnds) (p : DevicePoint) → (high_end e).y <ℤ p.y → covers_by_rows w e p ≡ false
-below-covers w e p a =
-    and_left (is_between e p.y) (is_near w e p) (and_right (int_le (low_end e).y p.y) (int_le p.y (high_end e).y) (is_not_le p.y (high_end e).y a))
-
--- by its rows or by its columns
-either : (w : ℕ) (e : EdgeEnds) (p : DevicePoint) → covers_by_rows w e p ≡ false → covers_by_rows w (turned_edge e) (turned p) ≡ false → covers_segment w e p ≡ false
-unfolding covers_segment
-either w e p a b = go (is_steep e) refl
-  where
-    go : (t : Bool) → is_steep e ≡ t → (if t then covers_by_rows w e p else covers_by_rows w (turned_edge e) (turned p)) ≡ false
-    go true h = a
-    go false h = b
-
 -- where both ends lie on one side of a point, by more than half the width, the segment doesn't cover it
 pub right-segment : (w : ℕ) (p : DevicePoint) → FailsBetween (λ v. int_le v.x (p.x +ℤ pos (8 * w))) (λ e. covers_segment w e p)
 right-segment w p e a b =
     let ends = both-ends (λ v. (p.x +ℤ pos (8 * w)) <ℤ v.x) e (not_le_of e.from.x (p.x +ℤ pos (8 * w)) a) (not_le_of e.to.x (p.x +ℤ pos (8 * w)) b) in
     let turn = both-ends (λ v. (p.x +ℤ pos (8 * w)) <ℤ v.y) (turned_edge e) ends.0 ends.1 in
-    either w e p (right-covers w e p ends.0 ends.1) (above-covers w (turned_edge e) (turned p) (omega (arith, ints, turn.0)))
+    either-way w e p (right-covers w e p ends.0 ends.1) (above-rows w (turned_edge e) (turned p) (omega (arith, ints, turn.0)))
 
 pub left-segment : (w : ℕ) (p : DevicePoint) → FailsBetween (λ v. int_le (p.x -ℤ pos (8 * w)) v.x) (λ e. covers_segment w e p)
 left-segment w p e a b =
     let ends = both-ends (λ v. v.x <ℤ (p.x -ℤ pos (8 * w))) e (not_le_of (p.x -ℤ pos (8 * w)) e.from.x a) (not_le_of (p.x -ℤ pos (8 * w)) e.to.x b) in
     let turn = both-ends (λ v. v.y <ℤ (p.x -ℤ pos (8 * w))) (turned_edge e) ends.0 ends.1 in
-    either w e p (left-covers w e p ends.0 ends.1) (below-covers w (turned_edge e) (turned p) (omega (arith, ints, turn.1)))
+    either-way w e p (right-rows w e p ends.0 ends.1) (below-rows w (turned_edge e) (turned p) (omega (arith, ints, turn.1)))
 
 pub bottom-segment : (w : ℕ) (p : DevicePoint) → FailsBetween (λ v. int_le v.y (p.y +ℤ pos (8 * w))) (λ e. covers_segment w e p)
 bottom-segment w p e a b =
     let ends = both-ends (λ v. (p.y +ℤ pos (8 * w)) <ℤ v.y) e (not_le_of e.from.y (p.y +ℤ pos (8 * w)) a) (not_le_of e.to.y (p.y +ℤ pos (8 * w)) b) in
     let turn = both-ends (λ v. (p.y +ℤ pos (8 * w)) <ℤ v.x) (turned_edge e) ends.0 ends.1 in
-    either w e p (above-covers w e p (omega (arith, ints, ends.0))) (right-covers w (turned_edge e) (turned p) turn.0 turn.1)
+    either-way w e p (above-rows w e p (omega (arith, ints, ends.0))) (right-covers w (turned_edge e) (turned p) turn.0 turn.1)
 
 pub top-segment : (w : ℕ) (p : DevicePoint) → FailsBetween (λ v. int_le (p.y -ℤ pos (8 * w)) v.y) (λ e. covers_segment w e p)
 top-segment w p e a b =
     let ends = both-ends (λ v. v.y <ℤ (p.y -ℤ pos (8 * w))) e (not_le_of (p.y -ℤ pos (8 * w)) e.from.y a) (not_le_of (p.y -ℤ pos (8 * w)) e.to.y b) in
     let turn = both-ends (λ v. v.x <ℤ (p.y -ℤ pos (8 * w))) (turned_edge e) ends.0 ends.1 in
-    either w e p (below-covers w e p (omega (arith, ints, ends.1))) (left-covers w (turned_edge e) (turned p) turn.0 turn.1)
+    either-way w e p (below-rows w e p (omega (arith, ints, ends.1))) (right-rows w (turned_edge e) (turned p) turn.0 turn.1)
 
 -- the segments of a line, by its edges
 pub segments-edges : (closed : Bool) (w i j : ℕ) (parts : List (List DevicePoint)) →
@@ -153,4 +126,4 @@ line-round view margin closed w parts i j wide column row covered =
     (λ (h : list_any (λ s. covers_square s (pos i) (pos j)) (flat_map (map (square_at w)) rings) ≡ true).
     let (k, q, there, is, by) = Any-from_list_any (λ (q : Place). covers_square (square_at w (device_point view q)) (pos i) (pos j)) points (sym (squares-points (device_point view) w i j parts) ∙ h) in
     by-round view margin points q (k, there, is) (square-by view margin (device_point view q) w i j wide column row by))
-    (or_cases (list_any (covers_centre (pos i) (pos j)) (flat_map (segments_of closed w) rings)) (list_any (λ s. covers_square s (pos i) (pos j)) (flat_map (map (square_at w)) rings)) covered)
+    (or-cases (list_any (covers_centre (pos i) (pos j)) (flat_map (segments_of closed w) rings)) (list_any (λ s. covers_square s (pos i) (pos j)) (flat_map (map (square_at w)) rings)) covered)

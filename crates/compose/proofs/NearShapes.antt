@@ -1,5 +1,5 @@
 -- Points all round what covers a pixel: of rings, of squares and of pixmaps.
-use Rattle.std.proofs.Common.{◌≡◌, ◌∙◌, ℕ, ◌+◌, ◌-◌, ◌*◌, ◌/◌, ◌<◌, ◌≤◌, Bool, true, false, ◌&&◌, cond, if◌then◌else◌, List, [], ◌∷◌, map, Option, None, Some, refl, ap, sym, arith}
+use Rattle.std.proofs.Common.{◌≡◌, ◌∙◌, ℕ, ◌+◌, ◌-◌, ◌*◌, ◌/◌, ◌<◌, ◌≤◌, Bool, true, false, ◌&&◌, cond, List, [], ◌∷◌, map, Option, None, Some, refl, ap, sym, arith}
 use Rattle.std.proofs.Math.Nat.{div-le_self}
 use Rattle.std.proofs.lemmas.Bool.{and_parts, or_parts}
 use Rattle.std.proofs.lemmas.Int.{ints}
@@ -16,18 +16,20 @@ use Rattle.geom.proofs.Products.{le_of, not_le_of}
 use Rattle.geom.proofs.Quotients.{quotient_parts}
 use Rattle.geom.proofs.Rings.{closing_edges, ring_edges-closing}
 use Rattle.geom.specs.Device.{DevicePoint, pixel_centre, pixel_of}
-use Rattle.geom.specs.Edge.{EdgeEnds, crosses_at_or_left, crosses_height, low_end, high_end}
+use Rattle.geom.specs.Edge.{EdgeEnds, crosses_at_or_left, crosses_height}
 use Rattle.geom.specs.EvenOdd.{edges, is_inside, is_odd, ring_edges}
 use Rattle.geom.specs.Laws.{is_one_of}
 use Rattle.geom.specs.World.{Place}
 use Rattle.mapdefs.specs.declared.symbol.PixmapFields.{PixmapFields}
 use Rattle.scanfill.proofs.Flipping.{odd-next}
+use Rattle.strokes.proofs.Sides.{both-ends}
 use Rattle.strokes.specs.Square.{covers_square, is_beside}
 use Rattle.symbols.specs.Stamp.{covers_pixel, is_coloured, position_on}
 use Rattle.viewport.specs.View.{ViewValue, device_point}
 use Rattle.compose.proofs.NearBoxes.{AreRound}
 use Rattle.compose.proofs.NearEdges.{FailsBetween, count-failed, parts-fail}
 use Rattle.compose.proofs.Finding.{any-one, any-weaker, must-pass}
+use Rattle.compose.proofs.Flipping.{odd-add}
 
 -- one more is odd where the others aren't
 odd-share : (t : Bool) (n : ℕ) → is_odd (cond {A = ℕ} t 1 0 + n) ≡ is_one_of t (is_odd n)
@@ -39,9 +41,6 @@ odd-share false n = ap is_odd (turn n)
   where
     turn : (n : ℕ) → 0 + n ≡ n
     turn n = omega arith
-
-odd-add : (m n : ℕ) → is_odd (m + n) ≡ is_one_of (is_odd m) (is_odd n)
-odd-add m n = grind arith
 
 -- a way from one side to another and on
 on-way : (a b c : Bool) → is_one_of (is_one_of a b) (is_one_of b c) ≡ is_one_of a c
@@ -108,14 +107,6 @@ count-alike {X} f g (x ∷ xs) h =
 -- two equal truth values don't differ
 differs-not : (a b : Bool) → a ≡ b → is_one_of a b ≡ false
 differs-not a b e = rw e (same-side b)
-
--- ends
-pub both-ends : (P : DevicePoint → Type 0) (e : EdgeEnds) → P e.from → P e.to → P (low_end e) × P (high_end e)
-both-ends P e p q = go (int_le e.from.y e.to.y) refl
-  where
-    go : (t : Bool) → int_le e.from.y e.to.y ≡ t → P (if t then e.from else e.to) × P (if t then e.to else e.from)
-    go true h = (p, q)
-    go false h = (q, p)
 
 -- which edges cross the height of p at p or left of it, by the side of both ends
 pub right-fails : (p : DevicePoint) → FailsBetween (λ v. int_le v.x p.x) (crosses_at_or_left p)

@@ -9,6 +9,7 @@ use lib.IntN.{pos}
 use Rattle.geom.specs.Device.{DevicePoint, pixel_centre, pixel_of}
 use Rattle.geom.specs.EvenOdd.{is_inside}
 use Rattle.geom.specs.World.{Place}
+use Rattle.mapdefs.proofs.Containing.{first_or}
 use Rattle.mapdefs.specs.Class.{admits, class_of}
 use Rattle.mapdefs.specs.declared.class.ClassFields.{ClassFields}
 use Rattle.mapdefs.specs.declared.colour.Rgb.{Rgb}
@@ -18,6 +19,7 @@ use Rattle.mapdefs.specs.declared.layer.Kind.TheVariants as kind
 use Rattle.mapdefs.specs.declared.layer.LayerFields.{LayerFields}
 use Rattle.mapdefs.specs.declared.style.StyleFields.{StyleFields}
 use Rattle.mapdefs.specs.declared.symbol.Symbol.{Symbol}
+use Rattle.strokes.proofs.Short.{or-cases}
 use Rattle.strokes.specs.Line.{LineValue, line_of}
 use Rattle.strokes.specs.Line as line
 use Rattle.strokes.specs.Square.{SquareValue, covers_square}
@@ -26,7 +28,7 @@ use Rattle.viewport.specs.View.{ViewValue, device_point}
 use Rattle.mapdefs.specs.Near.{points_of}
 use Rattle.compose.specs.Near.{PaintsNear, furthest, margin_of, reach_of, side_of, symbol_reach}
 use Rattle.compose.proofs.NearBoxes.{AreRound, box-in}
-use Rattle.compose.proofs.Finding.{any-flat_map, contains-flat, first_or, found-there, or_cases}
+use Rattle.compose.proofs.Finding.{any-flat_map, contains-flat, found-there}
 use Rattle.compose.proofs.NearLines.{line-round}
 use Rattle.compose.proofs.NearShapes.{IsBy, by-round, fill-round, square-by, stamp-by}
 
@@ -66,7 +68,7 @@ polygon-round view margin feature style i j wide column row h =
     ⊎_elim
     (λ (e : list_any (λ t. covers t i j) first ≡ true). fill-round view margin feature.parts i j column row (fills-cover rings style.colour i j e))
     (λ (e : list_any (λ t. covers t i j) second ≡ true). line-round view margin true style.width feature.parts i j wide column row (strokes-cover (line_of rings true style.width) style.outline i j e))
-    (or_cases (list_any (λ t. covers t i j) first) (list_any (λ t. covers t i j) second) (sym (list_any-append (λ t. covers t i j) first second) ∙ h))
+    (or-cases (list_any (λ t. covers t i j) first) (list_any (λ t. covers t i j) second) (sym (list_any-append (λ t. covers t i j) first second) ∙ h))
 
 -- a symbol at a point
 stamped-by : (view : ViewValue) (margin : ℕ) (v : DevicePoint) (i j : ℕ) (symbol : Option Symbol) → option_map_or side_of symbol 0 ≤ margin → i < view.width → j < view.height →

@@ -5,7 +5,7 @@ use Rattle.std.proofs.lemmas.Int.{ints}
 use Rattle.std.specs.Prelude.{int_le}
 use Rattle.geom.proofs.Products.{le_of}
 use Rattle.strokes.specs.Short.{are_abreast, are_close, are_neighbours}
-use Rattle.compose.proofs.Finding.{or_cases}
+use Rattle.strokes.proofs.Short.{or-cases}
 use Rattle.std.proofs.lemmas.List.Folds.{list_any-append}
 use Rattle.std.proofs.lemmas.Nat.{div_below, mod_below}
 use Rattle.std.specs.List.{flat_map, list_any}
@@ -301,7 +301,7 @@ same-pixel p q h = ⊎_elim
     (λ (two : are_abreast 0 p.j q.j p.i q.i ≡ true).
     let both = and_parts (are_close 0 p.j q.j) (are_close 0 p.i q.i) two in
     pixel p q (close p.i q.i both.1) (close p.j q.j both.0))
-    (or_cases (are_abreast 0 p.i q.i p.j q.j) (are_abreast 0 p.j q.j p.i q.i) h)
+    (or-cases (are_abreast 0 p.i q.i p.j q.j) (are_abreast 0 p.j q.j p.i q.i) h)
   where
     close : (a b : ℤ) → are_close 0 a b ≡ true → a ≡ b
     close a b e =

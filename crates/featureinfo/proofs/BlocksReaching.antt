@@ -4,10 +4,9 @@ use Rattle.std.proofs.lemmas.Int.{ints}
 use Rattle.std.proofs.lemmas.List.{take-append-drop}
 use Rattle.std.proofs.lemmas.List.Folds.{list_any-append}
 use Rattle.std.specs.List.{AllByRecursion, list_any}
-use Rattle.std.specs.Prelude.{int_le}
 use lib.IntN.{ℤ, ◌-ℤ◌}
-use lib.Signed.{◌<ℤ◌, ◌≤ℤ◌}
-use Rattle.geom.proofs.Products.{not_le_of}
+use lib.Signed.{◌≤ℤ◌}
+use Rattle.geom.proofs.Products.{is_not_le, not_le_of}
 use Rattle.geom.specs.World.{Area, HasPlace, IsExtent, Place}
 use Rattle.mapdefs.proofs.BlockBoxes.{block-has}
 use Rattle.mapdefs.specs.Blocks.{AreBlockBoxes}
@@ -16,13 +15,6 @@ use Rattle.compose.proofs.Flipping.{sixteenths-rising}
 use Rattle.featureinfo.specs.Reach.{box_reaches, is_within, part_reaches}
 use Rattle.featureinfo.specs.declared.side.Side.{Side}
 use Rattle.featureinfo.specs.declared.side.Side.TheVariants.{Right, Left, Bottom, Top}
-
-le-false : (a b : ℤ) → b <ℤ a → int_le a b ≡ false
-le-false a b h = go (int_le a b) refl
-  where
-    go : (t : Bool) → int_le a b ≡ t → t ≡ false
-    go true e = absurd (omega (arith, ints, h, e))
-    go false e = refl
 
 -- further east is further right, and further south is further down
 eastward : (view : ViewValue) (a b : Place) → IsExtent view.area → a.x ≤ℤ b.x → (device_point view a).x ≤ℤ (device_point view b).x
@@ -38,16 +30,16 @@ beyond : (view : ViewValue) (box : Area) (limit : ℤ) (side : Side) (place : Pl
     is_within side limit (device_point view place) ≡ false
 beyond view box limit Right place extent inside h =
     let corner : Place = record { x = box.minx; y = box.miny } in
-    le-false (device_point view place).x limit (omega (arith, ints, not_le_of (device_point view corner).x limit h, eastward view corner place extent inside.west))
+    is_not_le (device_point view place).x limit (omega (arith, ints, not_le_of (device_point view corner).x limit h, eastward view corner place extent inside.west))
 beyond view box limit Left place extent inside h =
     let corner : Place = record { x = box.maxx; y = box.miny } in
-    le-false limit (device_point view place).x (omega (arith, ints, not_le_of limit (device_point view corner).x h, eastward view place corner extent inside.east))
+    is_not_le limit (device_point view place).x (omega (arith, ints, not_le_of limit (device_point view corner).x h, eastward view place corner extent inside.east))
 beyond view box limit Bottom place extent inside h =
     let corner : Place = record { x = box.minx; y = box.maxy } in
-    le-false (device_point view place).y limit (omega (arith, ints, not_le_of (device_point view corner).y limit h, southward view corner place extent inside.north))
+    is_not_le (device_point view place).y limit (omega (arith, ints, not_le_of (device_point view corner).y limit h, southward view corner place extent inside.north))
 beyond view box limit Top place extent inside h =
     let corner : Place = record { x = box.minx; y = box.miny } in
-    le-false limit (device_point view place).y (omega (arith, ints, not_le_of limit (device_point view corner).y h, southward view place corner extent inside.south))
+    is_not_le limit (device_point view place).y (omega (arith, ints, not_le_of limit (device_point view corner).y h, southward view place corner extent inside.south))
 
 pub all-beyond : (view : ViewValue) (box : Area) (limit : ℤ) (side : Side) (places : List Place) → IsExtent view.area → AllByRecursion (HasPlace box) places → box_reaches view box limit side ≡ false →
     part_reaches view places limit side ≡ false

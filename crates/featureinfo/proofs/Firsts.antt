@@ -3,7 +3,8 @@ use Rattle.std.proofs.Common.{◌≡◌, ℕ, suc, ◌<◌, ◌≤◌, List, [],
 use Rattle.std.proofs.lemmas.List.Elements.{All-nil, All-cons, All-append, Contains-append_cases, Contains-append_left, Contains-append_right}
 use Rattle.std.proofs.lemmas.List.Kept.{AllPairs-cons}
 use Rattle.std.specs.List.{AllPairs, Contains}
-use Rattle.compose.proofs.Finding.{first_or, here}
+use Rattle.mapdefs.proofs.Containing.{first_or}
+use Rattle.compose.proofs.Finding.{here}
 use Rattle.featureinfo.specs.Hits.{AreFirstAmong}
 
 -- an element of a list has what all have

@@ -2,7 +2,8 @@
 use Rattle.std.proofs.Common.{◌≡◌, ℕ, suc, ◌-◌, ◌<◌, ◌≤◌, List, [], ◌∷◌, length, All, inl, inr, ⊎_elim, arith, refl, sym}
 use Rattle.std.proofs.lemmas.List.Elements.{Contains-append_right}
 use Rattle.std.specs.List.{AllPairs, Contains}
-use Rattle.compose.proofs.Finding.{first_or, here}
+use Rattle.mapdefs.proofs.Containing.{first_or}
+use Rattle.compose.proofs.Finding.{here}
 use Rattle.featureinfo.specs.Hits.{AreFirst, HasOneHitList, IsHitAt}
 use Rattle.featureinfo.proofs.Firsts.{of-all}
 

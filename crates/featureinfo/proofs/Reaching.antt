@@ -18,7 +18,8 @@ use Rattle.strokes.specs.Line.{covers_centre, covers_pixel, edges_of, line_of, s
 use Rattle.strokes.specs.Segment.{covers_segment}
 use Rattle.strokes.specs.Square.{covers_square, is_beside}
 use Rattle.viewport.specs.View.{ViewValue, device_point}
-use Rattle.compose.proofs.Finding.{must-pass, or_cases}
+use Rattle.strokes.proofs.Short.{or-cases}
+use Rattle.compose.proofs.Finding.{must-pass}
 use Rattle.compose.proofs.NearEdges.{parts-fail}
 use Rattle.compose.proofs.NearLines.{bottom-segment, left-segment, right-segment, segments-edges, squares-points, top-segment}
 use Rattle.compose.proofs.NearShapes.{above-fails, below-fails, left-inside, none-inside, right-fails}
@@ -162,7 +163,7 @@ module _ (view : ViewValue) (parts : List (List Place)) (n : Nearby) (c r : ℕ)
       ⊎_elim
       (λ (h : list_any (covers_centre (pos c) (pos r)) (flat_map (segments_of false 1) lines) ≡ true). segments-reach (sym (segments-edges false 1 c r lines) ∙ h) side)
       (λ (h : list_any (λ s. covers_square s (pos c) (pos r)) (flat_map (map (square_at 1)) lines) ≡ true). squares-reach (sym (squares-points (device_point view) 1 c r parts) ∙ h) side)
-      (or_cases (list_any (covers_centre (pos c) (pos r)) (flat_map (segments_of false 1) lines)) (list_any (λ s. covers_square s (pos c) (pos r)) (flat_map (map (square_at 1)) lines)) covered)
+      (or-cases (list_any (covers_centre (pos c) (pos r)) (flat_map (segments_of false 1) lines)) (list_any (λ s. covers_square s (pos c) (pos r)) (flat_map (map (square_at 1)) lines)) covered)
 
   points-reach : list_any (λ part. list_any (λ vertex. covers_square (square_at 1 vertex) (pos c) (pos r)) part) (map (map (device_point view)) parts) ≡ true →
       (side : Side) → reaches view parts (limit_of n side) side ≡ true

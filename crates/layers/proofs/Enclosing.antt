@@ -1,5 +1,5 @@
 -- The box of a feature has all that lies between its points.
-use Rattle.std.proofs.Common.{◌≡◌, List, [], ◌∷◌, fold, get_or, refl, arith, ⊎_elim, ◌⊎◌, inl, inr}
+use Rattle.std.proofs.Common.{◌≡◌, List, [], ◌∷◌, fold, refl, arith, ⊎_elim}
 use Rattle.std.proofs.lemmas.Int.{ints}
 use Rattle.std.proofs.lemmas.List.Elements.{Contains-append_cases, Contains-append_right}
 use Rattle.std.specs.List.{Contains, flat_map}
@@ -7,18 +7,9 @@ use Rattle.geom.specs.World.{Area, Place, HasPlace}
 use Rattle.mapdefs.specs.declared.feature.FeatureFields.{FeatureFields}
 use Rattle.mapdefs.specs.Near.{LiesInBoxOf, points_of}
 use Rattle.mapdefs.proofs.BlockBoxes.{IsWider, many-wider, one-has, wider-has, wider-on, wider-same}
+use Rattle.mapdefs.proofs.Containing.{first_or}
 use Rattle.mapdefs.specs.Blocks.{nowhere, with_place}
 use Rattle.layers.specs.Boxes.{box_of, with_parts}
-
--- the first element, or one of the others
-pub first_or : {X : Type 0} (x y : X) (xs : List X) → Contains (x ∷ xs) y → (x ≡ y) ⊎ Contains xs y
-first_or {X} x y xs c = ⊎_elim
-    (λ (d : Contains (x ∷ []) y).
-    let z : d.0 ≡ 0 = omega (arith, d.1) in
-    let f : get_or (x ∷ []) 0 y ≡ y = rw z at d.2 in
-    inl f)
-    (λ (d : Contains xs y). inr d)
-    (Contains-append_cases (x ∷ []) xs y c)
 
 -- what is one of many lists together is one of one of them
 pub flat-contains : {X A : Type 0} (f : X → List A) (xs : List X) (a : A) → Contains (flat_map f xs) a → (x : X) × Contains xs x × Contains (f x) a

@@ -152,7 +152,7 @@ columns w a b i least some between =
     (sequence.0, λ j. rw flat (sequence.1 j))
 
 -- what no segment without a rise covers
-level-rows : (w : ℕ) (e : EdgeEnds) (p : DevicePoint) → rise e ≡ pos 0 → covers_by_rows w e p ≡ false
+pub level-rows : (w : ℕ) (e : EdgeEnds) (p : DevicePoint) → rise e ≡ pos 0 → covers_by_rows w e p ≡ false
 level-rows w e p level = go (is_between e p.y) refl
   where
     go : (t : Bool) → is_between e p.y ≡ t → covers_by_rows w e p ≡ false

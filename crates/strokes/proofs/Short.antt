@@ -83,7 +83,7 @@ or-second true t h = refl
 or-second false t h = h
 
 -- what two tests joined say
-or-cases : (s t : Bool) → (s || t) ≡ true → (s ≡ true) ⊎ (t ≡ true)
+pub or-cases : (s t : Bool) → (s || t) ≡ true → (s ≡ true) ⊎ (t ≡ true)
 or-cases true t h = inl refl
 or-cases false t h = inr h
 
