@@ -8,18 +8,21 @@ use geom::Pixel;
 pub fn are_neighbours(apart: u16, a: Pixel, b: Pixel) -> bool
     ensures { result ≡ are_neighbours apart a b }
 {
-    are_abreast(apart, a.i(), b.i(), a.j(), b.j()) || are_abreast(apart, a.j(), b.j(), a.i(), b.i())
+    are_in_column(apart, a, b) || are_in_row(apart, a, b)
 }
 
-// Whether two numbers are the same, and two others at most so many apart.
-fn are_abreast(apart: u16, a: i64, b: i64, c: i64, d: i64) -> bool
-    requires a { IsBelow (2 ^ 44) a }
-    requires b { IsBelow (2 ^ 44) b }
-    requires c { IsBelow (2 ^ 44) c }
-    requires d { IsBelow (2 ^ 44) d }
-    ensures { result ≡ are_abreast apart a b c d }
+// Whether they lie in one column, and are at most so many apart.
+fn are_in_column(apart: u16, a: Pixel, b: Pixel) -> bool
+    ensures { result ≡ are_abreast apart a.i b.i a.j b.j }
 {
-    are_close(0, a, b) && are_close(apart, c, d)
+    are_close(0, a.i(), b.i()) && are_close(apart, a.j(), b.j())
+}
+
+// The same of one row.
+fn are_in_row(apart: u16, a: Pixel, b: Pixel) -> bool
+    ensures { result ≡ are_abreast apart a.j b.j a.i b.i }
+{
+    are_close(0, a.j(), b.j()) && are_close(apart, a.i(), b.i())
 }
 
 // Whether two columns, or two rows, are at most so many apart.
