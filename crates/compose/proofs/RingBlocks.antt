@@ -1,19 +1,19 @@
 -- Flips of a ring, block by block, and of a block, vertex by vertex.
 use Rattle.std.proofs.Common.{◌≡◌, ◌∙◌, ℕ, ◌+◌, ◌*◌, ◌<◌, ◌≤◌, zero, suc, ◌&&◌, true, List, [], ◌∷◌, ◌++◌, get_or, map, take, drop, length, refl, sym, ap, arith}
 use Rattle.std.proofs.lemmas.Bool.{and_parts}
-use Rattle.std.proofs.lemmas.List.{drop-drop, length-drop, map-append}
+use Rattle.std.proofs.lemmas.List.{append-nil, drop-drop, length-drop, map-append}
 use Rattle.std.specs.Prelude.{int_le}
 use Rattle.geom.specs.Device.{DevicePoint}
 use Rattle.geom.specs.Edge.{EdgeEnds}
-use Rattle.geom.specs.EvenOdd.{edge_between}
+use Rattle.geom.specs.EvenOdd.{edge_between, ring_edges}
 use Rattle.geom.specs.World.{Place}
 use Rattle.geom.proofs.Products.{le_of}
-use Rattle.geom.proofs.Rings.{closing_edges}
+use Rattle.geom.proofs.Rings.{closing_edges, ring_edges-closing}
 use Rattle.viewport.specs.View.{ViewValue, device_point}
 use Rattle.compose.specs.declared.run.Run.{Run}
 use Rattle.compose.specs.Flipped.{Adds, AddsEdge, IsRun, row_of}
 use Rattle.compose.specs.Chain.{AddsChain, chain_edges, chain_end}
-use Rattle.compose.proofs.Flipping.{IsLeft, adds-edge, closing-append, end-placed, left-next, left-none, row-between, run-missed}
+use Rattle.compose.proofs.Flipping.{IsLeft, adds-edge, closing-append, end-placed, left-all, left-next, left-none, row-between, run-missed}
 
 -- a vertex between the two latitudes of the run adds nothing, and the run goes on from it
 pub step-within : (view : ViewValue) (run : Run) (to : Place) (flips : List ℕ) → IsRun view run → (int_le run.low to.y && int_le to.y run.high) ≡ true →
@@ -86,3 +86,14 @@ last-end (suc n) from (to ∷ rest) last e is = last-end n to rest last (omega (
 pub empty-of : {X : Type 0} (xs : List X) → length xs ≡ 0 → xs ≡ []
 empty-of [] e = refl
 empty-of (x ∷ xs) e = absurd (omega arith)
+
+-- the edges over all vertices and the one back to the first are those of the ring
+pub ring-whole : (view : ViewValue) (old mid new : List ℕ) (ring : List Place) (first end : Place) (rest : List Place) → ring ≡ first ∷ rest → end ≡ chain_end first rest →
+    AddsChain view old first rest mid → AddsEdge view mid end first new → Adds view old (ring_edges (map (device_point view) ring)) new
+ring-whole view old mid new ring first end rest whole is chain edge =
+    let point : Place → DevicePoint = device_point view in
+    let edges : List EdgeEnds = ring_edges (map point ring) in
+    ring-none view old mid new edges first end [] refl
+    (ring-block view old old mid edges first first end rest rest [] (sym (append-nil rest)) is
+    (left-all view old edges (closing_edges (point first) (point first) (map point rest)) (ring_edges-closing (map point ring) (point first) (map point rest) (ap (map point) whole))) chain)
+    edge

@@ -2,7 +2,7 @@
 use Rattle.std.proofs.Common.{◌≡◌, ◌∙◌, ℕ, Bool, true, false, ◌&&◌, ◌||◌, List, [], ◌∷◌, ◌++◌, map, Option, Some, refl, sym, ap, arith}
 use Rattle.std.proofs.lemmas.Bool.{and_parts}
 use Rattle.std.proofs.lemmas.Int.{ints}
-use Rattle.std.proofs.lemmas.List.{map-append}
+use Rattle.std.proofs.lemmas.List.{append-nil, map-append}
 use Rattle.std.specs.List.{AllByRecursion}
 use Rattle.std.specs.Prelude.{int_le}
 use Rattle.geom.proofs.Products.{is_le, le_of}
@@ -50,6 +50,11 @@ way-block closed pen first from end left block behind whole old now next e is wa
           ∙ rest-append closed pen.width (at first) (at from) (at from) (map at block) (map at behind) i j)
           (filled-either (chain_covers pen from block) (rest_covers closed pen.width (at first) (at end) (map at behind)) colour now next new f g));
     }
+
+-- and behind all vertices
+pub way-whole : (closed : Bool) (pen : PenValue) (first end : Place) (rest : List Place) (whole : ℕ → ℕ → Bool) (old now next : PictureFields) → end ≡ chain_end first rest →
+    IsOnWay closed pen first first rest whole old now → IsFilled (chain_covers pen first rest) (λ i j. Some pen.colour) now next → IsOnWay closed pen first end [] whole old next
+way-whole closed pen first end rest whole old now next is way f = way-block closed pen first first end rest rest [] whole old now next (sym (append-nil rest)) is way f
 
 -- a place of a box that lies in another lies in that one
 within : (big small : Area) (place : Place) → has_box big small ≡ true → HasPlace small place → has_place big place ≡ true

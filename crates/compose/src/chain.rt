@@ -2,6 +2,17 @@ ghost use Rattle.std.specs.Prelude.{◌≡◌};
 ghost use Rattle.compose.specs.Chain.{chain_end};
 
 use geom::World;
+use mapdefs::BlockBox;
+
+/// The vertices of a part that follow on the first one of a block, and the block's box.
+#[derive(Clone, Copy)]
+pub struct Block<'a> {
+    pub area: BlockBox,
+    pub vertices: &'a [World],
+}
+
+/// A ring or a line of no more vertices is cheaper to go along than the boxes of its blocks are to test.
+pub const FEW_VERTICES: usize = 8;
 
 /// The last vertex of a chain, from its first and those that follow.
 pub fn last_of(from: World, rest: &[World]) -> World

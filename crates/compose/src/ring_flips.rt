@@ -4,10 +4,10 @@ ghost use Rattle.viewport.specs.View.{device_point};
 ghost use Rattle.compose.specs.Chain.{AddsChain, HasChain, chain_end};
 ghost use Rattle.compose.specs.Flipped.{Adds, AddsEdge, IsRun, StandFor};
 
-use crate::chain::last_of;
+use crate::chain::{Block, FEW_VERTICES, last_of};
 use crate::run::{RowFinder, Run};
 use geom::{Edge, World};
-use mapdefs::{BlockBox, Part, split_block};
+use mapdefs::{Part, split_block};
 use scanfill::{FlipFault, RowFlips};
 
 /// Adds the flips of the edges of the rings to an empty list. An edge that crosses no row of the picture is
@@ -29,8 +29,37 @@ pub fn add_rings(
     Ok(())
 }
 
-// Adds the flips of one ring, block by block.
+// Adds the flips of one ring: vertex by vertex if it has few, else block by block.
 fn add_ring(flips: &mut RowFlips, rows: &RowFinder<'_>, ring: &Part) -> Result<(), FlipFault>
+    requires width { flips.old.width ≡ rows.now.width }
+    requires height { flips.old.height ≡ rows.now.height }
+    ensures sides { flips.new ≡ record flips.old { flips = flips.new.flips } }
+    ensures adds { OnOk result (Adds rows.now flips.old.flips (ring_edges (map (device_point rows.now) ring.now)) flips.new.flips) }
+{
+    if ring.len() <= FEW_VERTICES {
+        return add_small(flips, rows, ring.as_slice());
+    }
+    add_blocks(flips, rows, ring)
+}
+
+// Adds the flips of a ring, vertex by vertex.
+fn add_small(flips: &mut RowFlips, rows: &RowFinder<'_>, ring: &[World]) -> Result<(), FlipFault>
+    requires width { flips.old.width ≡ rows.now.width }
+    requires height { flips.old.height ≡ rows.now.height }
+    ensures sides { flips.new ≡ record flips.old { flips = flips.new.flips } }
+    ensures adds { OnOk result (Adds rows.now flips.old.flips (ring_edges (map (device_point rows.now) ring.now)) flips.new.flips) }
+{
+    let Some((first, rest)) = ring.split_first() else {
+        return Ok(());
+    };
+    let begun = rows.begin(*first, rows.row_of(first.y()));
+    let run = add_vertices(flips, rows, begun, rest)?;
+    go_on(flips, rows, run, *first)?;
+    Ok(())
+}
+
+// Adds the flips of a ring, block by block.
+fn add_blocks(flips: &mut RowFlips, rows: &RowFinder<'_>, ring: &Part) -> Result<(), FlipFault>
     requires width { flips.old.width ≡ rows.now.width }
     requires height { flips.old.height ≡ rows.now.height }
     ensures sides { flips.new ≡ record flips.old { flips = flips.new.flips } }
@@ -42,8 +71,12 @@ fn add_ring(flips: &mut RowFlips, rows: &RowFinder<'_>, ring: &Part) -> Result<(
     let mut run = rows.begin(*first, rows.row_of(first.y()));
     let mut left = rest;
     for area in ring.boxes() {
-        let (block, behind) = split_block(left);
-        run = add_block(flips, rows, run, *area, block)?;
+        let (vertices, behind) = split_block(left);
+        let block = Block {
+            area: *area,
+            vertices,
+        };
+        run = add_block(flips, rows, run, &block)?;
         left = behind;
     }
     go_on(flips, rows, run, *first)?;
@@ -56,30 +89,29 @@ fn add_block(
     flips: &mut RowFlips,
     rows: &RowFinder<'_>,
     mut run: Run,
-    area: BlockBox,
-    block: &[World],
+    block: &Block<'_>,
 ) -> Result<Run, FlipFault>
     requires width { flips.old.width ≡ rows.now.width }
     requires height { flips.old.height ≡ rows.now.height }
     requires run { IsRun rows.now run }
-    requires has { HasChain area run.from block.now }
+    requires has { HasChain block.now.area run.from block.now.vertices.now }
     ensures sides { flips.new ≡ record flips.old { flips = flips.new.flips } }
-    ensures from { IfOk result (λ next. next.from ≡ chain_end run.from block.now) }
+    ensures from { IfOk result (λ next. next.from ≡ chain_end run.from block.now.vertices.now) }
     ensures run { IfOk result (λ next. IsRun rows.now next) }
-    ensures adds { OnOk result (AddsChain rows.now flips.old.flips run.from block.now flips.new.flips) }
+    ensures adds { OnOk result (AddsChain rows.now flips.old.flips run.from block.now.vertices.now flips.new.flips) }
 {
-    let last = last_of(run.from, block);
-    if run.has(area.miny()) && run.has(area.maxy()) {
+    let last = last_of(run.from, block.vertices);
+    if run.has(block.area.miny()) && run.has(block.area.maxy()) {
         run.from = last;
         return Ok(run);
     }
-    if rows.is_right(area) {
+    if rows.is_right(block.area) {
         return Ok(rows.begin(last, rows.row_of(last.y())));
     }
-    if rows.is_left(area) {
+    if rows.is_left(block.area) {
         return Ok(go_on(flips, rows, run, last)?);
     }
-    add_vertices(flips, rows, run, block)
+    add_vertices(flips, rows, run, block.vertices)
 }
 
 // Adds the flips of the edges over the vertices of a block. One between the two latitudes of the run is skipped.

@@ -12,13 +12,13 @@ ghost use Rattle.compose.specs.Stroked.{HasAlready, IsOf, IsTrail, chain_covers,
 
 use crate::boxes::fill_square;
 use crate::canvas::Canvas;
-use crate::chain::last_of;
+use crate::chain::{Block, FEW_VERTICES, last_of};
 use crate::pen::{Pen, has_box, has_place};
 use crate::rows::paint_cover;
 use crate::strips::{fill_across, fill_down};
 use crate::trail::Trail;
 use geom::{Device, Edge, World};
-use mapdefs::{BlockBox, Part, Rgb, split_block};
+use mapdefs::{Part, Rgb, split_block};
 use std::alloc::AllocError;
 use strokes::{Segment, Square, Strip, are_neighbours, is_small, is_steep};
 
@@ -39,8 +39,45 @@ pub fn paint_along_parts(
     Ok(())
 }
 
-// Paints the line along one part, block by block.
+// Paints the line along one part: step by step if it has few vertices, else block by block.
 fn paint_along(
+    canvas: &mut Canvas,
+    pen: &Pen<'_>,
+    part: &Part,
+    closed: bool,
+) -> Result<(), AllocError>
+    requires { IsOf pen.now canvas.old }
+    ensures { OnOk result (IsFilled (part_covers closed pen.now.width (map (device_point pen.now.view) part.now)) (λ i j. Some pen.now.colour) canvas.old canvas.new) }
+{
+    if part.len() <= FEW_VERTICES {
+        return paint_small(canvas, pen, part.as_slice(), closed);
+    }
+    paint_blocks(canvas, pen, part, closed)
+}
+
+// Paints the line along some vertices, step by step.
+fn paint_small(
+    canvas: &mut Canvas,
+    pen: &Pen<'_>,
+    part: &[World],
+    closed: bool,
+) -> Result<(), AllocError>
+    requires { IsOf pen.now canvas.old }
+    ensures { OnOk result (IsFilled (part_covers closed pen.now.width (map (device_point pen.now.view) part.now)) (λ i j. Some pen.now.colour) canvas.old canvas.new) }
+{
+    let Some((first, rest)) = part.split_first() else {
+        return Ok(());
+    };
+    let begun = begin(canvas, pen, *first);
+    let trail = paint_steps(canvas, pen, begun, rest)?;
+    if closed {
+        go_on(canvas, pen, &trail, *first)?;
+    }
+    Ok(())
+}
+
+// Paints the line along one part, block by block.
+fn paint_blocks(
     canvas: &mut Canvas,
     pen: &Pen<'_>,
     part: &Part,
@@ -55,8 +92,12 @@ fn paint_along(
     let mut trail = begin(canvas, pen, *first);
     let mut left = rest;
     for area in part.boxes() {
-        let (block, behind) = split_block(left);
-        trail = paint_block(canvas, pen, trail, *area, block)?;
+        let (vertices, behind) = split_block(left);
+        let block = Block {
+            area: *area,
+            vertices,
+        };
+        trail = paint_block(canvas, pen, trail, &block)?;
         left = behind;
     }
     if closed {
@@ -70,23 +111,22 @@ fn paint_block(
     canvas: &mut Canvas,
     pen: &Pen<'_>,
     trail: Trail,
-    area: BlockBox,
-    block: &[World],
+    block: &Block<'_>,
 ) -> Result<Trail, AllocError>
     requires sides { IsOf pen.now canvas.old }
     requires trail { IsTrail pen.now canvas.old trail }
-    requires has { HasChain area trail.from block.now }
-    ensures from { IfOk result (λ next. next.from ≡ chain_end trail.from block.now) }
+    requires has { HasChain block.now.area trail.from block.now.vertices.now }
+    ensures from { IfOk result (λ next. next.from ≡ chain_end trail.from block.now.vertices.now) }
     ensures trail { IfOk result (λ next. IsTrail pen.now canvas.new next) }
-    ensures filled { OnOk result (IsFilled (chain_covers pen.now trail.from block.now) (λ i j. Some pen.now.colour) canvas.old canvas.new) }
+    ensures filled { OnOk result (IsFilled (chain_covers pen.now trail.from block.now.vertices.now) (λ i j. Some pen.now.colour) canvas.old canvas.new) }
 {
-    if has_box(&trail.quiet, area) {
+    if has_box(&trail.quiet, block.area) {
         return Ok(Trail {
-            from: last_of(trail.from, block),
+            from: last_of(trail.from, block.vertices),
             quiet: trail.quiet,
         });
     }
-    paint_steps(canvas, pen, trail, block)
+    paint_steps(canvas, pen, trail, block.vertices)
 }
 
 // Paints the steps over the vertices of a block. One within the trail's box is skipped.

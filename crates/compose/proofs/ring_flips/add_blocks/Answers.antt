@@ -7,7 +7,7 @@ use Rattle.mapdefs.proofs.BlockBoxes.{block-has}
 use Rattle.viewport.specs.View.{ViewValue, device_point}
 use Rattle.compose.proofs.Flipping.{adds-none, left-all}
 use Rattle.compose.proofs.RingBlocks.{block-next, empty-of, ring-block, ring-none}
-use Rattle.compose.proofs.ring_flips.add_ring.Goals as goal
+use Rattle.compose.proofs.ring_flips.add_blocks.Goals as goal
 
 -- a ring without vertices has no edges
 none-of : (view : ViewValue) (ring : List Place) → length ring ≡ 0 → ring_edges (map (device_point view) ring) ≡ []

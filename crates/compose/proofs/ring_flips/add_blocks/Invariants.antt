@@ -4,7 +4,7 @@ use Rattle.geom.proofs.Rings.{closing_edges}
 use Rattle.viewport.specs.View.{device_point}
 use Rattle.compose.specs.Flipped.{IsRun}
 use Rattle.compose.proofs.Flipping.{IsLeft}
-use Rattle.compose.proofs.ring_flips.add_ring.Given as goal
+use Rattle.compose.proofs.ring_flips.add_blocks.Given as goal
 
 -- the edges of the blocks before this one are added, and this block begins with the run's vertex
 abbrev pub invariant-loop-area : goal.invariant-loop-area

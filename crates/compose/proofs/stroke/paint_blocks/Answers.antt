@@ -6,7 +6,7 @@ use Rattle.compose.specs.Stroked.{part_covers}
 use Rattle.compose.proofs.RingBlocks.{block-next, empty-of}
 use Rattle.compose.proofs.StrokeBlocks.{way-block}
 use Rattle.compose.proofs.Stroking.{way-begin, way-closed, way-open}
-use Rattle.compose.proofs.stroke.paint_along.Goals as goal
+use Rattle.compose.proofs.stroke.paint_blocks.Goals as goal
 
 pub loop-area-init : goal.loop-area-init
 loop-area-init c =
