@@ -5,6 +5,7 @@ pub mod Filling
 pub mod Finding
 pub mod Finishing
 pub mod Found
+pub mod Graining
 pub mod Labelling
 pub mod Margins
 pub mod Meeting

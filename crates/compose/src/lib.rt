@@ -13,9 +13,10 @@
 //! gives pixels of a row their colours. A *run* is a stretch of a ring's vertices in one row of the
 //! picture, and a *band* two latitudes between which all are of one row. *Flips* are those of `scanfill`. They
 //! *stand for* edges where the same pixels of the picture lie inside by both. A *step* of a line is a segment and
-//! the square round its second vertex, and a box is *quiet* where a step within it needs no painting. A feature is
-//! *met* when the chosen layers are gone through and it has a class. A *candidate* is a text that may be placed,
-//! and its *anchor* the pixel that its label stands at.
+//! the square round its second vertex, and a box is *quiet* where a step within it needs no painting. The *grain*
+//! of a projection is how many whole millionths of a degree a sixteenth of a pixel shows. A feature is *met* when
+//! the chosen layers are gone through and it has a class. A *candidate* is a text that may be placed, and its
+//! *anchor* the pixel that its label stands at.
 #![tactic(auto)]
 
 mod anchor;
@@ -25,6 +26,7 @@ mod chain;
 mod colouring;
 mod drawing;
 mod flip_fill;
+mod grain;
 mod ink;
 mod label;
 mod latitudes;

@@ -1,19 +1,21 @@
 ghost use Rattle.std.specs.Prelude.{◌≡◌, ◌≤◌, ◌&&◌, true, int_le};
 ghost use Rattle.geom.specs.World.{IsExtent};
 ghost use Rattle.mapdefs.specs.declared.limits.TheConstants.{MAX_LINE_WIDTH};
+ghost use Rattle.viewport.specs.View.{device_point};
 ghost use Rattle.compose.specs.Stroked.{IsQuiet, has_box, has_place};
 
-use geom::{Micro, World, WorldBox};
+use crate::grain::{Grain, box_of};
+use geom::{Device, Micro, World, WorldBox};
 use mapdefs::{BlockBox, Rgb};
 use scene::Scene;
 use std::marker::Model;
 use viewport::Projection;
 
-/// What a line is painted with: the projection of its places, its width and its colour, and the window of the world
-/// outside of which its vertices cover nothing of the picture.
+/// What a line is painted with: the grain of its places' projection, its width and its colour, and the window of the
+/// world outside of which its vertices cover nothing of the picture.
 #[derive(Drop)]
 pub struct Pen<'a> {
-    projection: &'a Projection,
+    grain: Grain<'a>,
     window: WorldBox,
     width: u8,
     colour: Rgb,
@@ -24,9 +26,9 @@ impl<'a> Model for Pen<'a> {
 
     ghost Value = { PenValue };
 
-    ghost view = { λ p. record { view = p.projection.now; width = p.width; colour = p.colour } };
+    ghost view = { λ p. record { view = p.grain; width = p.width; colour = p.colour } };
 
-    ghost invariant = { λ p. IsPen (record { view = p.projection.now; width = p.width; colour = p.colour }) p.window };
+    ghost invariant = { λ p. IsPen (record { view = p.grain; width = p.width; colour = p.colour }) p.window };
 }
 
 impl<'a> Pen<'a> {
@@ -37,7 +39,7 @@ impl<'a> Pen<'a> {
         ensures { result ≡ record { view = scene.now.view; width = width; colour = colour } }
     {
         Pen {
-            projection: scene.projection(),
+            grain: Grain::new(scene.projection()),
             window: scene.window(u16::from(width)),
             width,
             colour,
@@ -48,7 +50,7 @@ impl<'a> Pen<'a> {
     pub fn projection(&self) -> &Projection
         ensures { result.now ≡ self.now.view }
     {
-        self.projection
+        self.grain.projection()
     }
 
     /// Its width.
@@ -67,9 +69,12 @@ impl<'a> Pen<'a> {
         self.colour
     }
 
-    /// A box that has the place and is quiet beside it: the part of the world west, east, south or north of the window
-    /// in which the place lies, since a step within it covers no pixel; or the place alone.
-    pub fn quiet_at(&self, place: World) -> WorldBox
+    /// A box that has the place, which lies at that point of the picture, and is quiet beside it: the part of the world
+    /// west, east, south or north of the window in which the place lies, since a step within it covers no pixel; or
+    /// places of its pixel, since a step between them covers the square round it alone if the width is odd; or the
+    /// place alone.
+    pub fn quiet_at(&self, place: World, at: Device) -> WorldBox
+        requires { at ≡ device_point self.now.view place }
         ensures has { has_place result place ≡ true }
         ensures quiet { IsQuiet self.now place result }
     {
@@ -83,8 +88,10 @@ impl<'a> Pen<'a> {
             box_of(LEAST, LEAST, MOST, window.miny().millionths() - 1)
         } else if y > window.maxy().millionths() {
             box_of(LEAST, window.maxy().millionths() + 1, MOST, MOST)
-        } else {
+        } else if self.width % 2 == 0 {
             box_of(x, y, x, y)
+        } else {
+            self.grain.around(place, at)
         }
     }
 }
@@ -93,18 +100,6 @@ impl<'a> Pen<'a> {
 const LEAST: i64 = -1_000_000_000;
 
 const MOST: i64 = 1_000_000_000;
-
-// The box of four numbers of millionths.
-fn box_of(minx: i64, miny: i64, maxx: i64, maxy: i64) -> WorldBox
-    ensures { result ≡ record { minx = minx; miny = miny; maxx = maxx; maxy = maxy } }
-{
-    WorldBox::new(
-        Micro::new(minx),
-        Micro::new(miny),
-        Micro::new(maxx),
-        Micro::new(maxy),
-    )
-}
 
 /// Whether a place lies in a box, or on its border.
 pub fn has_place(area: &WorldBox, place: World) -> bool

@@ -160,10 +160,11 @@ fn begin(canvas: &mut Canvas, pen: &Pen<'_>, first: World) -> Trail
     ensures filled { IsFilled (vertex_covers pen.now.width (device_point pen.now.view first)) (λ i j. Some pen.now.colour) canvas.old canvas.new }
 {
     let _area = canvas.width();
-    fill_vertex(canvas, pen, pen.projection().device(first));
+    let at = pen.projection().device(first);
+    fill_vertex(canvas, pen, at);
     Trail {
         from: first,
-        quiet: pen.quiet_at(first),
+        quiet: pen.quiet_at(first, at),
     }
 }
 
@@ -178,10 +179,11 @@ fn go_on(canvas: &mut Canvas, pen: &Pen<'_>, trail: &Trail, to: World) -> Result
     let _area = canvas.width();
     let projection = pen.projection();
     let from = projection.device(trail.from);
-    paint_step(canvas, pen, from, projection.device(to))?;
+    let at = projection.device(to);
+    paint_step(canvas, pen, from, at)?;
     Ok(Trail {
         from: to,
-        quiet: pen.quiet_at(to),
+        quiet: pen.quiet_at(to, at),
     })
 }
 

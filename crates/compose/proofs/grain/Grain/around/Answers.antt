@@ -1,0 +1,87 @@
+use Rattle.std.proofs.Common.{◌≡◌, ◌-◌, ◌^◌, arith}
+use Rattle.std.proofs.lemmas.Int.{ints}
+use Rattle.std.specs.Int.{int_div_euclid}
+use lib.IntN.{pos, ◌+ℤ◌, ◌-ℤ◌, ◌*ℤ◌}
+use Rattle.scanfill.proofs.Words.{word}
+use Rattle.viewport.specs.View.{device_point}
+use Rattle.compose.specs.Grain.{AreGrains}
+use Rattle.compose.proofs.Graining.{around-has, around-pixel, coordinate-below, coordinate-held, grains_around}
+use Rattle.compose.proofs.grain.Grain.around.Goals as goal
+
+pub less-requires-2-clause-number : goal.less-requires-2-clause-number
+less-requires-2-clause-number c = coordinate-held c.millionths-y.result c.get-2.result c.millionths-y.ensures c.get-2.ensures.limits
+
+pub more-requires-clause-number : goal.more-requires-clause-number
+more-requires-clause-number c = coordinate-held c.millionths-x.result c.get.result c.millionths-x.ensures c.get.ensures.limits
+
+pub more-requires-2-clause-number : goal.more-requires-2-clause-number
+more-requires-2-clause-number c = coordinate-held c.millionths-y.result c.get-2.result c.millionths-y.ensures c.get-2.ensures.limits
+
+pub returns-clause-has : goal.returns-clause-has
+returns-clause-has c =
+    let across = c.self.inside.across in
+    let down = c.self.inside.down in
+    let left = c.into_pixel-left.result in
+    let top = c.into_pixel-top.result in
+    let are : AreGrains c.args.self.now across down = rw c.self.view_is at c.self.invariant in
+    let x : c.millionths-x.result ≡ c.args.place.x = omega (arith, ints, c.millionths-x.ensures, c.get.ensures.value, c.x.ensures, c.get.ensures.limits) in
+    let y : c.millionths-y.result ≡ c.args.place.y = omega (arith, ints, c.millionths-y.ensures, c.get-2.ensures.value, c.y.ensures, c.get-2.ensures.limits) in
+    let east = coordinate-below c.millionths-x.result (rw c.millionths-x.ensures c.get.ensures.limits) in
+    let north = coordinate-below c.millionths-y.result (rw c.millionths-y.ensures c.get-2.ensures.limits) in
+    let words-x = word (2 ^ 31) c.millionths-x.result (omega arith) east in
+    let words-y = word (2 ^ 31) c.millionths-y.result (omega arith) north in
+    let words-across = word (2 ^ 31) across (omega arith) are.columns.most in
+    let words-down = word (2 ^ 31) down (omega arith) are.rows.most in
+    let minx : c.less.result ≡ c.args.place.x -ℤ pos left *ℤ across = rw (words-x, words-across, x) at c.less.ensures.value in
+    let miny : c.less-2.result ≡ c.args.place.y -ℤ pos (15 - top) *ℤ down = rw (words-y, words-down, y) at c.less-2.ensures.value in
+    let maxx : c.more.result ≡ c.args.place.x +ℤ pos (15 - left) *ℤ across = rw (words-x, words-across, x) at c.more.ensures.value in
+    let maxy : c.more-2.result ≡ c.args.place.y +ℤ pos top *ℤ down = rw (words-y, words-down, y) at c.more-2.ensures.value in
+    let box : c.box_of.result ≡ grains_around across down c.args.place left top =
+    rw (
+      word (2 ^ 40) c.less.result (omega arith) c.less.ensures.range,
+      word (2 ^ 40) c.less-2.result (omega arith) c.less-2.ensures.range,
+      word (2 ^ 40) c.more.result (omega arith) c.more.ensures.range,
+      word (2 ^ 40) c.more-2.result (omega arith) c.more-2.ensures.range,
+      minx,
+      miny,
+      maxx,
+      maxy,
+    ) at c.box_of.ensures in
+    rw box (around-has c.args.self.now across down c.args.place left top are)
+
+pub returns-clause-pixel : goal.returns-clause-pixel
+returns-clause-pixel c =
+    let across = c.self.inside.across in
+    let down = c.self.inside.down in
+    let left = c.into_pixel-left.result in
+    let top = c.into_pixel-top.result in
+    let are : AreGrains c.args.self.now across down = rw c.self.view_is at c.self.invariant in
+    let x : c.millionths-x.result ≡ c.args.place.x = omega (arith, ints, c.millionths-x.ensures, c.get.ensures.value, c.x.ensures, c.get.ensures.limits) in
+    let y : c.millionths-y.result ≡ c.args.place.y = omega (arith, ints, c.millionths-y.ensures, c.get-2.ensures.value, c.y.ensures, c.get-2.ensures.limits) in
+    let east = coordinate-below c.millionths-x.result (rw c.millionths-x.ensures c.get.ensures.limits) in
+    let north = coordinate-below c.millionths-y.result (rw c.millionths-y.ensures c.get-2.ensures.limits) in
+    let words-x = word (2 ^ 31) c.millionths-x.result (omega arith) east in
+    let words-y = word (2 ^ 31) c.millionths-y.result (omega arith) north in
+    let words-across = word (2 ^ 31) across (omega arith) are.columns.most in
+    let words-down = word (2 ^ 31) down (omega arith) are.rows.most in
+    let minx : c.less.result ≡ c.args.place.x -ℤ pos left *ℤ across = rw (words-x, words-across, x) at c.less.ensures.value in
+    let miny : c.less-2.result ≡ c.args.place.y -ℤ pos (15 - top) *ℤ down = rw (words-y, words-down, y) at c.less-2.ensures.value in
+    let maxx : c.more.result ≡ c.args.place.x +ℤ pos (15 - left) *ℤ across = rw (words-x, words-across, x) at c.more.ensures.value in
+    let maxy : c.more-2.result ≡ c.args.place.y +ℤ pos top *ℤ down = rw (words-y, words-down, y) at c.more-2.ensures.value in
+    let box : c.box_of.result ≡ grains_around across down c.args.place left top =
+    rw (
+      word (2 ^ 40) c.less.result (omega arith) c.less.ensures.range,
+      word (2 ^ 40) c.less-2.result (omega arith) c.less-2.ensures.range,
+      word (2 ^ 40) c.more.result (omega arith) c.more.ensures.range,
+      word (2 ^ 40) c.more-2.result (omega arith) c.more-2.ensures.range,
+      minx,
+      miny,
+      maxx,
+      maxy,
+    ) at c.box_of.ensures in
+    let point = device_point c.args.self.now c.args.place in
+    let column : point.x ≡ int_div_euclid point.x (pos 16) *ℤ pos 16 +ℤ pos left =
+    rw (c.x-2.ensures.value, word (2 ^ 47) c.args.at.x (omega arith) c.x-2.ensures.limits.across, c.requires) at c.into_pixel-left.ensures.value in
+    let row : point.y ≡ int_div_euclid point.y (pos 16) *ℤ pos 16 +ℤ pos top =
+    rw (c.y-2.ensures.value, word (2 ^ 47) c.args.at.y (omega arith) c.y-2.ensures.limits.down, c.requires) at c.into_pixel-top.ensures.value in
+    rw (box, c.requires) (around-pixel c.args.self.now across down c.args.place left top are c.into_pixel-left.ensures.most c.into_pixel-top.ensures.most column row)
