@@ -1,5 +1,5 @@
 -- What a line covers, from vertex to vertex (docs/PROFILE.md, "When a pixel belongs to a line").
-use Rattle.std.specs.Prelude.{◌≡◌, ℕ, ◌<◌, ◌≤◌, Bool, true, false, ◌&&◌, ◌||◌, pos, int_le, List, [], ◌∷◌, map, Some}
+use Rattle.std.specs.Prelude.{◌≡◌, ℕ, ◌*◌, ◌<◌, ◌≤◌, length, Bool, true, false, ◌&&◌, ◌||◌, pos, int_le, List, [], ◌∷◌, map, Some}
 use Rattle.std.specs.List.{list_any}
 use Rattle.geom.specs.Device.{DevicePoint, pixel_centre}
 use Rattle.geom.specs.EvenOdd.{edge_between}
@@ -13,6 +13,7 @@ use Rattle.strokes.specs.Segment.{covers_segment}
 use Rattle.strokes.specs.Square.{covers_square}
 use Rattle.viewport.specs.View.{ViewValue, device_point, window}
 use Rattle.compose.specs.Painted.{IsFilled}
+use Rattle.compose.specs.declared.trail.Tip.{Tip}
 use Rattle.compose.specs.declared.trail.Trail.{Trail}
 
 -- the line of a width along one part covers a pixel: one of the part's segments does, or a square round one of its vertices
@@ -87,3 +88,9 @@ IsQuiet pen place box =
 pub record IsTrail (pen : PenValue) (canvas : PictureFields) (trail : Trail) : Type 0 where
   pub on : has_place trail.quiet trail.from ≡ true
   pub quiet : (a b : Place) → has_place trail.quiet a ≡ true → has_place trail.quiet b ≡ true → HasAlready pen canvas (pen_covers pen a b)
+
+-- the last vertex of a tip lies at its point, and the square round that has the pen's colour already
+pub record IsTip (pen : PenValue) (canvas : PictureFields) (tip : Tip) : Type 0 where
+  pub at : tip.at ≡ device_point pen.view tip.from
+  pub area : length canvas.pixels ≡ canvas.width * canvas.height
+  pub already : HasAlready pen canvas (vertex_covers pen.width tip.at)

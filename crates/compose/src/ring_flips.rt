@@ -6,6 +6,7 @@ ghost use Rattle.compose.specs.Flipped.{Adds, AddsEdge, IsRun, StandFor};
 
 use crate::chain::{Block, FEW_VERTICES, last_of};
 use crate::run::{RowFinder, Run};
+use crate::trail::Tip;
 use geom::{Edge, World};
 use mapdefs::{Part, split_block};
 use scanfill::{FlipFault, RowFlips};
@@ -52,10 +53,35 @@ fn add_small(flips: &mut RowFlips, rows: &RowFinder<'_>, ring: &[World]) -> Resu
     let Some((first, rest)) = ring.split_first() else {
         return Ok(());
     };
-    let begun = rows.begin(*first, rows.row_of(first.y()));
-    let run = add_vertices(flips, rows, begun, rest)?;
-    go_on(flips, rows, run, *first)?;
+    let from = *first;
+    let at = rows.projection().device(from);
+    let end = add_few(flips, rows, Tip { from, at }, rest)?;
+    flips.add(Edge::new(end.at, at))?;
     Ok(())
+}
+
+// Adds the flips of the edges from a vertex over those that follow. Each is projected once, and none is skipped.
+fn add_few(
+    flips: &mut RowFlips,
+    rows: &RowFinder<'_>,
+    mut tip: Tip,
+    rest: &[World],
+) -> Result<Tip, FlipFault>
+    requires width { flips.old.width ≡ rows.now.width }
+    requires height { flips.old.height ≡ rows.now.height }
+    requires at { tip.at ≡ device_point rows.now tip.from }
+    ensures sides { flips.new ≡ record flips.old { flips = flips.new.flips } }
+    ensures from { IfOk result (λ end. end.from ≡ chain_end tip.from rest.now) }
+    ensures at { IfOk result (λ end. end.at ≡ device_point rows.now end.from) }
+    ensures adds { OnOk result (AddsChain rows.now flips.old.flips tip.from rest.now flips.new.flips) }
+{
+    let projection = rows.projection();
+    for to in rest {
+        let at = projection.device(*to);
+        flips.add(Edge::new(tip.at, at))?;
+        tip = Tip { from: *to, at };
+    }
+    Ok(tip)
 }
 
 // Adds the flips of a ring, block by block.

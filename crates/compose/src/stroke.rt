@@ -8,7 +8,7 @@ ghost use Rattle.strokes.specs.Line as line;
 ghost use Rattle.viewport.specs.View.{device_point};
 ghost use Rattle.compose.specs.Chain.{HasChain, chain_end};
 ghost use Rattle.compose.specs.Painted.{IsFilled};
-ghost use Rattle.compose.specs.Stroked.{HasAlready, IsOf, IsTrail, chain_covers, part_covers, pen_covers, segment_covers, step_covers, vertex_covers};
+ghost use Rattle.compose.specs.Stroked.{HasAlready, IsOf, IsTip, IsTrail, chain_covers, part_covers, pen_covers, segment_covers, step_covers, vertex_covers};
 
 use crate::boxes::fill_square;
 use crate::canvas::Canvas;
@@ -16,7 +16,7 @@ use crate::chain::{Block, FEW_VERTICES, last_of};
 use crate::pen::{Pen, has_box, has_place};
 use crate::rows::paint_cover;
 use crate::strips::{fill_across, fill_down};
-use crate::trail::Trail;
+use crate::trail::{Tip, Trail};
 use geom::{Device, Edge, World};
 use mapdefs::{Part, Rgb, split_block};
 use std::alloc::AllocError;
@@ -68,12 +68,36 @@ fn paint_small(
     let Some((first, rest)) = part.split_first() else {
         return Ok(());
     };
-    let begun = begin(canvas, pen, *first);
-    let trail = paint_steps(canvas, pen, begun, rest)?;
+    let _area = canvas.width();
+    let from = *first;
+    let at = pen.projection().device(from);
+    fill_vertex(canvas, pen, at);
+    let end = paint_few(canvas, pen, Tip { from, at }, rest)?;
     if closed {
-        go_on(canvas, pen, &trail, *first)?;
+        paint_step(canvas, pen, end.at, at)?;
     }
     Ok(())
+}
+
+// Paints the steps from a vertex over those that follow. Each is projected once, and none is skipped.
+fn paint_few(
+    canvas: &mut Canvas,
+    pen: &Pen<'_>,
+    mut tip: Tip,
+    rest: &[World],
+) -> Result<Tip, AllocError>
+    requires sides { IsOf pen.now canvas.old }
+    requires tip { IsTip pen.now canvas.old tip }
+    ensures from { IfOk result (λ end. end.from ≡ chain_end tip.from rest.now) }
+    ensures tip { IfOk result (λ end. IsTip pen.now canvas.new end) }
+    ensures filled { OnOk result (IsFilled (chain_covers pen.now tip.from rest.now) (λ i j. Some pen.now.colour) canvas.old canvas.new) }
+{
+    for to in rest {
+        let at = pen.projection().device(*to);
+        paint_step(canvas, pen, tip.at, at)?;
+        tip = Tip { from: *to, at };
+    }
+    Ok(tip)
 }
 
 // Paints the line along one part, block by block.

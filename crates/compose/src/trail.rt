@@ -1,4 +1,4 @@
-use geom::{World, WorldBox};
+use geom::{Device, World, WorldBox};
 
 /// How far a line is painted: the place of its last vertex, and a *quiet* box round it. A step within the box needs no
 /// painting, since all that it covers has the line's colour already.
@@ -6,4 +6,11 @@ use geom::{World, WorldBox};
 pub struct Trail {
     pub from: World,
     pub quiet: WorldBox,
+}
+
+/// The last vertex of a line as far as it is painted, and where it lies on the picture.
+#[derive(Clone, Copy)]
+pub struct Tip {
+    pub from: World,
+    pub at: Device,
 }
