@@ -4,7 +4,7 @@
 Usage: failing_calls.py PROGRAM [EVERY]
 
 A library that is loaded before the C library, built here with cc, counts the calls and fails the one of a number, or
-lets it move one byte alone. Maps of demo/ are checked and played; sessions of a map's own ask for a picture with
+lets it move one byte alone. For `refusals.py` it can count calls for memory between two marks alone. Maps of demo/ are checked and played; sessions of a map's own ask for a picture with
 labels, for the capabilities document and for feature information; and a map is served by two workers, to three clients
 and three administrators, who change it between the clients' requests. What comes out may be less than the right answer,
 never another: a reply is right or NOMEMORY; where a file or a stream fails, what was written is a front of the right
@@ -45,6 +45,8 @@ SHIM = r"""
 extern void *__libc_malloc(size_t size);
 extern void *__libc_realloc(void *old, size_t size);
 static long memory, bytes, threads;
+// with MARKED, the number of marks `>` that were written, whether `<` came since, and the calls for memory behind each
+static long marks, inside, marked[4];
 static int (*start)(pthread_t *, const pthread_attr_t *, void *(*)(void *), void *);
 
 static long next(long *count) { return __atomic_add_fetch(count, 1, __ATOMIC_SEQ_CST); }
@@ -53,11 +55,22 @@ static int is_it(const char *kind, long count) {
     const char *number = getenv(kind);
     return number && atol(number) == count;
 }
-void *malloc(size_t size) { return is_it("FAIL_MEMORY", next(&memory)) ? NULL : __libc_malloc(size); }
-void *realloc(void *old, size_t size) { return is_it("FAIL_MEMORY", next(&memory)) ? NULL : __libc_realloc(old, size); }
+static int is_refused(void) {
+    if (!getenv("MARKED")) return is_it("FAIL_MEMORY", next(&memory));
+    if (!inside || marks > 3) return 0;
+    return is_it(marks == 1 ? "FAIL_FIRST" : marks == 2 ? "FAIL_SECOND" : "FAIL_THIRD", next(&marked[marks]));
+}
+static void see(int file, const char *text, size_t count) {
+    if (file != 1 || count == 0) return;
+    if (text[0] == '>') { marks++; inside = 1; }
+    if (text[0] == '<') inside = 0;
+}
+void *malloc(size_t size) { return is_refused() ? NULL : __libc_malloc(size); }
+void *realloc(void *old, size_t size) { return is_refused() ? NULL : __libc_realloc(old, size); }
 
 static ssize_t moved(long call, int file, char *room, size_t count) {
     long number = next(&bytes);
+    if (call == SYS_write && getenv("MARKED")) see(file, room, count);
     if (is_it("FAIL_BYTES", number)) { errno = EIO; return -1; }
     if (is_it("SHORT_BYTES", number) && count > 1) count = 1;
     ssize_t done = syscall(call, file, room, count, 0, 0, 0);
@@ -76,7 +89,7 @@ __attribute__((constructor)) static void begin(void) {
     start = (int (*)(pthread_t *, const pthread_attr_t *, void *(*)(void *), void *))dlsym(RTLD_NEXT, "pthread_create");
 }
 __attribute__((destructor)) static void tell(void) {
-    long counts[3] = {memory, bytes, threads};
+    long counts[3] = {getenv("MARKED") ? marked[1] : memory, bytes, getenv("MARKED") ? marked[2] : threads};
     const char *pipe = getenv("COUNTS");
     if (pipe) syscall(SYS_write, atoi(pipe), counts, sizeof counts);
 }

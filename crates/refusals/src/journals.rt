@@ -1,0 +1,132 @@
+use crate::marks::{Call, begin, end, play_on};
+use crate::reading::plain_machine;
+use journal::{encode, push_header};
+use journalfile::{Journal, Log, PutFault, ReadError, RecoverFault, recover};
+use std::alloc::{AllocError, Global};
+use std::io;
+
+const FINGERPRINT: [u8; 32] = [7; 32];
+
+const BATCH: &[u8] = b"OFF a\n";
+
+/// There is no room left.
+#[derive(Drop)]
+struct Full;
+
+/// Bytes in memory with room for some more, so that adding to them takes no memory. Nothing is proved of it.
+#[derive(Drop)]
+struct Room {
+    bytes: Vec<u8>,
+}
+
+impl Log for Room {
+    ghost use Rattle.std.specs.Prelude.{[]};
+
+    type Failure = Full;
+
+    ghost reliable = { ⊥ };
+
+    ghost content = { λ _. [] };
+
+    ghost may_leave = { λ _ _. Unit {0} };
+
+    ghost moment = { λ _. 0 };
+
+    ghost left_since = { λ _ _ _. Unit {0} };
+
+    ghost garbled = { λ _. Unit {0} };
+
+    ghost counts_now = { λ reliable. absurd reliable };
+
+    ghost only_now = { λ reliable. absurd reliable };
+
+    fn read(&mut self, alloc: Global) -> Result<Vec<u8>, ReadError<Full>> {
+        match self.bytes.to_vec(alloc) {
+            Ok(bytes) => Ok(bytes),
+            Err(_) => Err(ReadError::NoMemory),
+        }
+    }
+
+    fn append(&mut self, bytes: &[u8]) -> Result<(), Full> {
+        self.bytes.extend_from_slice(bytes).map_err(|_| Full)
+    }
+
+    fn cut(&mut self, end: usize) -> Result<(), Full> {
+        self.bytes.truncate(end);
+        Ok(())
+    }
+
+    fn sync(&mut self) -> Result<(), Full> {
+        Ok(())
+    }
+}
+
+// A journal of so many batches, and a broken record behind them.
+fn journal_bytes(alloc: Global, count: u64) -> Result<Vec<u8>, AllocError> {
+    let mut bytes = Vec::with_capacity(alloc, 4_096)?;
+    push_header(&mut bytes, &FINGERPRINT)?;
+    for number in 0..count {
+        let record = encode(alloc, &FINGERPRINT, number.saturating_add(1), BATCH)?;
+        bytes.extend_from_slice(record.as_slice())?;
+    }
+    bytes.push(192)?;
+    Ok(bytes)
+}
+
+/// Opens a journal of two batches.
+pub fn recover_row(rt: &HostRuntime) -> io::Result<Option<String>> {
+    let alloc = rt.alloc();
+    let mut machine = plain_machine(alloc)?;
+    let mut log = Room {
+        bytes: journal_bytes(alloc, 2)?,
+    };
+    begin(rt)?;
+    let answer = recover(alloc, &FINGERPRINT, &mut log, &mut machine);
+    end(rt)?;
+    match answer {
+        Ok(count) => Ok(Some(format!(in alloc; "{count} batches")?)),
+        Err(RecoverFault::NoMemory) => Ok(None),
+        Err(_) => Ok(Some(String::from_str(alloc, "another fault")?)),
+    }
+}
+
+#[derive(Drop)]
+struct Putting {
+    journal: Journal<Room>,
+}
+
+impl Call for Putting {
+    fn state(&self, rt: &HostRuntime) -> io::Result<String> {
+        let (count, bytes) = (self.journal.count, self.journal.log.bytes.len());
+        Ok(format!(in rt.alloc(); "{count} batches, {bytes} bytes")?)
+    }
+
+    fn call(&mut self, rt: &HostRuntime) -> io::Result<Option<String>> {
+        if self.journal.count > 9 {
+            return Ok(None);
+        }
+        begin(rt)?;
+        let answer = self.journal.put(BATCH);
+        end(rt)?;
+        match answer {
+            Ok(()) => Ok(Some(String::from_str(rt.alloc(), "kept")?)),
+            Err(PutFault::NoMemory) => Ok(None),
+            Err(PutFault::Failed(_)) => Ok(Some(String::from_str(rt.alloc(), "failed")?)),
+        }
+    }
+}
+
+/// Adds a batch to a journal.
+pub fn put_row(rt: &HostRuntime) -> io::Result<()> {
+    let alloc = rt.alloc();
+    let log = Room {
+        bytes: journal_bytes(alloc, 0)?,
+    };
+    let journal = Journal {
+        alloc,
+        log,
+        fingerprint: FINGERPRINT,
+        count: 0,
+    };
+    play_on(rt, &mut Putting { journal })
+}

@@ -1,0 +1,48 @@
+use std::io;
+
+/// Prints that a call begins.
+pub fn begin(rt: &HostRuntime) -> io::Result<()> {
+    println!(rt; ">")
+}
+
+/// Prints that it has ended.
+pub fn end(rt: &HostRuntime) -> io::Result<()> {
+    println!(rt; "<")
+}
+
+/// Prints what a call answered, and says whether that is an answer.
+pub fn tell(rt: &HostRuntime, answer: Option<String>) -> io::Result<bool> {
+    match answer {
+        Some(text) => {
+            println!(rt; "{text}")?;
+            Ok(true)
+        }
+        None => {
+            println!(rt; "NoMemory")?;
+            Ok(false)
+        }
+    }
+}
+
+/// A call that changes something.
+pub trait Call {
+    /// What it changes, as it is now.
+    fn state(&self, rt: &HostRuntime) -> io::Result<String>;
+
+    /// Makes the call between the marks. Without an answer memory was refused.
+    fn call(&mut self, rt: &HostRuntime) -> io::Result<Option<String>>;
+}
+
+/// Makes such a call, and prints what it changes before and after. Where memory was refused it is made once more.
+pub fn play_on<C: Call>(rt: &HostRuntime, call: &mut C) -> io::Result<()> {
+    println!(rt; "before: {}", call.state(rt)?)?;
+    let answer = call.call(rt)?;
+    let is_told = tell(rt, answer)?;
+    println!(rt; "after: {}", call.state(rt)?)?;
+    if !is_told {
+        let answer = call.call(rt)?;
+        tell(rt, answer)?;
+        println!(rt; "after: {}", call.state(rt)?)?;
+    }
+    Ok(())
+}

@@ -1,0 +1,202 @@
+ghost use Rattle.std.specs.Prelude.{◌≡◌};
+
+use crate::marks::{begin, end};
+use crate::reading::plain_machine;
+use history::Blank;
+use mapmachine::Machine;
+use mapshare::{Admin, Reader, Retried, Sharing, Submitted, open};
+use std::alloc::{AllocError, Global};
+use std::io;
+use std::marker::Brand;
+use std::sync::Wait;
+
+const BATCH: &[u8] = b"OFF a\n";
+
+// What became of a batch.
+#[derive(Clone, Copy, Debug, PartialEq, Eq)]
+enum Became {
+    Published,
+    Held,
+    Refused,
+    NoMemory,
+    Idle,
+}
+
+fn submit<S: Sharing, R: Wait>(
+    rt: &R,
+    system: &HostRuntime,
+    admin: Admin<S>,
+    batch: Vec<u8>,
+) -> (Admin<S>, Became) {
+    let _begun = begin(system);
+    let (admin, submitted) = admin.submit(rt, batch);
+    let _ended = end(system);
+    match submitted {
+        Submitted::Published(_) => (admin, Became::Published),
+        Submitted::Held => (admin, Became::Held),
+        Submitted::Refused(_) => (admin, Became::Refused),
+        Submitted::NoMemory => (admin, Became::NoMemory),
+    }
+}
+
+fn retry<S: Sharing, R: Wait>(rt: &R, system: &HostRuntime, admin: Admin<S>) -> (Admin<S>, Became) {
+    let _begun = begin(system);
+    let (admin, retried) = admin.retry(rt);
+    let _ended = end(system);
+    match retried {
+        Retried::Published(_) => (admin, Became::Published),
+        Retried::Held => (admin, Became::Held),
+        Retried::Idle => (admin, Became::Idle),
+    }
+}
+
+// The sequence that the first of some readers is shown.
+fn seen<S: Sharing>(readers: &mut Vec<Reader<S>>) -> Option<u64> {
+    let reader = readers.first_mut()?;
+    match reader.enter() {
+        Ok(entered) => Some(entered.sequence()),
+        Err(_) => None,
+    }
+}
+
+// Prints what became of a batch, and what readers are shown then.
+fn tell<S: Sharing>(system: &HostRuntime, became: Became, readers: &mut Vec<Reader<S>>) {
+    let sequence = seen(readers);
+    let _printed = println!(system; "{became:?}, readers see {sequence:?}");
+}
+
+// Submits a batch until it is published, three times at most. One that is held is tried again by `retry`.
+fn submit_often<S: Sharing, R: Wait>(
+    rt: &R,
+    system: &HostRuntime,
+    admin: Admin<S>,
+    readers: &mut Vec<Reader<S>>,
+    batches: [Vec<u8>; 2],
+) -> Admin<S> {
+    let [first, second] = batches;
+    let (admin, became) = submit(rt, system, admin, first);
+    tell(system, became, readers);
+    let (admin, became) = match became {
+        Became::NoMemory => submit(rt, system, admin, second),
+        _ => retry(rt, system, admin),
+    };
+    tell(system, became, readers);
+    let (admin, became) = retry(rt, system, admin);
+    tell(system, became, readers);
+    admin
+}
+
+// Shares a machine and submits a batch, and says whether it was shared.
+fn submit_shared<S: Sharing, R: Wait>(
+    rt: &R,
+    system: &HostRuntime,
+    blank: Blank,
+    machine: &Machine,
+    batches: [Vec<u8>; 2],
+) -> bool
+    requires history { blank.seen.book ≡ S.book }
+    requires opening { machine.now ≡ S.opening }
+{
+    let Ok((admin, mut readers)) = open::<S, R>(rt, system.alloc(), blank, machine, 2) else {
+        return false;
+    };
+    let admin = submit_often(rt, system, admin, &mut readers, batches);
+    admin.close(rt);
+    true
+}
+
+/// Submits a batch to a shared map.
+pub fn submit_row<R: Wait>(rt: &R, system: &HostRuntime) -> io::Result<()> {
+    let alloc = system.alloc();
+    let machine = plain_machine(alloc)?;
+    let batches = [
+        Vec::from_slice(alloc, BATCH)?,
+        Vec::from_slice(alloc, BATCH)?,
+    ];
+    let shared = submit_shared::<Brand, R>(rt, system, Blank::new(), &machine, batches);
+    println!(system; "shared {shared}")
+}
+
+// Shares a machine, and says whether that was done.
+fn share<S: Sharing, R: Wait>(rt: &R, system: &HostRuntime, blank: Blank, machine: &Machine) -> bool
+    requires history { blank.seen.book ≡ S.book }
+    requires opening { machine.now ≡ S.opening }
+{
+    let _begun = begin(system);
+    let opened = open::<S, R>(rt, system.alloc(), blank, machine, 2);
+    let _ended = end(system);
+    let Ok((admin, _readers)) = opened else {
+        return false;
+    };
+    admin.close(rt);
+    true
+}
+
+// Shares a machine under a name of its own.
+fn share_once<R: Wait>(rt: &R, system: &HostRuntime, machine: &Machine) -> bool {
+    share::<Brand, R>(rt, system, Blank::new(), machine)
+}
+
+/// Shares a machine, and once more where that was refused.
+pub fn share_row<R: Wait>(rt: &R, system: &HostRuntime) -> io::Result<()> {
+    let machine = plain_machine(system.alloc())?;
+    if share_once(rt, system, &machine) {
+        return println!(system; "shared");
+    }
+    println!(system; "NoMemory")?;
+    let shared = share_once(rt, system, &machine);
+    println!(system; "{}", if shared { "shared" } else { "NoMemory" })
+}
+
+// What a reader answers.
+#[derive(Clone, Copy, Debug, PartialEq, Eq)]
+enum Said {
+    Answered(usize),
+    NoMemory,
+    Closed,
+}
+
+// Has the first of some readers enter and answer a query, and prints what it says.
+fn ask<S: Sharing>(system: &HostRuntime, readers: &mut Vec<Reader<S>>) -> Said {
+    let Some(reader) = readers.first_mut() else {
+        return Said::Closed;
+    };
+    let _begun = begin(system);
+    let said = match reader.enter() {
+        Ok(entered) => match entered.answer(b"REQUEST=x") {
+            Ok(answer) => Said::Answered(answer.body.len()),
+            Err(_) => Said::NoMemory,
+        },
+        Err(_) => Said::Closed,
+    };
+    let _ended = end(system);
+    let _printed = println!(system; "{said:?}");
+    said
+}
+
+// Shares a machine and asks a reader, and once more where memory was refused. It says whether the machine was shared.
+fn ask_shared<S: Sharing, R: Wait>(
+    rt: &R,
+    system: &HostRuntime,
+    blank: Blank,
+    machine: &Machine,
+) -> bool
+    requires history { blank.seen.book ≡ S.book }
+    requires opening { machine.now ≡ S.opening }
+{
+    let Ok((admin, mut readers)) = open::<S, R>(rt, system.alloc(), blank, machine, 2) else {
+        return false;
+    };
+    if ask(system, &mut readers) == Said::NoMemory {
+        ask(system, &mut readers);
+    }
+    admin.close(rt);
+    true
+}
+
+/// Asks a reader of a shared map.
+pub fn enter_row<R: Wait>(rt: &R, system: &HostRuntime) -> io::Result<()> {
+    let machine = plain_machine(system.alloc())?;
+    let shared = ask_shared::<Brand, R>(rt, system, Blank::new(), &machine);
+    println!(system; "shared {shared}")
+}
