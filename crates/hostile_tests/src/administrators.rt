@@ -1,0 +1,80 @@
+ghost use Rattle.std.specs.Prelude.{◌≡◌};
+
+use crate::inputs::{ADMINISTRATOR, ADMINISTRATOR_ROWS};
+use crate::made::tally_of;
+use crate::maps::some_machine;
+use crate::tally::Tally;
+use administration::administer;
+use history::Blank;
+use mapmachine::Machine;
+use mapshare::{Sharing, open};
+use std::alloc::{AllocError, Global};
+use std::marker::Brand;
+use std::sync::Wait;
+use streams::Flagged;
+use test_tables::{TableFault, check_rows};
+
+// The lines that answer an administrator of a machine who sends these bytes.
+fn answered<S: Sharing, R: Wait>(
+    rt: &R,
+    alloc: Global,
+    machine: &Machine,
+    bytes: &[u8],
+    blank: Blank,
+) -> Result<Vec<u8>, AllocError>
+    requires history { blank.seen.book ≡ S.book }
+    requires opening { machine.now ≡ S.opening }
+{
+    let Ok((admin, _readers)) = open::<S, R>(rt, alloc, blank, machine, 1) else {
+        return Err(AllocError);
+    };
+    let mut reader = Flagged::new(bytes);
+    let mut writer = Flagged::new(Vec::new(alloc));
+    let (admin, served) = administer(rt, alloc, admin, &mut reader, &mut writer);
+    admin.close(rt);
+    match served {
+        Ok(()) => Ok(writer.into_inner()),
+        Err(_) => Err(AllocError),
+    }
+}
+
+// The outcome that a line reports, and its command where it is refused.
+fn add_line(line: &str, tally: &mut Tally) {
+    let mut words = line.split(' ');
+    let first = words.next();
+    let number = words.next().and_then(|word| word.parse::<u64>().ok());
+    match first {
+        Some("PUBLISHED") => tally.add(0, 0),
+        Some("REFUSED") => tally.add(1, number.unwrap_or(0)),
+        Some("IDLE") => tally.add(2, 0),
+        Some("MALFORMED") => tally.add(3, 0),
+        _ => tally.add(4, 0),
+    }
+}
+
+fn add_answers<R: Wait>(
+    rt: &R,
+    alloc: Global,
+    bytes: &[u8],
+    tally: &mut Tally,
+) -> Result<(), AllocError> {
+    let machine = some_machine(alloc)?;
+    let lines = answered::<Brand, R>(rt, alloc, &machine, bytes, Blank::new())?;
+    for line in str::from_utf8(lines.as_slice()).unwrap_or("?").lines() {
+        add_line(line, tally);
+    }
+    Ok(())
+}
+
+fn told<R: Wait>(rt: &R, alloc: Global, way: &str) -> Result<String, AllocError> {
+    tally_of(alloc, ADMINISTRATOR, way, |alloc, bytes, tally| {
+        add_answers(rt, alloc, bytes, tally)
+    })
+}
+
+#[test]
+fn administrators_have_their_lines(rt: HostRuntime) -> Result<(), TableFault> {
+    check_rows(rt.alloc(), ADMINISTRATOR_ROWS, '=', 7, |alloc, way| {
+        told(&rt, alloc, way)
+    })
+}
