@@ -70,9 +70,9 @@ with_option command o = with_rule command (number_rule o)
 abbrev pub serve_app : App
 serve_app = fold with_option (file_app (codes "serve")) serve_options
 
--- the program by its name, with which its arguments don't begin
+-- the program by its name, with which its arguments don't begin, and a version, for which `--version` asks
 abbrev pub program_app : App
-program_app = record { top = record (new_app (codes "mapservd")).top { no_binary_name = true }; subs = [] }
+program_app = record { top = record (new_app (codes "mapservd")).top { has_version = true; no_binary_name = true }; subs = [] }
 
 -- the command line: no arguments, or one of the three subcommands
 abbrev pub app : App
@@ -197,8 +197,8 @@ pub record CommandsAreWritten : Type 0 where
   pub administered : (c : Command) → May (codes "serve" ∷ codes "a.map" ∷ codes "--workers" ∷ codes "8" ∷ codes "--admin-port" ∷ codes "82" ∷ []) c → Serves (codes "a.map") false (record default_texts { admin_port = codes "82"; workers = codes "8" }) c
   pub serve_explained : (c : Command) → May (codes "serve" ∷ codes "a.map" ∷ codes "--explain" ∷ []) c → Serves (codes "a.map") true default_texts c
 
--- the law on arguments that are taken or refused: those of each command are taken; those that lack a file, begin with another word, or
--- have a number beyond its range are refused
+-- the law on arguments that are taken or refused: those of each command are taken; those that lack a file, begin with another word, ask
+-- for help or the version, or have a number beyond its range are refused
 pub record ArgumentsAreTaken : Type 0 where
   pub taken : (fault_of app [] ≡ []) × (fault_of app (codes "check" ∷ codes "a.map" ∷ []) ≡ []) × (fault_of app (codes "run" ∷ codes "a.map" ∷ codes "b.txt" ∷ []) ≡ [])
   pub explained : (fault_of app (codes "check" ∷ codes "--explain" ∷ codes "a.map" ∷ []) ≡ [])
@@ -206,6 +206,7 @@ pub record ArgumentsAreTaken : Type 0 where
       × (fault_of app (codes "serve" ∷ codes "a.map" ∷ codes "--explain" ∷ []) ≡ [])
   pub refused : (takes app (codes "check" ∷ []) ≡ false) × (takes app (codes "run" ∷ codes "a.map" ∷ []) ≡ false) × (takes app (codes "draw" ∷ codes "a.map" ∷ []) ≡ false)
       × (takes app (codes "serve" ∷ codes "a.map" ∷ codes "--port" ∷ codes "65536" ∷ []) ≡ false)
+  pub answered : (takes app (codes "--help" ∷ []) ≡ false) × (takes app (codes "--version" ∷ []) ≡ false) × (takes app (codes "check" ∷ codes "--version" ∷ []) ≡ false)
   pub untimely : (takes app (codes "serve" ∷ codes "a.map" ∷ codes "--idle" ∷ codes "0" ∷ []) ≡ false) × (takes app (codes "serve" ∷ codes "a.map" ∷ codes "--idle" ∷ codes "60001" ∷ []) ≡ false)
       × (takes app (codes "serve" ∷ codes "a.map" ∷ codes "--timeout" ∷ codes "0" ∷ []) ≡ false) × (takes app (codes "serve" ∷ codes "a.map" ∷ codes "--timeout" ∷ codes "3601" ∷ []) ≡ false)
   pub unmanned : (takes app (codes "serve" ∷ codes "a.map" ∷ codes "--workers" ∷ codes "0" ∷ []) ≡ false) × (takes app (codes "serve" ∷ codes "a.map" ∷ codes "--workers" ∷ codes "33" ∷ []) ≡ false)

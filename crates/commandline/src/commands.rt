@@ -5,6 +5,7 @@ ghost use Rattle.commandline.specs.Arguments.{app, check_app, file_app, number_r
 ghost use Rattle.commandline.specs.Subcommands.{IsWithSubcommand};
 
 use crate::options::{NumberOption, SERVE_OPTIONS};
+use crate::version::VERSION;
 use clap::builder::ValueParser;
 use clap::{Arg, ArgAction};
 use std::alloc::{AllocError, Global};
@@ -92,7 +93,7 @@ fn program<'a>(alloc: Global) -> Result<clap::Command<'a>, AllocError>
 {
     let program = clap::Command::new(alloc, "mapservd").bin_name("mapservd")?;
     let about = "Serve maps by WMS. Without a command, play a session from standard input";
-    Ok(program.about(about).no_binary_name(true))
+    Ok(program.about(about).version(VERSION).no_binary_name(true))
 }
 
 // The program so far with one subcommand more, if that was made.

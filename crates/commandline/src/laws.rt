@@ -12,8 +12,8 @@ pub fn commands_are_written()
     ensures { CommandsAreWritten }
 {}
 
-/// The arguments of each command are taken. Those that lack a file, begin with another word, or have a number beyond its
-/// range are refused.
+/// The arguments of each command are taken. Those that lack a file, begin with another word, ask for help or the version,
+/// or have a number beyond its range are refused.
 pub fn arguments_are_taken()
     ensures { ArgumentsAreTaken }
 {}

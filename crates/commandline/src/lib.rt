@@ -12,6 +12,7 @@ mod commands;
 pub mod laws;
 mod options;
 mod subcommand;
+mod version;
 
 pub use arguments::{WordsFault, command};
 pub use subcommand::{Command, MAX_IDLE, MAX_TIMEOUT, MAX_WORKERS, Service};

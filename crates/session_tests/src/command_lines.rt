@@ -95,7 +95,10 @@ CHECK a|error: unrecognized subcommand 'CHECK'~~Usage: mapservd [COMMAND]~~For m
 check --help|Check a mapfile, and count its layers and features~~Usage: mapservd check [OPTIONS] <FILE>~~Arguments:~  <FILE>  The mapfile~~Options:~      --explain  Explain the mapfile's first fault, or print warnings~  -h, --help     Print help~
 run --help|Run a script against a map~~Usage: mapservd run [OPTIONS] <FILE> <SCRIPT>~~Arguments:~  <FILE>    The mapfile~  <SCRIPT>  The script: queries and batches~~Options:~      --explain  Explain the mapfile's first fault, or print warnings~  -h, --help     Print help~
 serve --help|Serve the map over HTTP on 127.0.0.1~~Usage: mapservd serve [OPTIONS] <FILE>~~Arguments:~  <FILE>  The mapfile~~Options:~      --explain              Explain the mapfile's first fault, or print warnings~      --port <PORT>          Port for clients, 0 for a free one [default: 8080]~      --connections <COUNT>  Connections that each port takes in all, 0 for no end [default: 0]~      --idle <MILLISECONDS>  How long a connection may wait for its next request [default: 200]~      --timeout <SECONDS>    How long a request's head or an unread answer may take [default: 30]~      --admin-port <PORT>    Port for batches, 0 for a free one [default: 8081]~      --workers <COUNT>      Threads that answer clients [default: 4]~  -h, --help                 Print help~
---help|Serve maps by WMS. Without a command, play a session from standard input~~Usage: mapservd [COMMAND]~~Commands:~  check  Check a mapfile, and count its layers and features~  run    Run a script against a map~  serve  Serve the map over HTTP on 127.0.0.1~  help   Print this message or the help of the given subcommand(s)~~Options:~  -h, --help  Print help~";
+--help|Serve maps by WMS. Without a command, play a session from standard input~~Usage: mapservd [COMMAND]~~Commands:~  check  Check a mapfile, and count its layers and features~  run    Run a script against a map~  serve  Serve the map over HTTP on 127.0.0.1~  help   Print this message or the help of the given subcommand(s)~~Options:~  -h, --help     Print help~  -V, --version  Print version~
+--version|mapservd 2026-11-26, proved by logic dac8208d650f15bf~
+-V|mapservd 2026-11-26, proved by logic dac8208d650f15bf~
+check --version|error: unexpected argument '--version' found~~  tip: to pass '--version' as a value, use '-- --version'~~Usage: mapservd check [OPTIONS] <FILE>~~For more information, try '--help'.~";
 
 // Whether arguments ask for the command of their row.
 fn is_command(alloc: Global, row: &str) -> Result<bool, AllocError> {
@@ -107,7 +110,7 @@ fn is_command(alloc: Global, row: &str) -> Result<bool, AllocError> {
 
 #[test]
 fn arguments_ask_for_their_commands(rt: HostRuntime) -> Result<(), TableFault> {
-    check_all(rt.alloc(), ARGUMENTS, 46, is_command)
+    check_all(rt.alloc(), ARGUMENTS, 49, is_command)
 }
 
 // The messages on arguments that were refused with this text, and on those for which there was no memory.
