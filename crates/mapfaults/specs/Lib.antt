@@ -1,4 +1,5 @@
 pub mod Explained
+pub mod Missing
 pub mod Opening
 pub mod Unused
 pub mod Warning

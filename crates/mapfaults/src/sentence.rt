@@ -1,10 +1,10 @@
 use crate::foreign::{advice, has_tilde};
 use crate::openings::Opening;
-use crate::place::Explained;
+use crate::place::{Explained, Finding, explain};
 use crate::wanted::wanted;
 use expressions::{ExprError, read};
 use mapdefs::{
-    MAX_CLASSES, MAX_FEATURES, MAX_ITEMS, MAX_LAYERS, MAX_STYLES, MAX_SYMBOLS, MAX_VERTICES,
+    MAX_CLASSES, MAX_FEATURES, MAX_ITEMS, MAX_LAYERS, MAX_STYLES, MAX_SYMBOLS, MAX_VERTICES, Text,
 };
 use maplex::{LexKind, Shape, Token};
 use maptree::Context;
@@ -315,5 +315,14 @@ impl<'a> Explained<'a> {
             (Some(token), []) => unknown_word(alloc, self, token),
             (None, _) => self.words_after(alloc),
         }
+    }
+}
+
+/// The words on the first fault of what is written in a mapfile. There are none where it has no such fault, or where
+/// memory is refused.
+pub fn words_on_source(alloc: Global, source: &[u8]) -> Option<Text> {
+    match explain(alloc, source) {
+        Finding::Faulty(explained) => Some(Text::of(explained.words(alloc, source).ok()?)),
+        Finding::Sound | Finding::NoMemory => None,
     }
 }

@@ -1,3 +1,4 @@
+pub mod Explaining
 pub mod Fronts
 pub mod Lines
 pub mod Parting

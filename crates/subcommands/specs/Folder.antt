@@ -1,9 +1,7 @@
 -- The files of a mapfile, and the folder that they are in (docs/PROFILE.md, "The program").
-use Rattle.std.specs.Prelude.{◌≡◌, ◌≢◌, ◌==◌, ◌⊎◌, if◌then◌else◌, ℕ, List, [], ◌∷◌, ◌++◌, All, Option, None, Some, Result, Ok, Err, codes}
+use Rattle.std.specs.Prelude.{◌≡◌, ◌≢◌, ◌==◌, ◌⊎◌, if◌then◌else◌, ℕ, List, [], ◌∷◌, ◌++◌, All, Option, None, Some, Result, Ok, codes}
 use Rattle.mapdefs.specs.declared.map.MapFields.{MapFields}
 use Rattle.mapwords.specs.declared.fault.Fault.{Fault}
-use Rattle.mapwords.specs.declared.fault.ParseFault.{ParseFault}
-use Rattle.mapwords.specs.declared.fault.ParseFault.TheVariants.{At, NoMemory}
 use Rattle.mapparse.specs.declared.files.FileBytes.{FileBytes}
 use Rattle.mapparse.specs.Files.{with_file}
 use Rattle.mapparse.specs.Parsed.{wanted, parsed}
@@ -41,8 +39,3 @@ pub record ComesTo (gives : Giving) (mapfile : List ℕ) (map : Result MapFields
   pub files : List FileBytes
   pub are : (names : List (List ℕ)) → wanted mapfile ≡ Ok names → FilesOf gives names files
   pub is : parsed files mapfile ≡ map
-
--- the error is a fault of the mapfile, or memory was refused
-abbrev pub ComesToFault : Giving → List ℕ → ParseFault → Type 0
-ComesToFault gives mapfile (At line kind) = ComesTo gives mapfile (Err (record { line = line; kind = kind }))
-ComesToFault gives mapfile NoMemory = Unit {0}

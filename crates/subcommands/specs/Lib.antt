@@ -1,7 +1,7 @@
+pub mod Explained
 pub mod Folder
 pub mod Lines
 pub mod Mapfiles
-pub mod Missing
 pub mod Parts
 pub mod Reports
 pub mod Session

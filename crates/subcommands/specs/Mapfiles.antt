@@ -1,5 +1,5 @@
 -- Checking a mapfile, and running a script on its map (docs/PROFILE.md, "The program").
-use Rattle.std.specs.Prelude.{◌≡◌, ◌||◌, Bool, true, false, ℕ, List, ◌++◌, Option, None, Some, IfSome, Result, Ok, Err, ◌⊎◌, codes}
+use Rattle.std.specs.Prelude.{◌≡◌, ◌||◌, Bool, true, false, ℕ, List, ◌++◌, Option, None, Some, Result, Ok, Err, ◌⊎◌, codes}
 use Rattle.std.specs.Fmt.{decimal}
 use Rattle.std.specs.Io.KnownBytes.{Keeps, Appends, Consumes, IsAtEnd}
 use Rattle.console.specs.Streams.{Outcome, Streams, InputState, WriterState, IsReported, is_input_failed, is_output_failed}
@@ -8,11 +8,10 @@ use Rattle.console.specs.declared.failure.Failure.TheVariants.{MapfileFault, Fil
 use Rattle.mapdefs.specs.declared.map.MapFields.{MapFields}
 use Rattle.batches.specs.Batch.{State}
 use Rattle.mapwords.specs.declared.fault.Fault.{Fault}
-use Rattle.mapwords.specs.declared.fault.ParseKind.TheVariants.{MissingFile}
 use Rattle.mapwords.specs.Fault.{number_of}
 use Rattle.mapfaults.specs.Warning.{warning_lines}
+use Rattle.subcommands.specs.Explained.{IsExplained}
 use Rattle.subcommands.specs.Folder.{Giving, ComesTo}
-use Rattle.subcommands.specs.Missing.{NamesMissing}
 use Rattle.subcommands.specs.Reports.{file_fault, mapfile_fault}
 use Rattle.subcommands.specs.Session.{Ends, opened}
 use Rattle.subcommands.specs.Summary.{summary_line, HasPartlySummed}
@@ -56,16 +55,13 @@ explained_fault name fault None = mapfile_fault fault.line (number_of fault.kind
 explained_fault name fault (Some words) =
     mapfile_fault fault.line (number_of fault.kind) ++ (name ++ (codes ":" ++ (decimal fault.line ++ (codes ": " ++ (words ++ codes "\n")))))
 
--- a mapfile was read, and its fault reported; without words where `explains` is false, where memory was refused for them, or where a file
--- has changed since. The words on a file that can't be read name it
+-- a mapfile was read, and its fault reported with the words on it, if there are any
 pub record HasExplainedFault (gives : Giving) (explains : Bool) (name : List ℕ) (before after : Option (List ℕ)) (old new : WriterState) : Type 0 where
   pub mapfile : List ℕ
   pub read : HasReadFile before after mapfile
   pub fault : Fault
-  pub is_fault : ComesTo gives mapfile (Err fault)
   pub words : Option (List ℕ)
-  pub unasked : explains ≡ false → words ≡ None
-  pub named : fault.kind ≡ MissingFile → IfSome words (NamesMissing gives mapfile)
+  pub explained : IsExplained gives explains mapfile fault words
   pub reported : IsReported old new (explained_fault name fault words)
 
 -- a mapfile gave no map: it has a fault, or was not read

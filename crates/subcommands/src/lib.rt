@@ -3,22 +3,22 @@
 //!
 //! Proved: `session` reads its input up to the end and says by its result what was written: the whole transcript of
 //! the map machine's replies, or exactly the first bytes of it, or the fault of the mapfile (`plays`); `check` and `run`
-//! say the same of the files that they read, and which warnings are reported (`checks`, `runs`); `words_on` names the file
-//! that can't be read (`named`). `split_session` parts a session at its first line of two percent signs. `summary` says
-//! how many bytes went out where the writer fails.
+//! say the same of the files that they read, and which words and warnings are reported (`checks`, `runs`).
+//! `split_session` parts a session at its first line of two percent signs. `summary` says how many bytes went out where
+//! the writer fails.
 #![tactic(auto)]
 
 mod checking;
 mod folder;
 mod job;
 mod line;
+mod map_fault;
 mod parts;
 mod playing;
 mod reading;
 mod reports;
 mod running;
 mod summing;
-mod words;
 
 pub use checking::check;
 pub use folder::{Folder, front_of, path_of};

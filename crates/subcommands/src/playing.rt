@@ -5,13 +5,13 @@ ghost use Rattle.subcommands.specs.Mapfiles.{TouchesNeither};
 ghost use Rattle.subcommands.specs.Session.{Ends, EndsOn, IsWithoutMap, PlaysTo};
 
 use crate::folder::Folder;
+use crate::map_fault::MapFault;
 use crate::parts::split_session;
 use crate::reading::read_map_of;
 use crate::reports::report_mapfile_fault;
 use console::{Console, Failure, ReadFault, Terminal, Writes, flush, read_all};
 use mapdefs::Map;
 use mapmachine::Machine;
-use mapparse::ParseFault;
 use scripts::play_script;
 use std::alloc::Global;
 use streams::{Sink, Source};
@@ -48,13 +48,13 @@ pub fn open_map<F: Folder, E: Sink>(
     ensures neither { IfErr result TouchesNeither }
     ensures without { IfErr result (λ failure. IsWithoutMap (F.gives folder.now) failure mapfile.now (⟦<E as Writes>⟧.state errors.old) (⟦<E as Writes>⟧.state errors.new)) }
 {
-    match read_map_of(alloc, folder, mapfile) {
+    match read_map_of(alloc, folder, false, mapfile) {
         Ok(map) => Ok(map),
-        Err(ParseFault::At { line, kind }) => {
-            report_mapfile_fault(errors, line, kind.number());
+        Err(MapFault::Faulty { fault, .. }) => {
+            report_mapfile_fault(errors, fault.line, fault.kind.number());
             Err(Failure::MapfileFault)
         }
-        Err(ParseFault::NoMemory) => Err(Failure::NoMemory),
+        Err(MapFault::NoMemory) => Err(Failure::NoMemory),
     }
 }
 

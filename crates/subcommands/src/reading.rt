@@ -1,27 +1,72 @@
-ghost use Rattle.std.specs.Prelude.{◌≡◌, ◌⊎◌, IfOk, IfErr, OnOk, Ok, false};
-ghost use Rattle.subcommands.specs.Folder.{ComesTo, ComesToFault};
+ghost use Rattle.std.specs.Prelude.{◌≡◌, ◌⊎◌, IfOk, IfErr, IfSome, None, OnOk, Ok, false, true};
+ghost use Rattle.mapfaults.specs.Missing.{AreOnFiles};
+ghost use Rattle.subcommands.specs.Explained.{IsMapFault, has_missing};
+ghost use Rattle.subcommands.specs.Folder.{ComesTo};
 ghost use Rattle.subcommands.specs.Mapfiles.{HasReadFile, HasReadMap, GivesNoMap, IsUnread, LeavesFile, ReportsWarnings, TouchesNeither};
 
 use crate::folder::{Folder, files_of};
 use crate::job::{Job, NamedFile};
+use crate::map_fault::MapFault;
 use crate::reports::report_explained;
-use crate::words::words_on;
 use console::{Failure, ReadFault, Reads, Writes, read_all, report};
-use mapdefs::Map;
-use mapfaults::warning_lines;
-use mapparse::{Mapfile, ParseFault};
-use mapwords::Fault;
+use mapdefs::{Map, Text};
+use mapfaults::{warning_lines, words_on_files, words_on_source};
+use mapparse::{Files, Mapfile, ParseFault, ParseKind};
 use std::alloc::Global;
 use streams::{Sink, Source};
 
-/// The map of a mapfile with the files of its folder, or its first fault. The source is read once.
-pub fn read_map_of<F: Folder>(alloc: Global, folder: &F, source: &[u8]) -> Result<Map, ParseFault>
-    ensures map { IfOk result (λ map. ComesTo (F.gives folder.now) source.now (Ok map)) }
-    ensures fault { IfErr result (ComesToFault (F.gives folder.now) source.now) }
+// The words on a fault of what is written in a mapfile, where they are asked for.
+fn source_words(alloc: Global, explains: bool, source: &[u8], fault: &ParseFault) -> Option<Text>
+    ensures unasked { explains ≡ false → result ≡ None }
+    ensures unnamed { has_missing fault.now ≡ true → result ≡ None }
 {
-    let mapfile = Mapfile::read(alloc, source)?;
+    match fault {
+        // only a file has such a fault
+        ParseFault::At {
+            kind: ParseKind::MissingFile,
+            ..
+        } => None,
+        ParseFault::At { .. } if explains => words_on_source(alloc, source),
+        _ => None,
+    }
+}
+
+// The words on a fault of the files of a mapfile, where they are asked for.
+fn file_words(alloc: Global, explains: bool, mapfile: &Mapfile, files: &Files) -> Option<Text>
+    ensures unasked { explains ≡ false → result ≡ None }
+    ensures on { IfSome result (AreOnFiles files.now mapfile.now) }
+{
+    if explains {
+        words_on_files(alloc, mapfile, files)
+    } else {
+        None
+    }
+}
+
+/// The map of a mapfile with the files of its folder, or its first fault, with the words on it where these are asked
+/// for. A source without a fault of its own is parsed once, and each file is read from the folder once.
+pub fn read_map_of<F: Folder>(
+    alloc: Global,
+    folder: &F,
+    explains: bool,
+    source: &[u8],
+) -> Result<Map, MapFault>
+    ensures map { IfOk result (λ map. ComesTo (F.gives folder.now) source.now (Ok map)) }
+    ensures fault { IfErr result (IsMapFault (F.gives folder.now) explains source.now) }
+{
+    let mapfile = match Mapfile::read(alloc, source) {
+        Ok(mapfile) => mapfile,
+        Err(fault) => {
+            let words = source_words(alloc, explains, source, &fault);
+            return Err(MapFault::new(fault, words));
+        }
+    };
     let files = files_of(alloc, folder, &mapfile)?;
-    mapfile.into_map(alloc, &files)
+    let words = file_words(alloc, explains, &mapfile, &files);
+    match mapfile.into_map(alloc, &files) {
+        Ok(map) => Ok(map),
+        Err(fault) => Err(MapFault::new(fault, words)),
+    }
 }
 
 /// The bytes of a file. One that can't be read is reported by its name.
@@ -63,15 +108,13 @@ pub fn read_explained<F: Folder, I: Source, E: Sink>(
     ensures leaves { LeavesFile result (⟦<I as Reads>⟧.state job.old.mapfile.reader) (⟦<I as Reads>⟧.state job.new.mapfile.reader) }
 {
     let mapfile = read_file(alloc, &mut job.mapfile, errors)?;
-    match read_map_of(alloc, job.folder, &mapfile) {
+    match read_map_of(alloc, job.folder, job.explains, &mapfile) {
         Ok(map) => Ok(map),
-        Err(ParseFault::At { line, kind }) => {
-            let fault = Fault { line, kind };
-            let words = words_on(alloc, job, &mapfile, fault);
+        Err(MapFault::Faulty { fault, words }) => {
             report_explained(errors, job.mapfile.name, fault, &words);
             Err(Failure::MapfileFault)
         }
-        Err(ParseFault::NoMemory) => Err(Failure::NoMemory),
+        Err(MapFault::NoMemory) => Err(Failure::NoMemory),
     }
 }
 

@@ -1,10 +1,14 @@
 -- The words on a file that a mapfile names and that can't be read (docs/MAPFILE.md, "Faults in words").
-use Rattle.std.specs.Prelude.{◌≡◌, ◌==◌, ◌&&◌, ◌||◌, if◌then◌else◌, ℕ, nat_lt, Bool, false, List, [], ◌∷◌, ◌++◌, find, Option, Some, Ok, codes}
+use Rattle.std.specs.Prelude.{◌≡◌, ◌==◌, ◌&&◌, ◌||◌, if◌then◌else◌, ℕ, nat_lt, Bool, false, List, [], ◌∷◌, ◌++◌, find, Option, Some, codes}
 use Rattle.std.specs.Option.{is_none}
+use Rattle.maptree.specs.declared.tree.MapTree.{MapTree}
+use Rattle.mapparse.specs.declared.fault.FileCause.{FileCause}
+use Rattle.mapparse.specs.declared.fault.FileCause.TheVariants.{Missing}
+use Rattle.mapparse.specs.declared.fault.FileFault.{FileFault}
 use Rattle.mapparse.specs.declared.files.FileBytes.{FileBytes}
+use Rattle.mapparse.specs.Fault.{fault_in}
 use Rattle.mapparse.specs.Files.{bytes_in}
-use Rattle.mapparse.specs.Parsed.{wanted}
-use Rattle.subcommands.specs.Folder.{Giving, FilesOf}
+use Rattle.mapparse.specs.Uses.{files_fault, uses_of}
 
 -- the byte is a character below U+0020, or U+007F
 abbrev pub is_control_byte : ℕ → Bool
@@ -35,13 +39,20 @@ is_missing files name = is_none (bytes_in name files)
 abbrev pub first_missing : List FileBytes → List (List ℕ) → Option (List ℕ)
 first_missing files names = find (is_missing files) names
 
--- words name the first file that a mapfile wants and its folder doesn't give
-pub record NamesMissing (gives : Giving) (mapfile words : List ℕ) : Type 0 where
-  pub names : List (List ℕ)
-  pub are_wanted : wanted mapfile ≡ Ok names
-  pub files : List FileBytes
-  pub are_given : FilesOf gives names files
+-- words name the first of the files that a mapfile uses and that isn't given
+pub record NamesMissing (files : List FileBytes) (tree : MapTree) (words : List ℕ) : Type 0 where
   pub name : List ℕ
-  pub is_first : first_missing files names ≡ Some name
+  pub is_first : first_missing files (uses_of tree) ≡ Some name
   pub keyword : List ℕ
   pub says : words ≡ missing_words name keyword
+
+-- words are on a file that has this cause: one that can't be read they name; what they say of another has no definition
+abbrev pub AreOnCause : FileCause → List FileBytes → MapTree → List ℕ → Type 0
+AreOnCause Missing files tree words = NamesMissing files tree words
+AreOnCause cause files tree words = Unit {0}
+
+-- words are on the first used of the files that have a fault
+pub record AreOnFiles (files : List FileBytes) (tree : MapTree) (words : List ℕ) : Type 0 where
+  pub fault : FileFault
+  pub is_first : files_fault files tree ≡ Some (fault_in fault)
+  pub on : AreOnCause fault.cause files tree words

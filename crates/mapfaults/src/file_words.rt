@@ -1,0 +1,118 @@
+ghost use Rattle.std.specs.Prelude.{◌≡◌, option_map, IfOk, IfSome};
+ghost use Rattle.mapfaults.specs.Missing.{AreOnCause, AreOnFiles, NamesMissing, begins_with_late_control, first_missing, has_control, is_control_byte, is_missing, missing_words};
+
+use mapdefs::Text;
+use mapparse::{FileCause, FileFault, Files, Mapfile};
+use std::alloc::{AllocError, Global};
+
+// Whether a byte is a character below U+0020, or U+007F.
+fn is_control_byte(byte: u8) -> bool
+    ensures { result ≡ is_control_byte byte }
+{
+    byte < 32 || byte == 127
+}
+
+// Whether bytes begin with a character from U+0080 to U+009F.
+fn begins_with_late_control(bytes: &[u8]) -> bool
+    ensures { result ≡ begins_with_late_control bytes.now }
+{
+    match bytes {
+        [first, second, ..] => *first == 194 && *second < 160,
+        _ => false,
+    }
+}
+
+// Whether a name has a control character.
+fn has_control(name: &str) -> bool
+    ensures { result ≡ has_control name.now }
+{
+    let bytes = name.as_bytes();
+    for i in 0..bytes.len() {
+        if is_control_byte(bytes[i]) || begins_with_late_control(&bytes[i..]) {
+            return true;
+        }
+    }
+    false
+}
+
+// The words on a file that can't be read, by its name and the keyword that names it.
+fn missing_words(alloc: Global, name: &str, keyword: &str) -> Result<Text, AllocError>
+    ensures { IfOk result (λ words. words ≡ missing_words name.now keyword.now) }
+{
+    if has_control(name) {
+        return Ok(Text::of(format!(in alloc; "the file that {keyword} names can't be read")?));
+    }
+    Ok(Text::of(format!(in alloc; "the file {name}, which {keyword} names, can't be read")?))
+}
+
+// Whether a file isn't among those that are given.
+fn is_missing(files: &Files, name: &str) -> bool
+    ensures { result ≡ is_missing files.now name.now }
+{
+    match files.bytes(name) {
+        Some(_) => false,
+        None => true,
+    }
+}
+
+// The first of some files that isn't among those that are given.
+fn first_missing<'a>(names: &'a [Text], files: &Files) -> Option<&'a Text>
+    ensures { option_map (λ name. name.now) result ≡ first_missing files.now names.now }
+{
+    for name in names {
+        if is_missing(files, name.as_str()) {
+            return Some(name);
+        }
+    }
+    None
+}
+
+// The words on the first of the files that a mapfile uses and that isn't given, by the keyword that names it.
+fn words_on_missing(alloc: Global, mapfile: &Mapfile, files: &Files, keyword: &str) -> Option<Text>
+    ensures { IfSome result (NamesMissing files.now mapfile.now) }
+{
+    let Ok(names) = mapfile.wanted(alloc) else {
+        return None;
+    };
+    let Some(name) = first_missing(names.as_slice(), files) else {
+        return None;
+    };
+    match missing_words(alloc, name.as_str(), keyword) {
+        Ok(words) => Some(words),
+        Err(_) => None,
+    }
+}
+
+// The words on the fault of a file.
+fn words_on_file(alloc: Global, mapfile: &Mapfile, files: &Files, fault: FileFault) -> Option<Text>
+    ensures { IfSome result (AreOnCause fault.cause files.now mapfile.now) }
+{
+    let keyword = fault.keyword.spelling();
+    let words = match fault.cause {
+        FileCause::Missing => return words_on_missing(alloc, mapfile, files, keyword),
+        FileCause::NoPixmap(_) => format!(in alloc;
+            "the file that {keyword} names is no pixmap in Netpbm's P6 format of at most 256 by 256 pixels"
+        ),
+        FileCause::NoTable(fault) => format!(in alloc;
+            "the file that {keyword} names is no table of points: {fault}"
+        ),
+        FileCause::NoFont(fault) => format!(in alloc;
+            "the file that {keyword} names is no font: {fault}"
+        ),
+    };
+    match words {
+        Ok(words) => Some(Text::of(words)),
+        Err(_) => None,
+    }
+}
+
+/// The words on the first used of the files that have a fault. There are none where no file has one, or where memory is
+/// refused.
+pub fn words_on_files(alloc: Global, mapfile: &Mapfile, files: &Files) -> Option<Text>
+    ensures { IfSome result (AreOnFiles files.now mapfile.now) }
+{
+    match mapfile.files_fault(alloc, files) {
+        Ok(Some(fault)) => words_on_file(alloc, mapfile, files, fault),
+        Ok(None) | Err(_) => None,
+    }
+}

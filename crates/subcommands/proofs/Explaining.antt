@@ -1,0 +1,56 @@
+-- The fault of a mapfile, with the words on it.
+use Rattle.std.proofs.Common.{◌≡◌, ap, ◌∙◌, Bool, false, ℕ, List, Option, None, Some, Result, Ok, Err}
+use Rattle.std.specs.Option.{IfSome}
+use Rattle.maplex.specs.Lexed.{lexed}
+use Rattle.mapdefs.specs.declared.map.MapFields.{MapFields}
+use Rattle.maptree.specs.declared.tree.MapTree.{MapTree}
+use Rattle.maptree.specs.Source.{tree_of}
+use Rattle.mapwords.specs.declared.fault.Fault.{Fault}
+use Rattle.mapwords.specs.declared.fault.ParseFault.{ParseFault}
+use Rattle.mapwords.specs.declared.fault.ParseFault.TheVariants.{At, NoMemory}
+use Rattle.mapwords.specs.declared.fault.ParseKind.TheVariants.{MissingFile}
+use Rattle.mapwords.specs.Fault.{IsFaultOf}
+use Rattle.mapparse.specs.declared.fault.FileCause.{FileCause}
+use Rattle.mapparse.specs.declared.fault.FileCause.TheVariants.{Missing, NoFont, NoPixmap, NoTable}
+use Rattle.mapparse.specs.declared.files.FileBytes.{FileBytes}
+use Rattle.mapparse.specs.Fault.{fault_in, kind_of}
+use Rattle.mapparse.specs.Mapping.{map_of, told_by}
+use Rattle.mapparse.specs.Uses.{uses_of}
+use Rattle.mapfaults.specs.Missing.{AreOnCause, AreOnFiles, NamesMissing}
+use Rattle.subcommands.specs.Explained.{IsMapFault, NamesFirst, with_words}
+use Rattle.subcommands.specs.Folder.{FilesOf, Giving}
+
+-- the fault that is told is that of the first file that has one
+told : (first : Fault) (made : Result MapFields Fault) (fault : Fault) → told_by (Some first) made ≡ Err fault → first ≡ fault
+told first (Ok map) fault e = absurd (cc e)
+told first (Err other) fault e = cc e
+
+-- words on a file that can't be read name it
+names : (cause : FileCause) (files : List FileBytes) (tree : MapTree) (words : List ℕ) → kind_of cause ≡ MissingFile → AreOnCause cause files tree words →
+    NamesMissing files tree words
+names Missing files tree words e on = on
+names (NoPixmap fault) files tree words e on = absurd (cc e)
+names (NoTable fault) files tree words e on = absurd (cc e)
+names (NoFont fault) files tree words e on = absurd (cc e)
+
+named : (mapfile : List ℕ) (tree : MapTree) (files : List FileBytes) (fault : Fault) (words : Option (List ℕ)) → tree_of (lexed mapfile) ≡ Ok tree →
+    map_of files tree ≡ Err fault → IfSome words (AreOnFiles files tree) → fault.kind ≡ MissingFile → IfSome words (NamesFirst files mapfile)
+named mapfile tree files fault None read is on e = tt
+named mapfile tree files fault (Some words) read is on e =
+    let same : fault_in on.fault ≡ fault = told _ _ fault (rw on.is_first at is) in
+    record { tree = tree; is_read = read; names = names on.fault.cause files tree words (ap (λ (f : Fault). f.kind) same ∙ e) on.on }
+
+-- the fault of a file, with words on it
+pub of-files : (gives : Giving) (explains : Bool) (mapfile : List ℕ) (tree : MapTree) (files : List FileBytes) (fault : ParseFault) (words : Option (List ℕ)) →
+    tree_of (lexed mapfile) ≡ Ok tree → FilesOf gives (uses_of tree) files → IsFaultOf (map_of files tree) fault →
+    (explains ≡ false → words ≡ None) → IfSome words (AreOnFiles files tree) → IsMapFault gives explains mapfile (with_words fault words)
+of-files gives explains mapfile tree files NoMemory words read are is unasked on = tt
+of-files gives explains mapfile tree files (At line kind) words read are is unasked on = record {
+  is_fault = record {
+    files = files;
+    are = λ names e. let same : uses_of tree ≡ names = cc (rw read at e) in rw same at are;
+    is = rw read is;
+  };
+  unasked = unasked;
+  named = named mapfile tree files _ words read is on;
+}

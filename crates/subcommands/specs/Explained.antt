@@ -1,0 +1,42 @@
+-- The fault of a mapfile with the words on it (docs/MAPFILE.md, "Faults in words").
+use Rattle.std.specs.Prelude.{◌≡◌, Bool, true, false, ℕ, List, Option, None, IfSome, Ok, Err}
+use Rattle.maplex.specs.Lexed.{lexed}
+use Rattle.maptree.specs.declared.tree.MapTree.{MapTree}
+use Rattle.maptree.specs.Source.{tree_of}
+use Rattle.mapwords.specs.declared.fault.Fault.{Fault}
+use Rattle.mapwords.specs.declared.fault.ParseFault.{ParseFault}
+use Rattle.mapwords.specs.declared.fault.ParseFault.TheVariants.{At, NoMemory}
+use Rattle.mapwords.specs.declared.fault.ParseKind.TheVariants.{MissingFile}
+use Rattle.mapparse.specs.declared.files.FileBytes.{FileBytes}
+use Rattle.mapfaults.specs.Missing.{NamesMissing}
+use Rattle.subcommands.specs.Folder.{Giving, ComesTo}
+use Rattle.subcommands.specs.declared.map_fault.MapFault.{MapFault}
+use Rattle.subcommands.specs.declared.map_fault.MapFault.TheVariants as unmapped
+
+-- words name the first file that a mapfile uses and that isn't among these
+pub record NamesFirst (files : List FileBytes) (mapfile words : List ℕ) : Type 0 where
+  pub tree : MapTree
+  pub is_read : tree_of (lexed mapfile) ≡ Ok tree
+  pub names : NamesMissing files tree words
+
+-- a mapfile has this fault with the files of a folder, and these words are on it. There are none where `explains` is false, or where memory
+-- was refused for them; those on a file that can't be read name it
+pub record IsExplained (gives : Giving) (explains : Bool) (mapfile : List ℕ) (fault : Fault) (words : Option (List ℕ)) : Type 0 where
+  pub is_fault : ComesTo gives mapfile (Err fault)
+  pub unasked : explains ≡ false → words ≡ None
+  pub named : fault.kind ≡ MissingFile → IfSome words (NamesFirst is_fault.files mapfile)
+
+-- why a mapfile gives no map: its fault, or memory was refused
+abbrev pub IsMapFault : Giving → Bool → List ℕ → MapFault → Type 0
+IsMapFault gives explains mapfile (unmapped.Faulty fault words) = IsExplained gives explains mapfile fault words
+IsMapFault gives explains mapfile unmapped.NoMemory = Unit {0}
+
+-- a fault is that of a file that can't be read
+abbrev pub has_missing : ParseFault → Bool
+has_missing (At line MissingFile) = true
+has_missing fault = false
+
+-- a fault with the words on it
+abbrev pub with_words : ParseFault → Option (List ℕ) → MapFault
+with_words (At line kind) words = unmapped.Faulty (record { line = line; kind = kind }) words
+with_words NoMemory words = unmapped.NoMemory

@@ -1,0 +1,47 @@
+ghost use Rattle.std.specs.Prelude.{◌≡◌};
+ghost use Rattle.subcommands.specs.Explained.{with_words};
+
+use mapdefs::Text;
+use mapparse::ParseFault;
+use mapwords::Fault;
+use std::alloc::AllocError;
+
+/// Why a mapfile gives no map.
+#[derive(Drop)]
+pub enum MapFault {
+    /// It has a fault.
+    Faulty {
+        /// Its first one.
+        fault: Fault,
+        /// The words on it, where they are asked for and memory isn't refused for them.
+        words: Option<Text>,
+    },
+    /// Memory was refused.
+    NoMemory,
+}
+
+impl MapFault {
+    /// A fault with the words on it.
+    pub fn new(fault: ParseFault, words: Option<Text>) -> Self
+        ensures { result ≡ with_words fault words }
+    {
+        match fault {
+            ParseFault::At { line, kind } => MapFault::Faulty {
+                fault: Fault { line, kind },
+                words,
+            },
+            ParseFault::NoMemory => MapFault::NoMemory,
+        }
+    }
+}
+
+impl From<AllocError> for MapFault {
+    ghost use Rattle.std.specs.Prelude.{◌≡◌};
+    ghost use Rattle.subcommands.specs.declared.map_fault.MapFault.TheVariants.{NoMemory};
+
+    ghost from_gives = { λ _ error. error ≡ NoMemory };
+
+    fn from(_error: AllocError) -> MapFault {
+        MapFault::NoMemory
+    }
+}
