@@ -119,7 +119,7 @@ def main():
             ("check many", run(b"", "check", "large.map"), (0, b"ok 1 layers 30 features\n", b"")),
             ("check faulty", run(b"", "check", "bad.map"), (1, b"", b"fault line 3 kind 2\n")),
             ("explain", run(b"", "check", "--explain", "good.map"), (0, b"ok 1 layers 0 features\n", NO_ADDRESS % b"good")),
-            ("run explained", run(b"", "run", "--explain", "good.map", "none.script"), (1, b"", NO_ADDRESS % b"good" + b"fault file none.script\n")),
+            ("run explained", run(b"", "run", "--explain", "good.map", "none.script"), (1, b"", NO_ADDRESS % b"good" + b"fault file none.script\nnone.script: the file is missing\n")),
             ("serve explained", run(b"", "serve", "--explain", "bad.map"), (1, b"", IN_WORDS)),
             ("explain faulty", run(b"", "check", "--explain", "bad.map"), (1, b"", IN_WORDS)),
             ("explain a symbol", run(b"", "check", "--explain", "symbol.map"), (0, b"ok 0 layers 0 features\n", NO_ADDRESS % b"symbol")),

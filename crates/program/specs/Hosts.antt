@@ -1,6 +1,10 @@
 -- What a host gives to the program: its files (docs/PROFILE.md, "The program").
 use Rattle.std.specs.Prelude.{◌≡◌, ℕ, List, Option, None, Some, IfSome, ⊤}
+use Rattle.std.specs.declared.io.ErrorKind.{ErrorKind}
+use Rattle.std.specs.declared.io.ErrorKind.TheVariants.{NotFound, PermissionDenied}
 use Rattle.subcommands.specs.Folder.{Giving, path_of}
+use Rattle.subcommands.specs.declared.unread.UnreadCause.{UnreadCause}
+use Rattle.subcommands.specs.declared.unread.UnreadCause.TheVariants.{Missing, NotAllowed, Other}
 
 -- what is left of a file: all of it before it is opened
 abbrev pub left_of : {F : Type 0} → Option (List ℕ) → (F → Option (List ℕ)) → Option F → Option (List ℕ)
@@ -11,3 +15,9 @@ left_of whole left (Some opened) = left opened
 abbrev pub gives_in : (List ℕ → Option (List ℕ)) → List ℕ → Giving
 gives_in file front name None = ⊤
 gives_in file front name (Some bytes) = IfSome (file (path_of front name)) (λ known. bytes ≡ known)
+
+-- why a file can't be read, by what the system says
+abbrev pub cause_of : ErrorKind → UnreadCause
+cause_of NotFound = Missing
+cause_of PermissionDenied = NotAllowed
+cause_of kind = Other

@@ -13,6 +13,7 @@ use Rattle.service.specs.declared.limits.Waits.{Waits}
 use Rattle.subcommands.specs.Folder.{Giving, IsFront}
 use Rattle.subcommands.specs.Mapfiles.{HasReadMap, GivesNoMap, ReportsWarnings, ChecksTo, RunsTo}
 use Rattle.subcommands.specs.Session.{PlaysTo, opened}
+use Rattle.subcommands.specs.declared.unread.UnreadCause.{UnreadCause}
 use Rattle.program.specs.Endings.{EndingValue}
 use Rattle.program.specs.Hosts.{gives_in}
 
@@ -67,7 +68,8 @@ pub record IsWithoutMap {P : Type 0} (gives : Giving) (explains : Bool) (ending 
   pub failure : Failure
   pub ends : ending.outcome ≡ Err failure
   pub output : Keeps old.output.held new.output.held
-  pub without : GivesNoMap gives explains failure name before after old.errors new.errors
+  pub cause : UnreadCause
+  pub without : GivesNoMap gives explains failure (record { name = name; cause = cause }) before after old.errors new.errors
   pub nothing : ServesNothing ending
 
 -- what serving a mapfile comes to. `before` and `after` are what is left of the mapfile
@@ -84,11 +86,11 @@ Left = Option (List ℕ)
 abbrev pub Performs : {P : Type 0} → HostView P → Command → EndingValue P → Streams → Streams → Type 0
 Performs host Session ending old new = PlaysTo (gives_in host.file []) ending.outcome old new × ServesNothing ending
 Performs host (Check name explains) ending old new =
-    ((front : List ℕ) × IsFront name.now front × (after : Left)
-    × ChecksTo (gives_in host.file front) explains ending.outcome name.now (host.file name.now) after old new) × ServesNothing ending
+    ((front : List ℕ) × IsFront name.now front × (after : Left) × (cause : UnreadCause)
+    × ChecksTo (gives_in host.file front) explains ending.outcome (record { name = name.now; cause = cause }) (host.file name.now) after old new) × ServesNothing ending
 Performs host (Run name script explains) ending old new =
-    ((front : List ℕ) × IsFront name.now front × (after : Left) × (script_after : Left)
-    × RunsTo (gives_in host.file front) explains ending.outcome name.now script.now
+    ((front : List ℕ) × IsFront name.now front × (after : Left) × (script_after : Left) × (cause : UnreadCause) × (script_cause : UnreadCause)
+    × RunsTo (gives_in host.file front) explains ending.outcome (record { name = name.now; cause = cause }) (record { name = script.now; cause = script_cause })
     (record { mapfile_before = host.file name.now; mapfile_after = after; script_before = host.file script.now; script_after = script_after }) old new) × ServesNothing ending
 Performs host (Serve name explains service) ending old new =
     (front : List ℕ) × IsFront name.now front × (after : Left)

@@ -1,6 +1,9 @@
-ghost use Rattle.std.specs.Prelude.{◌≡◌, []};
+ghost use Rattle.std.specs.Prelude.{◌≡◌, [], IfErr};
+ghost use Rattle.std.specs.Io.{ReadsAtMost};
+ghost use Rattle.std.specs.Io.KnownBytes.{ReadConsumes};
+ghost use Rattle.std.specs.IoError.{error_kind};
 ghost use Rattle.subcommands.specs.Folder.{IsFront};
-ghost use Rattle.program.specs.Hosts.{left_of, gives_in};
+ghost use Rattle.program.specs.Hosts.{cause_of, left_of, gives_in};
 
 use crate::host::Files;
 use console::{ReadFault, read_all};
@@ -8,7 +11,7 @@ use mapdefs::Items;
 use std::alloc::{AllocError, Global};
 use std::io::{self, Read};
 use streams::Flagged;
-use subcommands::{Folder, front_of, path_of};
+use subcommands::{Folder, HasCause, UnreadCause, front_of, path_of};
 
 /// A file of a host by its path, which the first read opens.
 #[derive(Drop)]
@@ -16,6 +19,8 @@ pub struct HostFile<'a, H: Files> {
     host: &'a H,
     path: &'a str,
     file: Option<H::File>,
+    // Why a read failed last.
+    cause: UnreadCause,
 }
 
 impl<'a, H: Files> HostFile<'a, H> {
@@ -29,14 +34,15 @@ impl<'a, H: Files> HostFile<'a, H> {
             host,
             path,
             file: None,
+            cause: UnreadCause::Other,
         }
     }
-}
 
-impl<H: Files> Read for HostFile<'_, H> {
-    ghost remaining = { λ f. left_of (H.file f.host.now f.path.now) H.File.remaining f.file };
-
-    fn read(&mut self, room: &mut [u8]) -> io::Result<usize> {
+    // Reads what comes next, of a file that is opened first where it isn't open.
+    fn read_on(&mut self, room: &mut [u8]) -> io::Result<usize>
+        ensures bound { ReadsAtMost result room.new }
+        ensures bytes { ReadConsumes (left_of (H.file self.old.host.now self.old.path.now) H.File.remaining self.old.file) (left_of (H.file self.new.host.now self.new.path.now) H.File.remaining self.new.file) result room.new }
+    {
         if let Some(file) = &mut self.file {
             return file.read(room);
         }
@@ -44,6 +50,43 @@ impl<H: Files> Read for HostFile<'_, H> {
         let count = file.read(room)?;
         self.file = Some(file);
         Ok(count)
+    }
+}
+
+impl<H: Files> Read for HostFile<'_, H> {
+    ghost remaining = { λ f. left_of (H.file f.host.now f.path.now) H.File.remaining f.file };
+
+    fn read(&mut self, room: &mut [u8]) -> io::Result<usize>
+        ensures bound { ReadsAtMost result room.new }
+        ensures bytes { ReadConsumes (left_of (H.file self.old.host.now self.old.path.now) H.File.remaining self.old.file) (left_of (H.file self.new.host.now self.new.path.now) H.File.remaining self.new.file) result room.new }
+        ensures cause { IfErr result (λ e. self.new.cause ≡ cause_of (error_kind e)) }
+    {
+        match self.read_on(room) {
+            Ok(count) => Ok(count),
+            Err(error) => {
+                self.cause = cause_of(error.kind());
+                Err(error)
+            }
+        }
+    }
+}
+
+impl<H: Files> HasCause for HostFile<'_, H> {
+    ghost cause = { λ f. f.cause };
+
+    fn cause(&self) -> UnreadCause {
+        self.cause
+    }
+}
+
+// Why a file can't be read, by what the system says.
+fn cause_of(kind: io::ErrorKind) -> UnreadCause
+    ensures { result ≡ cause_of kind }
+{
+    match kind {
+        io::ErrorKind::NotFound => UnreadCause::Missing,
+        io::ErrorKind::PermissionDenied => UnreadCause::NotAllowed,
+        _ => UnreadCause::Other,
     }
 }
 

@@ -5,6 +5,8 @@ ghost use Rattle.program.specs.Hosts.{gives_in, left_of};
 ghost use Rattle.program.specs.Performing.{HostView, Left, Performs, ServesTo};
 ghost use Rattle.subcommands.specs.Folder.{IsFront};
 ghost use Rattle.subcommands.specs.Mapfiles.{ChecksTo, RunsTo};
+ghost use Rattle.subcommands.specs.Reports.{ReadFile};
+ghost use Rattle.subcommands.specs.declared.unread.UnreadCause.{UnreadCause};
 
 use crate::ending::Ending;
 use crate::files::{HostFile, HostFolder};
@@ -37,8 +39,8 @@ impl<R: Runtime, H: Host> Program<'_, R, H> {
         explains: bool,
         console: &mut Console<I, O, E>,
     ) -> Result<(), Failure>
-        ensures checks { (front : List ℕ) × IsFront file.now front × (after : Left)
-            × ChecksTo (gives_in (H.Files.file self.now.host.now) front) explains result file.now (H.Files.file self.now.host.now file.now) after
+        ensures checks { (front : List ℕ) × IsFront file.now front × (after : Left) × (cause : UnreadCause)
+            × ChecksTo (gives_in (H.Files.file self.now.host.now) front) explains result (record { name = file.now; cause = cause }) (H.Files.file self.now.host.now file.now) after
             (⟦<Console<I, O, E> as Terminal>⟧.streams console.old) (⟦<Console<I, O, E> as Terminal>⟧.streams console.new) }
         ensures input { console.new.input ≡ console.old.input }
         ensures leaves { Leaves result (⟦<Console<I, O, E> as Terminal>⟧.streams console.old) (⟦<Console<I, O, E> as Terminal>⟧.streams console.new) }
@@ -60,8 +62,8 @@ impl<R: Runtime, H: Host> Program<'_, R, H> {
         explains: bool,
         console: &mut Console<I, O, E>,
     ) -> Result<(), Failure>
-        ensures runs { (front : List ℕ) × IsFront file.now front × (after : Left) × (script_after : Left)
-            × RunsTo (gives_in (H.Files.file self.now.host.now) front) explains result file.now script.now
+        ensures runs { (front : List ℕ) × IsFront file.now front × (after : Left) × (script_after : Left) × (cause : UnreadCause) × (script_cause : UnreadCause)
+            × RunsTo (gives_in (H.Files.file self.now.host.now) front) explains result (record { name = file.now; cause = cause }) (record { name = script.now; cause = script_cause })
             (record { mapfile_before = H.Files.file self.now.host.now file.now; mapfile_after = after; script_before = H.Files.file self.now.host.now script.now; script_after = script_after })
             (⟦<Console<I, O, E> as Terminal>⟧.streams console.old) (⟦<Console<I, O, E> as Terminal>⟧.streams console.new) }
         ensures input { console.new.input ≡ console.old.input }

@@ -116,13 +116,13 @@ explain|MAP WEB METADATA wms_title 'x\x0cy' END END LAYER NAME 'a\x0c' TYPE LINE
 explain|MAP~~FOO END||1 MapfileFault||fault line 3 kind 2~m.map:3: FOO is no keyword of MAP~
 explain|MAP~LAYER NAME a~~END~END||1 MapfileFault||fault line 4 kind 5~m.map:4: LAYER of line 2 has no TYPE~
 explain|||1 MapfileFault||fault line 1 kind 4~m.map:1: the mapfile has no MAP~
-explain|!||1 FileFailed||fault file m.map~
+explain|!||1 FileFailed||fault file m.map~m.map: the file may not be read~
 run|MAP END|QUERY a~|0 done|@|
 run_explained|MAP END|QUERY a~|0 done|@|m.map: warning: the service has no wms_onlineresource, and http://localhost/wms? has no port~
 run_explained|MAP WEB METADATA wms_onlineresource 'http://h/?' END END END|QUERY a~|0 done|@|
 run_explained|MAP~END~END|!|1 MapfileFault||fault line 3 kind 2~m.map:3: END stands after the END of MAP~
-run_explained|MAP END|!|1 FileFailed||m.map: warning: the service has no wms_onlineresource, and http://localhost/wms? has no port~fault file s.txt~
-run_explained|!|!|1 FileFailed||fault file m.map~
+run_explained|MAP END|!|1 FileFailed||m.map: warning: the service has no wms_onlineresource, and http://localhost/wms? has no port~fault file s.txt~s.txt: the file may not be read~
+run_explained|!|!|1 FileFailed||fault file m.map~m.map: the file may not be read~
 run|*|QUERY a~QUERY b~|0 done|@@|
 run|*||0 done||
 run|MAP END|QUERY a~x~|0 done|fault script 2~|

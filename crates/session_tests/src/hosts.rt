@@ -28,8 +28,14 @@ run b.txt a.map||1 MapfileFault 0 0 0 0||fault line 1 kind 2~
 run --explain a.map b.txt||0 done 0 0 0 0|@|a.map: warning: the service has no wms_onlineresource, and http://localhost/wms? has no port~
 run --explain b.txt a.map||1 MapfileFault 0 0 0 0||fault line 1 kind 2~b.txt:1: QUERY stands where MAP has to begin~
 run a.map c.txt||1 FileFailed 0 0 0 0||fault file c.txt~
-run a.map --explain c.txt||1 FileFailed 0 0 0 0||a.map: warning: the service has no wms_onlineresource, and http://localhost/wms? has no port~fault file c.txt~
+run a.map --explain c.txt||1 FileFailed 0 0 0 0||a.map: warning: the service has no wms_onlineresource, and http://localhost/wms? has no port~fault file c.txt~c.txt: the file is missing~
 run c.map b.txt||1 FileFailed 0 0 0 0||fault file c.map~
+run --explain c.map b.txt||1 FileFailed 0 0 0 0||fault file c.map~c.map: the file is missing~
+check --explain c.map||1 FileFailed 0 0 0 0||fault file c.map~c.map: the file is missing~
+check --explain locked.map||1 FileFailed 0 0 0 0||fault file locked.map~locked.map: the file may not be read~
+check locked.map||1 FileFailed 0 0 0 0||fault file locked.map~
+check --explain maps||1 FileFailed 0 0 0 0||fault file maps~maps: the file can't be read~
+serve --explain c.map --port 81||1 FileFailed 0 0 0 0||fault file c.map~c.map: the file is missing~
 run maps/s.map b.txt||0 done 0 0 0 0|@|
 serve a.map||3 ListenFailed { port: 8080, cause: Taken } 0 0 0 0||
 serve a.map --port 81||3 ListenFailed { port: 8081, cause: Other } 0 0 0 0||
@@ -124,7 +130,7 @@ fn is_ended<R: Runtime>(rt: &R, system: &HostRuntime, line: &str) -> Result<bool
 
 #[test]
 fn words_are_answered_with_the_files_of_a_host(rt: HostRuntime) -> Result<(), TableFault> {
-    check_all(rt.alloc(), WORDS, 34, |_, line| is_ended(&rt, &rt, line))
+    check_all(rt.alloc(), WORDS, 40, |_, line| is_ended(&rt, &rt, line))
 }
 
 // What becomes of words that can't be read, and what is said of them.

@@ -2,9 +2,9 @@ use mapdefs::Items;
 use std::alloc::{AllocError, Global};
 use std::io::{self, Read, Write};
 use streams::Flagged;
-use subcommands::Folder;
+use subcommands::{Folder, HasCause, UnreadCause};
 
-/// A stream in memory: it gives and takes so many bytes at once, and one of its calls fails.
+/// A stream in memory: it gives and takes so many bytes at once, and one of its calls fails, as one that isn't allowed.
 #[derive(Drop)]
 pub struct Memory<'a> {
     left: &'a [u8],
@@ -53,6 +53,16 @@ impl Read for Memory<'_> {
         room[..count].copy_from_slice(given);
         self.left = left;
         Ok(count)
+    }
+}
+
+impl HasCause for Memory<'_> {
+    ghost use Rattle.subcommands.specs.declared.unread.UnreadCause.TheVariants.{NotAllowed};
+
+    ghost cause = { λ _. NotAllowed };
+
+    fn cause(&self) -> UnreadCause {
+        UnreadCause::NotAllowed
     }
 }
 

@@ -199,7 +199,7 @@ const FILES: [(&str, &str); 6] = [
     ("maps/p.ppm", "P6 1 1 255 abc"),
 ];
 
-/// A host with those files, whose ports 81 and 82 have these letters. No other can be listened on.
+/// A host with those files, the folder `maps`, and `locked.map`, which may not be read. Its ports 81 and 82 have these letters; no other can be listened on.
 #[derive(Drop)]
 pub struct Shelf<'a> {
     /// What it runs on.
@@ -246,7 +246,11 @@ impl Files for Shelf<'_> {
                 return Ok(stream_of(self.alloc, text, 7, None).into_inner());
             }
         }
-        Err(io::Error::from(io::ErrorKind::NotFound))
+        Err(io::Error::from(match path {
+            "locked.map" => io::ErrorKind::PermissionDenied,
+            "maps" => io::ErrorKind::IsADirectory,
+            _ => io::ErrorKind::NotFound,
+        }))
     }
 }
 

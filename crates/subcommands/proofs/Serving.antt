@@ -9,6 +9,7 @@ use Rattle.mapdefs.specs.declared.map.MapFields.{MapFields}
 use Rattle.batches.specs.Batch.{State}
 use Rattle.subcommands.specs.Folder.{Giving, ComesTo}
 use Rattle.subcommands.specs.Mapfiles.{ChecksTo, HasReadFile, HasReadMap, IsUnread, IsUnreported, IsWarned, Readings, ReportsScript, ReportsWarnings, RunsTo, SumsUp, is_file_failed}
+use Rattle.subcommands.specs.Reports.{ReadFile}
 use Rattle.subcommands.specs.Session.{HasRead, Ends, EndsOn, PlaysTo, opened}
 
 -- what playing a script comes to, by the outcome
@@ -32,57 +33,57 @@ pub unreported : (errors : WriterState) → IsUnreported errors errors
 unreported errors = record { held = Keeps-refl errors.held; failed = refl; flushed = refl }
 
 -- what a script that was read after its mapfile comes to, by the outcome
-pub ran : (gives : Giving) (explains : Bool) (outcome : Outcome) (name script : List ℕ) (files : Readings) (old new : Streams) (map : MapFields) (bytes : List ℕ) →
+pub ran : (gives : Giving) (explains : Bool) (outcome : Outcome) (mapfile script : ReadFile) (files : Readings) (old new : Streams) (map : MapFields) (bytes : List ℕ) →
     HasReadMap gives files.mapfile_before files.mapfile_after map → HasReadFile files.script_before files.script_after bytes → EndsOn map outcome bytes old.output.held new.output.held →
-    ReportsWarnings explains name map old.errors new.errors → RunsTo gives explains outcome name script files old new
-ran gives explains (Ok done) name script files old new map bytes read read_script ends warnings =
+    ReportsWarnings explains mapfile.name map old.errors new.errors → RunsTo gives explains outcome mapfile script files old new
+ran gives explains (Ok done) mapfile script files old new map bytes read read_script ends warnings =
     record { map = map; read = read; script = bytes; read_script = read_script; state = ends.0; ends = ends.1; warnings = warnings }
-ran gives explains (Err OutputFailed) name script files old new map bytes read read_script ends warnings =
+ran gives explains (Err OutputFailed) mapfile script files old new map bytes read read_script ends warnings =
     record { map = map; read = read; script = bytes; read_script = read_script; state = ends.0; ends = ends.1; warnings = warnings }
-ran gives explains (Err SocketFailed) name script files old new map bytes read read_script ends warnings = absurd ends.1
-ran gives explains (Err (ListenFailed port cause)) name script files old new map bytes read read_script ends warnings = absurd ends.1
-ran gives explains (Err MapfileFault) name script files old new map bytes read read_script ends warnings = absurd ends.1
-ran gives explains (Err FileFailed) name script files old new map bytes read read_script ends warnings = absurd ends.1
-ran gives explains (Err WordsRefused) name script files old new map bytes read read_script ends warnings = absurd ends.1
-ran gives explains (Err InputFailed) name script files old new map bytes read read_script ends warnings = absurd ends.1
-ran gives explains (Err NoMemory) name script files old new map bytes read read_script ends warnings =
+ran gives explains (Err SocketFailed) mapfile script files old new map bytes read read_script ends warnings = absurd ends.1
+ran gives explains (Err (ListenFailed port cause)) mapfile script files old new map bytes read read_script ends warnings = absurd ends.1
+ran gives explains (Err MapfileFault) mapfile script files old new map bytes read read_script ends warnings = absurd ends.1
+ran gives explains (Err FileFailed) mapfile script files old new map bytes read read_script ends warnings = absurd ends.1
+ran gives explains (Err WordsRefused) mapfile script files old new map bytes read read_script ends warnings = absurd ends.1
+ran gives explains (Err InputFailed) mapfile script files old new map bytes read read_script ends warnings = absurd ends.1
+ran gives explains (Err NoMemory) mapfile script files old new map bytes read read_script ends warnings =
     (ends, inr (record { map = map; read = read; warned = record { errors = new.errors; warnings = warnings }; unread = Keeps-refl new.errors.held }))
 
 -- what a script that was not read after its mapfile comes to
-pub unscripted : (gives : Giving) (explains : Bool) (failure : Failure) (name script : List ℕ) (files : Readings) (old new : Streams) (map : MapFields) →
-    HasReadMap gives files.mapfile_before files.mapfile_after map → (warned : IsWarned explains name map old.errors) → IsUnread failure script warned.errors new.errors →
-    Keeps old.output.held new.output.held → RunsTo gives explains (Err failure) name script files old new
-unscripted gives explains FileFailed name script files old new map read warned unread kept =
+pub unscripted : (gives : Giving) (explains : Bool) (failure : Failure) (mapfile script : ReadFile) (files : Readings) (old new : Streams) (map : MapFields) →
+    HasReadMap gives files.mapfile_before files.mapfile_after map → (warned : IsWarned explains mapfile.name map old.errors) → IsUnread explains failure script warned.errors new.errors →
+    Keeps old.output.held new.output.held → RunsTo gives explains (Err failure) mapfile script files old new
+unscripted gives explains FileFailed mapfile script files old new map read warned unread kept =
     (kept, inr (record { map = map; read = read; warned = warned; unread = unread }))
-unscripted gives explains NoMemory name script files old new map read warned unread kept =
+unscripted gives explains NoMemory mapfile script files old new map read warned unread kept =
     (kept, inr (record { map = map; read = read; warned = warned; unread = unread }))
-unscripted gives explains SocketFailed name script files old new map read warned unread kept = absurd unread
-unscripted gives explains (ListenFailed port cause) name script files old new map read warned unread kept = absurd unread
-unscripted gives explains MapfileFault name script files old new map read warned unread kept = absurd unread
-unscripted gives explains WordsRefused name script files old new map read warned unread kept = absurd unread
-unscripted gives explains InputFailed name script files old new map read warned unread kept = absurd unread
-unscripted gives explains OutputFailed name script files old new map read warned unread kept = absurd unread
+unscripted gives explains SocketFailed mapfile script files old new map read warned unread kept = absurd unread
+unscripted gives explains (ListenFailed port cause) mapfile script files old new map read warned unread kept = absurd unread
+unscripted gives explains MapfileFault mapfile script files old new map read warned unread kept = absurd unread
+unscripted gives explains WordsRefused mapfile script files old new map read warned unread kept = absurd unread
+unscripted gives explains InputFailed mapfile script files old new map read warned unread kept = absurd unread
+unscripted gives explains OutputFailed mapfile script files old new map read warned unread kept = absurd unread
 
 -- nothing is reported where no warnings are asked for
 pub unwarned : (name : List ℕ) (map : MapFields) (old new : WriterState) → IsUnreported old new → ReportsWarnings false name map old new
 unwarned name map old new kept = record { reported = inr kept; unasked = λ e. kept }
 
 -- what a map whose line was not written comes to
-pub unsummed : (gives : Giving) (explains : Bool) (failure : Failure) (name : List ℕ) (before after : Option (List ℕ)) (old new : Streams) (map : MapFields) →
-    HasReadMap gives before after map → SumsUp (Err failure) map old.output.held new.output.held → IsUnreported old.errors new.errors → ChecksTo gives explains (Err failure) name before after old new
-unsummed gives explains OutputFailed name before after old new map read sums kept =
-    record { map = map; read = read; sums = sums; warnings = unwarned name map old.errors new.errors kept }
-unsummed gives explains MapfileFault name before after old new map read sums kept = absurd sums
-unsummed gives explains FileFailed name before after old new map read sums kept = absurd sums
-unsummed gives explains WordsRefused name before after old new map read sums kept = absurd sums
-unsummed gives explains InputFailed name before after old new map read sums kept = absurd sums
-unsummed gives explains SocketFailed name before after old new map read sums kept = absurd sums
-unsummed gives explains (ListenFailed port cause) name before after old new map read sums kept = absurd sums
-unsummed gives explains NoMemory name before after old new map read sums kept = absurd sums
+pub unsummed : (gives : Giving) (explains : Bool) (failure : Failure) (file : ReadFile) (before after : Option (List ℕ)) (old new : Streams) (map : MapFields) →
+    HasReadMap gives before after map → SumsUp (Err failure) map old.output.held new.output.held → IsUnreported old.errors new.errors → ChecksTo gives explains (Err failure) file before after old new
+unsummed gives explains OutputFailed file before after old new map read sums kept =
+    record { map = map; read = read; sums = sums; warnings = unwarned file.name map old.errors new.errors kept }
+unsummed gives explains MapfileFault file before after old new map read sums kept = absurd sums
+unsummed gives explains FileFailed file before after old new map read sums kept = absurd sums
+unsummed gives explains WordsRefused file before after old new map read sums kept = absurd sums
+unsummed gives explains InputFailed file before after old new map read sums kept = absurd sums
+unsummed gives explains SocketFailed file before after old new map read sums kept = absurd sums
+unsummed gives explains (ListenFailed port cause) file before after old new map read sums kept = absurd sums
+unsummed gives explains NoMemory file before after old new map read sums kept = absurd sums
 
 -- a script that was not read after its mapfile was reported by its name
-pub script-reported : (other : Type 0) (explains : Bool) (failure : Failure) (name script : List ℕ) (old new : WriterState) (mapfile_before mapfile_after script_before script_after : Bool) (map : MapFields) →
-    (warned : IsWarned explains name map old) → IsUnread failure script warned.errors new → mapfile_after ≡ mapfile_before →
+pub script-reported : (other : Type 0) (explains : Bool) (failure : Failure) (name : List ℕ) (script : ReadFile) (old new : WriterState) (mapfile_before mapfile_after script_before script_after : Bool) (map : MapFields) →
+    (warned : IsWarned explains name map old) → IsUnread explains failure script warned.errors new → mapfile_after ≡ mapfile_before →
     script_after ≡ (is_file_failed failure || script_before) → failure ≡ FileFailed →
     other ⊎ (ReportsScript explains name script old new × (script_after ≡ true) × (mapfile_after ≡ mapfile_before))
 script-reported other explains failure name script old new mapfile_before mapfile_after script_before script_after map warned unread same flag e =

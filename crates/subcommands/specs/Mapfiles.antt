@@ -12,7 +12,7 @@ use Rattle.mapwords.specs.Fault.{number_of}
 use Rattle.mapfaults.specs.Warning.{warning_lines}
 use Rattle.subcommands.specs.Explained.{IsExplained}
 use Rattle.subcommands.specs.Folder.{Giving, ComesTo}
-use Rattle.subcommands.specs.Reports.{file_fault, mapfile_fault}
+use Rattle.subcommands.specs.Reports.{ReadFile, file_fault, mapfile_fault}
 use Rattle.subcommands.specs.Session.{Ends, opened}
 use Rattle.subcommands.specs.Summary.{summary_line, HasPartlySummed}
 
@@ -36,11 +36,11 @@ pub record TouchesNeither (failure : Failure) : Type 0 where
   pub input : is_input_failed (Err failure) ≡ false
   pub output : is_output_failed (Err failure) ≡ false
 
--- a file was not read: that was reported by its name, or memory was refused and nothing reported
-abbrev pub IsUnread : Failure → List ℕ → WriterState → WriterState → Type 0
-IsUnread FileFailed name old new = IsReported old new (file_fault name)
-IsUnread NoMemory name old new = Keeps old.held new.held
-IsUnread _ name old new = ⊥
+-- a file was not read: that was reported, or memory was refused and nothing reported
+abbrev pub IsUnread : Bool → Failure → ReadFile → WriterState → WriterState → Type 0
+IsUnread explains FileFailed file old new = IsReported old new (file_fault explains file)
+IsUnread explains NoMemory file old new = Keeps old.held new.held
+IsUnread explains _ file old new = ⊥
 
 -- a mapfile was read, and it describes a map
 pub record HasReadMap (gives : Giving) (before after : Option (List ℕ)) (map : MapFields) : Type 0 where
@@ -65,9 +65,9 @@ pub record HasExplainedFault (gives : Giving) (explains : Bool) (name : List ℕ
   pub reported : IsReported old new (explained_fault name fault words)
 
 -- a mapfile gave no map: it has a fault, or was not read
-abbrev pub GivesNoMap : Giving → Bool → Failure → List ℕ → Option (List ℕ) → Option (List ℕ) → WriterState → WriterState → Type 0
-GivesNoMap gives explains MapfileFault name before after old new = HasExplainedFault gives explains name before after old new
-GivesNoMap gives explains failure name before after old new = IsUnread failure name old new
+abbrev pub GivesNoMap : Giving → Bool → Failure → ReadFile → Option (List ℕ) → Option (List ℕ) → WriterState → WriterState → Type 0
+GivesNoMap gives explains MapfileFault file before after old new = HasExplainedFault gives explains file.name before after old new
+GivesNoMap gives explains failure file before after old new = IsUnread explains failure file old new
 
 -- nothing was reported
 pub record IsUnreported (old new : WriterState) : Type 0 where
@@ -97,11 +97,11 @@ pub record IsChecked (gives : Giving) (explains : Bool) (outcome : Outcome) (nam
 
 -- what checking a mapfile makes of the streams by its outcome. `before` and `after` are what is left of the mapfile; `explains` says
 -- whether a fault is reported in words, too, and the warnings on a map whose whole line was written
-abbrev pub ChecksTo : Giving → Bool → Outcome → List ℕ → Option (List ℕ) → Option (List ℕ) → Streams → Streams → Type 0
-ChecksTo gives explains (Ok done) name before after old new = IsChecked gives explains (Ok done) name before after old new
-ChecksTo gives explains (Err OutputFailed) name before after old new = IsChecked gives false (Err OutputFailed) name before after old new
-ChecksTo gives explains (Err failure) name before after old new =
-    Keeps old.output.held new.output.held × GivesNoMap gives explains failure name before after old.errors new.errors
+abbrev pub ChecksTo : Giving → Bool → Outcome → ReadFile → Option (List ℕ) → Option (List ℕ) → Streams → Streams → Type 0
+ChecksTo gives explains (Ok done) file before after old new = IsChecked gives explains (Ok done) file.name before after old new
+ChecksTo gives explains (Err OutputFailed) file before after old new = IsChecked gives false (Err OutputFailed) file.name before after old new
+ChecksTo gives explains (Err failure) file before after old new =
+    Keeps old.output.held new.output.held × GivesNoMap gives explains failure file before after old.errors new.errors
 
 -- what is read for a script: the bytes of the mapfile before and after, and those of the script
 pub record Readings : Type 0 where
@@ -126,33 +126,33 @@ pub record IsWarned (explains : Bool) (name : List ℕ) (map : MapFields) (old :
   pub warnings : ReportsWarnings explains name map old errors
 
 -- a mapfile describes a map, and the warnings on it were reported, but the script was not played: it was not read, or memory was refused
-pub record IsWithoutScript (gives : Giving) (explains : Bool) (failure : Failure) (name script : List ℕ) (files : Readings) (old new : WriterState) : Type 0 where
+pub record IsWithoutScript (gives : Giving) (explains : Bool) (failure : Failure) (name : List ℕ) (script : ReadFile) (files : Readings) (old new : WriterState) : Type 0 where
   pub map : MapFields
   pub read : HasReadMap gives files.mapfile_before files.mapfile_after map
   pub warned : IsWarned explains name map old
-  pub unread : IsUnread failure script warned.errors new
+  pub unread : IsUnread explains failure script warned.errors new
 
--- what running a script makes of the streams by its outcome, with the names of the mapfile and of the script
-abbrev pub RunsTo : Giving → Bool → Outcome → List ℕ → List ℕ → Readings → Streams → Streams → Type 0
-RunsTo gives explains (Ok done) name script files old new = IsRun gives explains (Ok done) name files old new
-RunsTo gives explains (Err OutputFailed) name script files old new = IsRun gives explains (Err OutputFailed) name files old new
-RunsTo gives explains (Err failure) name script files old new =
+-- what running a script makes of the streams by its outcome, with the mapfile and the script as they are reported
+abbrev pub RunsTo : Giving → Bool → Outcome → ReadFile → ReadFile → Readings → Streams → Streams → Type 0
+RunsTo gives explains (Ok done) mapfile script files old new = IsRun gives explains (Ok done) mapfile.name files old new
+RunsTo gives explains (Err OutputFailed) mapfile script files old new = IsRun gives explains (Err OutputFailed) mapfile.name files old new
+RunsTo gives explains (Err failure) mapfile script files old new =
     Keeps old.output.held new.output.held
-    × (GivesNoMap gives explains failure name files.mapfile_before files.mapfile_after old.errors new.errors
-    ⊎ IsWithoutScript gives explains failure name script files old.errors new.errors)
+    × (GivesNoMap gives explains failure mapfile files.mapfile_before files.mapfile_after old.errors new.errors
+    ⊎ IsWithoutScript gives explains failure mapfile.name script files old.errors new.errors)
 
 -- the errors got the warnings on a map, and then a script that was not read
-pub record ReportsScript (explains : Bool) (name script : List ℕ) (old new : WriterState) : Type 0 where
+pub record ReportsScript (explains : Bool) (name : List ℕ) (script : ReadFile) (old new : WriterState) : Type 0 where
   pub map : MapFields
   pub warned : IsWarned explains name map old
-  pub reported : IsReported warned.errors new (file_fault script)
+  pub reported : IsReported warned.errors new (file_fault explains script)
 
 -- a file that was not read was reported. It is the mapfile: its reader has failed, and that of the script stayed as it was, which
 -- `untouched` says; or it is the script: its reader has failed, and that of the mapfile has not
-abbrev pub ReportsUnread : Bool → List ℕ → List ℕ → WriterState → WriterState → InputState → InputState → InputState → Type 0 → Type 0
-ReportsUnread explains name script old new mapfile_before mapfile_after script_after untouched =
-    (IsReported old new (file_fault name) × (mapfile_after.failed ≡ true) × untouched)
-    ⊎ (ReportsScript explains name script old new × (script_after.failed ≡ true) × (mapfile_after.failed ≡ mapfile_before.failed))
+abbrev pub ReportsUnread : Bool → ReadFile → ReadFile → WriterState → WriterState → InputState → InputState → InputState → Type 0 → Type 0
+ReportsUnread explains mapfile script old new mapfile_before mapfile_after script_after untouched =
+    (IsReported old new (file_fault explains mapfile) × (mapfile_after.failed ≡ true) × untouched)
+    ⊎ (ReportsScript explains mapfile.name script old new × (script_after.failed ≡ true) × (mapfile_after.failed ≡ mapfile_before.failed))
 
 -- neither the reader of the mapfile nor that of the script has failed since
 pub record NoneFailed (mapfile_before mapfile_after script_before script_after : InputState) : Type 0 where

@@ -1,10 +1,24 @@
--- Faults as they are reported (docs/PROFILE.md, "Sessions").
-use Rattle.std.specs.Prelude.{ℕ, List, ◌++◌, codes}
+-- Faults as they are reported (docs/PROFILE.md, "The program" and "Sessions").
+use Rattle.std.specs.Prelude.{ℕ, Bool, true, false, List, ◌++◌, codes}
 use Rattle.std.specs.Fmt.{decimal}
+use Rattle.subcommands.specs.declared.unread.UnreadCause.{UnreadCause}
+use Rattle.subcommands.specs.declared.unread.UnreadCause.TheVariants.{Missing, NotAllowed, Other}
 
--- a file that can't be read, by its name
-abbrev pub file_fault : List ℕ → List ℕ
-file_fault name = codes "fault file " ++ (name ++ codes "\n")
+-- why a file can't be read, in words that follow its name
+unfoldable pub cause_words : UnreadCause → List ℕ
+cause_words Missing = codes ": the file is missing\n"
+cause_words NotAllowed = codes ": the file may not be read\n"
+cause_words Other = codes ": the file can't be read\n"
+
+-- a file that is read by its name, and why it can't be, where it can't
+pub record ReadFile : Type 0 where
+  pub name : List ℕ
+  pub cause : UnreadCause
+
+-- a file that can't be read, by its name; where `explains` is true, a second line says why
+abbrev pub file_fault : Bool → ReadFile → List ℕ
+file_fault false file = codes "fault file " ++ (file.name ++ codes "\n")
+file_fault true file = codes "fault file " ++ (file.name ++ (codes "\n" ++ (file.name ++ cause_words file.cause)))
 
 -- the fault of a mapfile, by its line and the number of its kind
 abbrev pub mapfile_fault : ℕ → ℕ → List ℕ

@@ -1,11 +1,13 @@
 ghost use Rattle.std.specs.Prelude.{◌≡◌};
 ghost use Rattle.console.specs.Streams.{Leaves, LeavesOutput};
 ghost use Rattle.subcommands.specs.Mapfiles.{ChecksTo, LeavesFile, SumsUp};
+ghost use Rattle.subcommands.specs.Reports.{ReadFile};
 
 use crate::folder::Folder;
 use crate::job::Job;
 use crate::reading::{read_explained, report_warnings};
 use crate::summing::summary;
+use crate::unread::HasCause;
 use console::{Console, Failure, Reads, Terminal, Writes, flush};
 use mapdefs::Map;
 use std::alloc::Global;
@@ -23,14 +25,14 @@ pub fn sum_up<O: Sink>(map: &Map, output: &mut O) -> Result<(), Failure>
 }
 
 /// Reads a mapfile up to its end, and writes the line of its map to the output, or reports its fault, or its name if it
-/// can't be read. Where the job explains, a fault is reported in words, too, and after the line of the map the warnings
-/// on it, unless memory is refused for these.
-pub fn check<F: Folder, I: Source, J: Source, O: Sink, E: Sink>(
+/// can't be read. Where the job explains, a fault is reported in words, too, or why the file can't be read, and after the
+/// line of the map the warnings on it, unless memory is refused for these.
+pub fn check<F: Folder, I: Source + HasCause, J: Source, O: Sink, E: Sink>(
     alloc: Global,
     job: &mut Job<'_, F, I>,
     console: &mut Console<J, O, E>,
 ) -> Result<(), Failure>
-    ensures checks { ChecksTo (F.gives job.old.folder.now) job.old.explains result job.old.mapfile.name.now
+    ensures checks { ChecksTo (F.gives job.old.folder.now) job.old.explains result (record { name = job.old.mapfile.name.now; cause = I.cause job.new.mapfile.reader })
         (I.left job.old.mapfile.reader) (I.left job.new.mapfile.reader)
         (⟦<Console<J, O, E> as Terminal>⟧.streams console.old) (⟦<Console<J, O, E> as Terminal>⟧.streams console.new) }
     ensures input { console.new.input ≡ console.old.input }

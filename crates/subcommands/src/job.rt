@@ -14,6 +14,6 @@ pub struct Job<'a, F, I> {
     pub folder: &'a F,
     /// The mapfile.
     pub mapfile: NamedFile<'a, I>,
-    /// Whether a fault is reported in words, too, and warnings on the map.
+    /// Whether a fault is reported in words, too, and why a file can't be read, and warnings on the map.
     pub explains: bool,
 }

@@ -19,6 +19,7 @@ mod reading;
 mod reports;
 mod running;
 mod summing;
+mod unread;
 
 pub use checking::check;
 pub use folder::{Folder, front_of, path_of};
@@ -29,3 +30,4 @@ pub use reading::read_map;
 pub use running::run;
 pub use scripts::play_script;
 pub use summing::summary;
+pub use unread::{HasCause, UnreadCause};

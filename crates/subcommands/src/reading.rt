@@ -3,11 +3,13 @@ ghost use Rattle.mapfaults.specs.Missing.{AreOnFiles};
 ghost use Rattle.subcommands.specs.Explained.{IsMapFault, has_missing};
 ghost use Rattle.subcommands.specs.Folder.{ComesTo};
 ghost use Rattle.subcommands.specs.Mapfiles.{HasReadFile, HasReadMap, GivesNoMap, IsUnread, LeavesFile, ReportsWarnings, TouchesNeither};
+ghost use Rattle.subcommands.specs.Reports.{ReadFile};
 
 use crate::folder::{Folder, files_of};
 use crate::job::{Job, NamedFile};
 use crate::map_fault::MapFault;
-use crate::reports::report_explained;
+use crate::reports::{report_explained, report_file};
+use crate::unread::HasCause;
 use console::{Failure, ReadFault, Reads, Writes, read_all, report};
 use mapdefs::{Map, Text};
 use mapfaults::{warning_lines, words_on_files, words_on_source};
@@ -69,32 +71,33 @@ pub fn read_map_of<F: Folder>(
     }
 }
 
-/// The bytes of a file. One that can't be read is reported by its name.
-pub fn read_file<I: Source, E: Sink>(
+/// The bytes of a file. One that can't be read is reported by its name, and, where that is asked for, why it can't.
+pub fn read_file<I: Source + HasCause, E: Sink>(
     alloc: Global,
+    explains: bool,
     file: &mut NamedFile<'_, I>,
     errors: &mut E,
 ) -> Result<Vec<u8>, Failure>
     ensures bytes { IfOk result (λ bytes. HasReadFile (I.left file.old.reader) (I.left file.new.reader) bytes.items) }
     ensures name { file.new.name.now ≡ file.old.name.now }
     ensures same { OnOk result (errors.new ≡ errors.old) }
-    ensures unread { IfErr result (λ failure. IsUnread failure file.old.name.now (⟦<E as Writes>⟧.state errors.old) (⟦<E as Writes>⟧.state errors.new)) }
+    ensures unread { IfErr result (λ failure. IsUnread explains failure (record { name = file.old.name.now; cause = I.cause file.new.reader }) (⟦<E as Writes>⟧.state errors.old) (⟦<E as Writes>⟧.state errors.new)) }
     ensures neither { IfErr result TouchesNeither }
     ensures leaves { LeavesFile result (⟦<I as Reads>⟧.state file.old.reader) (⟦<I as Reads>⟧.state file.new.reader) }
 {
     match read_all(alloc, &mut file.reader) {
         Ok(bytes) => Ok(bytes),
         Err(ReadFault::Input) => {
-            report(errors, &[b"fault file ", file.name.as_bytes(), b"\n"]);
+            report_file(errors, explains, file.name, file.reader.cause());
             Err(Failure::FileFailed)
         }
         Err(ReadFault::NoMemory) => Err(Failure::NoMemory),
     }
 }
 
-/// The map of a mapfile. Its fault is reported; where the job explains, in words, too, on a second line, unless memory
-/// is refused for these.
-pub fn read_explained<F: Folder, I: Source, E: Sink>(
+/// The map of a mapfile. Its fault is reported, or that it can't be read; where the job explains, a second line has words
+/// on it, unless memory is refused for these.
+pub fn read_explained<F: Folder, I: Source + HasCause, E: Sink>(
     alloc: Global,
     job: &mut Job<'_, F, I>,
     errors: &mut E,
@@ -102,12 +105,12 @@ pub fn read_explained<F: Folder, I: Source, E: Sink>(
     ensures map { IfOk result (λ map. HasReadMap (F.gives job.old.folder.now) (I.left job.old.mapfile.reader) (I.left job.new.mapfile.reader) map) }
     ensures job { (job.new.mapfile.name.now ≡ job.old.mapfile.name.now) × (job.new.explains ≡ job.old.explains) }
     ensures same { OnOk result (errors.new ≡ errors.old) }
-    ensures without { IfErr result (λ failure. GivesNoMap (F.gives job.old.folder.now) job.old.explains failure job.old.mapfile.name.now
+    ensures without { IfErr result (λ failure. GivesNoMap (F.gives job.old.folder.now) job.old.explains failure (record { name = job.old.mapfile.name.now; cause = I.cause job.new.mapfile.reader })
         (I.left job.old.mapfile.reader) (I.left job.new.mapfile.reader) (⟦<E as Writes>⟧.state errors.old) (⟦<E as Writes>⟧.state errors.new)) }
     ensures neither { IfErr result TouchesNeither }
     ensures leaves { LeavesFile result (⟦<I as Reads>⟧.state job.old.mapfile.reader) (⟦<I as Reads>⟧.state job.new.mapfile.reader) }
 {
-    let mapfile = read_file(alloc, &mut job.mapfile, errors)?;
+    let mapfile = read_file(alloc, job.explains, &mut job.mapfile, errors)?;
     match read_map_of(alloc, job.folder, job.explains, &mapfile) {
         Ok(map) => Ok(map),
         Err(MapFault::Faulty { fault, words }) => {
@@ -135,7 +138,7 @@ pub fn report_warnings<F, I, E: Sink>(alloc: Global, job: &Job<'_, F, I>, map: &
 
 /// The map of a mapfile. A fault is reported; where the job explains, in words, too, and else the warnings on the map,
 /// unless memory is refused for these.
-pub fn read_map<F: Folder, I: Source, E: Sink>(
+pub fn read_map<F: Folder, I: Source + HasCause, E: Sink>(
     alloc: Global,
     job: &mut Job<'_, F, I>,
     errors: &mut E,
@@ -143,7 +146,7 @@ pub fn read_map<F: Folder, I: Source, E: Sink>(
     ensures map { IfOk result (λ map. HasReadMap (F.gives job.old.folder.now) (I.left job.old.mapfile.reader) (I.left job.new.mapfile.reader) map) }
     ensures warnings { IfOk result (λ map. ReportsWarnings job.old.explains job.old.mapfile.name.now map (⟦<E as Writes>⟧.state errors.old) (⟦<E as Writes>⟧.state errors.new)) }
     ensures same { OnOk result (job.old.explains ≡ false → errors.new ≡ errors.old) }
-    ensures without { IfErr result (λ failure. GivesNoMap (F.gives job.old.folder.now) job.old.explains failure job.old.mapfile.name.now
+    ensures without { IfErr result (λ failure. GivesNoMap (F.gives job.old.folder.now) job.old.explains failure (record { name = job.old.mapfile.name.now; cause = I.cause job.new.mapfile.reader })
         (I.left job.old.mapfile.reader) (I.left job.new.mapfile.reader) (⟦<E as Writes>⟧.state errors.old) (⟦<E as Writes>⟧.state errors.new)) }
     ensures neither { IfErr result TouchesNeither }
     ensures leaves { LeavesFile result (⟦<I as Reads>⟧.state job.old.mapfile.reader) (⟦<I as Reads>⟧.state job.new.mapfile.reader) }

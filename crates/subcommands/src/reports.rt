@@ -1,12 +1,44 @@
+ghost use Rattle.std.specs.Prelude.{◌≡◌, ◌++◌, codes};
 ghost use Rattle.console.specs.Streams.{IsReported};
 ghost use Rattle.subcommands.specs.Mapfiles.{explained_fault};
-ghost use Rattle.subcommands.specs.Reports.{mapfile_fault};
+ghost use Rattle.subcommands.specs.Reports.{ReadFile, cause_words, file_fault, mapfile_fault};
 
+use crate::unread::UnreadCause;
 use console::{Writes, report};
 use itoa::Buffer;
 use mapdefs::Text;
 use mapwords::Fault;
 use streams::Sink;
+
+// Why a file can't be read, in words that follow its name.
+#[tactic(auto, unfolding(crate::specs::Reports::cause_words))]
+fn cause_words(cause: UnreadCause) -> &'static str
+    ensures { result.now ≡ cause_words cause }
+{
+    match cause {
+        UnreadCause::Missing => ": the file is missing\n",
+        UnreadCause::NotAllowed => ": the file may not be read\n",
+        UnreadCause::Other => ": the file can't be read\n",
+    }
+}
+
+// Reports a file that can't be read: its name, and the words on the cause behind it once more.
+fn report_with_cause<'a, E: Sink>(errors: &mut E, name: &'a [u8], words: &'a [u8])
+    ensures { IsReported (⟦<E as Writes>⟧.state errors.old) (⟦<E as Writes>⟧.state errors.new) (codes "fault file " ++ (name.now ++ (codes "\n" ++ (name.now ++ words.now)))) }
+{
+    report(errors, &[b"fault file ", name, b"\n", name, words]);
+}
+
+/// Reports a file that can't be read: its name, and, where that is asked for, why.
+pub fn report_file<E: Sink>(errors: &mut E, explains: bool, name: &str, cause: UnreadCause)
+    ensures { IsReported (⟦<E as Writes>⟧.state errors.old) (⟦<E as Writes>⟧.state errors.new) (file_fault explains (record { name = name.now; cause = cause })) }
+{
+    if explains {
+        report_with_cause(errors, name.as_bytes(), cause_words(cause).as_bytes());
+    } else {
+        report(errors, &[b"fault file ", name.as_bytes(), b"\n"]);
+    }
+}
 
 /// Reports the fault of a mapfile: its line and the number of its kind.
 pub fn report_mapfile_fault<E: Sink>(errors: &mut E, line: u64, kind: u8)

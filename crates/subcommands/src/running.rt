@@ -2,37 +2,40 @@ ghost use Rattle.std.specs.Prelude.{◌≡◌, IfErr};
 ghost use Rattle.console.specs.Streams.{Leaves};
 ghost use Rattle.console.specs.declared.failure.Failure.TheVariants.{FileFailed, MapfileFault};
 ghost use Rattle.subcommands.specs.Mapfiles.{LeavesFiles, ReportsUnread, RunsTo};
+ghost use Rattle.subcommands.specs.Reports.{ReadFile};
 
 use crate::folder::Folder;
 use crate::job::{Job, NamedFile};
 use crate::playing::play_on;
 use crate::reading::{read_file, read_map};
+use crate::unread::HasCause;
 use console::{Console, Failure, Reads, Terminal, Writes};
 use std::alloc::Global;
 use streams::{Sink, Source};
 
 /// Reads a mapfile up to its end, and then a script, and plays it: the transcript goes to the output. Or it reports the
 /// fault of the mapfile, or the name of the first file that can't be read. Where the mapfile gives no map, the script
-/// isn't read. Where the job explains, a fault is reported in words, too, and the warnings on the map before the script
-/// is read, unless memory is refused for these.
-pub fn run<F: Folder, I: Source, S: Source, J: Source, O: Sink, E: Sink>(
+/// isn't read. Where the job explains, a fault is reported in words, too, or why a file can't be read, and the warnings on
+/// the map before the script is read, unless memory is refused for these.
+pub fn run<F: Folder, I: Source + HasCause, S: Source + HasCause, J: Source, O: Sink, E: Sink>(
     alloc: Global,
     job: &mut Job<'_, F, I>,
     script: &mut NamedFile<'_, S>,
     console: &mut Console<J, O, E>,
 ) -> Result<(), Failure>
-    ensures runs { RunsTo (F.gives job.old.folder.now) job.old.explains result job.old.mapfile.name.now script.old.name.now
+    ensures runs { RunsTo (F.gives job.old.folder.now) job.old.explains result (record { name = job.old.mapfile.name.now; cause = I.cause job.new.mapfile.reader }) (record { name = script.old.name.now; cause = S.cause script.new.reader })
         (record { mapfile_before = I.left job.old.mapfile.reader; mapfile_after = I.left job.new.mapfile.reader; script_before = S.left script.old.reader; script_after = S.left script.new.reader })
         (⟦<Console<J, O, E> as Terminal>⟧.streams console.old) (⟦<Console<J, O, E> as Terminal>⟧.streams console.new) }
     ensures input { console.new.input ≡ console.old.input }
-    ensures unread { IfErr result (λ failure. failure ≡ FileFailed → ReportsUnread job.old.explains job.old.mapfile.name.now script.old.name.now
+    ensures unread { IfErr result (λ failure. failure ≡ FileFailed → ReportsUnread job.old.explains (record { name = job.old.mapfile.name.now; cause = I.cause job.new.mapfile.reader }) (record { name = script.old.name.now; cause = S.cause script.new.reader })
         (⟦<E as Writes>⟧.state console.old.errors) (⟦<E as Writes>⟧.state console.new.errors)
         (⟦<I as Reads>⟧.state job.old.mapfile.reader) (⟦<I as Reads>⟧.state job.new.mapfile.reader) (⟦<S as Reads>⟧.state script.new.reader) (script.new ≡ script.old)) }
     ensures untouched { IfErr result (λ failure. failure ≡ MapfileFault → script.new ≡ script.old) }
     ensures files { LeavesFiles result (⟦<I as Reads>⟧.state job.old.mapfile.reader) (⟦<I as Reads>⟧.state job.new.mapfile.reader) (⟦<S as Reads>⟧.state script.old.reader) (⟦<S as Reads>⟧.state script.new.reader) }
     ensures leaves { Leaves result (⟦<Console<J, O, E> as Terminal>⟧.streams console.old) (⟦<Console<J, O, E> as Terminal>⟧.streams console.new) }
 {
+    let explains = job.explains;
     let map = read_map(alloc, job, &mut console.errors)?;
-    let commands = read_file(alloc, script, &mut console.errors)?;
+    let commands = read_file(alloc, explains, script, &mut console.errors)?;
     play_on(alloc, map, &commands, &mut console.output)
 }
