@@ -1,9 +1,22 @@
 ghost use Rattle.std.specs.Prelude.{◌≡◌, option_map, IfOk, IfSome};
 ghost use Rattle.mapfaults.specs.Missing.{AreOnCause, AreOnFiles, NamesMissing, begins_with_late_control, first_missing, has_control, is_control_byte, is_missing, missing_words};
 
+use crate::columns::words_on_columns;
+use csvpoints::{CsvFault, CsvKind};
 use mapdefs::Text;
 use mapparse::{FileCause, FileFault, Files, Mapfile};
 use std::alloc::{AllocError, Global};
+
+/// A mapfile that is at hand: its source, what was parsed of it, and the files that it is given.
+#[derive(Clone, Copy)]
+pub struct MapfileAtHand<'a> {
+    /// The source.
+    pub source: &'a [u8],
+    /// What was parsed of it.
+    pub mapfile: &'a Mapfile,
+    /// The files.
+    pub files: &'a Files,
+}
 
 // Whether a byte is a character below U+0020, or U+007F.
 fn is_control_byte(byte: u8) -> bool
@@ -83,21 +96,42 @@ fn words_on_missing(alloc: Global, mapfile: &Mapfile, files: &Files, keyword: &s
     }
 }
 
+// The words on a file that is no table. Where its header lacks a column, the columns are shown.
+fn words_on_table(
+    alloc: Global,
+    at_hand: MapfileAtHand<'_>,
+    fault: FileFault,
+    cause: CsvFault,
+) -> Option<Text> {
+    let keyword = fault.keyword.spelling();
+    let words = format!(in alloc;
+        "the file that {keyword} names is no table of points: {cause}"
+    ).ok()?;
+    let columns = match cause.kind {
+        CsvKind::NoColumn => words_on_columns(alloc, at_hand.source, at_hand.files, fault.line),
+        _ => None,
+    };
+    match columns {
+        Some(columns) => Some(Text::of(format!(in alloc; "{words}: {columns}").ok()?)),
+        None => Some(Text::of(words)),
+    }
+}
+
 // The words on the fault of a file.
-fn words_on_file(alloc: Global, mapfile: &Mapfile, files: &Files, fault: FileFault) -> Option<Text>
-    ensures { IfSome result (AreOnCause fault.cause files.now mapfile.now) }
+fn words_on_file(alloc: Global, at_hand: MapfileAtHand<'_>, fault: FileFault) -> Option<Text>
+    ensures { IfSome result (AreOnCause fault.cause at_hand.entry.files.now at_hand.entry.mapfile.now) }
 {
     let keyword = fault.keyword.spelling();
     let words = match fault.cause {
-        FileCause::Missing => return words_on_missing(alloc, mapfile, files, keyword),
+        FileCause::Missing => {
+            return words_on_missing(alloc, at_hand.mapfile, at_hand.files, keyword);
+        }
+        FileCause::NoTable(cause) => return words_on_table(alloc, at_hand, fault, cause),
         FileCause::NoPixmap(_) => format!(in alloc;
             "the file that {keyword} names is no pixmap in Netpbm's P6 format of at most 256 by 256 pixels"
         ),
-        FileCause::NoTable(fault) => format!(in alloc;
-            "the file that {keyword} names is no table of points: {fault}"
-        ),
-        FileCause::NoFont(fault) => format!(in alloc;
-            "the file that {keyword} names is no font: {fault}"
+        FileCause::NoFont(cause) => format!(in alloc;
+            "the file that {keyword} names is no font: {cause}"
         ),
     };
     match words {
@@ -108,11 +142,11 @@ fn words_on_file(alloc: Global, mapfile: &Mapfile, files: &Files, fault: FileFau
 
 /// The words on the first used of the files that have a fault. There are none where no file has one, or where memory is
 /// refused.
-pub fn words_on_files(alloc: Global, mapfile: &Mapfile, files: &Files) -> Option<Text>
-    ensures { IfSome result (AreOnFiles files.now mapfile.now) }
+pub fn words_on_files(alloc: Global, at_hand: MapfileAtHand<'_>) -> Option<Text>
+    ensures { IfSome result (AreOnFiles at_hand.entry.files.now at_hand.entry.mapfile.now) }
 {
-    match mapfile.files_fault(alloc, files) {
-        Ok(Some(fault)) => words_on_file(alloc, mapfile, files, fault),
+    match at_hand.mapfile.files_fault(alloc, at_hand.files) {
+        Ok(Some(fault)) => words_on_file(alloc, at_hand, fault),
         Ok(None) | Err(_) => None,
     }
 }

@@ -12,6 +12,7 @@
 //! Words: the *openings* are the contexts that are open, with the words that opened them.
 #![tactic(auto)]
 
+mod columns;
 mod file_words;
 mod foreign;
 mod openings;
@@ -21,7 +22,7 @@ mod unused;
 mod wanted;
 mod warning;
 
-pub use file_words::words_on_files;
+pub use file_words::{MapfileAtHand, words_on_files};
 pub use place::{Explained, Finding, explain};
 pub use sentence::words_on_source;
 pub use warning::{Concern, Warning, warning_lines, warnings};

@@ -12,14 +12,14 @@ use mapwords::{Block, Expected, Keyword, ParseKind};
 use std::alloc::{AllocError, Global};
 use std::str;
 
-// The most characters that are shown of a word.
-const SHOWN: usize = 40;
+/// The most characters that are shown of a word.
+pub const SHOWN: usize = 40;
 
-// A word as it is shown: no longer than may be read, and without control characters.
-fn cut(alloc: Global, word: &str) -> Result<String, AllocError> {
+/// A text as it is shown: so many characters of it at most, and none of them a control character.
+pub fn cut(alloc: Global, word: &str, most: usize) -> Result<String, AllocError> {
     let mut text = String::new(alloc);
     for (i, character) in word.chars().enumerate() {
-        if i == SHOWN {
+        if i == most {
             text.push_str("..")?;
             return Ok(text);
         }
@@ -34,7 +34,7 @@ fn cut(alloc: Global, word: &str) -> Result<String, AllocError> {
 
 // A token as it is shown, with what stands round its text.
 fn found(alloc: Global, token: &Token) -> Result<String, AllocError> {
-    let text = cut(alloc, token.text)?;
+    let text = cut(alloc, token.text, SHOWN)?;
     match token.shape {
         Shape::Word | Shape::Logic => Ok(text),
         Shape::Text => format!(in alloc; "\"{text}\""),
@@ -46,7 +46,7 @@ fn found(alloc: Global, token: &Token) -> Result<String, AllocError> {
 fn opener(alloc: Global, word: &str) -> Result<String, AllocError> {
     match Keyword::of(word) {
         Some(keyword) => String::from_str(alloc, keyword.spelling()),
-        None => cut(alloc, word),
+        None => cut(alloc, word, SHOWN),
     }
 }
 
@@ -145,7 +145,7 @@ fn no_expression(alloc: Global, token: &Token, shown: &str) -> Result<String, Al
     if rest.is_empty() {
         return format!(in alloc; "{shown} is no expression: it ends too early");
     }
-    let rest = cut(alloc, rest)?;
+    let rest = cut(alloc, rest, SHOWN)?;
     format!(in alloc; "{shown} is no expression: nothing is read from {rest} on")
 }
 
@@ -283,7 +283,7 @@ impl<'a> Explained<'a> {
             ParseKind::MissingValue => missing_value(alloc, self, inner),
             ParseKind::Limit => limit(alloc, self, inner, token.text),
             ParseKind::DuplicateName => {
-                let name = cut(alloc, self.noted.name)?;
+                let name = cut(alloc, self.noted.name, SHOWN)?;
                 format!(in alloc; "an earlier LAYER has the NAME {name}")
             }
             ParseKind::BadExpression => no_expression(alloc, token, found.as_str()),

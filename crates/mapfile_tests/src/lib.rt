@@ -7,6 +7,8 @@ mod explained;
 #[cfg(test)]
 mod faults;
 #[cfg(test)]
+mod file_words;
+#[cfg(test)]
 mod fonts;
 #[cfg(test)]
 mod keywords;

@@ -167,6 +167,7 @@ check|MAP SYMBOL NAME s TYPE PIXMAP~IMAGE none.ppm END END||1 MapfileFault||faul
 # Mapfiles with the table of a file. Empty lines of a table are no rows.
 explain maps/m.map|MAP LAYER NAME a TYPE POINT~DATA p.csv~END END||0 done|ok 1 layers 1 features~|maps/m.map: warning: the service has no wms_onlineresource, and http://localhost/wms? has no port~maps/m.map: warning: LAYER 1 has features and no CLASS~
 explain maps/m.map|MAP LAYER NAME a TYPE POINT~DATA bad.csv~END END||1 MapfileFault||fault line 2 kind 10~maps/m.map:2: the file that DATA names is no table of points: row 3: a coordinate that can't be read, or beyond 1,000 degrees~
+explain maps/m.map|MAP LAYER NAME a TYPE POINT~DATA p.csv PROCESSING CSV_Y=lat~END END||1 MapfileFault||fault line 2 kind 10~maps/m.map:2: the file that DATA names is no table of points: row 1: no column of the coordinates: x and lat are looked for in x,y~
 explain maps/m.map|MAP LAYER NAME a TYPE POINT~DATA none.csv~END END||1 MapfileFault||fault line 2 kind 7~maps/m.map:2: the file none.csv, which DATA names, can't be read~
 explain|MAP CONFIG LABELFONT f.bdf~END||1 MapfileFault||fault line 1 kind 7~m.map:1: the file f.bdf, which CONFIG names, can't be read~
 explain maps/m.map|MAP LAYER NAME a TYPE LINE~DATA p.csv~END END||1 MapfileFault||fault line 2 kind 3~maps/m.map:2: DATA needs a LAYER of TYPE POINT~";
@@ -196,7 +197,7 @@ fn is_ended(alloc: Global, line: &str) -> Result<bool, AllocError> {
 
 #[test]
 fn forms_end_as_they_should(rt: HostRuntime) -> Result<(), TableFault> {
-    check_all(rt.alloc(), FORMS, 65, is_ended)
+    check_all(rt.alloc(), FORMS, 66, is_ended)
 }
 
 #[test]

@@ -12,8 +12,8 @@ use crate::reports::{report_explained, report_file};
 use crate::unread::HasCause;
 use console::{Failure, ReadFault, Reads, Writes, read_all, report};
 use mapdefs::{Map, Text};
-use mapfaults::{warning_lines, words_on_files, words_on_source};
-use mapparse::{Files, Mapfile, ParseFault, ParseKind};
+use mapfaults::{MapfileAtHand, warning_lines, words_on_files, words_on_source};
+use mapparse::{Mapfile, ParseFault, ParseKind};
 use std::alloc::Global;
 use streams::{Sink, Source};
 
@@ -34,12 +34,12 @@ fn source_words(alloc: Global, explains: bool, source: &[u8], fault: &ParseFault
 }
 
 // The words on a fault of the files of a mapfile, where they are asked for.
-fn file_words(alloc: Global, explains: bool, mapfile: &Mapfile, files: &Files) -> Option<Text>
+fn file_words(alloc: Global, explains: bool, at_hand: MapfileAtHand<'_>) -> Option<Text>
     ensures unasked { explains ≡ false → result ≡ None }
-    ensures on { IfSome result (AreOnFiles files.now mapfile.now) }
+    ensures on { IfSome result (AreOnFiles at_hand.entry.files.now at_hand.entry.mapfile.now) }
 {
     if explains {
-        words_on_files(alloc, mapfile, files)
+        words_on_files(alloc, at_hand)
     } else {
         None
     }
@@ -64,7 +64,12 @@ pub fn read_map_of<F: Folder>(
         }
     };
     let files = files_of(alloc, folder, &mapfile)?;
-    let words = file_words(alloc, explains, &mapfile, &files);
+    let at_hand = MapfileAtHand {
+        source,
+        mapfile: &mapfile,
+        files: &files,
+    };
+    let words = file_words(alloc, explains, at_hand);
     match mapfile.into_map(alloc, &files) {
         Ok(map) => Ok(map),
         Err(fault) => Err(MapFault::new(fault, words)),

@@ -1,0 +1,86 @@
+use crate::sentence::{SHOWN, cut};
+use csvpoints::{CsvError, CsvFault, CsvKind};
+use mapparse::Files;
+use maptree::LayerTree;
+use std::alloc::{AllocError, Global};
+use std::str;
+
+// The most characters that are shown of a header.
+const SHOWN_HEADER: usize = 200;
+
+// The names of the columns in which a layer looks for its coordinates.
+fn columns_of(layer: &LayerTree) -> (&str, &str) {
+    let x = match &layer.csv_x {
+        Some(name) => name.as_str(),
+        None => "x",
+    };
+    let y = match &layer.csv_y {
+        Some(name) => name.as_str(),
+        None => "y",
+    };
+    (x, y)
+}
+
+// The bytes of a layer's table, where its file has this name.
+fn table_of<'a>(layer: &LayerTree, name: &str, files: &'a Files) -> Option<&'a [u8]> {
+    match &layer.table {
+        Some(file) if file.text.as_str() == name => files.bytes(name),
+        _ => None,
+    }
+}
+
+// Whether the header of a table lacks a column that a layer looks for. No row is read.
+fn lacks_column(alloc: Global, layer: &LayerTree, bytes: &[u8]) -> bool {
+    let (x, y) = columns_of(layer);
+    matches!(
+        csvpoints::read(alloc, bytes, x, y, 0),
+        Err(CsvError::Fault(CsvFault {
+            kind: CsvKind::NoColumn,
+            ..
+        }))
+    )
+}
+
+// The first line of a table that isn't empty, as it is shown.
+fn header(alloc: Global, bytes: &[u8]) -> Result<String, AllocError> {
+    let is_end = |byte: &u8| *byte == b'\n' || *byte == b'\r';
+    let line = bytes.split(is_end).find(|line| !line.is_empty());
+    let text = str::from_utf8(line.unwrap_or(b"")).unwrap_or("");
+    cut(alloc, text.trim_start_matches('\u{FEFF}'), SHOWN_HEADER)
+}
+
+// The columns that a layer looks for, and the header that lacks one.
+fn columns(alloc: Global, layer: &LayerTree, bytes: &[u8]) -> Result<String, AllocError> {
+    let (x, y) = columns_of(layer);
+    let (x, y) = (cut(alloc, x, SHOWN)?, cut(alloc, y, SHOWN)?);
+    let header = header(alloc, bytes)?;
+    format!(in alloc; "{x} and {y} are looked for in {header}")
+}
+
+// The name of the file of the first table that is named on a line.
+fn table_on(layers: &[LayerTree], line: u64) -> Option<&str> {
+    for layer in layers {
+        match &layer.table {
+            Some(file) if file.line == line => return Some(file.text.as_str()),
+            _ => {}
+        }
+    }
+    None
+}
+
+/// Which columns are looked for in the table that is named on a line, and its header, where that lacks one. The source is
+/// parsed for the names of the columns.
+pub fn words_on_columns(alloc: Global, source: &[u8], files: &Files, line: u64) -> Option<String> {
+    let tree = maptree::read(alloc, source).ok()?;
+    let layers = tree.layers.as_slice();
+    let name = table_on(layers, line)?;
+    for layer in layers {
+        match table_of(layer, name, files) {
+            Some(bytes) if lacks_column(alloc, layer, bytes) => {
+                return columns(alloc, layer, bytes).ok();
+            }
+            _ => {}
+        }
+    }
+    None
+}

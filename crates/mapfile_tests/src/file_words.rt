@@ -1,0 +1,59 @@
+use mapdefs::{Items, Text};
+use mapfaults::{MapfileAtHand, words_on_files};
+use mapparse::{Files, Mapfile};
+use std::alloc::{AllocError, Global};
+use test_tables::{TableFault, check_rows};
+
+// The file of a row, if it has one: its name and its text, with `=` between them. `~` is the end of a line.
+fn files_of(alloc: Global, row: &str) -> Result<Files, AllocError> {
+    let mut files = Files::new(alloc);
+    if let Some((name, text)) = row.split_once('=') {
+        let text = text.replace(alloc, '~', "\n")?;
+        let bytes = Vec::from_slice(alloc, text.as_str().as_bytes())?;
+        files.add(Text::from_str(alloc, name)?, Items::of(bytes))?;
+    }
+    Ok(files)
+}
+
+// The words on the files of a row, whose file stands before its mapfile.
+fn told_row(alloc: Global, row: &str) -> Result<String, AllocError> {
+    let (files, source) = row.split_once('|').unwrap_or(("", row));
+    let files = files_of(alloc, files)?;
+    let source = source.replace(alloc, '~', "\n")?;
+    let source = source.as_str().as_bytes();
+    let Ok(mapfile) = Mapfile::read(alloc, source) else {
+        return String::from_str(alloc, "no mapfile");
+    };
+    let at_hand = MapfileAtHand {
+        source,
+        mapfile: &mapfile,
+        files: &files,
+    };
+    let words = words_on_files(alloc, at_hand);
+    let words = words.as_ref().map_or("none", |words| words.as_str());
+    let words = String::from_str(alloc, words);
+    // Dropped by name, through the one drop of its type.
+    drop(mapfile);
+    words
+}
+
+// The words, the file, and the mapfile.
+const ROWS: &str = "\
+none||MAP END
+none|a.csv=x,y~1,2|MAP LAYER NAME a TYPE POINT DATA a.csv END END
+the file a.csv, which DATA names, can't be read||MAP LAYER NAME a TYPE POINT DATA a.csv END END
+the file a.csv, which DATA names, can't be read|b.csv=x,y|MAP LAYER NAME b TYPE POINT DATA b.csv END LAYER NAME a TYPE POINT DATA a.csv END END
+# which columns are looked for, and the header
+the file that DATA names is no table of points: row 1: no column of the coordinates: x and y are looked for in lon,lat,name|a.csv=lon,lat,name~1,2,b|MAP LAYER NAME a TYPE POINT DATA a.csv END END
+the file that DATA names is no table of points: row 1: no column of the coordinates: lon and y are looked for in x,y|a.csv=~x,y~|MAP LAYER NAME a TYPE POINT PROCESSING CSV_X=lon DATA a.csv END END
+the file that DATA names is no table of points: row 1: no column of the coordinates: x and lat are looked for in x,y|a.csv=x,y|MAP LAYER NAME b TYPE POINT DATA a.csv END~LAYER NAME a TYPE POINT PROCESSING CSV_Y=lat DATA a.csv END END
+the file that DATA names is no table of points: row 1: no column of the coordinates: x and y are looked for in a?b|b.csv=a\tb|MAP LAYER NAME a TYPE POINT DATA b.csv END END
+# other faults have no such words
+the file that DATA names is no table of points: row 1: no header|a.csv=~|MAP LAYER NAME a TYPE POINT DATA a.csv END END
+the file that DATA names is no table of points: row 2: another count of fields than the header has|a.csv=x,y~1|MAP LAYER NAME a TYPE POINT DATA a.csv END END
+the file that IMAGE names is no pixmap in Netpbm's P6 format of at most 256 by 256 pixels|a.ppm=P5|MAP SYMBOL NAME s TYPE PIXMAP IMAGE a.ppm END END";
+
+#[test]
+fn faults_of_files_are_told_in_words(rt: HostRuntime) -> Result<(), TableFault> {
+    check_rows(rt.alloc(), ROWS, '|', 11, told_row)
+}
