@@ -20,9 +20,10 @@ fn perform<S: Sharing, R: Wait>(rt: &R, admin: Admin<S>, asked: Asked) -> (Admin
     ensures { (command : Command) → IsHeldOf command asked → HasDone S.opening admin command result.1 result.0 }
 {
     let mut nowhere = Nowhere;
-    match perform_kept(rt, admin, &mut nowhere, asked) {
-        (admin, Ok(done)) => (admin, done),
-        (admin, Err(KeepFailed)) => (admin, Done::NoMemory),
+    let (admin, done) = perform_kept(rt, admin, &mut nowhere, asked);
+    match done {
+        Ok(done) => (admin, done),
+        Err(KeepFailed) => (admin, Done::NoMemory),
     }
 }
 
