@@ -167,7 +167,9 @@ pub fn enter(
     let Some(slot) = table.free_slot() else {
         return Ok(None);
     };
-    let connection = OpenConnection::new(alloc, client, now)?;
+    let Ok(connection) = OpenConnection::new(alloc, client, now) else {
+        return Err(AllocError);
+    };
     table.open(slot, connection);
     Ok(Some(slot))
 }

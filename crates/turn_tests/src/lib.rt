@@ -1,4 +1,4 @@
-//! Tests of the turns of connections, by their public calls alone: each test checks a value that was worked by hand,
+//! Tests of the turns of connections, and of the event loop over them, by their public calls alone: each test checks a value that was worked by hand,
 //! or that no clause can say.
 #![tactic(auto)]
 
@@ -6,6 +6,8 @@
 mod clients;
 #[cfg(test)]
 mod cut_streams;
+#[cfg(test)]
+mod event_loop;
 #[cfg(test)]
 mod times;
 #[cfg(test)]

@@ -8,8 +8,9 @@
 //! session says (`own`), and changes no other connection (`others`). A connection has no further turn only where a read
 //! or a write would have waited, or where no query may be asked (`IsNext`, `turns`, `waits`). Responses that are to be
 //! sent have at most `room` bytes and one response more (ghost field `bounded`). A connection leaves where its time is
-//! over (`close_overdue`), and before that in two cases alone: `close_for_slot` and `close_for_room`; a worker that ends
-//! has `close_unanswered`. A slot in the queue has its turn before any that had one has another (`laws::fair`).
+//! over (`close_overdue`), and before that in two cases alone: where another comes and no slot or no descriptor is free
+//! (`close_for_slot`, `close_for_descriptor`), and where responses fill their room (`close_for_room`); a worker that ends has
+//! `close_unanswered`. A slot in the queue has its turn before any that had one has another (`laws::fair`).
 //!
 //! Words: a *turn* is what is done for a connection at once. A *slot* is the place of a connection in its table, and its
 //! number. What a connection does is its *phase*, whose time is over at its *deadline*. Bytes are *owed* to a connection

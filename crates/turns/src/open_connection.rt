@@ -1,4 +1,4 @@
-ghost use Rattle.std.specs.Prelude.{◌≡◌, ◌≤◌, ◌<◌, ◌^◌, [], IfOk, false};
+ghost use Rattle.std.specs.Prelude.{◌≡◌, ◌≤◌, ◌<◌, ◌^◌, [], IfOk, IfErr, false};
 ghost use Rattle.httpedge.specs.Session.{new_session};
 ghost use Rattle.turns.specs.declared.times.Phase.TheVariants.{Idle};
 ghost use Rattle.turns.specs.Drain.{brought, next_drained, phase_drained};
@@ -6,7 +6,7 @@ ghost use Rattle.turns.specs.Drain.{brought, next_drained, phase_drained};
 use crate::drained::DRAINED_BYTES;
 use crate::{BufferedSession, Next, Phase, ReadOutcome, Transport, serve_turn};
 use httpedge::Asks;
-use std::alloc::{AllocError, Global};
+use std::alloc::Global;
 
 /// A connection of a worker.
 #[derive(Drop)]
@@ -56,21 +56,25 @@ fn phase_drained(next: Next, phase: Phase) -> Phase
 impl<T: Transport> OpenConnection<T> {
     ghost use Rattle.turns.specs.Connection.{owed_by, IsServed, IsDrained, IsTurn};
 
-    /// A connection that is opened now: it is between requests.
-    pub fn new(alloc: Global, transport: T, now: u64) -> Result<Self, AllocError>
+    /// A connection that is opened now: it is between requests. Where its memory is refused the transport comes back.
+    pub fn new(alloc: Global, transport: T, now: u64) -> Result<Self, T>
     where
         T: Drop,
         ensures transport { IfOk result (λ connection. connection.transport ≡ transport) }
         ensures session { IfOk result (λ connection. connection.exchange.session ≡ new_session) }
         ensures buffer { IfOk result (λ connection. connection.exchange.buffer ≡ []) }
         ensures phase { IfOk result (λ connection. connection.phase ≡ Idle now) }
+        ensures refused { IfErr result (λ back. back ≡ transport) }
     {
-        Ok(OpenConnection {
-            exchange: BufferedSession::new(alloc)?,
-            transport,
-            phase: Phase::Idle { since: now },
-            dropped: 0,
-        })
+        match BufferedSession::new(alloc) {
+            Ok(exchange) => Ok(OpenConnection {
+                exchange,
+                transport,
+                phase: Phase::Idle { since: now },
+                dropped: 0,
+            }),
+            Err(_) => Err(transport),
+        }
     }
 
     /// How many bytes of an answer are to be sent.

@@ -12,8 +12,8 @@ use std::alloc::{AllocError, Global};
 ///
 /// The responses that are to be sent to them have at most `room` bytes and one response more (`bounded`): a query is
 /// asked only while they have less than `room` bytes. Where there is room and a connection waits for it, some
-/// connection has a turn (`admitted`). No call but `close_overdue`, `close_unanswered`, `close_for_slot` and
-/// `close_for_room` has a connection leave its slot.
+/// connection has a turn (`admitted`). No call but `close_overdue`, `close_unanswered`, `close_for_slot`,
+/// `close_for_descriptor` and `close_for_room` has a connection leave its slot.
 #[derive(Drop)]
 pub struct ConnectionTable<T: Drop> {
     slots: Slots<T>,
@@ -244,6 +244,20 @@ impl<T: Transport + Drop> ConnectionTable<T> {
         if self.free_slot().is_some() {
             return None;
         }
+        self.give_way(Pressure::Slot)
+    }
+
+    /// Where no descriptor is free for a further connection, that one leaves that has been between requests for longest, if
+    /// one is.
+    pub fn close_for_descriptor(&mut self) -> Option<Closed<T>>
+        ensures first { IfSome result (λ closed. IsFirst Slot (connections self.old) closed.slot) }
+        ensures closed { IfSome result (λ closed. (at_slot (connections self.old) closed.slot ≡ Some closed.connection) × (at_slot (connections self.new) closed.slot ≡ None)) }
+        ensures others { IfSome result (λ closed. OthersStay closed.slot (connections self.old) (connections self.new)) }
+        ensures stays { IfNone result (connections self.new ≡ connections self.old) }
+        ensures none { IfNone result ((slot : ℕ) → rank_of Slot (at_slot (connections self.old) slot) ≡ None) }
+        ensures keeps { KeepsWaiting self.old self.new }
+        ensures keeps_ready { KeepsReady self.old self.new }
+    {
         self.give_way(Pressure::Slot)
     }
 

@@ -1,0 +1,142 @@
+//! Workers that serve connections in memory.
+
+use crate::clients::{Client, TIMEOUTS};
+use eventloop::{Crew, Ending, Poller, Wakes, Worker, start_worker, turn_away};
+use httpedge::{Asks, Busy};
+use mapdefs::Items;
+use mapmachine::{Answer, Mime};
+use std::alloc::{AllocError, Global};
+use std::rt::Clock;
+use std::str;
+use std::sync::{Arc, Mutex, Wait};
+use std::test::Fail;
+use std::thread::{self, Threads};
+use std::time::Duration;
+
+// Queries in brackets, in the order in which they were asked.
+type Asked = Arc<Mutex<String>, Global>;
+
+// It notes which queries it is asked, and answers each with nothing.
+#[derive(Drop)]
+struct Noting<R: Wait + Drop> {
+    rt: R,
+    alloc: Global,
+    asked: Asked,
+}
+
+impl<R: Wait + Drop> Asks for Noting<R> {
+    ghost answers = { λ _ _ _ _. Unit {0} };
+
+    fn answer(&mut self, query: &[u8]) -> Result<Answer, Busy> {
+        let mut asked = self.asked.lock(&self.rt);
+        let noted = asked.push_str(str::from_utf8(query).unwrap_or("?"));
+        if noted.is_err() || asked.push(' ').is_err() {
+            return Err(Busy);
+        }
+        Ok(Answer {
+            mime: Mime::Plain,
+            body: Items::of(Vec::new(self.alloc)),
+        })
+    }
+}
+
+// Clients in memory never have to wait: there is nothing to be told of.
+#[derive(Drop)]
+struct Idle {
+    rt: HostRuntime,
+}
+
+#[derive(Drop)]
+struct NoWaker;
+
+impl Wakes for NoWaker {
+    fn wake(&self) {}
+}
+
+impl Poller<Client> for Idle {
+    type Waker = NoWaker;
+
+    fn waker(&self) -> Option<NoWaker> {
+        Some(NoWaker)
+    }
+
+    fn register(&mut self, _transport: &mut Client, _slot: usize) -> bool {
+        true
+    }
+
+    fn wait(&mut self, at_most: Duration, _room: &mut [usize]) -> usize {
+        if !at_most.is_zero() {
+            thread::sleep(&self.rt, Duration::from_millis(1));
+        }
+        0
+    }
+}
+
+// Three workers with 4 slots each, and what each is asked.
+fn crew_of_three<R: AllocGlobal + Clock + Wait + Threads + Send + Copy + Drop + 'static>(
+    rt: &R,
+    system: &HostRuntime,
+) -> Result<(Crew<Client, NoWaker>, Vec<Asked>), Fail> {
+    let alloc = rt.alloc();
+    let mut crew = Crew::new(alloc, 3)?;
+    let mut all = Vec::new(alloc);
+    for _ in 0..3 {
+        let asked = Arc::new(alloc, Mutex::new(String::new(alloc)))?;
+        let noting = Noting {
+            rt: *rt,
+            alloc,
+            asked: Arc::try_clone(&asked)?,
+        };
+        let worker = Worker::new(alloc, noting, Idle { rt: *system }, (4, TIMEOUTS))?;
+        start_worker(rt, alloc, &mut crew, worker)?;
+        all.push(asked)?;
+    }
+    Ok((crew, all))
+}
+
+// A client that asks with this number, and sends no more.
+fn asking(alloc: Global, number: u64) -> Result<Client, AllocError> {
+    let head = format!(in alloc; "GET /?{number} HTTP/1.1\r\n\r\n")?;
+    Client::new(alloc, head.as_str().as_bytes(), true)
+}
+
+// What three workers are asked by seven connections.
+fn asked_of<R: AllocGlobal + Clock + Wait + Threads + Send + Copy + Drop + 'static>(
+    rt: &R,
+    system: &HostRuntime,
+) -> Result<String, Fail> {
+    let alloc = rt.alloc();
+    let (mut crew, all) = crew_of_three(rt, system)?;
+    for number in 1..8 {
+        crew.hand_over(rt, asking(alloc, number)?);
+    }
+    crew.end(rt, Ending::Finishes);
+    let mut text = String::new(alloc);
+    for asked in &all {
+        let asked = asked.lock(rt);
+        text = format!(in alloc; "{text}{}| ", asked.as_str())?;
+    }
+    Ok(text)
+}
+
+#[test]
+fn connections_go_to_their_workers(rt: HostRuntime) -> Result<(), Fail> {
+    let text = asked_of(&rt, &rt)?;
+    assert_eq!(rt; text.as_str(), "3 6 | 1 4 7 | 2 5 | ");
+    Ok(())
+}
+
+const BUSY: &[u8] =
+    b"HTTP/1.1 503 Service Unavailable\r\nContent-Length: 0\r\nConnection: close\r\n\r\n";
+
+#[test]
+fn a_client_is_turned_away_as_far_as_it_takes_that_at_once(rt: HostRuntime) -> Result<(), Fail> {
+    let alloc = rt.alloc();
+    let mut client = Client::new(alloc, b"", false)?.paced(&[0], &[7, 70]);
+    turn_away(&mut client);
+    assert_eq!(rt; client.out.as_slice(), BUSY);
+    let mut slow = Client::new(alloc, b"", false)?.paced(&[0], &[7, 5, 0]);
+    turn_away(&mut slow);
+    assert_eq!(rt; slow.out.as_slice(), b"HTTP/1.1 503".as_slice());
+    Ok(())
+}
