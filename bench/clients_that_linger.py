@@ -6,20 +6,14 @@ by 512 pixels is asked for by a head that closes, with a body of 3 bytes in a se
 it so and announces it: that is refused with 400, and the refusal is to come whole. So is the picture where 8,192 bytes
 or a second head follow the first.
 
-Then a client holds the worker that it was given: it sends half a head and waits; half a head, and a byte each second; a
-head for a picture of 12 MB, of which it reads nothing. With one worker, which holds the whole server, another client
-asks while it does. The time is printed after which that one was answered: 30 seconds, and what the picture took. The
-last client neither sends more nor leaves after its answer, which holds the server for 2 seconds.
-
-What the two pictures take on a server that has nothing else to do is measured first, and twice as much is allowed. So
-is what the system adds: Linux ends a wait up to an eighth of its length too late, which is 4 seconds for the one wait
-behind half a head; and of the picture it takes bytes in two writes, each of which waits for its second before the 30
-begin.
-
-With four workers the three hold one each, as connections 1, 2 and 3. Connection c goes to worker c mod 4: so 4 and 8
-are to be answered at once, by the worker that none holds, and 5, 6 and 7 after 30 seconds, as the one with one worker.
+Then clients linger at a server of one worker: one sends nothing; one half a head; one half a head, and a byte each
+second; one a head for a picture of 12 MB, of which it reads nothing; one has its answer, and neither sends more nor leaves.
+Another client that asks beside each of them is to be answered at once. The first four are to be dropped: after 3 seconds
+the one that sends nothing, as --idle says, and after 2 the next two, as --timeout says, whether bytes come or not; the
+one that reads nothing 2 seconds after the last byte that the system took for it.
 """
 import http.client
+import os
 import socket
 import subprocess
 import sys
@@ -34,29 +28,28 @@ SMALL = QUERY + "&WIDTH=512&HEIGHT=512"
 LARGE = QUERY + "&WIDTH=2048&HEIGHT=2048"
 MAP = b"MAP LAYER NAME a TYPE POLYGON CLASS STYLE COLOR 10 20 30 END END FEATURE POINTS 1 1 3 1 3 3 1 3 END END END END\n"
 SIZE = len(b"P6\n512 512\n255\n") + 3 * 512 * 512
-# within how many seconds an answer has come at once
-AT_ONCE = 5
-
 
 def head_of(target):
     return f"GET {target} HTTP/1.1\r\nConnection: close\r\n\r\n".encode()
 
 
 HALF = b"GET /wms HTTP/1.1\r\nHost: "
-# what each client that holds a worker sends, whether it goes on by a byte each second, and what the system adds to its
-# time: the lateness of a wait of 30 seconds, nothing to many short waits, and a second for each write that moves bytes
-HOLDERS = [
-    ("half a head", HALF, False, 30 / 8),
-    ("a byte each second", HALF, True, 0),
-    ("a picture that isn't read", head_of(LARGE), False, 2),
+IDLE, TIMEOUT = 3, 2
+# what each client sends that lingers, whether it goes on by a byte each second, and after how many seconds it is dropped
+LINGERING = [
+    ("nothing", b"", False, IDLE),
+    ("half a head", HALF, False, TIMEOUT),
+    ("a byte each second", HALF, True, TIMEOUT),
 ]
 
 
 class Server:
     def __init__(self, mapfile, workers):
         words = [sys.argv[1], "serve", mapfile, "--port", "0", "--admin-port", "0", "--workers", str(workers)]
+        words += ["--idle", str(1_000 * IDLE), "--timeout", str(TIMEOUT)]
         self.process = subprocess.Popen(words, stdout=subprocess.PIPE)
         self.port, _ = ports_of(self.process.stdout.readline())
+        Server.pid = self.process.pid
 
     def __enter__(self):
         return self.port
@@ -114,29 +107,13 @@ def tried(ask, port):
         return False
 
 
-class Waiting:
-    """A client that asks, and how long it waits for its answer."""
-
-    def __init__(self, port):
-        self.began = time.monotonic()
-        self.stream = connected(port)
-        self.seconds, self.whole = 0, False
-        self.thread = threading.Thread(target=self.wait)
-        self.thread.start()
-
-    def wait(self):
-        with self.stream as stream:
-            try:
-                stream.sendall(head_of(SMALL))
-                self.whole = is_whole(read_all(stream))
-            except OSError:
-                pass
-        self.seconds = time.monotonic() - self.began
-
-    def answered(self):
-        """After how long it was answered, and whether it got its whole answer."""
-        self.thread.join()
-        return self.seconds, self.whole
+def seconds_of(port, target):
+    """What the answer to this takes, and whether it came whole."""
+    began = time.monotonic()
+    with connected(port) as stream:
+        stream.sendall(head_of(target))
+        whole = is_whole(read_all(stream))
+    return time.monotonic() - began, whole
 
 
 def dribble(stream, stop):
@@ -147,44 +124,83 @@ def dribble(stream, stop):
             return
 
 
-class Holder:
-    """A client that holds a worker."""
+class Lingering:
+    """A client that lingers, and when it saw that it was dropped."""
 
     def __init__(self, port, sent, is_slow):
         self.stop = threading.Event()
         self.stream = connected(port)
         self.stream.setsockopt(socket.SOL_SOCKET, socket.SO_RCVBUF, 4_096)
+        self.began, self.seconds = time.monotonic(), None
         self.stream.sendall(sent)
-        time.sleep(0.1)
         if is_slow:
-            threading.Thread(target=dribble, args=(self.stream, self.stop)).start()
+            threading.Thread(target=dribble, args=(self.stream, self.stop), daemon=True).start()
+        self.thread = threading.Thread(target=self.watch, daemon=True)
+        self.thread.start()
 
-    def leave(self):
+    def watch(self):
+        """Waits for the end of what comes."""
+        try:
+            read_all(self.stream)
+        except OSError:
+            pass
+        self.seconds = time.monotonic() - self.began
+
+    def dropped(self):
+        self.thread.join(3 * (IDLE + TIMEOUT))
         self.stop.set()
         self.stream.close()
+        return self.seconds
 
 
-def left_waiting(port):
-    """A client that got its answer, and neither sends more nor leaves, and what the next one waits for."""
-    with connected(port) as stream:
-        stream.sendall(head_of(SMALL))
-        assert is_whole(read_all(stream))
-        return Waiting(port).answered()
+def is_wrong(name, what, seconds, least, most):
+    """Prints after how long something came, and says whether that is wrong."""
+    print(f"{name:>36}: {what} after {'never' if seconds is None else f'{seconds:.2f} s'}", flush=True)
+    return seconds is None or not least <= seconds <= most
 
 
-def held(port, sent, is_slow):
-    """How long the next one waits for a client that holds the only worker."""
-    holder = Holder(port, sent, is_slow)
-    found = Waiting(port).answered()
-    holder.leave()
-    return found
+def try_unread(mapfile):
+    """A client that reads nothing can't see that it was dropped: the server has a descriptor less then."""
+    with Server(mapfile, 1) as port:
+        seconds_of(port, LARGE)
+        count = descriptors()
+        stream = connected(port)
+        stream.setsockopt(socket.SOL_SOCKET, socket.SO_RCVBUF, 4_096)
+        stream.sendall(head_of(LARGE))
+        time.sleep(0.5)
+        began = time.monotonic()
+        seconds, whole = seconds_of(port, SMALL)
+        wrong = is_wrong("beside a picture that isn't read", "answered", seconds, 0, 1) or not whole
+        while descriptors() > count and time.monotonic() < began + 60:
+            time.sleep(0.01)
+        wrong += is_wrong("a picture that isn't read", "dropped", time.monotonic() - began + 0.5, TIMEOUT - 0.1, TIMEOUT + 1.5)
+        stream.close()
+    return wrong
 
 
-def told(name, found, least, most):
-    """Prints how long a client waited, and says whether that is wrong."""
-    seconds, whole = found
-    print(f"{name:>36}: answered after {seconds:.2f} s{'' if whole else ', not whole'}", flush=True)
-    return not whole or not least <= seconds <= most
+def descriptors():
+    return len(os.listdir(f"/proc/{Server.pid}/fd"))
+
+
+def try_lingering(mapfile):
+    wrong = 0
+    with Server(mapfile, 1) as port:
+        alone, _ = seconds_of(port, SMALL)
+        print(f"{'the picture alone':>36}: {alone:.2f} s", flush=True)
+        lingering = []
+        for name, sent, is_slow, most in LINGERING:
+            lingering.append((name, most, Lingering(port, sent, is_slow)))
+            seconds, whole = seconds_of(port, SMALL)
+            wrong += is_wrong(f"beside {name}", "answered", seconds, 0, 1 + 3 * alone) or not whole
+        stays = connected(port)
+        stays.sendall(head_of(SMALL))
+        wrong += not is_whole(read_all(stays))
+        seconds, whole = seconds_of(port, SMALL)
+        wrong += is_wrong("beside all, and one that stays", "answered", seconds, 0, 1 + 3 * alone) or not whole
+        for name, most, client in lingering:
+            wrong += is_wrong(name, "dropped", client.dropped(), most - 0.1, most + 1.5)
+        stays.close()
+    return wrong
 
 
 def try_ways(mapfile, workers, count):
@@ -197,54 +213,13 @@ def try_ways(mapfile, workers, count):
     return wrong
 
 
-def seconds_of(port, target):
-    """What the answer to this takes."""
-    began = time.monotonic()
-    with connected(port) as stream:
-        stream.sendall(head_of(target))
-        read_all(stream)
-    return time.monotonic() - began
-
-
-def most_of(pictures, sent, added):
-    """How long a client that sends this may hold its worker, and the next one's answer take."""
-    small, large = pictures
-    return 31 + added + 2 * small + (2 * large if sent != HALF else 0)
-
-
-def try_one_worker(mapfile):
-    wrong = 0
-    with Server(mapfile, 1) as port:
-        pictures = seconds_of(port, SMALL), seconds_of(port, LARGE)
-        print(f"{'the two pictures':>36}: take {pictures[0]:.2f} and {pictures[1]:.2f} s", flush=True)
-        for name, sent, is_slow, added in HOLDERS:
-            wrong += told(f"behind {name}", held(port, sent, is_slow), 29, most_of(pictures, sent, added))
-        wrong += told("behind a client that stays", left_waiting(port), 0, 3 + 2 * pictures[0])
-    return wrong, pictures
-
-
-def try_four_workers(mapfile, pictures):
-    with Server(mapfile, 4) as port:
-        holders = [Holder(port, sent, is_slow) for _, sent, is_slow, _ in HOLDERS]
-        wrong = told("connection 4, beside them", Waiting(port).answered(), 0, AT_ONCE)
-        waiting = [Waiting(port) for _ in HOLDERS]
-        wrong += told("connection 8, beside them", Waiting(port).answered(), 0, AT_ONCE)
-        for number, (name, sent, _, added), client in zip(range(5, 8), HOLDERS, waiting):
-            # they wait less than the holders hold their workers, since they came later
-            wrong += told(f"connection {number}, behind {name}", client.answered(), 29 - AT_ONCE, most_of(pictures, sent, added))
-        for holder in holders:
-            holder.leave()
-    return wrong
-
-
 def main():
     count = int(sys.argv[2]) if len(sys.argv) > 2 else 100
     with tempfile.NamedTemporaryFile(suffix=".map") as mapfile:
         mapfile.write(MAP)
         mapfile.flush()
         wrong = sum(try_ways(mapfile.name, workers, count) for workers in (1, 4))
-        behind, pictures = try_one_worker(mapfile.name)
-        wrong += behind + try_four_workers(mapfile.name, pictures)
+        wrong += try_lingering(mapfile.name) + try_unread(mapfile.name)
     print("ok" if wrong == 0 else f"failed: {wrong}")
     sys.exit(wrong)
 

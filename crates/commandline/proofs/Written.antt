@@ -51,14 +51,15 @@ run_explained (Serve file explains service) h = absurd (cc)
 served-by : (rows : List Row) (service : Service) (texts : OptionTexts) → IsService rows service →
     one_of (codes "port") rows ≡ Some texts.port → one_of (codes "connections") rows ≡ Some texts.connections → one_of (codes "idle") rows ≡ Some texts.idle → one_of (codes "timeout") rows ≡ Some texts.timeout →
     one_of (codes "admin-port") rows ≡ Some texts.admin_port → one_of (codes "workers") rows ≡ Some texts.workers →
-    IsServedBy texts service
-served-by rows service texts is p n i t a w = record {
+    service.until_input_ends ≡ texts.until_input_ends → IsServedBy texts service
+served-by rows service texts is p n i t a w e = record {
   reads_port = rw (same _ _ (sym p ∙ is.port.1)) at is.port.2;
   reads_connections = rw (same _ _ (sym n ∙ is.connections.1)) at is.connections.2;
   reads_idle = rw (same _ _ (sym i ∙ is.idle.1)) at is.idle.2;
   reads_timeout = rw (same _ _ (sym t ∙ is.timeout.1)) at is.timeout.2;
   reads_admin_port = rw (same _ _ (sym a ∙ is.admin_port.1)) at is.admin_port.2;
   reads_workers = rw (same _ _ (sym w ∙ is.workers.1)) at is.workers.2;
+  ends = e;
 }
 
 pub serve : (c : Command) → May (codes "serve" ∷ codes "a.map" ∷ codes "--connections" ∷ codes "2" ∷ []) c → Serves (codes "a.map") false (record default_texts { connections = codes "2" }) c
@@ -66,32 +67,39 @@ unfolding clap_on_literals
 serve Session h = h
 serve (Check file explains) h = let first : 115 ≡ 99 = ap (λ t. get_or t 0 0) h.0 in absurd (omega (arith, first))
 serve (Run file script explains) h = let first : 115 ≡ 114 = ap (λ t. get_or t 0 0) h.0 in absurd (omega (arith, first))
-serve (Serve file explains service) h = (same _ _ h.1.named, h.1.flag.unset refl, served-by _ service _ h.2 refl refl refl refl refl refl)
+serve (Serve file explains service) h = (same _ _ h.1.named, h.1.flag.unset refl, served-by _ service _ h.2 refl refl refl refl refl refl (h.2.until_input_ends.unset refl))
 
 pub served : (c : Command) → May (codes "serve" ∷ codes "--port" ∷ codes "81" ∷ codes "a.map" ∷ []) c → Serves (codes "a.map") false (record default_texts { port = codes "81" }) c
 unfolding clap_on_literals
 served Session h = h
 served (Check file explains) h = let first : 115 ≡ 99 = ap (λ t. get_or t 0 0) h.0 in absurd (omega (arith, first))
 served (Run file script explains) h = let first : 115 ≡ 114 = ap (λ t. get_or t 0 0) h.0 in absurd (omega (arith, first))
-served (Serve file explains service) h = (same _ _ h.1.named, h.1.flag.unset refl, served-by _ service _ h.2 refl refl refl refl refl refl)
+served (Serve file explains service) h = (same _ _ h.1.named, h.1.flag.unset refl, served-by _ service _ h.2 refl refl refl refl refl refl (h.2.until_input_ends.unset refl))
 
 pub timed : (c : Command) → May (codes "serve" ∷ codes "a.map" ∷ codes "--timeout" ∷ codes "9" ∷ codes "--idle" ∷ codes "50" ∷ []) c → Serves (codes "a.map") false (record default_texts { idle = codes "50"; timeout = codes "9" }) c
 unfolding clap_on_literals
 timed Session h = h
 timed (Check file explains) h = let first : 115 ≡ 99 = ap (λ t. get_or t 0 0) h.0 in absurd (omega (arith, first))
 timed (Run file script explains) h = let first : 115 ≡ 114 = ap (λ t. get_or t 0 0) h.0 in absurd (omega (arith, first))
-timed (Serve file explains service) h = (same _ _ h.1.named, h.1.flag.unset refl, served-by _ service _ h.2 refl refl refl refl refl refl)
+timed (Serve file explains service) h = (same _ _ h.1.named, h.1.flag.unset refl, served-by _ service _ h.2 refl refl refl refl refl refl (h.2.until_input_ends.unset refl))
 
 pub administered : (c : Command) → May (codes "serve" ∷ codes "a.map" ∷ codes "--workers" ∷ codes "8" ∷ codes "--admin-port" ∷ codes "82" ∷ []) c → Serves (codes "a.map") false (record default_texts { admin_port = codes "82"; workers = codes "8" }) c
 unfolding clap_on_literals
 administered Session h = h
 administered (Check file explains) h = let first : 115 ≡ 99 = ap (λ t. get_or t 0 0) h.0 in absurd (omega (arith, first))
 administered (Run file script explains) h = let first : 115 ≡ 114 = ap (λ t. get_or t 0 0) h.0 in absurd (omega (arith, first))
-administered (Serve file explains service) h = (same _ _ h.1.named, h.1.flag.unset refl, served-by _ service _ h.2 refl refl refl refl refl refl)
+administered (Serve file explains service) h = (same _ _ h.1.named, h.1.flag.unset refl, served-by _ service _ h.2 refl refl refl refl refl refl (h.2.until_input_ends.unset refl))
+
+pub ended : (c : Command) → May (codes "serve" ∷ codes "a.map" ∷ codes "--until-input-ends" ∷ []) c → Serves (codes "a.map") false (record default_texts { until_input_ends = true }) c
+unfolding clap_on_literals
+ended Session h = h
+ended (Check file explains) h = let first : 115 ≡ 99 = ap (λ t. get_or t 0 0) h.0 in absurd (omega (arith, first))
+ended (Run file script explains) h = let first : 115 ≡ 114 = ap (λ t. get_or t 0 0) h.0 in absurd (omega (arith, first))
+ended (Serve file explains service) h = (same _ _ h.1.named, h.1.flag.unset refl, served-by _ service _ h.2 refl refl refl refl refl refl (h.2.until_input_ends.set refl))
 
 pub serve_explained : (c : Command) → May (codes "serve" ∷ codes "a.map" ∷ codes "--explain" ∷ []) c → Serves (codes "a.map") true default_texts c
 unfolding clap_on_literals
 serve_explained Session h = h
 serve_explained (Check file explains) h = let first : 115 ≡ 99 = ap (λ t. get_or t 0 0) h.0 in absurd (omega (arith, first))
 serve_explained (Run file script explains) h = let first : 115 ≡ 114 = ap (λ t. get_or t 0 0) h.0 in absurd (omega (arith, first))
-serve_explained (Serve file explains service) h = (same _ _ h.1.named, h.1.flag.set refl, served-by _ service _ h.2 refl refl refl refl refl refl)
+serve_explained (Serve file explains service) h = (same _ _ h.1.named, h.1.flag.set refl, served-by _ service _ h.2 refl refl refl refl refl refl (h.2.until_input_ends.unset refl))

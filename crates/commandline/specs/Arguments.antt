@@ -20,9 +20,17 @@ file_rule = record (new_rule (codes "FILE")) { required = true }
 abbrev pub script_rule : Rule
 script_rule = record (new_rule (codes "SCRIPT")) { required = true }
 
--- `--explain`, a flag
+-- a flag of a name
+abbrev pub flag_rule : Text → Rule
+flag_rule name = record (new_rule name) { long = Some name; action = Some SetTrue }
+
+-- `--explain`
 abbrev pub explain_rule : Rule
-explain_rule = record (new_rule (codes "explain")) { long = Some (codes "explain"); action = Some SetTrue }
+explain_rule = flag_rule (codes "explain")
+
+-- `--until-input-ends`
+abbrev pub until_rule : Rule
+until_rule = flag_rule (codes "until-input-ends")
 
 -- `NAME --explain FILE`
 abbrev pub file_app : Text → App
@@ -48,7 +56,7 @@ abbrev pub serve_options : List ServeOption
 serve_options =
     record { name = codes "port"; least = 0; most = 65535; default = codes "8080" }
     ∷ record { name = codes "connections"; least = 0; most = 4294967295; default = codes "0" }
-    ∷ record { name = codes "idle"; least = 1; most = 60000; default = codes "200" }
+    ∷ record { name = codes "idle"; least = 1; most = 60000; default = codes "60000" }
     ∷ record { name = codes "timeout"; least = 1; most = 3600; default = codes "30" }
     ∷ record { name = codes "admin-port"; least = 0; most = 65535; default = codes "8081" }
     ∷ record { name = codes "workers"; least = 1; most = 32; default = codes "4" }
@@ -66,9 +74,13 @@ number_rule o = record (new_rule o.name) { long = Some o.name; value_names = 1; 
 abbrev pub with_option : App → ServeOption → App
 with_option command o = with_rule command (number_rule o)
 
--- `serve --explain FILE` with the options
+-- `serve --explain FILE` with the options that are numbers
+abbrev pub numbered_app : App
+numbered_app = fold with_option (file_app (codes "serve")) serve_options
+
+-- the same with `--until-input-ends`
 abbrev pub serve_app : App
-serve_app = fold with_option (file_app (codes "serve")) serve_options
+serve_app = with_rule numbered_app until_rule
 
 -- the program by its name, with which its arguments don't begin, and a version, for which `--version` asks
 abbrev pub program_app : App
@@ -88,6 +100,12 @@ pub record IsInRange (rows : List Row) (o : ServeOption) : Type 0 where
   pub read : IsNumber 32 o.name rows number
   pub range : (o.least ≤ number) × (number ≤ o.most)
 
+-- a flag is set in the rows of matches, or it is not
+pub record IsFlag (name : Text) (rows : List Row) (flag : Bool) : Type 0 where
+  pub set : one_of name rows ≡ Some (codes "true") → flag ≡ true
+  pub unset : one_of name rows ≡ Some (codes "false") → flag ≡ false
+  pub absent : one_of name rows ≡ None → flag ≡ false
+
 -- the rows of matches say how a map is served, with numbers in their ranges
 pub record IsService (rows : List Row) (service : Service) : Type 0 where
   pub port : IsNumber 16 (codes "port") rows service.port
@@ -96,13 +114,8 @@ pub record IsService (rows : List Row) (service : Service) : Type 0 where
   pub timeout : IsNumber 16 (codes "timeout") rows service.timeout
   pub admin_port : IsNumber 16 (codes "admin-port") rows service.admin_port
   pub workers : IsNumber 16 (codes "workers") rows service.workers
+  pub until_input_ends : IsFlag (codes "until-input-ends") rows service.until_input_ends
   pub ranges : All (IsInRange rows) serve_options
-
--- a flag is set in the rows of matches, or it is not
-pub record IsFlag (name : Text) (rows : List Row) (flag : Bool) : Type 0 where
-  pub set : one_of name rows ≡ Some (codes "true") → flag ≡ true
-  pub unset : one_of name rows ≡ Some (codes "false") → flag ≡ false
-  pub absent : one_of name rows ≡ None → flag ≡ false
 
 -- the rows of matches name a mapfile, and say whether its fault is explained
 pub record IsOnFile (rows : List Row) (file : Text) (explains : Bool) : Type 0 where
@@ -145,7 +158,7 @@ Plays map_name script_name explained _ = ⊥
 abbrev pub Reads : ℕ → Text → ℕ → Type 0
 Reads bits text n = ParsesUnsigned {E = ParseIntError} bits 10 text (Ok n)
 
--- the texts of the options of `serve`
+-- the texts of the options of `serve`, and whether its flag is there
 pub record OptionTexts : Type 0 where
   pub port : Text
   pub connections : Text
@@ -153,16 +166,18 @@ pub record OptionTexts : Type 0 where
   pub timeout : Text
   pub admin_port : Text
   pub workers : Text
+  pub until_input_ends : Bool
 
 -- those of options that aren't given
 abbrev pub default_texts : OptionTexts
 default_texts = record {
   port = codes "8080";
   connections = codes "0";
-  idle = codes "200";
+  idle = codes "60000";
   timeout = codes "30";
   admin_port = codes "8081";
   workers = codes "4";
+  until_input_ends = false;
 }
 
 -- a map is served by these texts of options
@@ -173,6 +188,7 @@ pub record IsServedBy (texts : OptionTexts) (service : Service) : Type 0 where
   pub reads_timeout : Reads 16 texts.timeout service.timeout
   pub reads_admin_port : Reads 16 texts.admin_port service.admin_port
   pub reads_workers : Reads 16 texts.workers service.workers
+  pub ends : service.until_input_ends ≡ texts.until_input_ends
 
 -- the command serves the mapfile of a name, and explains a fault or doesn't, by the texts of its options
 abbrev pub Serves : Text → Bool → OptionTexts → Command → Type 0
@@ -184,7 +200,7 @@ abbrev pub May : List Text → Command → Type 0
 May arguments command = IsCommand (subcommand_of app arguments) command
 
 -- the law on arguments that are written out: none are a session; `check` has its file; `run` has the mapfile before the script; `serve`
--- has its file, and numbers that aren't given are 8080, 0, 200, 30, 8081 and 4; each of the three has its flag where that is given, and else not
+-- has its file, and numbers that aren't given are 8080, 0, 60000, 30, 8081 and 4; each flag is there where it is given, and else not
 pub record CommandsAreWritten : Type 0 where
   pub none : (c : Command) → May [] c → IsSession c
   pub check : (c : Command) → May (codes "check" ∷ codes "a.map" ∷ []) c → Checks (codes "a.map") false c
@@ -195,6 +211,7 @@ pub record CommandsAreWritten : Type 0 where
   pub served : (c : Command) → May (codes "serve" ∷ codes "--port" ∷ codes "81" ∷ codes "a.map" ∷ []) c → Serves (codes "a.map") false (record default_texts { port = codes "81" }) c
   pub timed : (c : Command) → May (codes "serve" ∷ codes "a.map" ∷ codes "--timeout" ∷ codes "9" ∷ codes "--idle" ∷ codes "50" ∷ []) c → Serves (codes "a.map") false (record default_texts { idle = codes "50"; timeout = codes "9" }) c
   pub administered : (c : Command) → May (codes "serve" ∷ codes "a.map" ∷ codes "--workers" ∷ codes "8" ∷ codes "--admin-port" ∷ codes "82" ∷ []) c → Serves (codes "a.map") false (record default_texts { admin_port = codes "82"; workers = codes "8" }) c
+  pub ended : (c : Command) → May (codes "serve" ∷ codes "a.map" ∷ codes "--until-input-ends" ∷ []) c → Serves (codes "a.map") false (record default_texts { until_input_ends = true }) c
   pub serve_explained : (c : Command) → May (codes "serve" ∷ codes "a.map" ∷ codes "--explain" ∷ []) c → Serves (codes "a.map") true default_texts c
 
 -- the law on arguments that are taken or refused: those of each command are taken; those that lack a file, begin with another word, ask

@@ -1,7 +1,7 @@
 ghost use Rattle.std.specs.Prelude.{◌≡◌, IfOk, map, fold, false};
 ghost use Rattle.clap.specs.Words.{app_of, rule_of};
 ghost use Rattle.clap.specs.declared.builder.command.Command.TheViews.{out-Command};
-ghost use Rattle.commandline.specs.Arguments.{app, check_app, file_app, number_rule, option_of, program_app, run_app, serve_app, with_option};
+ghost use Rattle.commandline.specs.Arguments.{app, check_app, file_app, flag_rule, number_rule, numbered_app, option_of, program_app, run_app, serve_app, with_option};
 ghost use Rattle.commandline.specs.Subcommands.{IsWithSubcommand};
 
 use crate::options::{NumberOption, SERVE_OPTIONS};
@@ -9,6 +9,17 @@ use crate::version::VERSION;
 use clap::builder::ValueParser;
 use clap::{Arg, ArgAction};
 use std::alloc::{AllocError, Global};
+
+// A flag of this name.
+fn flag<'a>(alloc: Global, name: &'a str, help: &'a str) -> Arg<'a>
+    ensures rule { rule_of result ≡ flag_rule name.now }
+    ensures local { result.global ≡ false }
+{
+    Arg::new(alloc, name)
+        .long(name)
+        .help(help)
+        .action(ArgAction::SetTrue)
+}
 
 // A subcommand of this name: the name of a mapfile follows, and `--explain` may.
 fn file_command<'a>(
@@ -21,11 +32,8 @@ fn file_command<'a>(
 {
     let file = Arg::new(alloc, "FILE").required(true).help("The mapfile");
     let form = clap::Command::new(alloc, name).about(about).arg(file)?;
-    let explain = Arg::new(alloc, "explain")
-        .long("explain")
-        .help("Explain the mapfile's first fault, or print warnings")
-        .action(ArgAction::SetTrue);
-    form.arg(explain)
+    let help = "Explain the mapfile's first fault, or print warnings";
+    form.arg(flag(alloc, "explain", help))
 }
 
 // `check --explain FILE`.
@@ -78,13 +86,23 @@ fn with_options<'a>(
     Ok(form)
 }
 
+// `serve --explain FILE` with the options that are numbers.
+fn numbered_command<'a>(alloc: Global) -> Result<clap::Command<'a>, AllocError>
+    ensures app { IfOk result (λ c. app_of c ≡ numbered_app) }
+    ensures local { IfOk result (λ c. (out-Command c).has_globals ≡ false) }
+{
+    let form = file_command(alloc, "serve", "Serve the map over HTTP on 127.0.0.1")?;
+    with_options(alloc, form, &SERVE_OPTIONS)
+}
+
 // `serve --explain FILE` with its options.
 fn serve_command<'a>(alloc: Global) -> Result<clap::Command<'a>, AllocError>
     ensures app { IfOk result (λ c. app_of c ≡ serve_app) }
     ensures local { IfOk result (λ c. (out-Command c).has_globals ≡ false) }
 {
-    let form = file_command(alloc, "serve", "Serve the map over HTTP on 127.0.0.1")?;
-    with_options(alloc, form, &SERVE_OPTIONS)
+    let form = numbered_command(alloc)?;
+    let help = "End when standard input does, once those being answered have their answers";
+    form.arg(flag(alloc, "until-input-ends", help))
 }
 
 // The program by its name, without subcommands.

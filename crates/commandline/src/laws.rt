@@ -5,7 +5,7 @@ ghost use Rattle.commandline.specs.Arguments.{ArgumentsAreTaken, CommandsAreWrit
 
 /// What arguments ask for: none a session, `check a.map` the check of its file, `run a.map b.txt` the play of the
 /// script `b.txt` on the mapfile `a.map`, and `serve a.map` its service with the numbers that follow its options, or
-/// else on port 8080, for 0 connections, which may be idle for 200 milliseconds, with a timeout of 30 seconds, the
+/// else on port 8080, for 0 connections, which may be silent for 60 seconds, with a timeout of 30 seconds, the
 /// administration on port 8081, and 4 workers.
 /// Each of the three explains a fault where `--explain` is among them, and else not.
 pub fn commands_are_written()

@@ -38,9 +38,9 @@ pub(crate) const SERVE_OPTIONS: [NumberOption<'static>; 6] = [
         name: "idle",
         least: 1,
         most: MAX_IDLE as u32,
-        default: "200",
+        default: "60000",
         value: "MILLISECONDS",
-        help: "How long a connection may wait for its next request",
+        help: "How long a connection may be silent between requests",
     },
     NumberOption {
         name: "timeout",
@@ -48,7 +48,7 @@ pub(crate) const SERVE_OPTIONS: [NumberOption<'static>; 6] = [
         most: MAX_TIMEOUT as u32,
         default: "30",
         value: "SECONDS",
-        help: "How long a request's head or an unread answer may take",
+        help: "How long a request's head, or an answer that isn't read, may take",
     },
     NumberOption {
         name: "admin-port",

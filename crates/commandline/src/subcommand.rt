@@ -46,12 +46,14 @@ pub struct Service {
     pub port: u16,
     /// How many connections are answered, 0 without an end.
     pub connections: u32,
-    /// How many milliseconds a connection may be idle after an answer, 1 to `MAX_IDLE`.
+    /// How many milliseconds a connection may be silent between requests, 1 to `MAX_IDLE`.
     pub idle: u16,
     /// How many seconds a head that has begun, and an answer, may take, 1 to `MAX_TIMEOUT`.
     pub timeout: u16,
     /// The port on which batches are taken, 0 for one that is free.
     pub admin_port: u16,
-    /// How many workers answer connections, 1 to `MAX_WORKERS`.
+    /// How many workers answer the connections of clients, 1 to `MAX_WORKERS`.
     pub workers: u16,
+    /// The service ends when standard input does.
+    pub until_input_ends: bool,
 }

@@ -42,4 +42,10 @@ pub trait Host: Files + Network {
 
     /// What ends a wait at a port, if the port tells where it is.
     fn waker(&self, port: &Self::Port) -> Option<Self::Waker>;
+
+    /// What tells a worker which of its connections may go on, where that can be had.
+    fn poller(&self) -> Option<Self::Poller>;
+
+    /// The input with whose end a service ends that asks for that.
+    fn input(&self) -> io::Result<Self::Input>;
 }

@@ -3,7 +3,9 @@ ghost use Rattle.std.specs.Prelude.{None};
 use crate::arguments::ArgumentsUnread;
 use crate::host::{Files, Host, ListenFailed};
 use console::ListenCause;
-use service::{Network, SocketConnection, SocketPort, SocketWaker, Waits};
+use service::{
+    Network, SocketConnection, SocketPoller, SocketPort, SocketTransport, SocketWaker, Waits,
+};
 use std::fs::{self, File};
 use std::net::{Ipv4Addr, TcpListener};
 use std::{env, io};
@@ -22,11 +24,17 @@ impl SystemHost {
 }
 
 impl Network for SystemHost {
+    type Transport = SocketTransport;
+
+    type Poller = SocketPoller;
+
     type Connection = SocketConnection;
 
     type Port = SocketPort;
 
     type Waker = SocketWaker;
+
+    type Input = File;
 }
 
 impl Files for SystemHost {
@@ -58,6 +66,15 @@ impl Host for SystemHost {
 
     fn waker(&self, port: &SocketPort) -> Option<SocketWaker> {
         port.waker()
+    }
+
+    fn poller(&self) -> Option<SocketPoller> {
+        SocketPoller::new(&self.rt).ok()
+    }
+
+    // Standard input, by its name, so that a thread of its own can read it.
+    fn input(&self) -> io::Result<File> {
+        fs::open(&self.rt, "/dev/stdin")
     }
 }
 

@@ -1,11 +1,10 @@
-ghost use Rattle.std.specs.Prelude.{◌≡◌, ◌-◌, Some, false, option_map, MatchOption};
-ghost use Rattle.service.specs.Ports.{HasEnded, HasOpened, wanted_of};
+ghost use Rattle.std.specs.Prelude.{◌≡◌, ◌≢◌, ◌-◌, [], ◌∷◌, Some, false, option_map, MatchOption, IfOk, OnErr};
+ghost use Rattle.service.specs.Ports.{Failed, HasEnded, HasOpened, Notes, Opened, wanted_of};
 
-use crate::port::Port;
-use workers::Streams;
+use crate::port::{AcceptFailed, Port};
 
-// How many calls for a connection fail one after the other, until the port is given up.
-const MAX_FAILURES: u32 = 100;
+/// How many calls for a connection fail one after the other, until the port is given up.
+pub(crate) const MAX_FAILURES: u32 = 100;
 
 // How many are wanted after one has come.
 fn one_less(wanted: Option<u32>) -> Option<u32>
@@ -75,14 +74,21 @@ impl<P> Accepting<P> {
         self.is_given_up = true;
         None
     }
-}
 
-impl<C, P: Port<C>> Streams<C> for Accepting<P> {
-    ghost use Rattle.std.specs.Prelude.{◌≡◌, ◌⊎◌, Some, true};
-
-    ghost ended = { λ a. (a.wanted ≡ Some 0) ⊎ (a.is_given_up ≡ true) };
-
-    fn next(&mut self) -> Option<C> {
-        self.accept()
+    /// The next connection, by one call. There is none after the last that is wanted, and then no call.
+    pub fn accept_once<C>(&mut self) -> Result<Option<C>, AcceptFailed>
+    where
+        P: Port<C>,
+        ensures opened { IfOk result (λ found. MatchOption found
+            ((self.new ≡ self.old) × (self.old.wanted ≡ Some 0))
+            (λ _. Notes (P.log self.old.port) (P.log self.new.port) (Opened ∷ []) × (self.old.wanted ≢ Some 0) × (self.new.wanted ≡ option_map (λ n. n - 1) self.old.wanted))) }
+        ensures failed { OnErr result (Notes (P.log self.old.port) (P.log self.new.port) (Failed ∷ []) × (self.new.wanted ≡ self.old.wanted)) }
+    {
+        if self.wanted == Some(0) {
+            return Ok(None);
+        }
+        let connection = self.port.accept()?;
+        self.wanted = one_less(self.wanted);
+        Ok(Some(connection))
     }
 }

@@ -21,9 +21,9 @@ fn address_of<C, P: Port<C>>(alloc: Global, port: &P) -> Result<Text, Failure>
 }
 
 /// Writes where the two ports of a service are to the output, in one line, and flushes it: that of clients first.
-pub(crate) fn write_addresses<C, P: Port<C>, W, O: Sink>(
+pub(crate) fn write_addresses<C, P: Port<C>, W, Q, I, O: Sink>(
     alloc: Global,
-    ports: &Ports<P, W>,
+    ports: &Ports<P, W, Q, I>,
     output: &mut O,
 ) -> Result<(), Failure>
     ensures { WritesAddresses result (P.address ports.now.clients.port) (P.address ports.now.administration.port) (⟦<O as Writes>⟧.state output.old) (⟦<O as Writes>⟧.state output.new) }

@@ -14,11 +14,14 @@
 
 mod accepting;
 mod announcing;
+mod clients;
 mod closing;
 mod limits;
 mod port;
 mod served;
 mod serving;
+mod socket_poller;
+mod socket_transport;
 mod sockets;
 mod threaded;
 mod timed;
@@ -26,12 +29,16 @@ mod timed;
 pub use accepting::Accepting;
 pub use closing::{Closing, DRAINED, drain, hang_up};
 pub use limits::{
-    ADMINISTRATION_SECONDS, ANSWER_TIMES, DRAIN_SECONDS, FAILURE_MILLISECONDS,
-    TURNED_AWAY_MILLISECONDS, TimeLimit, WRITE_SECONDS, Waits,
+    ADMINISTRATION_SECONDS, ANSWER_TIMES, CALL_SECONDS, CONNECTIONS, DRAIN_SECONDS,
+    FAILURE_MILLISECONDS, RATE, TimeLimit, Waits, slots_of, timeouts_of,
 };
-pub use port::{AcceptFailed, AddressFault, Port, Wakes};
+pub use port::{AcceptFailed, AddressFault, Port};
 pub use served::Served;
-pub use serving::{Administrators, Clients, Network, PortFor, Ports, Runtime};
+pub use serving::{
+    Administrators, Clients, IntoTransport, Network, PortFor, Ports, Runtime, Until,
+};
+pub use socket_poller::{PollWaker, SocketPoller};
+pub use socket_transport::SocketTransport;
 pub use sockets::{SocketConnection, SocketPort, SocketWaker};
 pub use threaded::serve_by_threads;
 pub use timed::{Answered, TimedReader, TimedWriter};

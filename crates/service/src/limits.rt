@@ -1,36 +1,55 @@
-ghost use Rattle.std.specs.Prelude.{◌≡◌, ◌*◌, option_map};
+ghost use Rattle.std.specs.Prelude.{◌≡◌, ◌*◌, ◌/◌, max, option_map};
 ghost use Rattle.std.specs.Duration.{as_nanos};
 ghost use Rattle.std.specs.Time.{instant_nanos};
-ghost use Rattle.service.specs.Times.{IsLeft};
+ghost use Rattle.service.specs.Times.{IsLeft, IsTimed};
 
 use commandline::Service;
 use std::io;
 use std::rt::Clock;
 use std::time::{Duration, Instant};
+use turns::Timeouts;
 
 /// How often the time that an answer may stand still fits into the time that it may take in all.
 pub const ANSWER_TIMES: u32 = 20;
 
-/// How many seconds a write waits, until it is made again or says how many bytes went.
-pub const WRITE_SECONDS: u64 = 1;
+/// How many seconds a call of a connection waits, until it is made again or says how many bytes went.
+pub const CALL_SECONDS: u64 = 1;
 
 /// For how many seconds in all is read what a client still sends after its answer.
 pub const DRAIN_SECONDS: u64 = 2;
 
-/// How many connections of a port wait for a worker. While so many wait, no further one is taken.
-pub const MAX_WAITING: u32 = 512;
+/// How many connections of clients are open at once, at most, over all workers.
+pub const CONNECTIONS: usize = 1_024;
 
-/// How many milliseconds pass between two looks whether fewer wait.
-pub const WAITING_MILLISECONDS: u64 = 1;
-
-/// For how many milliseconds in all that is read of a client that is turned away.
-pub const TURNED_AWAY_MILLISECONDS: u64 = 20;
+/// The least rate at which a client takes an answer, once the time of a head has passed, in bytes per millisecond.
+pub const RATE: u64 = 16;
 
 /// How many milliseconds are waited after a call for a connection has failed.
 pub const FAILURE_MILLISECONDS: u64 = 10;
 
 /// How many seconds an administrator may be silent, and how many a command may take.
 pub const ADMINISTRATION_SECONDS: u64 = 600;
+
+/// How long a connection of a client may take, as a service asks for it.
+pub fn timeouts_of(service: Service) -> Timeouts
+    ensures { IsTimed service result }
+{
+    let timeout = 1_000 * u64::from(service.timeout);
+    Timeouts {
+        idle: u64::from(service.idle),
+        timeout,
+        grace: timeout,
+        rate: RATE,
+        drain: 1_000 * DRAIN_SECONDS,
+    }
+}
+
+/// How many connections a worker of a service has at most.
+pub fn slots_of(service: Service) -> usize
+    ensures { result ≡ 1024 / max service.workers 1 }
+{
+    CONNECTIONS / usize::from(service.workers.max(1))
+}
 
 /// How long the calls of a connection may wait.
 #[derive(Clone, Copy)]

@@ -21,12 +21,6 @@ pub enum AddressFault {
     NoMemory,
 }
 
-/// What ends a wait for a connection.
-pub trait Wakes {
-    /// Opens a connection to the port, so that whoever waits for one there goes on.
-    fn wake(&self);
-}
-
 /// Where connections come from, which are of the type C.
 pub trait Port<C> {
     ghost use Rattle.std.specs.Prelude.{ℕ, List, Option};

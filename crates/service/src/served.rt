@@ -33,7 +33,7 @@ impl<P> Model for Served<P> {
 
 impl<P> Served<P> {
     // What is about to be served, which ends well so far.
-    pub(crate) fn begin<W>(machine: &Machine, ports: &Ports<P, W>) -> Self
+    pub(crate) fn begin<W, Q, I>(machine: &Machine, ports: &Ports<P, W, Q, I>) -> Self
         ensures { result ≡ record { machine = machine.now; clients = ports.now.clients.port; administration = ports.now.administration.port; service = ports.now.service; outcome = Ok tt } }
     {
         Served {

@@ -1,22 +1,22 @@
 ghost use Rattle.std.specs.Prelude.{None};
 
 use crate::closing::hang_up;
-use crate::limits::{
-    DRAIN_SECONDS, FAILURE_MILLISECONDS, MAX_WAITING, TURNED_AWAY_MILLISECONDS,
-    WAITING_MILLISECONDS, Waits,
-};
-use crate::port::{AcceptFailed, AddressFault, Port, Wakes};
+use crate::limits::{DRAIN_SECONDS, FAILURE_MILLISECONDS, Waits};
+use crate::port::{AcceptFailed, AddressFault, Port};
+use crate::serving::IntoTransport;
+use crate::socket_transport::SocketTransport;
 use crate::timed::{Answered, TimedReader, TimedWriter};
-use httpedge::{Asks, EdgeFault, Outcome, respond};
+use eventloop::Wakes;
+use httpedge::EdgeFault;
 use mapdefs::Text;
 use std::alloc::{AllocError, Global};
 use std::net::{SocketAddr, TcpListener, TcpStream};
 use std::sync::Arc;
-use std::sync::atomic::{AtomicU32, Ordering};
+use std::sync::atomic::{AtomicBool, Ordering};
 use std::time::Duration;
 use std::{io, thread};
-use streams::{Flagged, WriteFault};
-use workers::{Connection, NothingLeft, Opens, Sides, serve_one};
+use streams::Flagged;
+use workers::{NothingLeft, Opens, Sides};
 
 // How often a connection that ends a wait is tried to be opened.
 const WAKE_TRIES: u32 = 6_000;
@@ -31,8 +31,8 @@ pub struct SocketPort {
     rt: HostRuntime,
     listener: TcpListener,
     waits: Waits,
-    // How many of its connections were accepted, and neither opened nor turned away yet.
-    waiting: Arc<AtomicU32, Global>,
+    // Its service ends.
+    is_ending: Arc<AtomicBool, Global>,
 }
 
 impl SocketPort {
@@ -42,31 +42,19 @@ impl SocketPort {
             rt: *rt,
             listener,
             waits,
-            waiting: Arc::new(rt.alloc(), AtomicU32::new(0))?,
+            is_ending: Arc::new(rt.alloc(), AtomicBool::new(false))?,
         })
     }
 
-    // Waits until there is room for one more that waits for its worker: a connection that isn't taken waits in the
-    // system's own queue, and costs no descriptor.
-    fn wait_for_room(&self) {
-        for _ in 0..u64::MAX {
-            if self.waiting.load(Ordering::SeqCst) < MAX_WAITING {
-                return;
-            }
-            thread::sleep(&self.rt, Duration::from_millis(WAITING_MILLISECONDS));
-        }
-    }
-}
-
-impl SocketPort {
     /// What ends a wait at the port, if its address is known.
     pub fn waker(&self) -> Option<SocketWaker> {
-        match self.listener.local_addr() {
-            Ok(address) => Some(SocketWaker {
+        match (self.listener.local_addr(), Arc::try_clone(&self.is_ending)) {
+            (Ok(address), Ok(is_ending)) => Some(SocketWaker {
                 rt: self.rt,
                 address,
+                is_ending,
             }),
-            Err(_) => None,
+            _ => None,
         }
     }
 }
@@ -87,19 +75,14 @@ impl Port<SocketConnection> for SocketPort {
     }
 
     fn accept(&mut self) -> Result<SocketConnection, AcceptFailed> {
-        self.wait_for_room();
-        let waiting = Arc::try_clone(&self.waiting);
-        match (self.listener.accept(), waiting) {
-            (Ok((stream, _)), Ok(waiting)) => {
-                waiting.fetch_add(1, Ordering::SeqCst);
-                Ok(SocketConnection {
-                    rt: self.rt,
-                    stream,
-                    waits: self.waits,
-                    waiting,
-                })
-            }
-            (Ok(_), Err(_)) | (Err(_), _) => {
+        match (self.listener.accept(), Arc::try_clone(&self.is_ending)) {
+            (Ok((stream, _)), Ok(is_ending)) => Ok(SocketConnection {
+                rt: self.rt,
+                stream,
+                waits: self.waits,
+                is_ending,
+            }),
+            _ => {
                 thread::sleep(&self.rt, Duration::from_millis(FAILURE_MILLISECONDS));
                 Err(AcceptFailed)
             }
@@ -107,16 +90,18 @@ impl Port<SocketConnection> for SocketPort {
     }
 }
 
-/// What ends a wait at a port of the machine.
+/// What ends a wait at a port of the machine: for a connection, and for a further command of one of its administrators.
 #[derive(Drop)]
 pub struct SocketWaker {
     rt: HostRuntime,
     address: SocketAddr,
+    is_ending: Arc<AtomicBool, Global>,
 }
 
 impl Wakes for SocketWaker {
     // Where no descriptor is free it is tried again for a minute. Where it is refused nobody waits there.
     fn wake(&self) {
+        self.is_ending.store(true, Ordering::SeqCst);
         for _ in 0..WAKE_TRIES {
             match TcpStream::connect(&self.rt, self.address) {
                 Err(error) if error.kind() != io::ErrorKind::ConnectionRefused => {
@@ -134,7 +119,18 @@ pub struct SocketConnection {
     rt: HostRuntime,
     stream: TcpStream,
     waits: Waits,
-    waiting: Arc<AtomicU32, Global>,
+    is_ending: Arc<AtomicBool, Global>,
+}
+
+impl IntoTransport<SocketTransport> for SocketConnection {
+    // What is written leaves at once: an answer that waited for the client's word that it has the one before would wait for
+    // as long as that is kept back.
+    fn into_transport(self) -> Option<SocketTransport> {
+        let SocketConnection { stream, .. } = self;
+        stream.set_nodelay(true).ok()?;
+        stream.set_nonblocking(true).ok()?;
+        Some(SocketTransport::new(mio::net::TcpStream::from_std(stream)))
+    }
 }
 
 // Ends a connection, which had this fault or none. What its client still sends is read for so long.
@@ -156,21 +152,19 @@ impl Opens for SocketConnection {
 
     ghost closes = { λ _ _ _ _. Unit {0} };
 
-    // The time of its first head begins. What is written leaves at once: an answer that waited for the client's word that
-    // it has the one before would wait for as long as that is kept back.
+    // The time of its first command begins. What is written leaves at once.
     fn open(self, alloc: Global) -> Option<Sides<SocketReader, SocketWriter>> {
         let SocketConnection {
             rt,
             stream,
             waits,
-            waiting,
+            is_ending,
         } = self;
-        waiting.fetch_sub(1, Ordering::SeqCst);
         stream.set_nodelay(true).ok()?;
         let (read, written) = Answered::pair(alloc).ok()?;
         let reader = TimedReader::start(stream.try_clone().ok()?, rt, waits, read).ok()?;
         Some(Sides {
-            reader: Flagged::new(reader),
+            reader: Flagged::new(reader.until(is_ending)),
             writer: Flagged::new(TimedWriter::new(stream, rt, waits, written)),
         })
     }
@@ -180,27 +174,5 @@ impl Opens for SocketConnection {
     {
         end(sides, fault, Duration::from_secs(DRAIN_SECONDS));
         NothingLeft
-    }
-}
-
-impl Connection for SocketConnection {
-    fn serve<A: Asks>(self, alloc: Global, asks: &mut A) {
-        serve_one(alloc, asks, self);
-    }
-
-    fn turn_away(self, alloc: Global) {
-        let Some(mut sides) = self.open(alloc) else {
-            return;
-        };
-        let told = respond(&Outcome::Busy, true, &mut sides.writer);
-        let fault = match told {
-            Ok(()) => None,
-            Err(WriteFault { written }) => Some(EdgeFault::Write { written }),
-        };
-        end(
-            sides,
-            fault,
-            Duration::from_millis(TURNED_AWAY_MILLISECONDS),
-        );
     }
 }

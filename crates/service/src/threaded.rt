@@ -5,22 +5,26 @@ ghost use Rattle.service.specs.Serving.{HasAnnounced, GoesOnAfter, is_service_fa
 
 use crate::accepting::Accepting;
 use crate::announcing::write_addresses;
-use crate::port::{Port, Wakes};
+use crate::clients::{ClientSide, serve_clients};
+use crate::port::Port;
 use crate::served::Served;
-use crate::serving::{Administrators, Clients, Network, PortFor, Ports, Runtime};
+use crate::serving::{Administrators, IntoTransport, Network, PortFor, Ports, Runtime, Until};
 use administration::administer;
 use console::{Failure, Writes};
+use eventloop::{Poller, Wakes};
 use history::Blank;
 use httpedge::EdgeFault;
 use mapmachine::Machine;
 use mapshare::{Admin, Reader, ShareFault, Sharing, open};
 use std::alloc::Global;
+use std::io::{ErrorKind, Read};
 use std::marker::Brand;
 use std::sync::atomic::{AtomicBool, Ordering};
 use std::sync::{Arc, Wait};
 use std::thread::{self, JoinHandle};
 use streams::Sink;
-use workers::{Connection, OpenGate, Opens, Sides, work};
+use turns::Transport;
+use workers::Opens;
 
 // What tells the administrator that no client is served any more.
 #[derive(Drop)]
@@ -62,45 +66,34 @@ fn stop_signal_of<W: Wakes + Drop>(
     }
 }
 
-// Answers the connections of clients by workers, up to the last.
-fn serve_clients<S, R, C, P>(
-    rt: &R,
-    readers: Vec<Reader<S>>,
-    clients: &mut Accepting<PortFor<Clients, P>>,
-) -> Result<(), Failure>
-where
-    S: Sharing + Send + Sync + 'static,
-    R: Runtime,
-    C: Connection + Send + Drop + 'static,
-    P: Port<C>,
-    ensures ends { GoesOnAfter (Ok tt) result }
-{
-    let Ok(gate) = Arc::new(rt.alloc(), OpenGate) else {
-        return Err(Failure::NoMemory);
-    };
-    if work(rt, rt.alloc(), readers, clients, &gate).is_err() || clients.is_given_up() {
-        return Err(Failure::SocketFailed);
-    }
-    Ok(())
+// What the thread of clients is told, and tells.
+#[derive(Drop)]
+struct ClientSignals<W: Wakes> {
+    // That it is to stop.
+    is_stopped: Arc<AtomicBool, Global>,
+    // That no client is served any more.
+    is_over: StopSignal<W>,
 }
 
-// The same, in a thread of its own. Where that fails the administrator is told.
-fn serve_all<S, R, C, P, W>(
+// Answers the connections of clients, up to the last. Where that fails or stops the administrator is told.
+fn serve_all<S, R, C, T, P, Q, W>(
     rt: &R,
     readers: Vec<Reader<S>>,
-    mut clients: Accepting<PortFor<Clients, P>>,
-    signal: &StopSignal<W>,
+    side: ClientSide<P, Q>,
+    signals: &ClientSignals<W>,
 ) -> Result<(), Failure>
 where
     S: Sharing + Send + Sync + 'static,
     R: Runtime,
-    C: Connection + Send + Drop + 'static,
+    C: IntoTransport<T> + Send + Drop + 'static,
+    T: Transport + Send + Drop + 'static,
     P: Port<C> + Drop,
+    Q: Poller<T> + Send + Drop + 'static,
     W: Wakes,
 {
-    let served = serve_clients::<S, R, C, P>(rt, readers, &mut clients);
-    if served.is_err() {
-        signal.give();
+    let served = serve_clients::<S, R, C, T, P, Q>(rt, readers, side, &signals.is_stopped);
+    if served.is_err() || signals.is_stopped.load(Ordering::SeqCst) {
+        signals.is_over.give();
     }
     served
 }
@@ -151,27 +144,94 @@ fn administer_all<S: Sharing, R: AllocGlobal + Wait, C: Opens + Drop, P: Port<C>
     unreachable!()
 }
 
-// Starts the thread that serves clients.
-fn start_clients<S, R, C, P, W>(
+// Starts the thread that accepts the connections of clients.
+fn start_clients<S, R, C, T, P, Q, W>(
     rt: &R,
     readers: Vec<Reader<S>>,
-    clients: Accepting<PortFor<Clients, P>>,
-    signal: StopSignal<W>,
+    side: ClientSide<P, Q>,
+    signals: ClientSignals<W>,
 ) -> Option<JoinHandle<Result<(), Failure>>>
 where
     S: Sharing + Send + Sync + 'static,
     R: Runtime,
-    C: Connection + Send + Drop + 'static,
+    C: IntoTransport<T> + Send + Drop + 'static,
+    T: Transport + Send + Drop + 'static,
     P: Port<C> + Send + Drop + 'static,
+    Q: Poller<T> + Send + Drop + 'static,
     W: Wakes + Send + Drop + 'static,
 {
     let handle = *rt;
     match thread::spawn(rt, move || {
-        serve_all::<S, R, C, P, W>(&handle, readers, clients, &signal)
+        serve_all::<S, R, C, T, P, Q, W>(&handle, readers, side, &signals)
     }) {
         Ok(child) => Some(child),
         Err(_) => None,
     }
+}
+
+// Waits for the end of an input, and then has the clients' thread stop. An input that fails has ended.
+fn watch<W: Wakes + Drop, I: Read + Drop>(until: Until<W, I>, is_stopped: &AtomicBool) {
+    let Until { waker, mut input } = until;
+    let mut room = [0; 1_024];
+    for _ in 0..u64::MAX {
+        match input.read(&mut room) {
+            Ok(0) => break,
+            Err(error) if error.kind() != ErrorKind::Interrupted => break,
+            _ => {}
+        }
+    }
+    is_stopped.store(true, Ordering::SeqCst);
+    waker.wake();
+}
+
+// What says that the clients' thread is to stop. A thread sets it at the end of the input, where one is waited for.
+fn stop_of<R, W, I>(rt: &R, until: Option<Until<W, I>>) -> Result<Arc<AtomicBool, Global>, Failure>
+where
+    R: Runtime,
+    W: Wakes + Send + Drop + 'static,
+    I: Read + Send + Drop + 'static,
+    ensures failed { IfErr result (λ failure. is_service_failure failure ≡ true) }
+{
+    let Ok(is_stopped) = Arc::new(rt.alloc(), AtomicBool::new(false)) else {
+        return Err(Failure::NoMemory);
+    };
+    let Some(until) = until else {
+        return Ok(is_stopped);
+    };
+    let Ok(theirs) = Arc::try_clone(&is_stopped) else {
+        return Err(Failure::NoMemory);
+    };
+    match thread::spawn(rt, move || watch(until, &theirs)) {
+        Ok(child) => {
+            // it goes on where the service ends before the input does
+            drop(child);
+            Ok(is_stopped)
+        }
+        Err(_) => Err(Failure::SocketFailed),
+    }
+}
+
+// The signals of the thread of clients, and what says to the administrator that no client is served any more.
+fn signals_of<R, W, I>(
+    rt: &R,
+    waker: Option<W>,
+    until: Option<Until<W, I>>,
+) -> Result<(ClientSignals<W>, Arc<AtomicBool, Global>), Failure>
+where
+    R: Runtime,
+    W: Wakes + Send + Drop + 'static,
+    I: Read + Send + Drop + 'static,
+    ensures failed { IfErr result (λ failure. is_service_failure failure ≡ true) }
+{
+    let (is_over, is_given) = stop_signal_of(rt.alloc(), waker)?;
+    let is_stopped = stop_of(rt, until)?;
+    Ok((
+        ClientSignals {
+            is_stopped,
+            is_over,
+        },
+        is_given,
+    ))
 }
 
 // Serves clients in other threads and administrators in this one.
@@ -179,7 +239,7 @@ fn serve_both<S, R, N>(
     rt: &R,
     admin: Admin<S>,
     readers: Vec<Reader<S>>,
-    ports: Ports<N::Port, N::Waker>,
+    ports: Ports<N::Port, N::Waker, N::Poller, N::Input>,
 ) -> Result<(), Failure>
 where
     S: Sharing + Send + Sync + 'static,
@@ -192,19 +252,25 @@ where
         clients,
         administration,
         waker,
+        pollers,
+        until,
         service,
     } = ports;
-    let (signal, is_given) = match stop_signal_of(rt.alloc(), waker) {
+    let (signals, is_given) = match signals_of(rt, waker, until) {
         Ok(both) => both,
         Err(failure) => {
             admin.close(rt);
             return Err(failure);
         }
     };
-    let clients = Accepting::new(clients, service.connections);
+    let side = ClientSide {
+        port: Accepting::new(clients, service.connections),
+        pollers,
+        service,
+    };
     let administration = Accepting::new(administration, service.connections);
-    let child = start_clients::<S, R, N::Connection, N::Port, N::Waker>(
-        rt, readers, clients, signal,
+    let child = start_clients::<S, R, N::Connection, N::Transport, N::Port, N::Poller, N::Waker>(
+        rt, readers, side, signals,
     );
     let Some(child) = child else {
         admin.close(rt);
@@ -229,7 +295,7 @@ where
 fn announce_and_serve<S, R, N, O>(
     rt: &R,
     shared: (Admin<S>, Vec<Reader<S>>),
-    ports: Ports<N::Port, N::Waker>,
+    ports: Ports<N::Port, N::Waker, N::Poller, N::Input>,
     output: &mut O,
 ) -> Result<(), Failure>
 where
@@ -255,7 +321,7 @@ fn serve_named<S, R, N, O>(
     rt: &R,
     blank: Blank,
     machine: Machine,
-    ports: Ports<N::Port, N::Waker>,
+    ports: Ports<N::Port, N::Waker, N::Poller, N::Input>,
     output: &mut O,
 ) -> Served<N::Port>
 where
@@ -283,13 +349,13 @@ where
     }
 }
 
-/// Serves the map of a machine by threads: one that accepts the connections of clients, one for each worker, and the one
-/// that calls, which serves administrators. Once the map is shared, and before the first connection, it writes where the
+/// Serves the map of a machine by threads: one that accepts the connections of clients, one for each worker, which serves
+/// its connections in turns, and the one that calls, which serves administrators. Once the map is shared, and before the first connection, it writes where the
 /// ports are to the output, so that whoever started the program knows when to connect.
 pub fn serve_by_threads<R: Runtime, N: Network, O: Sink>(
     rt: &R,
     machine: Machine,
-    ports: Ports<N::Port, N::Waker>,
+    ports: Ports<N::Port, N::Waker, N::Poller, N::Input>,
     output: &mut O,
 ) -> Served<N::Port>
     ensures served { result ≡ record { machine = machine; clients = ports.clients.port; administration = ports.administration.port; service = ports.service; outcome = result.outcome } }

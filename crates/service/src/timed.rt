@@ -1,7 +1,7 @@
 ghost use Rattle.std.specs.Prelude.{◌≡◌, true};
 
 use crate::closing::Closing;
-use crate::limits::{ANSWER_TIMES, TimeLimit, WRITE_SECONDS, Waits};
+use crate::limits::{ANSWER_TIMES, CALL_SECONDS, TimeLimit, Waits};
 use std::alloc::{AllocError, Global};
 use std::io::{self, ErrorKind, Read, Write};
 use std::net::{OpenStream, Shutdown};
@@ -39,6 +39,8 @@ pub struct TimedReader<S, C> {
     answered: Answered,
     limit: TimeLimit,
     is_idle: bool,
+    // Where that is set it comes to its end.
+    is_ending: Option<Arc<AtomicBool, Global>>,
 }
 
 impl<S, C: Clock> TimedReader<S, C> {
@@ -55,7 +57,31 @@ impl<S, C: Clock> TimedReader<S, C> {
             waits,
             answered,
             is_idle: false,
+            is_ending: None,
         })
+    }
+
+    /// The same, which comes to its end where that is set and nothing comes for a second.
+    pub fn until(mut self, is_ending: Arc<AtomicBool, Global>) -> Self {
+        self.is_ending = Some(is_ending);
+        self
+    }
+
+    // How long the next read may wait: not longer than a second, where it may come to its end.
+    fn next_wait(&self) -> io::Result<Duration> {
+        let left = self.limit.left(&self.clock)?;
+        match self.is_ending {
+            Some(_) => Ok(left.min(Duration::from_secs(CALL_SECONDS))),
+            None => Ok(left),
+        }
+    }
+
+    // Whether a read goes on that has waited in vain.
+    fn goes_on(&self) -> bool {
+        match &self.is_ending {
+            Some(is_ending) => !is_ending.load(Ordering::SeqCst),
+            None => false,
+        }
     }
 
     /// Another time from now on, whatever was answered. Without a clock it stays as it is.
@@ -90,10 +116,12 @@ impl<S: Read + OpenStream, C: Clock> Read for TimedReader<S, C> {
     fn read(&mut self, room: &mut [u8]) -> io::Result<usize> {
         self.rest()?;
         for _ in 0..MAX_TRIES {
-            let left = self.limit.left(&self.clock)?;
-            self.stream.set_read_timeout(Some(left))?;
+            let wait = self.next_wait()?;
+            self.stream.set_read_timeout(Some(wait))?;
             match self.stream.read(room) {
                 Err(error) if error.kind() == ErrorKind::Interrupted => {}
+                Err(error) if moved_nothing(&error) && self.goes_on() => {}
+                Err(error) if moved_nothing(&error) && self.is_ending.is_some() => return Ok(0),
                 read => {
                     self.begin()?;
                     return read;
@@ -153,7 +181,7 @@ impl<S, C: Clock> TimedWriter<S, C> {
         let whole = self.waits.timeout.saturating_mul(ANSWER_TIMES);
         let left = left_of(&mut self.limit, &self.clock, whole)?;
         let still = left_of(&mut self.still, &self.clock, self.waits.timeout)?;
-        Ok(left.min(still).min(Duration::from_secs(WRITE_SECONDS)))
+        Ok(left.min(still).min(Duration::from_secs(CALL_SECONDS)))
     }
 
     // Begins the times of an answer, where the client was read since the last one.
@@ -165,7 +193,7 @@ impl<S, C: Clock> TimedWriter<S, C> {
     }
 }
 
-// Whether a write failed since it had waited as long as it may, or a signal came.
+// Whether a call failed since it had waited as long as it may, or a signal came.
 fn moved_nothing(error: &io::Error) -> bool {
     matches!(
         error.kind(),

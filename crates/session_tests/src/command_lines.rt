@@ -8,11 +8,24 @@ fn ending(explains: bool) -> &'static str {
     if explains { " in words" } else { "" }
 }
 
+// What a service says of its end.
+fn end_of(service: Service) -> &'static str {
+    if service.until_input_ends {
+        " until its input ends"
+    } else {
+        ""
+    }
+}
+
 // What a service has beside its port and its connections.
 fn rest_of(alloc: Global, service: Service) -> Result<String, AllocError> {
     format!(in alloc;
-        ", idle {}, timeout {}, batches on {} and {} workers",
-        service.idle, service.timeout, service.admin_port, service.workers
+        ", idle {}, timeout {}, batches on {} and {} workers{}",
+        service.idle,
+        service.timeout,
+        service.admin_port,
+        service.workers,
+        end_of(service)
     )
 }
 
@@ -72,16 +85,17 @@ run a|error: the following required arguments were not provided:~  <SCRIPT>~~Usa
 check a b|error: unexpected argument 'b' found~~Usage: mapservd check [OPTIONS] <FILE>~~For more information, try '--help'.~
 run a b c|error: unexpected argument 'c' found~~Usage: mapservd run [OPTIONS] <FILE> <SCRIPT>~~For more information, try '--help'.~
 m.map|error: unrecognized subcommand 'm.map'~~Usage: mapservd [COMMAND]~~For more information, try '--help'.~
-serve m.map|serve m.map on 8080 for 0, idle 200, timeout 30, batches on 8081 and 4 workers
-serve m.map --port 0 --connections 4294967295|serve m.map on 0 for 4294967295, idle 200, timeout 30, batches on 8081 and 4 workers
-serve --connections 2 m.map --port 65535|serve m.map on 65535 for 2, idle 200, timeout 30, batches on 8081 and 4 workers
+serve m.map|serve m.map on 8080 for 0, idle 60000, timeout 30, batches on 8081 and 4 workers
+serve m.map --port 0 --connections 4294967295|serve m.map on 0 for 4294967295, idle 60000, timeout 30, batches on 8081 and 4 workers
+serve --connections 2 m.map --port 65535|serve m.map on 65535 for 2, idle 60000, timeout 30, batches on 8081 and 4 workers
 serve m.map --timeout 3600 --idle 60000|serve m.map on 8080 for 0, idle 60000, timeout 3600, batches on 8081 and 4 workers
 serve --idle 1 --timeout 1 m.map|serve m.map on 8080 for 0, idle 1, timeout 1, batches on 8081 and 4 workers
-serve --explain m.map|serve m.map on 8080 for 0, idle 200, timeout 30, batches on 8081 and 4 workers in words
+serve --explain m.map|serve m.map on 8080 for 0, idle 60000, timeout 30, batches on 8081 and 4 workers in words
 serve m.map --port 0 --explain --idle 5|serve m.map on 0 for 0, idle 5, timeout 30, batches on 8081 and 4 workers in words
 serve --explain --explain m.map|error: the argument '--explain' cannot be used multiple times~~Usage: mapservd serve [OPTIONS] <FILE>~~For more information, try '--help'.~
-serve m.map --admin-port 0 --workers 32|serve m.map on 8080 for 0, idle 200, timeout 30, batches on 0 and 32 workers
-serve --workers 1 --admin-port 65535 m.map|serve m.map on 8080 for 0, idle 200, timeout 30, batches on 65535 and 1 workers
+serve m.map --admin-port 0 --workers 32|serve m.map on 8080 for 0, idle 60000, timeout 30, batches on 0 and 32 workers
+serve --workers 1 --admin-port 65535 m.map|serve m.map on 8080 for 0, idle 60000, timeout 30, batches on 65535 and 1 workers
+serve m.map --until-input-ends|serve m.map on 8080 for 0, idle 60000, timeout 30, batches on 8081 and 4 workers until its input ends
 serve m.map --workers 0|error: invalid value '0' for '--workers <COUNT>': 0 is not in 1..=32~~For more information, try '--help'.~
 serve m.map --workers 33|error: invalid value '33' for '--workers <COUNT>': 33 is not in 1..=32~~For more information, try '--help'.~
 serve m.map --admin-port 65536|error: invalid value '65536' for '--admin-port <PORT>': 65536 is not in 0..=65535~~For more information, try '--help'.~
@@ -94,7 +108,7 @@ CHECK a|error: unrecognized subcommand 'CHECK'~~Usage: mapservd [COMMAND]~~For m
 --port 80|error: unexpected argument '--port' found~~Usage: mapservd [COMMAND]~~For more information, try '--help'.~
 check --help|Check a mapfile, and count its layers and features~~Usage: mapservd check [OPTIONS] <FILE>~~Arguments:~  <FILE>  The mapfile~~Options:~      --explain  Explain the mapfile's first fault, or print warnings~  -h, --help     Print help~
 run --help|Run a script against a map~~Usage: mapservd run [OPTIONS] <FILE> <SCRIPT>~~Arguments:~  <FILE>    The mapfile~  <SCRIPT>  The script: queries and batches~~Options:~      --explain  Explain the mapfile's first fault, or print warnings~  -h, --help     Print help~
-serve --help|Serve the map over HTTP on 127.0.0.1~~Usage: mapservd serve [OPTIONS] <FILE>~~Arguments:~  <FILE>  The mapfile~~Options:~      --explain              Explain the mapfile's first fault, or print warnings~      --port <PORT>          Port for clients, 0 for a free one [default: 8080]~      --connections <COUNT>  Connections that each port takes in all, 0 for no end [default: 0]~      --idle <MILLISECONDS>  How long a connection may wait for its next request [default: 200]~      --timeout <SECONDS>    How long a request's head or an unread answer may take [default: 30]~      --admin-port <PORT>    Port for batches, 0 for a free one [default: 8081]~      --workers <COUNT>      Threads that answer clients [default: 4]~  -h, --help                 Print help~
+serve --help|Serve the map over HTTP on 127.0.0.1~~Usage: mapservd serve [OPTIONS] <FILE>~~Arguments:~  <FILE>  The mapfile~~Options:~      --explain              Explain the mapfile's first fault, or print warnings~      --port <PORT>          Port for clients, 0 for a free one [default: 8080]~      --connections <COUNT>  Connections that each port takes in all, 0 for no end [default: 0]~      --idle <MILLISECONDS>  How long a connection may be silent between requests [default: 60000]~      --timeout <SECONDS>    How long a request's head, or an answer that isn't read, may take [default: 30]~      --admin-port <PORT>    Port for batches, 0 for a free one [default: 8081]~      --workers <COUNT>      Threads that answer clients [default: 4]~      --until-input-ends     End when standard input does, once those being answered have their answers~  -h, --help                 Print help~
 --help|Serve maps by WMS. Without a command, play a session from standard input~~Usage: mapservd [COMMAND]~~Commands:~  check  Check a mapfile, and count its layers and features~  run    Run a script against a map~  serve  Serve the map over HTTP on 127.0.0.1~  help   Print this message or the help of the given subcommand(s)~~Options:~  -h, --help     Print help~  -V, --version  Print version~
 --version|mapservd 2026-11-26, proved by logic dac8208d650f15bf~
 -V|mapservd 2026-11-26, proved by logic dac8208d650f15bf~
@@ -110,7 +124,7 @@ fn is_command(alloc: Global, row: &str) -> Result<bool, AllocError> {
 
 #[test]
 fn arguments_ask_for_their_commands(rt: HostRuntime) -> Result<(), TableFault> {
-    check_all(rt.alloc(), ARGUMENTS, 49, is_command)
+    check_all(rt.alloc(), ARGUMENTS, 50, is_command)
 }
 
 // The messages on arguments that were refused with this text, and on those for which there was no memory.

@@ -55,6 +55,8 @@ serve a.map --port 81 --admin-port 82 --connections 5 --workers 32|cxccc rrrrr|0
 serve a.map --port 81 --admin-port 82|ccxc w|3 SocketFailed 3 1 0 1|listening a port another port~|
 serve a.map --port 81 --admin-port 82|ccxc rw|3 SocketFailed 3 1 1 1|listening a port another port~|
 serve a.map --port 81 --admin-port 82|c -|3 SocketFailed 0 0 0 0|listening a port another port~|
+# the end of the input ends the wait for a client, and then that for an administrator
+serve a.map --port 81 --admin-port 82 --until-input-ends|w w|0 done 0 0 0 1|listening a port another port~|
 # one of administrators that is given up leaves the clients
 serve a.map --port 81 --admin-port 82 --connections 2|cc rf|0 done 2 0 1 0|listening a port another port~|
 serve a.map --port 81 --admin-port 82 --connections 2|cc|0 done 2 0 0 0|listening a port another port~|";
@@ -130,7 +132,7 @@ fn is_ended<R: Runtime>(rt: &R, system: &HostRuntime, line: &str) -> Result<bool
 
 #[test]
 fn words_are_answered_with_the_files_of_a_host(rt: HostRuntime) -> Result<(), TableFault> {
-    check_all(rt.alloc(), WORDS, 40, |_, line| is_ended(&rt, &rt, line))
+    check_all(rt.alloc(), WORDS, 41, |_, line| is_ended(&rt, &rt, line))
 }
 
 // What becomes of words that can't be read, and what is said of them.

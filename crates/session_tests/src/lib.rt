@@ -33,5 +33,3 @@ mod stops;
 mod texts;
 #[cfg(test)]
 mod timed_streams;
-#[cfg(test)]
-mod turned_away;

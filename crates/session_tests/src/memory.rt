@@ -1,3 +1,5 @@
+ghost use Rattle.std.specs.Prelude.{◌≡◌};
+
 use mapdefs::Items;
 use std::alloc::{AllocError, Global};
 use std::io::{self, Read, Write};
@@ -23,7 +25,9 @@ pub fn stream_of(
     text: &str,
     at_once: usize,
     failing: Option<usize>,
-) -> Flagged<Memory<'_>> {
+) -> Flagged<Memory<'_>>
+    ensures left { result.inner.left.now ≡ text.now }
+{
     Flagged::new(Memory {
         left: text.as_bytes(),
         held: Vec::new(alloc),

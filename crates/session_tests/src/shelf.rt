@@ -1,22 +1,27 @@
 //! A host in memory: its files, and ports at which letters happen.
 
-ghost use Rattle.std.specs.Prelude.{None};
+ghost use Rattle.std.specs.Prelude.{◌≡◌, IfSome, None};
 
 use crate::memory::{Memory, stream_of};
 use crate::ports::{LAST, RESPONSE};
 use console::ListenCause;
-use httpedge::{Asks, EdgeFault};
+use eventloop::{Poller, Wakes};
+use httpedge::EdgeFault;
 use mapdefs::Text;
 use program::{Files, Host, ListenFailed};
-use service::{AcceptFailed, AddressFault, Network, Port, Waits, Wakes};
+use service::{AcceptFailed, AddressFault, IntoTransport, Network, Port, Waits};
 use std::alloc::{AllocError, Global};
-use std::io::{self, Write};
+use std::io::{self, Read, Write};
 use std::sync::Arc;
 use std::sync::atomic::{AtomicU64, Ordering};
 use std::thread;
 use std::time::Duration;
 use streams::Flagged;
-use workers::{Connection, NothingLeft, Opens, Sides, serve_one};
+use turns::{ReadOutcome, Transport, WriteOutcome};
+use workers::{NothingLeft, Opens, Sides};
+
+// Where the port of clients is.
+const CLIENTS: &str = "a port";
 
 /// How many connections of clients were answered, how many were given up since nothing could be read, how many of
 /// administrators were told that nothing is pending, and how often the wait at a port was ended.
@@ -28,8 +33,10 @@ pub struct Counts {
     pub unread: AtomicU64,
     /// Connections of administrators.
     pub idle: AtomicU64,
-    /// Ends of a wait.
+    /// Ends of a wait for an administrator.
     pub woken: AtomicU64,
+    /// Ends of a wait for a client.
+    pub stopped: AtomicU64,
 }
 
 // What a client gets, and where it is counted.
@@ -68,6 +75,7 @@ fn count_end(counts: &Counts, held: &[u8], fault: Option<EdgeFault>) {
 /// A connection on which this is sent.
 #[derive(Drop)]
 pub struct Call {
+    alloc: Global,
     sent: &'static str,
     counts: Arc<Counts, Global>,
 }
@@ -79,12 +87,13 @@ impl Opens for Call {
 
     type Closed = NothingLeft;
 
-    ghost opens = { λ _ _. Unit {0} };
+    // What is sent is what its reader has.
+    ghost opens = { λ call sides. IfSome sides (λ both. both.0.inner.left.now ≡ call.sent.now) };
 
     ghost closes = { λ _ _ _ _. Unit {0} };
 
     fn open(self, alloc: Global) -> Option<Sides<Flagged<Memory<'static>>, Flagged<Counted>>> {
-        let Call { sent, counts } = self;
+        let Call { sent, counts, .. } = self;
         let memory = stream_of(alloc, "", 7, None).into_inner();
         Some(Sides {
             reader: stream_of(alloc, sent, 7, None),
@@ -104,23 +113,119 @@ impl Opens for Call {
     }
 }
 
-impl Connection for Call {
-    fn serve<A: Asks>(self, alloc: Global, asks: &mut A) {
-        serve_one(alloc, asks, self);
-    }
-
-    fn turn_away(self, _alloc: Global) {}
+/// A connection on which something is sent, by calls that never wait.
+#[derive(Drop)]
+pub struct Client {
+    sent: Memory<'static>,
+    got: Memory<'static>,
+    counts: Arc<Counts, Global>,
 }
 
-/// What ends a wait at a port, which is counted.
+impl Transport for Client {
+    ghost delivered = { λ _. None };
+
+    ghost accepted = { λ _. None };
+
+    ghost reads = { λ _ _ _. Unit {0} };
+
+    ghost writes = { λ _ _ _. Unit {0} };
+
+    ghost shuts = { λ _ _. Unit {0} };
+
+    // A connection of which nothing can be read is counted.
+    fn read(&mut self, room: &mut [u8]) -> ReadOutcome {
+        match self.sent.read(room) {
+            Ok(0) => ReadOutcome::End,
+            Ok(count) => ReadOutcome::Bytes(count),
+            Err(_) => {
+                let fault = EdgeFault::Read { written: 0 };
+                count_end(&self.counts, &self.got.held, Some(fault));
+                ReadOutcome::Failed
+            }
+        }
+    }
+
+    fn write(&mut self, first: &[u8], second: &[u8]) -> WriteOutcome {
+        let bytes = if first.is_empty() { second } else { first };
+        match self.got.write(bytes) {
+            Ok(count) if count > 0 => WriteOutcome::Bytes(count),
+            _ => WriteOutcome::Failed,
+        }
+    }
+
+    // One that has its last answer is counted.
+    fn shut_down(&mut self) {
+        count_end(&self.counts, &self.got.held, None);
+    }
+}
+
+impl IntoTransport<Client> for Call {
+    fn into_transport(self) -> Option<Client> {
+        let Call {
+            alloc,
+            sent,
+            counts,
+        } = self;
+        Some(Client {
+            sent: stream_of(alloc, sent, 7, None).into_inner(),
+            got: stream_of(alloc, "", 7, None).into_inner(),
+            counts,
+        })
+    }
+}
+
+/// A poller of connections whose calls never have to wait: there is nothing to be told of.
+#[derive(Drop)]
+pub struct Idle {
+    rt: HostRuntime,
+}
+
+/// What ends its wait, of a millisecond.
+#[derive(Drop)]
+pub struct NoWaker;
+
+impl Wakes for NoWaker {
+    fn wake(&self) {}
+}
+
+impl Poller<Client> for Idle {
+    type Waker = NoWaker;
+
+    fn waker(&self) -> Option<NoWaker> {
+        Some(NoWaker)
+    }
+
+    fn register(&mut self, _transport: &mut Client, _slot: usize) -> bool {
+        true
+    }
+
+    fn wait(&mut self, at_most: Duration, _room: &mut [usize]) -> usize {
+        if !at_most.is_zero() {
+            thread::sleep(&self.rt, Duration::from_millis(1));
+        }
+        0
+    }
+}
+
+/// What ends a wait at the port of an address, which is counted.
 #[derive(Drop)]
 pub struct Waker {
+    address: &'static str,
     counts: Arc<Counts, Global>,
+}
+
+// What is counted at the port of an address.
+fn ends_at<'a>(counts: &'a Counts, address: &str) -> &'a AtomicU64 {
+    if address == CLIENTS {
+        &counts.stopped
+    } else {
+        &counts.woken
+    }
 }
 
 impl Wakes for Waker {
     fn wake(&self) {
-        self.counts.woken.fetch_add(1, Ordering::SeqCst);
+        ends_at(&self.counts, self.address).fetch_add(1, Ordering::SeqCst);
     }
 }
 
@@ -141,7 +246,7 @@ impl Letters {
     // Waits until the port is woken, and says whether it was.
     fn waits(&self) -> bool {
         for _ in 0..10_000 {
-            if self.counts.woken.load(Ordering::SeqCst) > 0 {
+            if ends_at(&self.counts, self.address).load(Ordering::SeqCst) > 0 {
                 return true;
             }
             thread::sleep(&self.rt, Duration::from_millis(1));
@@ -152,7 +257,11 @@ impl Letters {
     // A connection on which this is sent.
     fn call(&self, sent: &'static str) -> Result<Call, AcceptFailed> {
         match Arc::try_clone(&self.counts) {
-            Ok(counts) => Ok(Call { sent, counts }),
+            Ok(counts) => Ok(Call {
+                alloc: self.rt.alloc(),
+                sent,
+                counts,
+            }),
             Err(_) => Err(AcceptFailed),
         }
     }
@@ -228,11 +337,17 @@ impl Shelf<'_> {
 }
 
 impl Network for Shelf<'_> {
+    type Transport = Client;
+
+    type Poller = Idle;
+
     type Connection = Call;
 
     type Port = Letters;
 
     type Waker = Waker;
+
+    type Input = Memory<'static>;
 }
 
 impl Files for Shelf<'_> {
@@ -264,7 +379,7 @@ impl Host for Shelf<'_> {
 
     fn listen(&self, number: u16, _waits: Waits) -> Result<Letters, ListenFailed> {
         let port = match number {
-            81 => self.port("a port", self.clients),
+            81 => self.port(CLIENTS, self.clients),
             82 => self.port("another port", self.administration),
             80 => return refused(ListenCause::NotAllowed),
             8081 => return refused(ListenCause::Other),
@@ -281,9 +396,21 @@ impl Host for Shelf<'_> {
             return None;
         }
         match Arc::try_clone(&port.counts) {
-            Ok(counts) => Some(Waker { counts }),
+            Ok(counts) => Some(Waker {
+                address: port.address,
+                counts,
+            }),
             Err(_) => None,
         }
+    }
+
+    fn poller(&self) -> Option<Idle> {
+        Some(Idle { rt: self.rt })
+    }
+
+    // One that has ended.
+    fn input(&self) -> io::Result<Memory<'static>> {
+        Ok(stream_of(self.alloc, "", 7, None).into_inner())
     }
 }
 
@@ -294,6 +421,7 @@ pub fn no_counts(alloc: Global) -> Result<Arc<Counts, Global>, AllocError> {
         unread: AtomicU64::new(0),
         idle: AtomicU64::new(0),
         woken: AtomicU64::new(0),
+        stopped: AtomicU64::new(0),
     };
     Ok(Arc::new(alloc, counts)?)
 }

@@ -100,23 +100,28 @@ fn asking(alloc: Global, number: u64) -> Result<Client, AllocError> {
     Client::new(alloc, head.as_str().as_bytes(), true)
 }
 
+// What each was asked, with bars behind it.
+fn told_of_asked<R: AllocGlobal + Wait>(rt: &R, all: &[Asked]) -> Result<String, AllocError> {
+    let mut text = String::new(rt.alloc());
+    for asked in all {
+        let asked = asked.lock(rt);
+        text = format!(in rt.alloc(); "{text}{}| ", asked.as_str())?;
+    }
+    Ok(text)
+}
+
 // What three workers are asked by seven connections.
 fn asked_of<R: AllocGlobal + Clock + Wait + Threads + Send + Copy + Drop + 'static>(
     rt: &R,
     system: &HostRuntime,
 ) -> Result<String, Fail> {
-    let alloc = rt.alloc();
     let (mut crew, all) = crew_of_three(rt, system)?;
     for number in 1..8 {
-        crew.hand_over(rt, asking(alloc, number)?);
+        let client = asking(rt.alloc(), number)?;
+        crew.hand_over(rt, client);
     }
     crew.end(rt, Ending::Finishes);
-    let mut text = String::new(alloc);
-    for asked in &all {
-        let asked = asked.lock(rt);
-        text = format!(in alloc; "{text}{}| ", asked.as_str())?;
-    }
-    Ok(text)
+    Ok(told_of_asked(rt, &all)?)
 }
 
 #[test]

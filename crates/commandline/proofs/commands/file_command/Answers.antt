@@ -1,11 +1,10 @@
-use Rattle.std.proofs.Common.{◌≡◌, ◌∙◌, ap, codes, Some, false, true}
+use Rattle.std.proofs.Common.{◌≡◌, ◌∙◌, ap, false, true}
 use Rattle.std.proofs.lemmas.Result.{IfOk-weaker}
 use Rattle.clap.specs.Simple.{app_of_fields}
 use Rattle.clap.specs.Words.{Rule, app_of, new_app, rule_of, with_rule}
-use Rattle.clap.specs.declared.builder.action.ArgAction.TheVariants.{SetTrue}
 use Rattle.clap.specs.declared.builder.arg.Arg.{Arg}
 use Rattle.clap.specs.declared.builder.command.Command.TheViews.{out-Command}
-use Rattle.commandline.specs.Arguments.{explain_rule, file_rule}
+use Rattle.commandline.specs.Arguments.{file_rule}
 use Rattle.commandline.proofs.Adding.{added, stays-local}
 use Rattle.commandline.proofs.commands.file_command.Goals as goal
 
@@ -15,18 +14,11 @@ returns-clause-app c =
     let file-local : c.help-file.result.global ≡ false = ap (λ (a : Arg). a.global) c.help-file.ensures ∙ ap (λ (a : Arg). a.global) c.required.ensures ∙ c.new.ensures.optional.1 in
     let form : app_of c.in_ok-form.form ≡ with_rule (new_app c.args.name.now) file_rule =
     added _ _ _ _ _ (ap app_of_fields c.about.ensures ∙ c.new-2.ensures.app) file file-local c.in_ok-form.ensures in
-    let explain : rule_of c.action-explain.result ≡ explain_rule =
-    ap rule_of c.action-explain.ensures
-    ∙ ap (λ (r : Rule). record r { action = Some SetTrue }) (ap rule_of c.help.ensures ∙ ap rule_of c.long.ensures ∙ ap (λ (r : Rule). record r { long = Some (codes "explain") }) c.new-3.ensures.rule) in
-    let local : c.action-explain.result.global ≡ false =
-    ap (λ (a : Arg). a.global) c.action-explain.ensures ∙ ap (λ (a : Arg). a.global) c.help.ensures ∙ ap (λ (a : Arg). a.global) c.long.ensures ∙ c.new-3.ensures.optional.1 in
-    IfOk-weaker c.arg-2.result _ _ (λ r adds. added _ _ _ _ _ form explain local adds) c.arg-2.ensures
+    IfOk-weaker c.arg-2.result _ _ (λ r adds. added _ _ _ _ _ form c.flag.ensures.rule c.flag.ensures.local adds) c.arg-2.ensures
 
 pub returns-clause-local : goal.returns-clause-local
 returns-clause-local c =
     let file-local : c.help-file.result.global ≡ false = ap (λ (a : Arg). a.global) c.help-file.ensures ∙ ap (λ (a : Arg). a.global) c.required.ensures ∙ c.new.ensures.optional.1 in
     let form : (out-Command c.in_ok-form.form).has_globals ≡ false =
     stays-local _ _ _ (ap (λ a. a.has_globals) c.about.ensures ∙ c.new-2.ensures.local) file-local c.in_ok-form.ensures in
-    let local : c.action-explain.result.global ≡ false =
-    ap (λ (a : Arg). a.global) c.action-explain.ensures ∙ ap (λ (a : Arg). a.global) c.help.ensures ∙ ap (λ (a : Arg). a.global) c.long.ensures ∙ c.new-3.ensures.optional.1 in
-    IfOk-weaker c.arg-2.result _ _ (λ r adds. stays-local _ _ _ form local adds) c.arg-2.ensures
+    IfOk-weaker c.arg-2.result _ _ (λ r adds. stays-local _ _ _ form c.flag.ensures.local adds) c.arg-2.ensures

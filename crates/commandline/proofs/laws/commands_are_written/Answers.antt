@@ -1,4 +1,4 @@
-use Rattle.commandline.proofs.Written.{none, check, explained, run, run_explained, serve, served, timed, administered, serve_explained}
+use Rattle.commandline.proofs.Written.{none, check, explained, run, run_explained, serve, served, timed, administered, ended, serve_explained}
 use Rattle.commandline.proofs.laws.commands_are_written.Goals as goal
 
 pub returns : goal.returns
@@ -12,5 +12,6 @@ returns c = record {
   served = served;
   timed = timed;
   administered = administered;
+  ended = ended;
   serve_explained = serve_explained;
 }

@@ -1,10 +1,11 @@
-use Rattle.std.proofs.Crossing.{crosses}
-use denote.Param.Send.{sendable}
 use Rattle.service.proofs.accepting.Accepting.TheSendSync as AcceptingCrosses
+use Rattle.service.proofs.clients.ClientSide.TheSendSync as ClientSideCrosses
 use Rattle.service.proofs.serving.PortFor.TheSendSync as PortForCrosses
+use Rattle.service.proofs.threaded.ClientSignals.TheSendSync as ClientSignalsCrosses
 use Rattle.service.proofs.threaded.StopSignal.TheSendSync as StopSignalCrosses
+use Rattle.mapshare.proofs.Crossing.{fielded}
 use Rattle.mapshare.proofs.ReaderCrossing.{reader-send}
 use Rattle.service.proofs.threaded.start_clients.Goals as goal
 
 pub spawn-requires-send-F : goal.spawn-requires-send-F
-spawn-requires-send-F g c κs within = search (reader-send, sendable, crosses, AcceptingCrosses.the_send, PortForCrosses.the_send, StopSignalCrosses.the_send) depth 60 fits 20000
+spawn-requires-send-F g c κs within = search (reader-send, fielded, ClientSideCrosses.the_send, AcceptingCrosses.the_send, PortForCrosses.the_send, ClientSignalsCrosses.the_send, StopSignalCrosses.the_send) depth 60 fits 100000

@@ -1,0 +1,155 @@
+ghost use Rattle.std.specs.Prelude.{◌≡◌, IfErr, Ok, true};
+ghost use Rattle.service.specs.Serving.{GoesOnAfter, is_service_failure};
+
+use crate::accepting::{Accepting, MAX_FAILURES};
+use crate::limits::{slots_of, timeouts_of};
+use crate::port::Port;
+use crate::serving::{Clients, IntoTransport, PortFor, Runtime};
+use commandline::Service;
+use console::Failure;
+use eventloop::{Crew, Ending, Poller, Wakes, Worker, start_worker};
+use mapshare::{Reader, Sharing};
+use std::sync::atomic::{AtomicBool, Ordering};
+use turns::Transport;
+
+// Starts a worker for a reader.
+fn start_one<S, R, T, Q>(
+    rt: &R,
+    crew: &mut Crew<T, Q::Waker>,
+    asked: (Reader<S>, Q),
+    service: Service,
+) -> Result<(), Failure>
+where
+    S: Sharing + Send + Sync + 'static,
+    R: Runtime,
+    T: Transport + Send + Drop + 'static,
+    Q: Poller<T> + Send + Drop + 'static,
+    ensures failed { IfErr result (λ failure. is_service_failure failure ≡ true) }
+{
+    let (reader, poller) = asked;
+    let places = (slots_of(service), timeouts_of(service));
+    let Ok(worker) = Worker::new(rt.alloc(), reader, poller, places) else {
+        return Err(Failure::NoMemory);
+    };
+    match start_worker(rt, rt.alloc(), crew, worker) {
+        Ok(()) => Ok(()),
+        Err(_) => Err(Failure::SocketFailed),
+    }
+}
+
+// Starts a worker for each reader, with a poller of its own.
+fn start_all<S, R, T, Q>(
+    rt: &R,
+    crew: &mut Crew<T, Q::Waker>,
+    asked: (Vec<Reader<S>>, Vec<Q>),
+    service: Service,
+) -> Result<(), Failure>
+where
+    S: Sharing + Send + Sync + 'static,
+    R: Runtime,
+    T: Transport + Send + Drop + 'static,
+    Q: Poller<T> + Send + Drop + 'static,
+    ensures failed { IfErr result (λ failure. is_service_failure failure ≡ true) }
+{
+    let (readers, mut pollers) = asked;
+    for reader in readers {
+        let Some(poller) = pollers.pop() else {
+            return Err(Failure::SocketFailed);
+        };
+        start_one::<S, R, T, Q>(rt, crew, (reader, poller), service)?;
+    }
+    Ok(())
+}
+
+// Hands over the connections of clients to their workers, up to the last that is wanted, or until that is to stop. Where a call for one fails, one that is
+// between requests gives way to it. The port is given up where 100 calls fail one after the other and nobody is served.
+fn accept_all<R, C, T, P, W>(
+    rt: &R,
+    clients: (&mut Accepting<PortFor<Clients, P>>, &AtomicBool),
+    crew: &mut Crew<T, W>,
+) -> Result<(), Failure>
+where
+    R: Runtime,
+    C: IntoTransport<T> + Send + Drop + 'static,
+    T: Transport + Drop,
+    P: Port<C>,
+    W: Wakes + Drop,
+    ensures failed { IfErr result (λ failure. is_service_failure failure ≡ true) }
+{
+    let (port, is_stopped) = clients;
+    let mut failures = 0_u32;
+    for _ in rt.forever() {
+        let accepted = port.accept_once();
+        if is_stopped.load(Ordering::SeqCst) {
+            return Ok(());
+        }
+        match accepted {
+            Ok(None) => return Ok(()),
+            Ok(Some(connection)) => {
+                failures = 0;
+                if let Some(transport) = connection.into_transport() {
+                    crew.hand_over(rt, transport);
+                }
+            }
+            Err(_) => {
+                failures = failures.saturating_add(1);
+                crew.press(rt);
+                if failures >= MAX_FAILURES && !crew.is_serving(rt) {
+                    return Err(Failure::SocketFailed);
+                }
+            }
+        }
+    }
+    unreachable!()
+}
+
+/// The port of clients, what tells its workers which of them may go on, and how they are served.
+#[derive(Drop)]
+pub(crate) struct ClientSide<P, Q> {
+    /// Where they come from.
+    pub port: Accepting<PortFor<Clients, P>>,
+    /// A poller for each worker.
+    pub pollers: Vec<Q>,
+    /// How they are served.
+    pub service: Service,
+}
+
+/// Answers the connections of clients by a worker for each reader, up to the last. Those that came are answered to their
+/// end; where that is to stop, those that are being answered have their answers, and the others are closed.
+pub(crate) fn serve_clients<S, R, C, T, P, Q>(
+    rt: &R,
+    readers: Vec<Reader<S>>,
+    side: ClientSide<P, Q>,
+    is_stopped: &AtomicBool,
+) -> Result<(), Failure>
+where
+    S: Sharing + Send + Sync + 'static,
+    R: Runtime,
+    C: IntoTransport<T> + Send + Drop + 'static,
+    T: Transport + Send + Drop + 'static,
+    P: Port<C> + Drop,
+    Q: Poller<T> + Send + Drop + 'static,
+    ensures ends { GoesOnAfter (Ok tt) result }
+{
+    let ClientSide {
+        mut port,
+        pollers,
+        service,
+    } = side;
+    let Ok(mut crew) = Crew::<T, Q::Waker>::new(rt.alloc(), readers.len()) else {
+        return Err(Failure::NoMemory);
+    };
+    let mut served = start_all::<S, R, T, Q>(rt, &mut crew, (readers, pollers), service);
+    if served.is_ok() {
+        served = accept_all::<R, C, T, P, Q::Waker>(rt, (&mut port, is_stopped), &mut crew);
+    }
+    // from now on the system refuses further ones
+    drop(port);
+    let ending = if is_stopped.load(Ordering::SeqCst) {
+        Ending::Stops
+    } else {
+        Ending::Finishes
+    };
+    crew.end(rt, ending);
+    served
+}
