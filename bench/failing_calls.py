@@ -11,8 +11,8 @@ never another: a reply is right or NOMEMORY; where a file or a stream fails, wha
 output, with the status of that failure; words on a fault may be missing, and with `--explain` the line on memory may
 stand in their place; where a call moves one byte, nothing changes. Of what is served each picture is, by hand, that of
 the state which the lines of the administration leave, where a line that is cut or missing leaves two or three; at most
-one of the six connections has less than its whole answer, 503, HELD or NOMEMORY; and where the service fails, nobody is
-answered. The program always ends by itself, once so many connections as were asked for came at each port.
+one of the six connections has less than its whole answer, 503, HELD or NOMEMORY; and where the service fails, no client
+is answered. The program always ends by itself, once so many connections as were asked for came at each port.
 
 With EVERY only every so-many-th call fails. The script prints how many calls each kind has while it lets them fail,
 and at the end how many it let fail. It ends with 1 where something else came out, or a run took longer than 30 s.
@@ -281,7 +281,7 @@ def lessened(got):
 def may_have_served(run, statuses, is_client_right):
     """Whether what was served is right, or less of it, as may be where one call fails; or the service failed."""
     if run.status:
-        return run.status in statuses and (run.output, run.errors) == (b"", b"") and not any(run.got)
+        return run.status in statuses and (run.output, run.errors) == (b"", b"") and not any(run.got[::2])
     return (run.output, run.errors) == (b"", b"") and len(run.got) == 2 * len(TURNS) and lessened(run.got) <= 1 and is_history(run.got, is_client_right)
 
 
@@ -311,7 +311,7 @@ def may_fail(run, right):
     front = right.output.startswith(run.output) and right.errors.startswith(run.errors)
     if front and (run.status == 3 or (run.status == right.status and run.output == right.output)):
         return True
-    no_file = re.fullmatch(rb"fault (file [a-z.]+|line \d+ kind 7)\n", run.errors)
+    no_file = re.fullmatch(rb"fault (file ([a-z.]+)\n(\2: the file can't be read\n)?|line \d+ kind 7\n)", run.errors)
     return (run.status, run.output, run.got) == (1, b"", []) and no_file is not None
 
 
