@@ -1,3 +1,5 @@
+ghost use Rattle.std.specs.Prelude.{◌≡◌, IfOk, is_some};
+
 use std::io;
 
 /// Prints that a call begins.
@@ -11,7 +13,9 @@ pub fn end(rt: &HostRuntime) -> io::Result<()> {
 }
 
 /// Prints what a call answered, and says whether that is an answer.
-pub fn tell(rt: &HostRuntime, answer: Option<String>) -> io::Result<bool> {
+pub fn tell(rt: &HostRuntime, answer: Option<String>) -> io::Result<bool>
+    ensures { IfOk result (λ is_told. is_told ≡ is_some answer) }
+{
     match answer {
         Some(text) => {
             println!(rt; "{text}")?;
