@@ -1,4 +1,4 @@
-ghost use Rattle.std.specs.Prelude.{◌≡◌, IfErr, IfOk, true};
+ghost use Rattle.std.specs.Prelude.{◌≡◌, IfErr, IfOk, is_some, true};
 ghost use Rattle.program.specs.Performing.{HostView, IsOfAdministrators, IsOfClients, ServesMap};
 ghost use Rattle.service.specs.Serving.{is_service_failure};
 ghost use Rattle.service.specs.declared.limits.Waits.{Waits as WaitsOf};
@@ -47,6 +47,7 @@ fn until_of<H: Host>(
     service: Service,
     clients: &H::Port,
 ) -> Result<Option<Until<H::Waker, H::Input>>, Failure>
+    ensures asked { IfOk result (λ until. is_some until ≡ service.until_input_ends) }
     ensures failed { IfErr result (λ failure. is_service_failure failure ≡ true) }
 {
     if !service.until_input_ends {
@@ -67,6 +68,7 @@ fn listen<H: Host>(
     ensures clients { IfOk result (λ ports. (waits : WaitsOf) × IsOfClients service waits × H.listens host.now service.port waits ports.clients.port) }
     ensures administration { IfOk result (λ ports. (waits : WaitsOf) × IsOfAdministrators waits × H.listens host.now service.admin_port waits ports.administration.port) }
     ensures service { IfOk result (λ ports. ports.service ≡ service) }
+    ensures until { IfOk result (λ ports. is_some ports.until ≡ service.until_input_ends) }
     ensures failed { IfErr result (λ failure. is_service_failure failure ≡ true) }
 {
     let clients = listen_on(host, service.port, Waits::of(service))?;

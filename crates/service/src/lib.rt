@@ -4,9 +4,9 @@
 //! Proved: `Accepting::accept` gives connections up to the last that is wanted, or up to 100 calls that fail one after the
 //! other. `hang_up` closes the writing side of a connection after its answer and reads what still comes, up to a limit. `serve_by_threads`
 //! writes where the ports are once, and ends as that did, or for want of a port, a thread or memory (`announced`); what it
-//! gives says which map it served, and where (`served`). What its threads do is said of each connection by `serve_connection` of `workers` and
-//! `administer` of `administration`. How long a connection may take is said by `TimeLimit`, and kept by `TimedReader` and
-//! `TimedWriter`.
+//! gives says which map it served, and where (`served`). What its threads do is said by the calls that they make: of clients by
+//! `ConnectionTable::serve_next` of `turns`, and of an administrator's connection by `administer` of `administration`. How long a
+//! client may take is said by `timeouts_of`; for an administrator by `TimeLimit`, which `TimedReader` and `TimedWriter` keep.
 //!
 //! Words: a *port* is where connections come from. Its *events* are the calls for a connection that failed, and the
 //! connections that were opened.
