@@ -1,32 +1,21 @@
-ghost use Rattle.std.specs.Prelude.{◌≡◌, ◌<◌, ◌≤◌, length, Ok, Err, OnOk, IfOk, IfErr, MatchResult};
+ghost use Rattle.std.specs.Prelude.{◌≡◌, ◌<◌, ◌≤◌, length, Ok, Err, OnOk, OnErr, IfErr};
 ghost use Rattle.batches.specs.Batch.{IsErrorOf, IsBatchErrorOf, IsTableAt, at_index, batch, applied};
 ghost use Rattle.batches.specs.declared.command.Command.TheVariants.{Append};
 ghost use Rattle.batches.specs.declared.fault.TheConstants.{MAX_BATCH};
 
 use crate::{BatchError, BatchFault, BatchKind, Command, CommandError, front_command};
 use csvpoints::{CsvError, Table, read};
-use layers::{ChangeError, Layers};
+use layers::{ChangeError, Draft, Layers};
 use mapdefs::MAX_FEATURES;
 use std::alloc::Global;
 
 // The table of some bytes, read by the columns that the layer of an index names.
-fn table_at(
-    alloc: Global,
-    layers: &Layers,
-    index: usize,
-    bytes: &[u8],
-) -> Result<Table, CommandError>
-    requires { index < length layers.now.layers }
-    ensures { IsTableAt layers.now index bytes.now result }
+fn table_at(alloc: Global, draft: &Draft, index: usize, bytes: &[u8]) -> Result<Table, CommandError>
+    requires { index < length draft.now.layers }
+    ensures { IsTableAt draft.now index bytes.now result }
 {
-    let layer = layers.map().get().layers.as_slice()[index].get();
-    match read(
-        alloc,
-        bytes,
-        layer.csv_x.as_str(),
-        layer.csv_y.as_str(),
-        MAX_FEATURES as u32,
-    ) {
+    let (x, y) = draft.coordinate_columns(index);
+    match read(alloc, bytes, x, y, MAX_FEATURES as u32) {
         Ok(table) => Ok(table),
         Err(CsvError::Fault(fault)) => Err(CommandError::Fault(BatchKind::Csv(fault))),
         Err(CsvError::NoMemory) => Err(CommandError::NoMemory),
@@ -34,19 +23,19 @@ fn table_at(
 }
 
 // Adds the rows of a table, by its bytes, to a layer.
-fn append(alloc: Global, layers: &mut Layers, name: &[u8], bytes: &[u8]) -> Result<(), CommandError>
-    ensures done { OnOk result (applied (Append name.now bytes.now) layers.old ≡ Ok layers.new) }
-    ensures failed { IfErr result (IsErrorOf (applied (Append name.now bytes.now) layers.old)) }
+fn append(alloc: Global, draft: &mut Draft, name: &[u8], bytes: &[u8]) -> Result<(), CommandError>
+    ensures done { OnOk result (applied (Append name.now bytes.now) draft.old ≡ Ok draft.new) }
+    ensures failed { IfErr result (IsErrorOf (applied (Append name.now bytes.now) draft.old)) }
 {
-    let index = match layers.points_named(name) {
+    let index = match draft.points_named(name) {
         Ok(index) => index,
         Err(refusal) => return Err(CommandError::Fault(BatchKind::Refused(refusal))),
     };
-    let table = match table_at(alloc, layers, index, bytes) {
+    let table = match table_at(alloc, draft, index, bytes) {
         Ok(table) => table,
         Err(error) => return Err(error),
     };
-    match layers.append_at(index, table) {
+    match draft.append_at(index, table) {
         Ok(()) => Ok(()),
         Err(ChangeError::Refused(refusal)) => {
             Err(CommandError::Fault(BatchKind::Refused(refusal)))
@@ -55,20 +44,20 @@ fn append(alloc: Global, layers: &mut Layers, name: &[u8], bytes: &[u8]) -> Resu
     }
 }
 
-/// Applies one command. Nothing is said of the layers where it fails.
+/// Applies one command to a draft of the layers. Nothing is said of the draft where it fails.
 pub fn apply_command(
     alloc: Global,
-    layers: &mut Layers,
+    draft: &mut Draft,
     command: &Command,
 ) -> Result<(), CommandError>
-    ensures done { OnOk result (applied command.now layers.old ≡ Ok layers.new) }
-    ensures failed { IfErr result (IsErrorOf (applied command.now layers.old)) }
+    ensures done { OnOk result (applied command.now draft.old ≡ Ok draft.new) }
+    ensures failed { IfErr result (IsErrorOf (applied command.now draft.old)) }
 {
     let done = match command {
-        Command::On(name) => layers.switch(name.get(), true),
-        Command::Off(name) => layers.switch(name.get(), false),
-        Command::Clear(name) => layers.clear(name.get()),
-        Command::Append(name, bytes) => return append(alloc, layers, name.get(), bytes.get()),
+        Command::On(name) => draft.switch(name.get(), true),
+        Command::Off(name) => draft.switch(name.get(), false),
+        Command::Clear(name) => draft.clear(name.get()),
+        Command::Append(name, bytes) => return append(alloc, draft, name.get(), bytes.get()),
     };
     match done {
         Ok(()) => Ok(()),
@@ -86,12 +75,12 @@ fn at_index(index: u64, error: CommandError) -> BatchError
     }
 }
 
-/// Applies the commands of a batch, up to the first that fails. Nothing is said of the layers where one does, so
-/// that they are a copy.
-pub fn apply_batch(alloc: Global, layers: &mut Layers, bytes: &[u8]) -> Result<(), BatchError>
+// Applies the commands of a batch to a draft, up to the first that fails. Nothing is said of the draft where one
+// does.
+fn apply_commands(alloc: Global, draft: &mut Draft, bytes: &[u8]) -> Result<(), BatchError>
     requires { length bytes.now ≤ MAX_BATCH }
-    ensures done { OnOk result (batch bytes.now layers.old ≡ Ok layers.new) }
-    ensures failed { IfErr result (IsBatchErrorOf (batch bytes.now layers.old)) }
+    ensures done { OnOk result (batch bytes.now draft.old ≡ Ok draft.new) }
+    ensures failed { IfErr result (IsBatchErrorOf (batch bytes.now draft.old)) }
 {
     let mut rest = bytes;
     let mut index = 1;
@@ -103,12 +92,28 @@ pub fn apply_batch(alloc: Global, layers: &mut Layers, bytes: &[u8]) -> Result<(
                 return Err(BatchError::Fault(BatchFault { index, kind }));
             }
         };
-        match apply_command(alloc, layers, &command) {
+        match apply_command(alloc, draft, &command) {
             Ok(()) => {}
             Err(error) => return Err(at_index(index, error)),
         }
         rest = after;
         index += 1;
     }
+    Ok(())
+}
+
+/// Applies the commands of a batch, or gives its first fault. Where there is an error the layers stay as they are.
+///
+/// The commands change a draft, so that the list and the index of a layer are made once, however many of them
+/// change it.
+pub fn apply_batch(alloc: Global, layers: &mut Layers, bytes: &[u8]) -> Result<(), BatchError>
+    requires { length bytes.now ≤ MAX_BATCH }
+    ensures done { OnOk result (batch bytes.now layers.old ≡ Ok layers.new) }
+    ensures failed { IfErr result (IsBatchErrorOf (batch bytes.now layers.old)) }
+    ensures kept { OnErr result (layers.new ≡ layers.old) }
+{
+    let mut draft = Draft::of(alloc, layers.copy()?)?;
+    apply_commands(alloc, &mut draft, bytes)?;
+    *layers = draft.into_layers()?;
     Ok(())
 }

@@ -2,7 +2,7 @@
 //!
 //! Proved: `front_command` reads the command at the front of some bytes, or says what is wrong with it.
 //! `apply_batch` gives the map after all commands of a batch, or the first fault with the number of its command
-//! (`batch`). `laws::written_is_read` says that commands which are written one after the other are read as these, and
+//! (`batch`), and then the layers stay as they are. `laws::written_is_read` says that commands which are written one after the other are read as these, and
 //! `laws::empty_batch` that an empty batch leaves the map and is counted.
 //!
 //! Words: what a batch says, its *reading*, are its commands up to the first that can't be read, and what is wrong

@@ -1,5 +1,5 @@
 -- Changes of a layer, and the boxes of the layers.
-use Rattle.std.proofs.Common.{Vec, Global, ◌≡◌, ◌∙◌, ℕ, zero, suc, ◌<◌, Bool, true, if◌then◌else◌, List, [], ◌∷◌, length, get_or, map, Option, Some, Result, IfOk, Ok, Err, refl, sym, ap, arith}
+use Rattle.std.proofs.Common.{Vec, Global, ◌≡◌, ◌∙◌, ℕ, zero, suc, ◌<◌, Bool, true, List, [], ◌∷◌, length, get_or, map, Option, Some, Result, IfOk, Ok, Err, refl, sym, ap, arith}
 use Rattle.std.proofs.lemmas.List.{length-map}
 use Rattle.std.proofs.lemmas.List.Elements.{All-from_get_or, Contains-get_or}
 use Rattle.std.proofs.lemmas.Option.{slice_get-get_or, slice_get_within}
@@ -7,16 +7,15 @@ use Rattle.std.specs.List.{slice_get}
 use Rattle.std.specs.Prelude.{slice_set}
 use Rattle.geom.specs.World.{Area}
 use Rattle.gridindex.specs.Window.{IsAnswer, MeetsAt}
-use Rattle.mapdefs.specs.Change.{changed_at, emptied, switched, with_layer}
+use Rattle.mapdefs.specs.Change.{changed_at, emptied, switched}
 use Rattle.mapdefs.specs.Name.{index_of}
 use Rattle.mapdefs.specs.declared.feature.FeatureFields.{FeatureFields}
 use Rattle.mapdefs.specs.declared.layer.LayerFields.{LayerFields}
 use Rattle.mapdefs.specs.declared.map.MapFields.{MapFields}
 use Rattle.mapdefs.specs.Near.{AreCandidates, AreCandidatesOf}
 use Rattle.layers.specs.Boxes.{box_of, boxes_of}
-use Rattle.layers.specs.Change.{IsFoundAt, and_then, clear, found, found_points, is_of_points, layer_at, named, of_points}
+use Rattle.layers.specs.Change.{IsFoundAt, and_then, found, found_points, is_of_points, layer_at, named, of_points}
 use Rattle.layers.specs.declared.fault.Refusal.{Refusal}
-use Rattle.layers.specs.declared.fault.Refusal.TheVariants.{NotPoints}
 use Rattle.layers.proofs.Enclosing.{box-has}
 
 -- there is an element at each index
@@ -65,15 +64,6 @@ pub found-is : (name : List ℕ) (m : MapFields) (index : ℕ) (layer : LayerFie
     found name m ≡ Ok (index, layer)
 found-is name m index layer e h is =
     ap (λ (o : Option ℕ). named o m.layers) (sym e) ∙ ap (layer_at index) (slice_get-get_or m.layers index layer h ∙ ap Some (sym is))
-
--- the change of a layer of points, and what it isn't
-pub clear-is : (name : List ℕ) (m : MapFields) (index : ℕ) (layer : LayerFields) → found name m ≡ Ok (index, layer) → is_of_points layer.kind ≡ true →
-    clear name m ≡ Ok (with_layer index emptied m)
-clear-is name m index layer e points = go (found name m) e
-  where
-    go : (r : Result (ℕ × LayerFields) Refusal) → r ≡ Ok (index, layer) →
-        and_then (and_then r (λ f. if is_of_points f.1.kind then Ok f else Err NotPoints)) (λ f. Ok (with_layer f.0 emptied m)) ≡ Ok (with_layer index emptied m)
-    go r h = rw (h, points) refl
 
 -- the indices of the boxes that meet a window are candidates
 pub grid-candidates : (features : List FeatureFields) (window : Area) (found : List ℕ) → IsAnswer window (map box_of features) found → AreCandidates features window found

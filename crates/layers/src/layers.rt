@@ -1,14 +1,15 @@
 ghost use Rattle.std.specs.Prelude.{◌≡◌, ◌<◌, length, IfOk, OnOk, IfErr, OnErr, MatchResult};
+ghost use Rattle.mapdefs.specs.Change.{CanTakeAt, emptied, extended, with_layer};
 ghost use Rattle.mapdefs.specs.Name.{index_of};
 ghost use Rattle.layers.specs.Change.{is_of_points};
 
 use crate::boxes::extended_grid;
+use crate::draft::Draft;
 use crate::fault::{ChangeError, Refusal};
 use crate::grids::{SharedGrid, grids_of, share_all};
-use crate::values::all_fitted;
-use csvpoints::{Table, TableFields};
+use csvpoints::Table;
 use geom::WorldBox;
-use mapdefs::{Duplicate, Kind, MAX_FEATURES, Map, Near};
+use mapdefs::{Duplicate, Feature, Items, Kind, Map, Near, Shared};
 use std::alloc::{AllocError, Global};
 use std::marker::Model;
 
@@ -36,15 +37,15 @@ impl Model for Layers {
     ghost invariant = { λ l. l.grids.items ≡ map boxes_of l.served.layers };
 }
 
-// Whether the features are points.
-fn is_of_points(kind: Kind) -> bool
+/// Whether the features are points.
+pub fn is_of_points(kind: Kind) -> bool
     ensures { result ≡ is_of_points kind }
 {
     matches!(kind, Kind::Point)
 }
 
 impl Layers {
-    ghost use Rattle.layers.specs.Change.{switch, clear, append, append_at, found_points, IsErrorOf, IsFoundAt};
+    ghost use Rattle.layers.specs.Change.{switch, clear, append, found_points, IsErrorOf, IsFoundAt};
 
     /// The layers of this map. It keeps the allocator.
     pub fn of(alloc: Global, map: Map) -> Result<Self, AllocError>
@@ -116,57 +117,64 @@ impl Layers {
             (λ _. clear name.now self.old ≡ Ok self.new)
             (λ refusal. (clear name.now self.old ≡ Err refusal) × (self.new ≡ self.old)) }
     {
-        match self.served.find(name) {
-            Some(index) => {
-                if !is_of_points(self.served.get().layers.as_slice()[index].get().kind) {
-                    return Err(Refusal::NotPoints);
-                }
-                self.served.clear(index);
-                self.grids[index] = SharedGrid::empty();
+        match self.points_named(name) {
+            Ok(index) => {
+                self.clear_at(index);
                 Ok(())
             }
-            None => Err(Refusal::UnknownLayer),
+            Err(refusal) => Err(refusal),
         }
     }
 
-    /// Adds the rows of a table behind the features of a layer of points. A refused call changes
-    /// nothing: the growths come before the changes.
+    // Takes all features out of the layer of an index.
+    pub(crate) fn clear_at(&mut self, index: usize)
+        requires { index < length self.old.layers }
+        ensures { self.new ≡ with_layer index emptied self.old }
+    {
+        self.served.clear(index);
+        self.grids[index] = SharedGrid::empty();
+    }
+
+    // Adds features behind those of the layer of an index. Where memory is refused nothing changes: the growths
+    // come before the changes. Where there are no features the layer keeps its list and its grid.
+    pub(crate) fn extend_at(
+        &mut self,
+        index: usize,
+        more: Items<Shared<Feature>>,
+    ) -> Result<(), AllocError>
+        requires { CanTakeAt more index self.old.layers }
+        ensures ok { OnOk result (self.new ≡ with_layer index (extended more) self.old) }
+        ensures err { OnErr result (self.new ≡ self.old) }
+    {
+        if more.len() == 0 {
+            return Ok(());
+        }
+        let grid = extended_grid(self.alloc, &self.grids[index], more.as_slice())?;
+        self.served.append(self.alloc, index, more)?;
+        self.grids[index] = grid;
+        Ok(())
+    }
+
+    /// Adds the rows of a table behind the features of a layer of points, as a batch of this one change does. A
+    /// refused call changes nothing.
     pub fn append(&mut self, name: &[u8], table: Table) -> Result<(), ChangeError>
         ensures done { OnOk result (append name.now table self.old ≡ Ok self.new) }
         ensures refused { IfErr result (IsErrorOf (append name.now table self.old)) }
         ensures kept { OnErr result (self.new ≡ self.old) }
     {
         match self.served.find(name) {
-            Some(index) => self.append_at(index, table),
+            Some(index) => {
+                let mut draft = Draft::of(self.alloc, self.copy()?)?;
+                match draft.append_at(index, table) {
+                    Ok(()) => {
+                        *self = draft.into_layers()?;
+                        Ok(())
+                    }
+                    Err(error) => Err(error),
+                }
+            }
             None => Err(ChangeError::Refused(Refusal::UnknownLayer)),
         }
-    }
-
-    /// The same of the layer of an index.
-    pub fn append_at(&mut self, index: usize, table: Table) -> Result<(), ChangeError>
-        requires { index < length self.old.layers }
-        ensures done { OnOk result (append_at index table self.old ≡ Ok self.new) }
-        ensures refused { IfErr result (IsErrorOf (append_at index table self.old)) }
-        ensures kept { OnErr result (self.new ≡ self.old) }
-    {
-        let layer = self.served.get().layers.as_slice()[index].get();
-        if !is_of_points(layer.kind) {
-            return Err(ChangeError::Refused(Refusal::NotPoints));
-        }
-        let TableFields { columns, features } = table.into_fields();
-        if features.len() > MAX_FEATURES - layer.features.len() {
-            return Err(ChangeError::Refused(Refusal::Full));
-        }
-        let more = all_fitted(
-            self.alloc,
-            layer.items.as_slice(),
-            columns.as_slice(),
-            features.into_vec(),
-        )?;
-        let grid = extended_grid(self.alloc, &self.grids[index], more.as_slice())?;
-        self.served.append(self.alloc, index, more)?;
-        self.grids[index] = grid;
-        Ok(())
     }
 
     /// Equal layers of their own, which share the features and the grids.

@@ -3,7 +3,7 @@ use batches::{
     BatchError, BatchKind, CommandError, MAX_BATCH, apply_batch, apply_command, count_of,
     front_command, line_len,
 };
-use layers::Layers;
+use layers::{Draft, Layers};
 use std::alloc::{AllocError, Global};
 use test_tables::{TableFault, check_rows};
 
@@ -28,14 +28,16 @@ fn state(alloc: Global, layers: &Layers) -> Result<String, AllocError> {
 }
 
 // What becomes of the layers by the first command of some bytes, and how many bytes are left.
-fn after_first(alloc: Global, layers: &mut Layers, bytes: &[u8]) -> Result<String, AllocError> {
+fn after_first(alloc: Global, layers: Layers, bytes: &[u8]) -> Result<String, AllocError> {
     let (command, rest) = match front_command(bytes) {
         Ok(read) => read,
         Err(fault) => return format!(in alloc; "refused {}", BatchKind::Unread(fault).number()),
     };
-    match apply_command(alloc, layers, &command) {
+    let mut draft = Draft::of(alloc, layers)?;
+    match apply_command(alloc, &mut draft, &command) {
         Ok(()) => {
-            let state = state(alloc, layers)?;
+            let layers = draft.into_layers()?;
+            let state = state(alloc, &layers)?;
             format!(in alloc; "{state}{} left", rest.len())
         }
         Err(CommandError::Fault(kind)) => format!(in alloc; "refused {}", kind.number()),
@@ -46,8 +48,8 @@ fn after_first(alloc: Global, layers: &mut Layers, bytes: &[u8]) -> Result<Strin
 // The same of a row, which has `~` for its line ends.
 fn after_command(alloc: Global, row: &str) -> Result<String, AllocError> {
     let bytes = row.replace(alloc, '~', "\n")?;
-    let mut layers = layers_of(alloc, LAYERS)?;
-    after_first(alloc, &mut layers, bytes.as_str().as_bytes())
+    let layers = layers_of(alloc, LAYERS)?;
+    after_first(alloc, layers, bytes.as_str().as_bytes())
 }
 
 const COMMANDS: &str = "\
@@ -135,9 +137,12 @@ refused 2 5, =150000+150000
 on 0, on 200000, =199998
 refused 1 5, =199999
 off 0, on 4, =1+OFF a+1
-refused 3 2, =ON a+OFF a+ON b";
+refused 3 2, =ON a+OFF a+ON b
+on 0, on 3, =1+CLEAR p+1+0+2
+refused 3 5, =199997+1+1
+refused 2 2, on 0, on 2, =5+ON b|ON a";
 
 #[test]
 fn batches_change_their_layers(rt: HostRuntime) -> Result<(), TableFault> {
-    check_rows(rt.alloc(), BATCHES, '=', 6, after_batches)
+    check_rows(rt.alloc(), BATCHES, '=', 9, after_batches)
 }

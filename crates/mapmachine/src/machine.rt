@@ -218,7 +218,8 @@ impl Machine {
     /// Publishes a batch: applies all of its commands and counts it, and gives its number. Or it gives the first
     /// fault of the batch, or says that memory was refused; then nothing is changed.
     ///
-    /// The commands change a copy, which shares the features with the map that it is of.
+    /// A layer's list and its index are made once, however many commands change it, and the new ones share the
+    /// features with the old ones.
     pub fn batch(&mut self, bytes: &[u8]) -> Result<u64, BatchError>
         ensures published { IfOk result (λ n. (batched bytes.now self.old ≡ Ok self.new) × (n ≡ self.new.sequence)) }
         ensures refused { IfErr result (IsBatchErrorOf (batched bytes.now self.old)) }
@@ -232,9 +233,7 @@ impl Machine {
             let kind = BatchKind::SequenceEnd;
             return Err(BatchError::Fault(BatchFault { index: 0, kind }));
         }
-        let mut copy = self.layers.copy()?;
-        apply_batch(self.alloc, &mut copy, bytes)?;
-        self.layers = copy;
+        apply_batch(self.alloc, &mut self.layers, bytes)?;
         self.sequence += 1;
         Ok(self.sequence)
     }

@@ -1,12 +1,12 @@
 use Rattle.std.proofs.Common.{◌≡◌, ◌+◌, ◌≤◌, length}
 use Rattle.batches.specs.Batch.{after_reading, batch}
 use Rattle.batches.specs.Command.{reading_of}
-use Rattle.batches.proofs.applying.apply_batch.Given as goal
+use Rattle.batches.proofs.applying.apply_commands.Given as goal
 
 -- what was done and what is left is all
 abbrev pub invariant-loop-rest : goal.invariant-loop-rest
 invariant-loop-rest l = record {
-  result : after_reading l.index (reading_of l.rest) l.layers ≡ batch l.bytes l.fn.layers;
+  result : after_reading l.index (reading_of l.rest) l.draft ≡ batch l.bytes l.fn.draft;
   count : l.index + length l.rest ≤ 1 + length l.bytes;
 }
 
