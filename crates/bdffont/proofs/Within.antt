@@ -17,7 +17,7 @@ use Rattle.bdffont.specs.declared.fault.FontFault.{FontFault}
 use Rattle.bdffont.specs.declared.fault.FontKind.{FontKind}
 use Rattle.bdffont.specs.declared.fault.FontKind.TheVariants.{Field, Row, Count, Limit}
 use Rattle.bdffont.specs.declared.fields.Encoding.{Encoding}
-use Rattle.bdffont.specs.declared.fields.Encoding.TheVariants.{Negative, Character}
+use Rattle.bdffont.specs.declared.fields.Encoding.TheVariants.{NoCharacter, Character}
 use Rattle.bdffont.specs.declared.keyword.Keyword.{Keyword}
 use Rattle.bdffont.specs.declared.keyword.Keyword.TheVariants as word
 use Rattle.bdffont.specs.declared.number.Number.{Number}
@@ -176,7 +176,7 @@ row-length width line row =
     omega (arith, length-take width (bits line), bits-length line)
 
 with_encoded-good : (d : Draft) (r : Rows) (e : Encoding) → IsGoodDraft d 1 → IsGoodRows r → r.left ≡ 0 → IsGoodDraft (with_encoded d r e) 0
-with_encoded-good d r Negative good rows none = record { bounds = good.bounds; count = omega (arith, good.count); most = good.most; each = good.each }
+with_encoded-good d r NoCharacter good rows none = record { bounds = good.bounds; count = omega (arith, good.count); most = good.most; each = good.each }
 with_encoded-good d r (Character n) good rows none =
     let glyph : Glyph = record { encoding = n; advance = r.advance; bounds = r.bounds; rows = r.pixels } in
     record {

@@ -6,7 +6,7 @@ use Rattle.mapdefs.specs.declared.limits.TheConstants.{MAX_GLYPH_SIDE}
 use Rattle.bdffont.specs.declared.fault.FontKind.{FontKind}
 use Rattle.bdffont.specs.declared.fault.FontKind.TheVariants.{Field, Limit}
 use Rattle.bdffont.specs.declared.fields.Encoding.{Encoding}
-use Rattle.bdffont.specs.declared.fields.Encoding.TheVariants.{Negative, Character}
+use Rattle.bdffont.specs.declared.fields.Encoding.TheVariants.{NoCharacter, Character}
 use Rattle.bdffont.specs.declared.number.Number.{Number}
 use Rattle.bdffont.specs.Number.{number_at}
 
@@ -31,10 +31,10 @@ box_with _ _ _ _ = Err Field
 abbrev pub box_at : List ℕ → Result BitmapBox FontKind
 box_at line = box_with (number_at 1 line) (number_at 2 line) (number_at 3 line) (number_at 4 line)
 
--- the encoding that a number is
+-- the encoding that a number is: no character has a negative one, and none has one of 2^32 or more
 abbrev pub encoding_of : Option Number → Result Encoding FontKind
 encoding_of None = Err Field
-encoding_of (Some n) = if n.is_negative then Ok Negative else (if nat_lt n.size (2 ^ 32) then Ok (Character n.size) else Err Field)
+encoding_of (Some n) = Ok (if n.is_negative || nat_le (2 ^ 32) n.size then NoCharacter else Character n.size)
 
 -- the encoding of a line: the word after its keyword
 abbrev pub encoding_at : List ℕ → Result Encoding FontKind

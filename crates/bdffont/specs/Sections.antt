@@ -5,7 +5,7 @@ use Rattle.mapdefs.specs.declared.limits.TheConstants.{MAX_GLYPHS}
 use Rattle.bdffont.specs.declared.fault.FontKind.{FontKind}
 use Rattle.bdffont.specs.declared.fault.FontKind.TheVariants.{Start, Field, Row, Count, Limit}
 use Rattle.bdffont.specs.declared.fields.Encoding.{Encoding}
-use Rattle.bdffont.specs.declared.fields.Encoding.TheVariants.{Negative, Character}
+use Rattle.bdffont.specs.declared.fields.Encoding.TheVariants.{NoCharacter, Character}
 use Rattle.bdffont.specs.declared.keyword.Keyword.{Keyword}
 use Rattle.bdffont.specs.declared.keyword.Keyword.TheVariants as word
 use Rattle.bdffont.specs.declared.section.Draft.{Draft}
@@ -93,9 +93,9 @@ in_glyph d g (Some word.Bbx) line = and_then (bounded g line) (λ next. Ok (InGl
 in_glyph d g (Some word.Bitmap) line = and_then (rows_of g) (λ rows. Ok (InRows d rows))
 in_glyph d g (Some _) line = Err Field
 
--- the font with a glyph whose rows are read; one with a negative encoding is dropped
+-- the font with a glyph whose rows are read; one that is no character is dropped
 abbrev pub with_encoded : Draft → Rows → Encoding → Draft
-with_encoded d r Negative = d
+with_encoded d r NoCharacter = d
 with_encoded d r (Character n) =
     record d { glyphs = d.glyphs ++ record { encoding = n; advance = r.advance; bounds = r.bounds; rows = r.pixels } ∷ [] }
 

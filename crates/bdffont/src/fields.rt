@@ -10,8 +10,8 @@ use mapdefs::{BitmapBox, MAX_GLYPH_SIDE};
 /// The encoding of a glyph.
 #[derive(Clone, Copy)]
 pub enum Encoding {
-    /// A negative one: the glyph is no character of the font.
-    Negative,
+    /// A number that no character has, a negative one or one past 32 bits: the glyph is no character of the font.
+    NoCharacter,
     /// A character's number.
     Character(u32),
 }
@@ -71,9 +71,9 @@ pub fn encoding_at(line: &[u8]) -> Result<Encoding, FontKind>
     ensures { result ≡ encoding_at line.now }
 {
     match number_at(line, 1) {
-        Some(number) if number.is_negative => Ok(Encoding::Negative),
-        Some(number) if number.size < 1 << 32 => Ok(Encoding::Character(number.size as u32)),
-        _ => Err(FontKind::Field),
+        Some(number) if number.is_negative || number.size >= 1 << 32 => Ok(Encoding::NoCharacter),
+        Some(number) => Ok(Encoding::Character(number.size as u32)),
+        None => Err(FontKind::Field),
     }
 }
 

@@ -195,12 +195,12 @@ fn in_glyph(
     }
 }
 
-// The font with a glyph whose rows are read. One with a negative encoding is dropped.
+// The font with a glyph whose rows are read. One that is no character is dropped.
 fn with_glyph(draft: Draft, rows: Rows) -> Result<Draft, AllocError>
     ensures { IfOk result (λ next. next ≡ with_glyph draft rows) }
 {
     match rows.encoding {
-        Encoding::Negative => Ok(draft),
+        Encoding::NoCharacter => Ok(draft),
         Encoding::Character(encoding) => {
             let mut draft = draft;
             draft.glyphs.push(Glyph {

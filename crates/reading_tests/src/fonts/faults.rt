@@ -27,7 +27,6 @@ const FAULTS: &str = "\
 2 7|7|ENCODING
 2 7|7|ENCODING A
 2 7|7|ENCODING -
-2 7|7|ENCODING 4294967296
 2 10|9|-
 2 9|9|DWIDTH 3
 2 9|9|DWIDTH 256 0
@@ -104,6 +103,8 @@ const FAULTS: &str = "\
 0 0|4|FONTBOUNDINGBOX 64 64 -64 64
 0 0|5|CHARS 9;CHARS  01 9
 0 0|7|ENCODING 4294967295
+0 0|7|ENCODING 4294967296
+0 0|7|ENCODING 99999999999999999999999
 0 0|7|ENCODING -1 65
 0 0|7|ENCODING 66;ENCODING 65 x
 0 0|8|BBX 64 64 64 -64
@@ -133,7 +134,7 @@ fn told_edited(alloc: Global, row: &str) -> Result<String, AllocError> {
 
 #[test]
 fn fonts_have_their_first_fault(rt: HostRuntime) -> Result<(), TableFault> {
-    check_rows(rt.alloc(), FAULTS, '|', 106, told_edited)
+    check_rows(rt.alloc(), FAULTS, '|', 107, told_edited)
 }
 
 // The same of a whole file, and of the tiny font.

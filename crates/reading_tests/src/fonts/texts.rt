@@ -57,6 +57,8 @@ const PICTURES: &str = "\
 ......./......./.#...../.......|12|3F|A|0 0
 ......./.##.##./.#..#../.......|7|ENCODING 63|AB|0 0
 ......./......./......./.......|7|ENCODING -1 65|A|0 0
+......./......./......./.......|7|ENCODING 4294967361|A|0 0
+......./......./......./.......|7|ENCODING 4294967359|B|0 0
 ......./.##..../.#...../.......|7|ENCODING 233|é|0 0
 ......./......./......./.......|7|ENCODING 65;ENCODING 66|A|0 0";
 
@@ -89,7 +91,7 @@ fn drawn_row(alloc: Global, row: &str) -> Result<String, AllocError> {
 
 #[test]
 fn texts_are_drawn_as_worked(rt: HostRuntime) -> Result<(), TableFault> {
-    check_rows(rt.alloc(), PICTURES, '|', 22, drawn_row)
+    check_rows(rt.alloc(), PICTURES, '|', 24, drawn_row)
 }
 
 // Seven glyphs, not by their encodings, two of them with the encoding 97 and one with a negative one.
