@@ -9,6 +9,7 @@ pub mod Graining
 pub mod Labelling
 pub mod Margins
 pub mod Meeting
+pub mod Mentions
 pub mod NearAnchors
 pub mod NearBoxes
 pub mod NearEdges

@@ -38,7 +38,7 @@ of-layer view scale symbols layer = go (is_visible_layer scale layer)
     go true = nested (met_things view symbols) (met_feature scale layer) (feature_things view scale symbols layer) (of-feature view scale symbols layer) layer.features
     go false = refl
 
-of-chosen : (view : ViewValue) (scale : PictureScale) (m : MapFields) (index : ℕ) →
+pub of-chosen : (view : ViewValue) (scale : PictureScale) (m : MapFields) (index : ℕ) →
     chosen_things view scale m index ≡ flat_map (met_things view m.symbols) (met_chosen scale m index)
 of-chosen view scale m index = go (slice_get m.layers index)
   where

@@ -1,7 +1,7 @@
 -- The candidates for a picture's labels, and their ink (docs/PROFILE.md, "Labels").
-use Rattle.std.specs.Prelude.{◌≡◌, ℕ, List, [], ◌∷◌, ◌++◌, Option, None, Some, slice_get, take}
+use Rattle.std.specs.Prelude.{◌≡◌, ℕ, Bool, List, [], ◌∷◌, ◌++◌, Option, None, Some, slice_get, take}
 use Rattle.std.specs.List.{flat_map}
-use Rattle.std.specs.Option.{option_map_or}
+use Rattle.std.specs.Option.{is_some, option_map_or}
 use Rattle.std.specs.Str.{chars, encode_utf8_all}
 use Rattle.bdffont.specs.declared.text.TheConstants.{MAX_CHARACTERS}
 use Rattle.geom.specs.Device.{PixelPlace}
@@ -13,6 +13,7 @@ use Rattle.labelcache.specs.Placement.{IsPlacement, setting}
 use Rattle.labelcache.specs.declared.cache.Placed.{Placed}
 use Rattle.mapdefs.specs.Near.{AreCandidates}
 use Rattle.mapdefs.specs.Truth.{item_value}
+use Rattle.mapdefs.specs.declared.class.ClassFields.{ClassFields}
 use Rattle.mapdefs.specs.declared.colour.Rgb.{Rgb}
 use Rattle.mapdefs.specs.declared.feature.FeatureFields.{FeatureFields}
 use Rattle.mapdefs.specs.declared.font.FontFields.{FontFields}
@@ -54,6 +55,10 @@ label_candidates view met =
 abbrev pub met_candidates : ViewValue → Option FontFields → Met → List CandidateValue
 met_candidates view None met = []
 met_candidates view (Some font) met = label_candidates view met
+
+-- whether features of a class may have labels
+abbrev pub has_label : ClassFields → Bool
+has_label class = is_some class.label
 
 -- all candidates, by their numbers: those of the features that are met, in order
 abbrev pub candidate_list : ViewValue → PictureScale → MapFields → List ℕ → List CandidateValue

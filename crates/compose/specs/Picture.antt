@@ -1,5 +1,6 @@
 -- The picture of a map (docs/PROFILE.md, "How features are painted" and "Labels").
-use Rattle.std.specs.Prelude.{◌≡◌, ℕ, ◌+◌, ◌*◌, ◌<◌, List, ◌++◌, length, reverse, find, Option, Some, slice_get}
+use Rattle.std.specs.Prelude.{◌≡◌, ℕ, ◌+◌, ◌*◌, ◌<◌, List, ◌∷◌, ◌++◌, length, reverse, find, Option, Some, slice_get}
+use Rattle.std.specs.List.{Contains}
 use Rattle.std.specs.Option.{option_map_or}
 use Rattle.geom.specs.Scale.{PictureScale}
 use Rattle.labelcache.specs.declared.cache.Placed.{Placed}
@@ -30,3 +31,10 @@ pub record IsPictureOf (m : MapFields) (view : ViewValue) (scale : PictureScale)
 abbrev pub HasOnePicture : Type 0
 HasOnePicture = (m : MapFields) (view : ViewValue) (scale : PictureScale) (chosen : List ℕ) (background : Option Rgb) (a b : PictureFields) →
     IsPictureOf m view scale chosen background a → IsPictureOf m view scale chosen background b → a ≡ b
+
+-- the law: what is painted of a list of layers in which one stands twice is what is painted without its first mention. What that
+-- covered the later one covers again, and what the later one doesn't cover the first didn't either
+abbrev pub LastMentionsPaintAll : Type 0
+LastMentionsPaintAll = (view : ViewValue) (scale : PictureScale) (m : MapFields) (before : List ℕ) (index : ℕ) (after : List ℕ) (background : Option Rgb) (i j : ℕ) →
+    Contains after index →
+    colour_at background (paint_list view scale m (before ++ index ∷ after)) i j ≡ colour_at background (paint_list view scale m (before ++ after)) i j

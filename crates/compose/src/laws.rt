@@ -3,7 +3,7 @@
 ghost use Rattle.compose.specs.Anchor.{AnchorsAreNear};
 ghost use Rattle.compose.specs.Labels.{FoundLabelAll};
 ghost use Rattle.compose.specs.Near.{CandidatesPaintAll, PaintsNear};
-ghost use Rattle.compose.specs.Picture.{HasOnePicture};
+ghost use Rattle.compose.specs.Picture.{HasOnePicture, LastMentionsPaintAll};
 ghost use Rattle.compose.specs.Walk.{PaintListIsOfTheMet};
 
 /// A feature that paints a pixel of the picture has its box in the window of its layer's margin, so that what is
@@ -36,4 +36,9 @@ pub fn found_label_all()
 /// There is one picture at most of a map in a view.
 pub fn one_picture()
     ensures { HasOnePicture }
+{}
+
+/// A list of layers in which one stands twice gives each pixel the colour that it gives it without the first mention.
+pub fn last_mentions_paint_all()
+    ensures { LastMentionsPaintAll }
 {}

@@ -5,7 +5,8 @@
 //! background, which may be nothing (`IsPictureOf`). The labels are the placement of the candidates of
 //! the features that are met. There is one such picture (`laws::one_picture`), and it doesn't depend on
 //! how features are found (`laws::paints_near`, `candidates_paint_all`, `anchors_are_near`,
-//! `found_label_all`).
+//! `found_label_all`). A layer that is chosen several times is painted once, which gives the same picture
+//! (`laws::last_mentions_paint_all`).
 //!
 //! Words: a *thing* is what is painted at once: the rings of a polygon, a line or a square in one colour,
 //! or a pixmap. The *paint list* has the things of the chosen layers in order: a layer's features, a
@@ -29,6 +30,7 @@ mod flip_fill;
 mod grain;
 mod ink;
 mod label;
+mod labelled_layer;
 mod latitudes;
 pub mod laws;
 mod lines;

@@ -1,6 +1,6 @@
 ghost use Rattle.std.specs.Prelude.{◌≡◌, ◌<◌, ◌*◌, All, IfOk, OnOk, length};
 ghost use Rattle.std.specs.List.{flat_map};
-ghost use Rattle.compose.specs.Drawn.{IsDrawn};
+ghost use Rattle.compose.specs.Drawn.{IsDrawn, IsMentioned};
 ghost use Rattle.compose.specs.Painted.{IsPainted};
 ghost use Rattle.compose.specs.Picture.{IsPictureOf};
 ghost use Rattle.compose.specs.Walk.{given_at, met_chosen, met_feature, met_things};
@@ -8,6 +8,7 @@ ghost use Rattle.compose.specs.Walk.{given_at, met_chosen, met_feature, met_thin
 use crate::canvas::Canvas;
 use crate::drawing::Drawing;
 use crate::label::add_candidate;
+use crate::labelled_layer::add_layer;
 use crate::lines::paint_lines;
 use crate::margin::margin_of;
 use crate::met::MetFeature;
@@ -24,6 +25,9 @@ use viewport::View;
 /// and classes that aren't visible at the scale are left out. Where nothing is painted the picture has the
 /// background, which may be nothing. The labels of the features that are met are placed and painted after
 /// everything else, if the map has a font.
+///
+/// A layer that is chosen several times is painted at its last mention alone, which gives the same picture
+/// (`laws::last_mentions_paint_all`). Its candidates for labels are added at each.
 ///
 /// The features that may be seen are those that `near` finds in the view and so many pixels round it as the
 /// layer's styles paint from a point at most. The picture and its labels are the same whatever else it finds.
@@ -44,8 +48,10 @@ pub fn draw<N: Near>(
     ensures { IfOk result (IsPictureOf scene.now.map scene.now.view scene.now.scale chosen.now background) }
 {
     let mut drawing = Drawing::new(alloc, scene, background)?;
-    for index in chosen {
-        draw_layer(&mut drawing, scene, near, *index)?;
+    let mut rest = chosen;
+    while let Some((index, after)) = rest.split_first() {
+        draw_mention(&mut drawing, scene, near, *index, after)?;
+        rest = after;
     }
     Ok(drawing.into_labelled(scene)?.into_picture())
 }
@@ -71,6 +77,28 @@ pub fn picture<N: Near>(
         chosen,
         background,
     )
+}
+
+// Draws the layer of an index that stands before others in a list, unless it stands among these again: then its
+// candidates alone are added.
+fn draw_mention<'a, N: Near>(
+    drawing: &mut Drawing<'a>,
+    scene: &Scene<'a>,
+    near: &N,
+    index: usize,
+    after: &[usize],
+) -> Result<(), AllocError>
+    requires near { N.map_of near.now ≡ scene.now.map }
+    requires index { index < length scene.now.map.layers }
+    requires width { drawing.old.canvas.width ≡ scene.now.view.width }
+    requires height { drawing.old.canvas.height ≡ scene.now.view.height }
+    requires area { length drawing.old.canvas.pixels ≡ drawing.old.canvas.width * drawing.old.canvas.height }
+    ensures { OnOk result (IsMentioned scene.now index after.now drawing.old drawing.new) }
+{
+    if after.contains(&index) {
+        return add_layer(&mut drawing.labels, scene, near, index);
+    }
+    draw_layer(drawing, scene, near, index)
 }
 
 // Draws the layer of an index, where it shows at the scale.

@@ -81,6 +81,7 @@ fn chosen_of(digits: &str) -> Option<&'static [usize]>
         "0" => Some(&[0]),
         "00" => Some(&[0, 0]),
         "01" => Some(&[0, 1]),
+        "010" => Some(&[0, 1, 0]),
         "10" => Some(&[1, 0]),
         _ => None,
     }
@@ -124,6 +125,7 @@ const PICTURES: &str = "\
 # the last feature stands at the first position, and the other at the second; a layer that is named twice has two
 2:.oo..oo... 3:.o...o.... =t 0|p - AUTO;A - 45,55;A - 45,55|p - CC;- - 0,0
 2:.oo..oo... 3:.o...o.... =t 00|p - AUTO;A - 45,55|p - CC;- - 0,0
+2:.##..oo... 3:.#...o.... 5:.....oo... 6:.....o.... =t 010|p - AUTO;A - 45,55|p - AUTO c#;A - 45,55
 # the order of trial goes by priority, and then by falling number
 2:.##..oo... 3:.#...o.... =t 01|p - AUTO c#;A - 45,55|p - AUTO co;A - 45,55
 2:.oo..##... 3:.o...#.... =t 01|p - AUTO c# p2;A - 45,55|p - AUTO co;A - 45,55
@@ -165,5 +167,5 @@ const PICTURES: &str = "\
 
 #[test]
 fn labels_of_maps_are_painted_as_worked(rt: HostRuntime) -> Result<(), TableFault> {
-    check_rows(rt.alloc(), PICTURES, '=', 28, told)
+    check_rows(rt.alloc(), PICTURES, '=', 29, told)
 }

@@ -318,6 +318,8 @@ fn chosen_of(digits: &str) -> Option<&'static [usize]>
         "0 1" => Some(&[0, 1]),
         "1 0" => Some(&[1, 0]),
         "1 0 1" => Some(&[1, 0, 1]),
+        "0 1 0" => Some(&[0, 1, 0]),
+        "0 0 1" => Some(&[0, 0, 1]),
         _ => None,
     }
 }

@@ -81,11 +81,14 @@ fn rings_of_many_edges_cover_worked_pixels(rt: HostRuntime) -> Result<(), TableF
 const LAYERS: &str = "\
 #### #oo# #oo# ####;.;0 1;polygon #/- none;0,0 40,0 40,40 0,40
 #### #### #### ####;.;1 0;polygon #/- none;0,0 40,0 40,40 0,40
-#### #oo# #oo# ####;.;1 0 1;polygon #/- none;0,0 40,0 40,40 0,40";
+#### #oo# #oo# ####;.;1 0 1;polygon #/- none;0,0 40,0 40,40 0,40
+# a layer that is chosen again covers at its last mention
+..## .o## .oo. ....;.;0 1 0;polygon #/- none;20,20 40,20 40,40 20,40
+..## .oo# .oo. ....;.;0 0 1;polygon #/- none;20,20 40,20 40,40 20,40";
 
 #[test]
 fn later_layers_lie_over_earlier_ones(rt: HostRuntime) -> Result<(), TableFault> {
-    check_rows(rt.alloc(), LAYERS, ';', 3, drawn_row)
+    check_rows(rt.alloc(), LAYERS, ';', 5, drawn_row)
 }
 
 const BACKGROUNDS: &str = "\

@@ -1,7 +1,13 @@
-use Rattle.std.proofs.Common.{take}
-use Rattle.compose.specs.Drawn.{IsDrawn}
-use Rattle.compose.specs.Walk.{met_list}
+use Rattle.std.proofs.Common.{All, length, ◌<◌}
+use Rattle.compose.specs.Drawn.{IsDrawnTo}
 use Rattle.compose.proofs.paint.draw.Given as goal
 
+-- the layers before the rest have been mentioned
 abbrev pub invariant-loop-index : goal.invariant-loop-index
-invariant-loop-index g l = IsDrawn l.scene l.initial.drawing l.drawing (met_list l.scene.scale l.scene.map (take l.index-index l.chosen))
+invariant-loop-index g l = record {
+  drawn : IsDrawnTo l.scene l.chosen l.rest l.initial.drawing l.drawing;
+  layers : All (λ index. index < length l.scene.map.layers) l.rest;
+}
+
+abbrev pub decreases-loop-index : goal.decreases-loop-index
+decreases-loop-index g l = length l.rest

@@ -1,0 +1,227 @@
+-- Layers that are chosen several times, and layers of which the candidates alone are added.
+use Rattle.std.proofs.Common.{◌≡◌, ◌∙◌, ℕ, ◌+◌, ◌<◌, Bool, true, false, cond, ◌||◌, ◌⊎◌, inl, inr, List, [], ◌∷◌, ◌++◌, length, get_or, take, reverse, Option, None, Some, refl, sym, ap, arith, ⊎_elim}
+use Rattle.std.proofs.lemmas.Bool.{false≢true}
+use Rattle.std.proofs.lemmas.Grind.{flat_map-append}
+use Rattle.std.proofs.lemmas.List.{append-nil, append_assoc, take_more}
+use Rattle.std.proofs.lemmas.Option.{slice_get-get_or}
+use Rattle.std.specs.List.{Contains, flat_map, find, list_any}
+use Rattle.std.specs.Option.{is_some, option_map_or}
+use Rattle.std.specs.Prelude.{slice_get}
+use Rattle.geom.specs.Scale.{PictureScale}
+use Rattle.geom.specs.Side.{IsPictureSide}
+use Rattle.geom.specs.World.{IsExtent}
+use Rattle.labelcache.specs.Candidate.{CandidateValue}
+use Rattle.mapdefs.proofs.Containing.{first_or}
+use Rattle.mapdefs.specs.Class.{admits, is_visible_layer}
+use Rattle.mapdefs.specs.Near.{AreCandidates}
+use Rattle.mapdefs.specs.declared.class.ClassFields.{ClassFields}
+use Rattle.mapdefs.specs.declared.feature.FeatureFields.{FeatureFields}
+use Rattle.mapdefs.specs.declared.font.FontFields.{FontFields}
+use Rattle.mapdefs.specs.declared.label.LabelFields.{LabelFields}
+use Rattle.mapdefs.specs.declared.layer.LayerFields.{LayerFields}
+use Rattle.mapdefs.specs.declared.colour.Rgb.{Rgb}
+use Rattle.mapdefs.specs.declared.map.MapFields.{MapFields}
+use Rattle.mapdefs.specs.declared.picture.PictureFields.{PictureFields}
+use Rattle.scene.specs.Scene.{SceneValue}
+use Rattle.viewport.specs.View.{ViewValue, window}
+use Rattle.compose.specs.Anchor.{shown_anchor}
+use Rattle.compose.specs.Drawn.{DrawingValue, IsDrawn, IsDrawnTo, IsMentioned}
+use Rattle.compose.specs.Labels.{candidate_at, candidate_list, has_label, label_text, met_candidates}
+use Rattle.compose.specs.Paint.{Thing, chosen_things, colour_in, covers, paint_list}
+use Rattle.compose.specs.Painted.{IsPainted, colour_of}
+use Rattle.compose.specs.Picture.{LastMentionsPaintAll, colour_at}
+use Rattle.compose.specs.Walk.{Met, given_at, met_chosen, met_feature, met_list}
+use Rattle.compose.proofs.Found.{found-label-all}
+use Rattle.compose.proofs.Painting.{colour_at-append, painted-append, painted-none}
+use Rattle.compose.proofs.Walking.{of-chosen, paint-list-of-the-met}
+
+-- things give a pixel the same colour over any background, or leave it as it is
+abbrev Hides : List Thing → ℕ → ℕ → Type 0
+Hides things i j = (a b : Option Rgb) → colour_at a things i j ≡ colour_at b things i j
+
+abbrev Leaves : List Thing → ℕ → ℕ → Type 0
+Leaves things i j = (a : Option Rgb) → colour_at a things i j ≡ a
+
+hides-or-leaves : (things : List Thing) (i j : ℕ) → Hides things i j ⊎ Leaves things i j
+unfolding colour_at
+hides-or-leaves things i j = go (find (λ thing. covers thing i j) (reverse things))
+  where
+    go : (o : Option Thing) →
+        ((a b : Option Rgb) → option_map_or (λ thing. colour_in thing i j) o a ≡ option_map_or (λ thing. colour_in thing i j) o b)
+        ⊎ ((a : Option Rgb) → option_map_or (λ thing. colour_in thing i j) o a ≡ a)
+    go None = inr (λ a. refl)
+    go (Some thing) = inl (λ a b. refl)
+
+-- where a layer hides what was there, a list that has it does too
+hides-within : (view : ViewValue) (scale : PictureScale) (m : MapFields) (index i j : ℕ) → Hides (chosen_things view scale m index) i j →
+    (after : List ℕ) → Contains after index → Hides (paint_list view scale m after) i j
+hides-within view scale m index i j h [] c a b = absurd (omega (arith, c.1))
+hides-within view scale m index i j h (x ∷ xs) c a b =
+    let first = chosen_things view scale m x in
+    let rest = paint_list view scale m xs in
+    rw (colour_at-append a first rest i j, colour_at-append b first rest i j)
+    (⊎_elim
+    (λ (e : x ≡ index). ap (λ (z : Option Rgb). colour_at z rest i j) (rw e (h a b)))
+    (λ (d : Contains xs index). hides-within view scale m index i j h xs d (colour_at a first i j) (colour_at b first i j))
+    (first_or x index xs c))
+
+pub last-mentions-paint-all : LastMentionsPaintAll
+last-mentions-paint-all view scale m before index after background i j c =
+    let things = chosen_things view scale m in
+    let early = flat_map things before in
+    let one = things index in
+    let late = flat_map things after in
+    let under = colour_at background early i j in
+    rw (
+      flat_map-append things before (index ∷ after),
+      flat_map-append things before after,
+      colour_at-append background early (one ++ late) i j,
+      colour_at-append background early late i j,
+      colour_at-append under one late i j,
+    )
+    (⊎_elim
+    (λ (h : Hides one i j). hides-within view scale m index i j h after c (colour_at under one i j) under)
+    (λ (l : Leaves one i j). ap (λ (z : Option Rgb). colour_at z late i j) (l under))
+    (hides-or-leaves one i j))
+
+-- what gives each pixel the same colour is painted as well
+painted-as : (a b : PictureFields) (xs ys : List Thing) → ((background : Option Rgb) (i j : ℕ) → colour_at background xs i j ≡ colour_at background ys i j) →
+    IsPainted a b xs → IsPainted a b ys
+painted-as a b xs ys same p = record {
+  width = p.width;
+  height = p.height;
+  area = p.area;
+  pixels = λ at h. p.pixels at h ∙ same (colour_of a.pixels at) _ _;
+}
+
+-- before the first layer
+pub drawn-to-first : (scene : SceneValue) (chosen : List ℕ) (a : DrawingValue) → IsDrawnTo scene chosen chosen a a
+drawn-to-first scene chosen a = record {
+  done = [];
+  kept = [];
+  is = refl;
+  painted = painted-none a.canvas;
+  same = λ background i j. refl;
+  labelled = sym (append-nil a.labels);
+}
+
+-- the candidates of one layer more
+labelled-more : (scene : SceneValue) (done : List ℕ) (index : ℕ) (a b c : List CandidateValue) → b ≡ a ++ candidate_list scene.view scene.scale scene.map done →
+    c ≡ b ++ flat_map (met_candidates scene.view scene.map.font) (met_chosen scene.scale scene.map index) →
+    c ≡ a ++ candidate_list scene.view scene.scale scene.map (done ++ index ∷ [])
+labelled-more scene done index a b c p q =
+    let candidates = met_candidates scene.view scene.map.font in
+    let met = met_chosen scene.scale scene.map in
+    let early = flat_map candidates (flat_map met done) in
+    let one = flat_map candidates (met index) in
+    rw (flat_map-append met done (index ∷ []), append-nil (met index), flat_map-append candidates (flat_map met done) (met index))
+    (q ∙ ap (λ (z : List CandidateValue). z ++ one) p ∙ append_assoc a early one)
+
+pub drawn-to-next : (scene : SceneValue) (chosen : List ℕ) (index : ℕ) (after : List ℕ) (a b c : DrawingValue) → IsDrawnTo scene chosen (index ∷ after) a b →
+    IsMentioned scene index after b c → IsDrawnTo scene chosen after a c
+drawn-to-next scene chosen index after a b c p (inl again) = record {
+  done = p.done ++ index ∷ [];
+  kept = p.kept;
+  is = p.is ∙ sym (append_assoc p.done (index ∷ []) after);
+  painted = rw again.1.canvas p.painted;
+  same = λ background i j. sym (last-mentions-paint-all scene.view scene.scale scene.map p.kept index after background i j again.0) ∙ p.same background i j;
+  labelled = labelled-more scene p.done index a.labels b.labels c.labels p.labelled again.1.labelled;
+}
+drawn-to-next scene chosen index after a b c p (inr drawn) =
+    let things = chosen_things scene.view scene.scale scene.map in
+    let one = rw (← of-chosen scene.view scene.scale scene.map index) at drawn.painted in
+    record {
+      done = p.done ++ index ∷ [];
+      kept = p.kept ++ index ∷ [];
+      is = p.is ∙ sym (append_assoc p.done (index ∷ []) after);
+      painted = rw (flat_map-append things p.kept (index ∷ []), append-nil (things index)) (painted-append a.canvas b.canvas c.canvas (flat_map things p.kept) (things index) p.painted one);
+      same = λ background i j. rw (append_assoc p.kept (index ∷ []) after) (p.same background i j);
+      labelled = labelled-more scene p.done index a.labels b.labels c.labels p.labelled drawn.labelled;
+    }
+
+-- after the last one all that is met is drawn
+pub drawn-to-last : (scene : SceneValue) (chosen rest : List ℕ) (a b : DrawingValue) → length rest ≡ 0 → IsDrawnTo scene chosen rest a b →
+    IsDrawn scene a b (met_list scene.scale scene.map chosen)
+drawn-to-last scene chosen (x ∷ xs) a b none p = absurd (omega (arith, none))
+drawn-to-last scene chosen [] a b none p =
+    let all = paint_list scene.view scene.scale scene.map chosen in
+    let is = p.is ∙ append-nil p.done in
+    record {
+      painted = rw (← paint-list-of-the-met scene.view scene.scale scene.map chosen)
+          (painted-as a.canvas b.canvas (paint_list scene.view scene.scale scene.map p.kept) all (rw (append-nil p.kept) at p.same) p.painted);
+      labelled = rw is p.labelled;
+    }
+
+-- a loop over what is found adds the candidates of each
+pub labelled-next : {X : Type 0} (f : X → List Met) (g : Met → List CandidateValue) (xs : List X) (i : ℕ) (x : X) (a b c : List CandidateValue) → i < length xs → x ≡ get_or xs i x →
+    b ≡ a ++ flat_map g (flat_map f (take i xs)) → c ≡ b ++ flat_map g (f x) → c ≡ a ++ flat_map g (flat_map f (take (i + 1) xs))
+labelled-next f g xs i x a b c h e p q =
+    let here : get_or xs i x ∷ [] ≡ x ∷ [] = ap (λ y. y ∷ []) (sym e) in
+    let early = flat_map g (flat_map f (take i xs)) in
+    rw (take_more xs i x h, here, flat_map-append f (take i xs) (x ∷ []), append-nil (f x), flat_map-append g (flat_map f (take i xs)) (f x))
+    (q ∙ ap (λ (z : List CandidateValue). z ++ flat_map g (f x)) p ∙ append_assoc a early (flat_map g (f x)))
+
+-- the index of an element in place of it
+pub labelled-at : {X : Type 0} (f : X → List Met) (g : Met → List CandidateValue) (xs : List X) (k : ℕ) (x : X) (b c : List CandidateValue) → k < length xs → x ≡ get_or xs k x →
+    c ≡ b ++ flat_map g (f x) → c ≡ b ++ flat_map g (given_at f xs k)
+labelled-at f g xs k x b c short is p = rw (slice_get-get_or xs k x short, ← is) p
+
+-- a layer that doesn't show has no candidates
+pub hidden-layer : (scene : SceneValue) (index : ℕ) (layer : LayerFields) (labels : List CandidateValue) → slice_get scene.map.layers index ≡ Some layer →
+    is_visible_layer scene.scale layer ≡ false →
+    labels ≡ labels ++ flat_map (met_candidates scene.view scene.map.font) (met_chosen scene.scale scene.map index)
+hidden-layer scene index layer labels is hidden = rw (is, hidden) (sym (append-nil labels))
+
+-- nor has one of whose classes none has a label
+unlabelled-class : (view : ViewValue) (font : Option FontFields) (met : Met) → has_label met.class ≡ false → met_candidates view font met ≡ []
+unlabelled-class view None met none = refl
+unlabelled-class view (Some font) met none = go met.class.label none
+  where
+    go : (label : Option LabelFields) → is_some label ≡ false →
+        option_map_or (λ l. option_map_or (candidate_at l (label_text met.layer met.feature)) (shown_anchor view met.layer.kind met.feature) []) label [] ≡ []
+    go None none = refl
+    go (Some l) none = absurd (false≢true (sym none))
+
+unlabelled-feature : (view : ViewValue) (font : Option FontFields) (layer : LayerFields) (feature : FeatureFields) (f : ClassFields → Bool) (classes : List ClassFields) →
+    list_any has_label classes ≡ false →
+    flat_map (met_candidates view font) (option_map_or (λ (class : ClassFields). record { layer = layer; feature = feature; class = class } ∷ []) (find f classes) []) ≡ []
+unlabelled-feature view font layer feature f [] none = refl
+unlabelled-feature view font layer feature f (c ∷ cs) none = go (f c) (unlabelled-feature view font layer feature f cs (later (has_label c) none))
+  where
+    here : (b : Bool) → (b || list_any has_label cs) ≡ false → b ≡ false
+    here true h = h
+    here false h = refl
+
+    later : (b : Bool) → (b || list_any has_label cs) ≡ false → list_any has_label cs ≡ false
+    later true h = absurd (false≢true (sym h))
+    later false h = h
+
+    go : (b : Bool) →
+        flat_map (met_candidates view font) (option_map_or (λ (class : ClassFields). record { layer = layer; feature = feature; class = class } ∷ []) (find f cs) []) ≡ [] →
+        flat_map (met_candidates view font) (option_map_or (λ (class : ClassFields). record { layer = layer; feature = feature; class = class } ∷ []) (cond b (Some c) (find f cs)) []) ≡ []
+    go true rest = rw (unlabelled-class view font (record { layer = layer; feature = feature; class = c }) (here (has_label c) none)) refl
+    go false rest = rest
+
+unlabelled-features : (view : ViewValue) (font : Option FontFields) (scale : PictureScale) (layer : LayerFields) (features : List FeatureFields) → list_any has_label layer.classes ≡ false →
+    flat_map (met_candidates view font) (flat_map (met_feature scale layer) features) ≡ []
+unlabelled-features view font scale layer [] none = refl
+unlabelled-features view font scale layer (x ∷ xs) none =
+    rw (
+      flat_map-append (met_candidates view font) (met_feature scale layer x) (flat_map (met_feature scale layer) xs),
+      unlabelled-feature view font layer x (admits scale layer x) layer.classes none,
+    ) (unlabelled-features view font scale layer xs none)
+
+pub unlabelled-layer : (scene : SceneValue) (index : ℕ) (layer : LayerFields) (labels : List CandidateValue) → slice_get scene.map.layers index ≡ Some layer →
+    is_visible_layer scene.scale layer ≡ true → list_any has_label layer.classes ≡ false →
+    labels ≡ labels ++ flat_map (met_candidates scene.view scene.map.font) (met_chosen scene.scale scene.map index)
+unlabelled-layer scene index layer labels is shown none =
+    rw (is, shown, unlabelled-features scene.view scene.map.font scene.scale layer layer.features none) (sym (append-nil labels))
+
+-- and of one that shows the candidates are those of what is found
+pub found-layer : (scene : SceneValue) (index : ℕ) (layer : LayerFields) (found : List ℕ) (a b : List CandidateValue) → slice_get scene.map.layers index ≡ Some layer →
+    is_visible_layer scene.scale layer ≡ true → IsExtent scene.view.area → IsPictureSide scene.view.width → IsPictureSide scene.view.height →
+    AreCandidates layer.features (window scene.view 0) found →
+    b ≡ a ++ flat_map (met_candidates scene.view scene.map.font) (flat_map (given_at (met_feature scene.scale layer) layer.features) found) →
+    b ≡ a ++ flat_map (met_candidates scene.view scene.map.font) (met_chosen scene.scale scene.map index)
+found-layer scene index layer found a b is shown extent width height are p =
+    rw (is, shown) (p ∙ ap (λ (z : List CandidateValue). a ++ z) (found-label-all scene.view 0 scene.scale scene.map.font layer found extent width height are))

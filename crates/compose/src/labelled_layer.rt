@@ -1,0 +1,78 @@
+ghost use Rattle.std.specs.Prelude.{◌≡◌, ◌<◌, ◌++◌, All, OnOk, length};
+ghost use Rattle.std.specs.List.{flat_map, list_any};
+ghost use Rattle.compose.specs.Labels.{has_label, met_candidates};
+ghost use Rattle.compose.specs.Walk.{given_at, met_chosen, met_feature};
+
+use crate::label::add_candidate;
+use crate::met::MetFeature;
+use labelcache::Cache;
+use mapdefs::{FeatureFields, LayerFields, Near};
+use scene::Scene;
+use std::alloc::AllocError;
+
+/// Adds what may be placed of the layer of an index, where it shows at the scale, and paints nothing. A layer without
+/// labels isn't looked at.
+pub fn add_layer<'a, N: Near>(
+    labels: &mut Cache<'a>,
+    scene: &Scene<'a>,
+    near: &N,
+    index: usize,
+) -> Result<(), AllocError>
+    requires near { N.map_of near.now ≡ scene.now.map }
+    requires index { index < length scene.now.map.layers }
+    ensures { OnOk result (labels.new ≡ labels.old ++ flat_map (met_candidates scene.now.view scene.now.map.font) (met_chosen scene.now.scale scene.now.map index)) }
+{
+    let layer = scene.layer(index);
+    if !scene.shows(layer) {
+        return Ok(());
+    }
+    if !has_labels(layer) {
+        return Ok(());
+    }
+    let found = near.candidates(index, scene.window(0))?;
+    add_features(labels, scene, layer, &found)
+}
+
+// Whether some class of a layer has a label.
+fn has_labels(layer: &LayerFields) -> bool
+    ensures { result ≡ list_any has_label layer.now.classes }
+{
+    for class in layer.classes.as_slice() {
+        if class.get().label.is_some() {
+            return true;
+        }
+    }
+    false
+}
+
+// Adds what may be placed of the features of those indices in the layer, in their order.
+fn add_features<'a>(
+    labels: &mut Cache<'a>,
+    scene: &Scene<'_>,
+    layer: &'a LayerFields,
+    found: &[u32],
+) -> Result<(), AllocError>
+    requires { All (λ k. k < length layer.now.features) found.now }
+    ensures { OnOk result (labels.new ≡ labels.old ++ flat_map (met_candidates scene.now.view scene.now.map.font) (flat_map (given_at (met_feature scene.now.scale layer.now) layer.now.features) found.now)) }
+{
+    let features = layer.features.as_slice();
+    for index in found {
+        add_feature(labels, scene, layer, features[*index as usize].get().get())?;
+    }
+    Ok(())
+}
+
+// Adds what may be placed of a feature of the layer, if it has a class at the scale.
+fn add_feature<'a>(
+    labels: &mut Cache<'a>,
+    scene: &Scene<'_>,
+    layer: &'a LayerFields,
+    feature: &'a FeatureFields,
+) -> Result<(), AllocError>
+    ensures { OnOk result (labels.new ≡ labels.old ++ flat_map (met_candidates scene.now.view scene.now.map.font) (met_feature scene.now.scale layer.now feature.now)) }
+{
+    match scene.class_of(layer, feature) {
+        Some(class) => add_candidate(labels, scene, &MetFeature::new(layer, feature, class)),
+        None => Ok(()),
+    }
+}
