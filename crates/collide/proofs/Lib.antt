@@ -1,2 +1,4 @@
-pub mod Cells
+pub mod Bitwise
+pub mod Boxed
 pub mod Listed
+pub mod Marking

@@ -1,2 +1,3 @@
-pub mod Grid
+pub mod Bits
 pub mod Indices
+pub mod Marks

@@ -1,29 +1,34 @@
 ghost use Rattle.std.specs.Prelude.{◌≡◌, [], ◌∷◌, ◌++◌, ◌↔◌, IsTrue, IfOk, OnOk, OnErr};
 ghost use Rattle.std.specs.List.{Any};
 ghost use Rattle.geom.specs.PxBox.{Meets};
+ghost use Rattle.collide.specs.Marks.{IsNear, IsWhole};
 
-use crate::grid::Grid;
+use crate::marks::Marks;
 use geom::{PictureSide, PxBox};
 use std::alloc::{AllocError, Global};
 use std::marker::Model;
 
 /// Boxes in the order in which they were added. They may lie off the picture.
+///
+/// A box that meets the picture, or touches it, is asked for by the pixels that are marked: two of these that share a
+/// pixel share one there. If some box lies further off, all boxes are asked one by one.
 #[derive(Drop)]
 pub struct Boxes {
     boxes: Vec<PxBox>,
-    grid: Grid,
+    marks: Marks,
+    all_near: bool,
 }
 
 impl Model for Boxes {
     ghost use Rattle.std.specs.Prelude.{List};
     ghost use Rattle.geom.specs.PxBox.{PixelBoxValue};
-    ghost use Rattle.collide.specs.Grid.{IsKept};
+    ghost use Rattle.collide.specs.Marks.{IsKept};
 
     ghost Value = { List PixelBoxValue };
 
     ghost view = { λ b. b.boxes.items };
 
-    ghost invariant = { λ b. IsKept b.grid b.boxes.items };
+    ghost invariant = { λ b. IsKept b.marks b.all_near b.boxes.items };
 }
 
 impl Boxes {
@@ -33,7 +38,8 @@ impl Boxes {
     {
         Ok(Boxes {
             boxes: Vec::new(alloc),
-            grid: Grid::new(alloc, width, height)?,
+            marks: Marks::new(alloc, width, height)?,
+            all_near: true,
         })
     }
 
@@ -42,8 +48,9 @@ impl Boxes {
         ensures ok { OnOk result (self.new ≡ self.old ++ area ∷ []) }
         ensures err { OnErr result (self.new ≡ self.old) }
     {
-        self.grid.note(area, self.boxes.len())?;
         self.boxes.push(area)?;
+        self.all_near = are_near(&self.marks, self.all_near, area);
+        self.marks.mark(area);
         Ok(())
     }
 
@@ -51,6 +58,29 @@ impl Boxes {
     pub fn hits(&self, area: PxBox) -> bool
         ensures { IsTrue result ↔ Any (Meets area) self.now }
     {
-        self.grid.hits(&self.boxes, area)
+        if are_near(&self.marks, self.all_near, area) {
+            return self.marks.has_marked(area);
+        }
+        meets_any(&self.boxes, area)
     }
+}
+
+// Whether a box is near, and all others are.
+fn are_near(marks: &Marks, others: bool, area: PxBox) -> bool
+    requires { IsWhole marks.now }
+    ensures { IsTrue result ↔ (IsTrue others × IsNear marks.now area) }
+{
+    others && marks.is_near(area)
+}
+
+// Whether some pixel lies in the box and in one of others.
+fn meets_any(boxes: &[PxBox], area: PxBox) -> bool
+    ensures { IsTrue result ↔ Any (Meets area) boxes.now }
+{
+    for other in boxes {
+        if area.meets(*other) {
+            return true;
+        }
+    }
+    false
 }

@@ -3,13 +3,14 @@
 //! Proved: `Boxes::add` keeps each box that it is given, on the picture or off it, and `Boxes::hits`
 //! says whether a box shares a pixel with one of them. `Indices::add` adds one index, or changes nothing.
 //!
-//! Words: two boxes *meet* where some pixel lies in both; boxes that only touch don't.
+//! Words: two boxes *meet* where some pixel lies in both; boxes that only touch don't. A pixel is *marked*
+//! where it lies in a box that was added.
 #![tactic(auto)]
 
+mod bits;
 mod boxes;
-mod cell;
-mod grid;
 mod indices;
+mod marks;
 
 pub use boxes::Boxes;
 pub use indices::{Indices, empty_lists};

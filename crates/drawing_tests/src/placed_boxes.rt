@@ -14,7 +14,9 @@ const STEPS: &str = "\
 # an empty box hits nothing and isn't hit
 -#---=64|add 5 5 5 9|add 7 9 12 6|ask 0 0 64 64|add 0 0 64 64|ask 0 0 64 64|ask 5 5 5 9|ask 7 9 12 6|ask 1099511627775 1099511627775 -1099511627775 -1099511627775
 # boxes on the picture, off it on each side and at each corner, and across cells
-(-##)(-##)(-##)(-##)(-##)(-##)(-##)(-##)(-##)(-##)(-##)(-##)#-=130|note 60 61 70 66|note -40 20 -30 27|note 140 30 150 39|note 40 -30 47 -20|note 50 140 59 150|note -90 -91 -80 -82|note 180 -93 190 -84|note -94 180 -85 190|note 180 181 190 192|note -1099511627775 100 -1099511627774 101|note 1099511627774 101 1099511627775 102|note 100 -1099511627774 102 1099511627775|ask -1099511627775 -1099511627775 1099511627775 1099511627775|ask 103 0 140 130";
+(-##)(-##)(-##)(-##)(-##)(-##)(-##)(-##)(-##)(-##)(-##)(-##)#-=130|note 60 61 70 66|note -40 20 -30 27|note 140 30 150 39|note 40 -30 47 -20|note 50 140 59 150|note -90 -91 -80 -82|note 180 -93 190 -84|note -94 180 -85 190|note 180 181 190 192|note -1099511627775 100 -1099511627774 101|note 1099511627774 101 1099511627775 102|note 100 -1099511627774 102 1099511627775|ask -1099511627775 -1099511627775 1099511627775 1099511627775|ask 103 0 140 130
+# boxes that share pixels off the picture alone: beside it, and further off
+#-####-=64|add -9 10 0 20|ask -9 12 0 13|ask -20 12 -9 13|ask -10 12 -8 13|add 64 5 90 9|ask 64 7 70 8|ask 65 7 66 8|add 100 100 101 101|ask 63 8 65 10|ask 63 9 65 10";
 
 // The mark of what is hit.
 fn mark(is_hit: bool) -> char {
@@ -88,7 +90,7 @@ fn steps(alloc: Global, row: &str) -> Result<String, AllocError> {
 
 #[test]
 fn boxes_hit_what_they_share_a_pixel_with(rt: HostRuntime) -> Result<(), TableFault> {
-    check_rows(rt.alloc(), STEPS, '=', 3, steps)
+    check_rows(rt.alloc(), STEPS, '=', 4, steps)
 }
 
 // The next number of a sequence.

@@ -1,11 +1,8 @@
-use Rattle.std.proofs.Common.{rules, ◌≡◌, length}
-use Rattle.collide.proofs.Cells.{noted-more}
+use Rattle.collide.proofs.Boxed.{kept-more}
 use Rattle.collide.proofs.boxes.Boxes.add.Goals as goal
 
 pub invariant_of-self-2 : goal.invariant_of-self-2
 invariant_of-self-2 c =
-    let count : c.len.result ≡ length c.self.inside.boxes.items = search rules in
-    rw c.in_ok-push.ensures.items (record {
-      whole = c.note.ensures.grid;
-      noted = noted-more c.self.inside.grid c.note.new.self _ _ c.self.invariant.noted c.note.ensures.columns c.note.ensures.rows c.note.ensures.kept (rw count at c.in_ok-note.ensures.noted);
-    })
+    rw c.in_ok-push.ensures.items
+    (kept-more c.self.inside.marks c.mark.new.self c.self.inside.all_near c.are_near-self-inside.result c.self.inside.boxes.items c.args.area c.self.invariant c.mark.ensures.whole
+    c.mark.ensures.columns c.mark.ensures.rows c.mark.ensures.marked c.are_near-self-inside.ensures.0)

@@ -1,0 +1,97 @@
+ghost use Rattle.std.specs.Prelude.{◌≡◌, ◌≤◌, ◌↔◌, IsTrue, IfOk};
+ghost use Rattle.collide.specs.Marks.{HasMarked, IsBlank, IsMarkedBy, IsNear, IsWhole, around, bit_of};
+
+use crate::bits::{has_any, set_all};
+use geom::{PictureSide, PxBox};
+use std::alloc::{AllocError, Global};
+
+/// A bit for each pixel of a picture, and for each of one column and one row more on each side, row by row from the
+/// top: whether the pixel is marked.
+#[derive(Drop)]
+pub struct Marks {
+    words: Vec<u64>,
+    columns: usize,
+    rows: usize,
+}
+
+impl Marks {
+    /// No marks, over a picture of that width and height.
+    pub fn new(alloc: Global, width: PictureSide, height: PictureSide) -> Result<Self, AllocError>
+        ensures { IfOk result IsBlank }
+    {
+        let columns = usize::from(width.pixels()) + 2;
+        let rows = usize::from(height.pixels()) + 2;
+        let words = vec![in alloc; 0; columns * rows / 64 + 1]?;
+        Ok(Marks {
+            words,
+            columns,
+            rows,
+        })
+    }
+
+    // The pixels that have a bit.
+    fn around(&self) -> PxBox
+        requires { IsWhole self.now }
+        ensures { result ≡ around self.now }
+    {
+        PxBox::new(-1, -1, self.columns as i64 - 1, self.rows as i64 - 1)
+    }
+
+    /// Whether a box has a pixel that has a bit, if it has any.
+    pub fn is_near(&self, area: PxBox) -> bool
+        requires { IsWhole self.now }
+        ensures { IsTrue result ↔ IsNear self.now area }
+    {
+        if area.meets(area) {
+            return area.meets(self.around());
+        }
+        true
+    }
+
+    /// Marks the pixels of a box that have a bit.
+    pub fn mark(&mut self, area: PxBox)
+        requires { IsWhole self.old }
+        ensures whole { IsWhole self.new }
+        ensures columns { self.new.columns ≡ self.old.columns }
+        ensures rows { self.new.rows ≡ self.old.rows }
+        ensures marked { IsMarkedBy area self.old self.new }
+    {
+        let left = bit_of(area.left(), self.columns);
+        let right = bit_of(area.right(), self.columns);
+        let top = bit_of(area.top(), self.rows);
+        let bottom = bit_of(area.bottom(), self.rows);
+        for row in top..bottom {
+            let start = row * self.columns;
+            set_all(&mut self.words, start + left, start + right);
+        }
+    }
+
+    /// Whether a pixel of a box is marked.
+    pub fn has_marked(&self, area: PxBox) -> bool
+        requires { IsWhole self.now }
+        ensures { IsTrue result ↔ HasMarked self.now area }
+    {
+        let left = bit_of(area.left(), self.columns);
+        let right = bit_of(area.right(), self.columns);
+        let top = bit_of(area.top(), self.rows);
+        let bottom = bit_of(area.bottom(), self.rows);
+        for row in top..bottom {
+            let start = row * self.columns;
+            if has_any(&self.words, start + left, start + right) {
+                return true;
+            }
+        }
+        false
+    }
+}
+
+// Which bit of so many in a row, or a column, is that of a position, or after all where it lies beyond the last one.
+fn bit_of(position: i64, count: usize) -> usize
+    ensures value { result ≡ bit_of count position }
+    ensures most { result ≤ count }
+{
+    if position < 0 {
+        return 0;
+    }
+    (position.unsigned_abs() as usize + 1).min(count)
+}
