@@ -1,0 +1,469 @@
+#!/usr/bin/env python3
+"""Crashes a server that keeps a journal, and looks at what the next one has.
+
+Usage: crashes.py PROGRAM [KILLS [CHANGES [SEED]]]
+
+Two clients submit batches by lot, and the server is killed at random moments, KILLS times, 1,000 where it isn't given.
+After half of the kills the bytes that no call has put away are lost, or others stand in their place, as after a loss of
+power. Then each call that the server makes on the journal is, in turn, not made or made by half, with the death of the
+server behind it, or fails; while the journal is made, while batches come, and while one with a torn end is opened. A
+library that is loaded before the C library, built here with cc, does that, and tells how much was put away.
+
+After each the server is started again: its sequence, its pictures and what it tells of its features have to be those of
+a list of batches that begins with all that a client was told of, and that each was submitted. At last a byte of a journal
+is changed at random, CHANGES times, 10,000 where it isn't given: the server refuses it and leaves it as it is, or the last
+record is cut off, and no other. It ends with 1 where something else came out.
+"""
+import collections
+import itertools
+import mmap
+import multiprocessing
+import os
+import pathlib
+import random
+import re
+import socket
+import struct
+import subprocess
+import sys
+import tempfile
+import threading
+import time
+
+from point_batches import MAP, State, answers_of, batch_by_lot, sequence_of
+from served import ports_of
+
+# the kills after which a new journal is begun, so that a start doesn't take longer and longer
+LIVES = 50
+LONGEST = 60
+SHIM = r"""
+#define _GNU_SOURCE
+#include <dlfcn.h>
+#include <errno.h>
+#include <fcntl.h>
+#include <signal.h>
+#include <stdarg.h>
+#include <stdio.h>
+#include <stdlib.h>
+#include <string.h>
+#include <sys/mman.h>
+#include <sys/stat.h>
+#include <sys/syscall.h>
+#include <sys/uio.h>
+#include <unistd.h>
+
+// what the script sees of it, also after the end: calls, and the bytes of the journal that are put away
+static struct { long calls, away; } *seen;
+static long at;
+static const char *how, *journal;
+
+__attribute__((constructor)) static void begin(void) {
+    const char *path = getenv("SEEN"), *number = getenv("AT");
+    journal = getenv("JOURNAL");
+    how = getenv("HOW");
+    at = number ? atol(number) : 0;
+    if (path) {
+        int file = syscall(SYS_openat, AT_FDCWD, path, O_RDWR);
+        seen = mmap(NULL, 4096, PROT_READ | PROT_WRITE, MAP_SHARED, file, 0);
+        syscall(SYS_close, file);
+    }
+}
+// whether a descriptor is the journal, the one that is made beside it, or their folder
+static int is_kept(int file) {
+    char name[64], path[4096];
+    if (!seen) return 0;
+    snprintf(name, sizeof name, "/proc/self/fd/%d", file);
+    long size = readlink(name, path, sizeof path - 1);
+    if (size <= 0) return 0;
+    path[size] = 0;
+    size_t length = strlen(journal);
+    if (strncmp(path, journal, length) == 0) return 1;
+    const char *slash = strrchr(journal, '/');
+    return slash && (size_t)size == (size_t)(slash - journal) && strncmp(path, journal, size) == 0;
+}
+static void die(void) { syscall(SYS_kill, syscall(SYS_getpid), SIGKILL); for (;;) pause(); }
+// counts a call: 0 where it is to be made, 1 where it is to be made by half, and 2 where it fails
+static int now(void) {
+    if (__atomic_add_fetch(&seen->calls, 1, __ATOMIC_SEQ_CST) != at) return 0;
+    if (strcmp(how, "stop") == 0) die();
+    return strcmp(how, "tear") == 0 ? 1 : 2;
+}
+static long fails(int error) { errno = error; return -1; }
+static long put(long result) {
+    if (result < 0 && result > -4096) return fails(-result);
+    return result;
+}
+static long real(long number, long a, long b, long c, long d) {
+    return syscall(number, a, b, c, d);
+}
+static ssize_t written(long number, int file, const void *room, size_t count, off_t place) {
+    if (is_kept(file)) {
+        int what = now();
+        if (what == 2) return fails(ENOSPC);
+        if (what == 1) { real(number, file, (long)room, count / 2, place); die(); }
+    }
+    return real(number, file, (long)room, count, place);
+}
+ssize_t write(int file, const void *room, size_t count) { return written(SYS_write, file, room, count, 0); }
+ssize_t pwrite(int file, const void *room, size_t count, off_t place) { return written(SYS_pwrite64, file, room, count, place); }
+ssize_t pwrite64(int file, const void *room, size_t count, off_t place) { return written(SYS_pwrite64, file, room, count, place); }
+ssize_t writev(int file, const struct iovec *rooms, int count) {
+    if (!is_kept(file)) return real(SYS_writev, file, (long)rooms, count, 0);
+    return written(SYS_write, file, rooms[0].iov_base, rooms[0].iov_len, 0);
+}
+static int synced(long number, int file) {
+    struct stat size;
+    int is = is_kept(file);
+    if (is) {
+        int what = now();
+        if (what == 2) return fails(EIO);
+        if (what == 1) die();
+        fstat(file, &size);
+    }
+    int result = real(number, file, 0, 0, 0);
+    if (is && result == 0 && S_ISREG(size.st_mode)) seen->away = size.st_size;
+    return result;
+}
+int fsync(int file) { return synced(SYS_fsync, file); }
+int fdatasync(int file) { return synced(SYS_fdatasync, file); }
+static int cut(int file, off_t size) {
+    if (is_kept(file)) {
+        int what = now();
+        if (what == 2) return fails(EIO);
+        // by half: to a length between both
+        struct stat old;
+        fstat(file, &old);
+        if (what == 1) { real(SYS_ftruncate, file, (old.st_size + size) / 2, 0, 0); die(); }
+        if (size < seen->away) seen->away = size;
+    }
+    return real(SYS_ftruncate, file, size, 0, 0);
+}
+int ftruncate(int file, off_t size) { return cut(file, size); }
+int ftruncate64(int file, off_t size) { return cut(file, size); }
+int rename(const char *old, const char *new) {
+    if (seen && strncmp(old, journal, strlen(journal)) == 0) {
+        int what = now();
+        if (what == 2) return fails(EIO);
+        if (what == 1) { real(SYS_rename, (long)old, (long)new, 0, 0); die(); }
+    }
+    return real(SYS_rename, (long)old, (long)new, 0, 0);
+}
+// one that makes a file counts
+static int opened(const char *path, int flags, int mode) {
+    if (seen && (flags & O_CREAT) && strncmp(path, journal, strlen(journal)) == 0) {
+        int what = now();
+        if (what == 2) return fails(EACCES);
+        if (what == 1) { real(SYS_openat, AT_FDCWD, (long)path, flags, mode); die(); }
+    }
+    return real(SYS_openat, AT_FDCWD, (long)path, flags, mode);
+}
+int open(const char *path, int flags, ...) {
+    va_list rest;
+    va_start(rest, flags);
+    int mode = va_arg(rest, int);
+    va_end(rest);
+    return opened(path, flags, mode);
+}
+int open64(const char *path, int flags, ...) {
+    va_list rest;
+    va_start(rest, flags);
+    int mode = va_arg(rest, int);
+    va_end(rest);
+    return opened(path, flags, mode);
+}
+"""
+
+
+class Wrong(Exception):
+    """What came out that shouldn't, in a sentence."""
+
+
+class Life:
+    """A server with a journal, from its start to its end."""
+
+    def __init__(self, bench, at=0, how="none"):
+        self.bench, self.told = bench, []
+        bench.count(0, bench.away)
+        words = [bench.program, "serve", "--explain", "map.map", "--port", "0", "--admin-port", "0", "--workers", "1", "--journal", str(bench.journal)]
+        env = {"LD_PRELOAD": bench.shim, "SEEN": str(bench.seen), "JOURNAL": str(bench.journal), "AT": str(at), "HOW": how}
+        self.process = subprocess.Popen(words, stdout=subprocess.PIPE, stderr=subprocess.PIPE, cwd=bench.folder, env=env)
+        self.watch = threading.Timer(LONGEST, self.process.kill)
+        self.watch.start()
+        self.ports = ports_of(self.process.stdout.readline())
+
+    def end(self):
+        """Kills it, unless it has ended: its status and what it wrote on standard error."""
+        self.process.kill()
+        errors = self.process.communicate()[1]
+        self.watch.cancel()
+        return self.process.returncode, errors
+
+    def submit(self, batch):
+        """The line that answers a batch, or as much of it as came."""
+        got = b""
+        try:
+            with socket.create_connection(("127.0.0.1", self.ports[1]), LONGEST) as stream:
+                stream.sendall(b"BATCH %d\n%s" % (len(batch.data), batch.data))
+                while not got.endswith(b"\n") and (piece := stream.recv(100)):
+                    got += piece
+        except OSError:
+            pass
+        return got
+
+
+class Bench:
+    """A folder with a journal, and the batches that it has by what clients were told and what servers showed."""
+
+    def __init__(self, program, shim, folder, seed):
+        self.program, self.shim, self.folder = program, shim, pathlib.Path(folder)
+        self.journal, self.seen = self.folder / "journal", self.folder / "seen"
+        (self.folder / "map.map").write_text(MAP)
+        self.seen.write_bytes(bytes(4096))
+        with open(self.seen, "r+b") as file:
+            self.shared = mmap.mmap(file.fileno(), 16)
+        self.chance, self.kept, self.number = random.Random(seed), [], 0
+        self.states = [State()]
+
+    def count(self, calls, away):
+        self.shared[:] = struct.pack("=qq", calls, away)
+
+    @property
+    def calls(self):
+        return struct.unpack("=qq", self.shared)[0]
+
+    @property
+    def away(self):
+        return struct.unpack("=qq", self.shared)[1]
+
+    def renew(self):
+        """Begins with no journal."""
+        for path in self.folder.glob("journal*"):
+            path.unlink()
+        self.kept, self.states = [], [State()]
+        self.count(0, 0)
+
+    def batch(self):
+        self.number += 1
+        return batch_by_lot(self.chance, str(self.number))
+
+    def client(self, life, end, told, open_batches, lock):
+        """Submits batches until the server is gone."""
+        while not end.is_set():
+            with lock:
+                batch = self.batch()
+            line = life.submit(batch)
+            if line.startswith(b"PUBLISHED ") and line.endswith(b"\n"):
+                told[int(line.split()[1])] = batch
+            elif batch.refusal and line == batch.refusal + b"\n":
+                continue
+            else:
+                if line not in (b"", b"FAILED\n") and not b"PUBLISHED".startswith(line.split(b" ")[0]) and not (batch.refusal or b"").startswith(line):
+                    raise Wrong(f"a batch is answered with {line!r}")
+                open_batches.append(batch)
+                return
+
+    def lead(self, life, seconds):
+        """Lets two clients submit until the server is killed: what was told, by sequence, and what was not answered."""
+        end, told, open_batches, lock = threading.Event(), {}, [], threading.Lock()
+        clients = [threading.Thread(target=self.client, args=(life, end, told, open_batches, lock)) for _ in range(2)]
+        for client in clients:
+            client.start()
+        if seconds is not None:
+            time.sleep(seconds)
+            life.process.kill()
+        for client in clients:
+            client.join()
+        return told, open_batches
+
+    def look(self, life, told, open_batches):
+        """Takes over what the server has: a list that begins with all that was told of, and has nothing but what was submitted."""
+        sequence = sequence_of(life.ports[0])
+        if sequence < max(told, default=len(self.kept)):
+            raise Wrong(f"the sequence is {sequence}, and {max(told, default=len(self.kept))} was told")
+        found = answers_of(life.ports[0])
+        missing = [number for number in range(len(self.kept) + 1, sequence + 1) if number not in told]
+        accepted = [batch for batch in open_batches if not batch.refusal]
+        for filling in itertools.permutations(accepted, len(missing)):
+            batches = {**told, **dict(zip(missing, filling))}
+            states = self.states[-1:]
+            for number in range(len(self.kept) + 1, sequence + 1):
+                states.append(batches[number].after(states[-1]))
+            if states[-1].answers() == found:
+                self.kept += [batches[number] for number in range(len(self.kept) + 1, sequence + 1)]
+                self.states += states[1:]
+                return sequence - max(told, default=0) if told else 0
+        raise Wrong(f"at sequence {sequence} the answers are those of no list of batches that was submitted: {found[1][-300:]!r}")
+
+    def lose(self):
+        """What a loss of power may leave: a front of what wasn't put away, or other bytes in its place."""
+        data, away = self.journal.read_bytes(), self.away
+        if len(data) <= away:
+            return False
+        tail = data[away : self.chance.randint(away, len(data))]
+        if self.chance.random() < 0.5:
+            tail = self.chance.choice([bytes(len(tail)), self.chance.randbytes(len(tail))])
+        self.journal.write_bytes(data[:away] + tail)
+        return True
+
+    def must_start(self, at=0, how="none"):
+        life = Life(self, at, how)
+        if not life.ports:
+            raise Wrong(f"the server doesn't start again: {life.end()}")
+        return life
+
+
+def kills_of(bench, count, found):
+    """Kills a server at random moments."""
+    told, open_batches = {}, []
+    for number in range(count):
+        if number % LIVES == 0:
+            bench.renew()
+            told, open_batches = {}, []
+        life = bench.must_start()
+        found["shown and not told"] += bench.look(life, told, open_batches)
+        told, open_batches = bench.lead(life, bench.chance.uniform(0, 0.1))
+        life.end()
+        found["kills"] += 1
+        found["told"] += len(told)
+        found["not answered"] += len(open_batches)
+        if bench.chance.random() < 0.5:
+            found["bytes lost"] += bench.lose()
+    life = bench.must_start()
+    bench.look(life, told, open_batches)
+    life.end()
+
+
+def tear(bench):
+    """Leaves half of a record at the journal's end."""
+    with open(bench.journal, "ab") as file:
+        file.write(b"\xc0\0\0\0half")
+
+
+def tried_at(bench, at, how, is_torn, found):
+    """A life whose call of this number is stopped, torn or fails: whether there was one."""
+    bench.renew()
+    if is_torn:
+        life = bench.must_start()
+        told, open_batches = few(bench, life)
+        life.end()
+        tear(bench)
+    life = Life(bench, at, how)
+    if is_torn and life.ports:
+        bench.look(life, told, open_batches)
+    told_now, open_now = few(bench, life) if life.ports else ({}, [])
+    reached = bench.calls >= at
+    if how == "fail" and reached:
+        # a server that can't keep a batch ends by itself
+        try:
+            life.process.wait(LONGEST)
+        except subprocess.TimeoutExpired:
+            pass
+    status, errors = life.end()
+    if bench.journal.exists() and bench.chance.random() < 0.5:
+        found["bytes lost"] += bench.lose()
+    if how == "fail" and reached and status != 3:
+        raise Wrong(f"where call {at} fails the status is {status}: {errors!r}")
+    if is_torn and not life.ports:
+        told_now, open_now = told, open_batches
+    after = bench.must_start()
+    bench.look(after, told_now, open_now)
+    # and it takes further ones
+    last, rest = few(bench, after)
+    if rest:
+        raise Wrong(f"after call {at} ({how}) a batch isn't answered")
+    after.end()
+    found[f"{how}, {'torn' if is_torn else 'new'}"] += reached
+    return reached
+
+
+def few(bench, life):
+    """Five batches, one after the other, up to the first that isn't answered."""
+    told = {}
+    for _ in range(5):
+        batch = bench.batch()
+        line = life.submit(batch)
+        if line.startswith(b"PUBLISHED ") and line.endswith(b"\n"):
+            told[int(line.split()[1])] = batch
+        elif not (batch.refusal and line == batch.refusal + b"\n"):
+            return told, [batch]
+    return told, []
+
+
+def calls_of(bench, found):
+    """Each call on the journal in turn."""
+    for is_torn in (False, True):
+        for how in ("stop", "tear", "fail"):
+            at = 1
+            while tried_at(bench, at, how, is_torn, found):
+                at += 1
+
+
+def changed(job):
+    """A journal with a byte changed: what a start makes of it."""
+    program, data, fronts, seed = job
+    chance = random.Random(seed)
+    place, change = chance.randrange(len(data)), chance.randrange(1, 256)
+    other = bytearray(data)
+    other[place] ^= change
+    with tempfile.TemporaryDirectory() as folder:
+        path = pathlib.Path(folder)
+        (path / "map.map").write_text(MAP)
+        (path / "journal").write_bytes(other)
+        words = [program, "serve", "map.map", "--port", "0", "--admin-port", "0", "--until-input-ends", "--journal", "journal"]
+        done = subprocess.run(words, cwd=folder, stdin=subprocess.DEVNULL, capture_output=True, timeout=LONGEST)
+        left = (path / "journal").read_bytes()
+    refused = re.fullmatch(rb"fault journal journal: ([a-z ]+)( \d+)?\n", done.stderr)
+    if done.returncode == 1 and refused and left == bytes(other):
+        return f"refused: {refused[1].decode()}"
+    if done.returncode == 0 and left == fronts[-1] and place >= len(fronts[-1]):
+        return "the last record is cut off"
+    return f"wrong: byte {place} of {len(data)} by {change}: {done.returncode}, {done.stderr!r}, {len(left)} bytes left"
+
+
+def changes_of(bench, count, found):
+    """A byte of a journal of 20 batches, changed at random."""
+    bench.renew()
+    life = bench.must_start()
+    sizes = [bench.journal.stat().st_size]
+    while len(sizes) < 21:
+        if life.submit(bench.batch()).startswith(b"PUBLISHED"):
+            sizes.append(bench.journal.stat().st_size)
+    life.end()
+    data = bench.journal.read_bytes()
+    fronts = [data[:size] for size in sizes[-2:-1]]
+    jobs = ((bench.program, data, fronts, f"{bench.chance.random()}") for _ in range(count))
+    with multiprocessing.Pool() as pool:
+        for outcome in pool.imap_unordered(changed, jobs, 16):
+            found[outcome] += 1
+    wrong = [outcome for outcome in found if outcome.startswith("wrong")]
+    for outcome in wrong:
+        found["wrong"] += found.pop(outcome)
+    if wrong:
+        raise Wrong("; ".join(wrong[:5]))
+
+
+def main():
+    words = sys.argv[1:]
+    if not 1 <= len(words) <= 4 or not all(word.isdecimal() for word in words[1:]):
+        sys.exit(__doc__.split("\n\n")[1])
+    kills, changes, seed = [int(word) for word in words[1:]] + [1000, 10_000, 1][len(words) - 1 :]
+    wrong = 0
+    with tempfile.TemporaryDirectory() as folder:
+        shim = os.path.join(folder, "shim.so")
+        (pathlib.Path(folder) / "shim.c").write_text(SHIM)
+        subprocess.run(["cc", "-shared", "-fPIC", "-o", shim, f"{folder}/shim.c", "-ldl"], check=True)
+        bench = Bench(os.path.abspath(words[0]), shim, folder, seed)
+        for part, act in (("kills", lambda found: kills_of(bench, kills, found)), ("calls", lambda found: calls_of(bench, found)), ("changes", lambda found: changes_of(bench, changes, found))):
+            found, begun = collections.Counter(), time.monotonic()
+            try:
+                act(found)
+            except Wrong as why:
+                wrong += 1
+                print(f"wrong: {part}: {why}")
+            print(f"{part}: " + ", ".join(f"{count} {name}" for name, count in sorted(found.items())) + f"; {time.monotonic() - begun:.0f} s", flush=True)
+    print("ok" if wrong == 0 else f"failed: {wrong}")
+    sys.exit(wrong > 0)
+
+
+if __name__ == "__main__":
+    main()
