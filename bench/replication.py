@@ -4,7 +4,7 @@
 Usage: replication.py PROGRAM [BATCHES [SEED]]
 
 Two submitters add BATCHES by lot, 1,000 where it isn't given, one in ten of them refused, and wait for each answer.
-Meanwhile the engine is stopped, and once as by a crash, and started; a follower is killed between submitting and noting,
+After a quarter of them the engine is stopped, and once as by a crash, and started; a follower is killed between submitting and noting,
 and started; a server is killed and started from its journal, another without it; all again and again. At the end each
 server has the sequence that the log says, and draws and tells what the log's accepted batches give by the rules; each
 answer that a submitter got stands in the log. It says how far apart the servers were meanwhile, in batches and
@@ -177,6 +177,8 @@ class Trial:
     def disturb(self):
         """Stops something and starts it again, until the submitters are done."""
         ways = [self.stop_engine, self.crash_engine, self.kill_follower, self.kill_server, self.kill_without_journal]
+        while len(self.told) < self.count // 4 and not self.is_quiet.is_set():
+            time.sleep(0.01)
         while True:
             for way in ways:
                 time.sleep(self.chance.uniform(0.5, 1.5))
@@ -294,17 +296,23 @@ class Trial:
     def report(self, spent):
         print(f"{self.count} batches in {spent:.1f} s, {sum(not batch.refusal for batch in self.batches.values())} accepted; disturbed {len(self.done)} times:", end=" ")
         print(", ".join(f"{name} {self.done.count(name)}" for name in sorted(set(self.done))))
-        last = max(self.servers[0].seen)
-        apart = sorted(1000 * (max(times) - min(times)) for times in self.times(last))
-        print(f"a batch was seen on the last server {statistics.median(apart):.0f} ms after the first at the median, {apart[int(0.9 * len(apart))]:.0f} at 90 %, {apart[-1]:.0f} at most ({len(apart)} seen on all three)")
-        moments = sorted(moment for server in self.servers for moment in server.seen.values())
-        behind = sorted(self.behind(moment) for moment in moments)
-        print(f"the last server was {statistics.median(behind):.0f} batches behind the first at the median, {behind[int(0.9 * len(behind))]} at 90 %, {behind[-1]} at most")
+        quiet, last = self.count // 5, max(self.servers[0].seen)
+        for name, first, end in (("before the first stop", 1, quiet), ("from then on", quiet + 1, last)):
+            self.report_between(name, first, end)
         print(f"the front: {self.pictures['200']} pictures, {self.pictures['other']} other answers")
 
-    def times(self, last):
+    def report_between(self, name, first, last):
+        """How far apart the servers were, by the batches of these sequences."""
+        times = [*self.times(first, last)]
+        apart = sorted(1000 * (max(one) - min(one)) for one in times)
+        behind = sorted(self.behind(moment) for one in times for moment in one)
+        if times:
+            print(f"{name}: a batch was seen on the last server {statistics.median(apart):.0f} ms after the first at the median, {apart[int(0.9 * len(apart))]:.0f} at 90 %, {apart[-1]:.0f} at most;", end=" ")
+            print(f"the last was {statistics.median(behind):.0f} batches behind at the median, {behind[int(0.9 * len(behind))]} at 90 %, {behind[-1]} at most")
+
+    def times(self, first, last):
         """When each sequence was seen first, where it was seen on all."""
-        for sequence in range(1, last + 1):
+        for sequence in range(first, last + 1):
             times = [server.seen[sequence] for server in self.servers if sequence in server.seen]
             if len(times) == 3:
                 yield times
