@@ -7,13 +7,11 @@ killed in between knows from the server's sequence whether the batch was accepte
 import fcntl
 import json
 import os
-import time
 
 from administration import Administrator, Answer, Unanswered, sequence_of
 
 # The seconds in which a server has to answer a line that it can answer at once.
 QUICK = 60
-PAUSE = 0.2
 NOT_NOW = {
     "NOMEMORY": "the server has no memory for a batch",
     "FAILED": "the server can't write its journal, and has to be started again",
@@ -143,7 +141,7 @@ class Server:
         """Notes what a batch was answered with, in the log first. What another server was answered with has to be the same."""
         sequence = self.note.sequence + (answer.word == "PUBLISHED")
         if answer.word not in ("PUBLISHED", "REFUSED") or answer.word == "PUBLISHED" and answer.numbers[0] != sequence:
-            raise Differs(f"the server answers {answer} to the batch {entry.number} of the log, the {sequence}th that it takes")
+            raise Differs(f"the server answers {answer} to the batch {entry.number} of the log at the sequence {self.note.sequence}")
         kept = log.settle(entry.number, answer)
         if kept != str(answer):
             raise Differs(f"the server answers {answer} to the batch {entry.number} of the log, and another server answered {kept}: they don't serve the same files")
@@ -152,7 +150,8 @@ class Server:
 
 def publish(administrator):
     """Publishes what is pending."""
-    while (answer := administrator.retry()).word == "HELD":
-        time.sleep(PAUSE)
+    answer = administrator.retry()
+    if answer.word == "HELD":
+        raise NotNow("the server has no memory to show a batch that it accepted")
     if answer.word not in ("IDLE", "PUBLISHED"):
         raise NotNow(f"the server answers {answer} to RETRY")
