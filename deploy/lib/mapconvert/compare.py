@@ -10,7 +10,6 @@ from PIL import Image, ImageChops, ImageFilter
 
 # A pixel differs where no pixel of the 3 by 3 round it in the other picture is as near in each component.
 NEAR = 48
-SIDE = 600
 
 
 class NoPicture(Exception):
@@ -111,8 +110,8 @@ def side_by_side(one, other, both):
     return whole
 
 
-def compare(source, made, folder, program, count):
-    """The lines that tell of each view, and the largest share."""
+def compare(source, made, folder, program, count, side):
+    """The lines that tell of each view, and the largest share without and with half-tones. The longer side of a picture has so many pixels."""
     map = mapscript.mapObj(source)
     map.scalebar.status = map.legend.status = mapscript.MS_OFF
     map.web.metadata.set("ows_enable_request", "*")
@@ -129,16 +128,16 @@ def compare(source, made, folder, program, count):
     if not map.getProjection():
         map.setProjection("init=epsg:4326")
     west, south, east, north = made.extent
-    width, height = (SIDE, max(1, round(SIDE * (north - south) / (east - west)))) if east - west >= north - south else (
-        max(1, round(SIDE * (east - west) / (north - south))), SIDE)
+    across, up = east - west, north - south
+    width, height = (max(1, round(side * span / max(across, up))) for span in (across, up))
     boxes = views(made.extent, made.anchors, count)
     ours = by_mapservd(program, os.path.join(folder, "map.map"), made.written, boxes, (width, height))
-    lines, worst = [], 0
+    lines, worst, all_of_it = [], 0, 0
     for number, (box, drawn) in enumerate(zip(boxes, ours), 1):
         wanted = by_mapserver(map, made.asked, box, width, height)
         both, share, plain = difference(wanted, drawn)
-        worst = max(worst, plain)
+        worst, all_of_it = max(worst, plain), max(all_of_it, share)
         path = os.path.join(folder, f"compare{number}.png")
         side_by_side(wanted, drawn, both).save(path)
         lines.append(f"view {number}, {','.join(number_text(side) for side in box)}: {share:.2%} of the pixels differ, {plain:.2%} beyond half-tones, {path}")
-    return lines, worst
+    return lines, worst, all_of_it
