@@ -11,6 +11,7 @@ answer that a submitter got stands in the log. It says how far apart the servers
 milliseconds. It needs Debian's postgresql, python3-psycopg2 and nginx-light. Where PROGRAM takes no --journal, servers
 start from the mapfile alone. It ends with 1 where something is wrong.
 """
+import bisect
 import os
 import pathlib
 import random
@@ -55,6 +56,11 @@ def free_ports(count):
     return ports
 
 
+def shares(sizes):
+    """What half of some sizes, and nine of ten, don't exceed, and the largest."""
+    return f"{statistics.median(sizes):.0f} (half), {sizes[int(0.9 * len(sizes))]:.0f} (nine of ten), {sizes[-1]:.0f} (at most)"
+
+
 class Engine:
     """PostgreSQL, in a folder of its own."""
 
@@ -86,8 +92,8 @@ class Server:
         self.port, self.admin = free_ports(2)
         self.journal = folder / f"{name}.journal" if has_journal else None
         self.process = self.following = None
-        # when each sequence was seen first, and when the server was not there
-        self.seen, self.starts = {}, []
+        # the sequences that were seen, and when each began to be
+        self.moments, self.sequences = [], []
 
     def start(self):
         words = [self.program, "serve", "--explain", str(self.folder / "map.map"), "--port", str(self.port), "--admin-port", str(self.admin), "--workers", "2"]
@@ -95,7 +101,6 @@ class Server:
         self.process = subprocess.Popen(words, stdout=subprocess.PIPE, stderr=subprocess.DEVNULL)
         if not self.process.stdout.readline().startswith(b"listening"):
             sys.exit(f"failed: the server {self.name} doesn't start")
-        self.starts.append(time.monotonic())
 
     def follow(self, is_killed=False):
         words = [sys.executable, "-c", KILLED, str(TOP / "deploy")] if is_killed else [str(TOP / "deploy" / "replicate")]
@@ -105,13 +110,29 @@ class Server:
             self.following = subprocess.Popen(words, stderr=log)
 
     def watch(self, end):
-        """Notes when each sequence is seen first."""
+        """Notes when the sequence changes."""
         while not end.is_set():
             try:
-                self.seen.setdefault(sequence_of(self.port), time.monotonic())
+                sequence = sequence_of(self.port)
+                if not self.sequences or sequence != self.sequences[-1]:
+                    self.moments.append(time.monotonic())
+                    self.sequences.append(sequence)
             except (OSError, TypeError):
                 pass
             time.sleep(0.002)
+
+    def at(self, moment):
+        """The sequence that was seen last at a moment."""
+        place = bisect.bisect_right(self.moments, moment)
+        return self.sequences[place - 1] if place else 0
+
+    def reached(self):
+        """When the server first had each sequence, or a later one."""
+        times = {}
+        for moment, sequence in zip(self.moments, self.sequences):
+            for number in range(len(times) + 1, sequence + 1):
+                times[number] = moment
+        return times
 
 
 class Trial:
@@ -190,7 +211,7 @@ class Trial:
 
     def catch_up(self):
         """Waits until each server has what one has now, or 30 seconds."""
-        wanted, until = max(max(server.seen, default=0) for server in self.servers), time.monotonic() + 30
+        wanted, until = max(max(server.sequences, default=0) for server in self.servers), time.monotonic() + 30
         while time.monotonic() < until and not all(self.is_at(server, wanted) for server in self.servers):
             time.sleep(0.05)
 
@@ -296,31 +317,23 @@ class Trial:
     def report(self, spent):
         print(f"{self.count} batches in {spent:.1f} s, {sum(not batch.refusal for batch in self.batches.values())} accepted; disturbed {len(self.done)} times:", end=" ")
         print(", ".join(f"{name} {self.done.count(name)}" for name in sorted(set(self.done))))
-        quiet, last = self.count // 5, max(self.servers[0].seen)
+        quiet, last = self.count // 5, max(self.servers[0].sequences)
         for name, first, end in (("before the first stop", 1, quiet), ("from then on", quiet + 1, last)):
             self.report_between(name, first, end)
         print(f"the front: {self.pictures['200']} pictures, {self.pictures['other']} other answers")
 
     def report_between(self, name, first, last):
         """How far apart the servers were, by the batches of these sequences."""
-        times = [*self.times(first, last)]
+        reached = [server.reached() for server in self.servers]
+        times = [[one[sequence] for one in reached] for sequence in range(first, last + 1)]
         apart = sorted(1000 * (max(one) - min(one)) for one in times)
-        behind = sorted(self.behind(moment) for one in times for moment in one)
-        if times:
-            print(f"{name}: a batch was seen on the last server {statistics.median(apart):.0f} ms after the first at the median, {apart[int(0.9 * len(apart))]:.0f} at 90 %, {apart[-1]:.0f} at most;", end=" ")
-            print(f"the last was {statistics.median(behind):.0f} batches behind at the median, {behind[int(0.9 * len(behind))]} at 90 %, {behind[-1]} at most")
-
-    def times(self, first, last):
-        """When each sequence was seen first, where it was seen on all."""
-        for sequence in range(first, last + 1):
-            times = [server.seen[sequence] for server in self.servers if sequence in server.seen]
-            if len(times) == 3:
-                yield times
+        behind = sorted(self.behind(min(one)) for one in times)
+        print(f"{name}: a batch was on the last server {shares(apart)} ms after the first; when it came to the first, the last was {shares(behind)} batches behind")
 
     def behind(self, moment):
         """How many batches the last server is behind the first at a moment."""
-        reached = [max((sequence for sequence, at in server.seen.items() if at <= moment), default=0) for server in self.servers]
-        return max(reached) - min(reached)
+        sequences = [server.at(moment) for server in self.servers]
+        return max(sequences) - min(sequences)
 
     def close(self):
         for server in self.servers:
