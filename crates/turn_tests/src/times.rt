@@ -33,11 +33,11 @@ fn ends_at(table: &mut ConnectionTable<Client>, moment: u64) -> bool {
 }
 
 #[test]
-fn a_client_that_sends_nothing_has_its_idle_time(rt: HostRuntime) -> Result<(), Fail> {
+fn a_client_that_never_asks_has_the_time_of_a_head(rt: HostRuntime) -> Result<(), Fail> {
     let alloc = rt.alloc();
     let (mut table, mut echo) = opened(alloc, Client::new(alloc, b"", false)?)?;
     pass(&mut table, &mut echo, &[1_000, 1_100, 1_150]);
-    assert!(rt; ends_at(&mut table, 1_200));
+    assert!(rt; ends_at(&mut table, 4_000));
     Ok(())
 }
 

@@ -5,14 +5,15 @@ use Rattle.turns.specs.declared.pressure.Pressure.{Pressure}
 use Rattle.turns.specs.declared.pressure.Pressure.TheVariants.{Slot, Room}
 use Rattle.turns.specs.declared.pressure.TheConstants.{PATIENCE}
 use Rattle.turns.specs.declared.times.Phase.{Phase}
-use Rattle.turns.specs.declared.times.Phase.TheVariants.{Idle, Answer}
+use Rattle.turns.specs.declared.times.Phase.TheVariants.{Opened, Idle, Answer}
 
 -- the rate of an answer that has been going for over a second, in whole bytes per millisecond
 abbrev pub rate_since : ℕ → ℕ → Option ℕ
 rate_since passed sent = if nat_lt PATIENCE passed then Some (sent / passed) else None
 
--- for a slot those between requests may give way, by when that began; for room those being answered, by their rate
+-- for a slot those that were opened or are between requests may give way, by when that began; for room those being answered, by their rate
 abbrev pub rank : Pressure → Phase → Option ℕ
+rank Slot (Opened since) = Some since
 rank Slot (Idle since) = Some since
 rank (Room now) (Answer since moved sent) = rate_since (now - since) sent
 rank pressure phase = None

@@ -5,7 +5,7 @@ use Rattle.turns.specs.declared.turn.Next.TheVariants.{Turn, Room, Done, Failed}
 use Rattle.turns.specs.declared.turn.TurnResult.{TurnResult}
 use Rattle.turns.specs.declared.times.Timeouts.{Timeouts}
 use Rattle.turns.specs.declared.times.Phase.{Phase}
-use Rattle.turns.specs.declared.times.Phase.TheVariants.{Idle, Head, Answer, Drain, Over}
+use Rattle.turns.specs.declared.times.Phase.TheVariants.{Opened, Idle, Head, Answer, Drain, Over}
 
 -- the clock and the counts of bytes stop at their largest value
 abbrev pub capped : ℕ → ℕ
@@ -14,6 +14,7 @@ capped number = min number (2 ^ 64 - 1)
 -- when the time of what a connection does is over: an answer's where no byte of it was taken for the timeout, and where all of it takes
 -- longer than the grace and the time of its bytes at the least rate
 abbrev pub deadline : Timeouts → Phase → ℕ
+deadline timeouts (Opened since) = capped (since + timeouts.timeout)
 deadline timeouts (Idle since) = capped (since + timeouts.idle)
 deadline timeouts (Head since) = capped (since + timeouts.timeout)
 deadline timeouts (Answer since moved sent) = min (capped (moved + timeouts.timeout)) (capped (capped (since + timeouts.grace) + sent / max timeouts.rate 1))
@@ -30,8 +31,9 @@ abbrev pub is_draining : Phase → Bool
 is_draining (Drain since) = true
 is_draining phase = false
 
--- it is between requests, or bytes of a head came
+-- it waits for a head, or bytes of one came
 abbrev pub is_unanswered : Phase → Bool
+is_unanswered (Opened since) = true
 is_unanswered (Idle since) = true
 is_unanswered (Head since) = true
 is_unanswered phase = false
@@ -43,6 +45,8 @@ answering phase more now = Answer now now more
 
 -- while heads are read: the first bytes of a head begin its time, and further ones don't
 abbrev pub reading : Phase → Next → ℕ → Phase
+reading (Opened since) Turn now = Head now
+reading (Opened since) Room now = Head now
 reading (Idle since) Turn now = Head now
 reading (Idle since) Room now = Head now
 reading phase next now = phase

@@ -1,6 +1,6 @@
 ghost use Rattle.std.specs.Prelude.{◌≡◌, ◌≤◌, ◌<◌, ◌^◌, [], IfOk, IfErr, false};
 ghost use Rattle.httpedge.specs.Session.{new_session};
-ghost use Rattle.turns.specs.declared.times.Phase.TheVariants.{Idle};
+ghost use Rattle.turns.specs.declared.times.Phase.TheVariants.{Opened};
 ghost use Rattle.turns.specs.Drain.{brought, next_drained, phase_drained};
 
 use crate::drained::DRAINED_BYTES;
@@ -56,21 +56,21 @@ fn phase_drained(next: Next, phase: Phase) -> Phase
 impl<T: Transport> OpenConnection<T> {
     ghost use Rattle.turns.specs.Connection.{owed_by, IsServed, IsDrained, IsTurn};
 
-    /// A connection that is opened now: it is between requests. Where its memory is refused the transport comes back.
+    /// A connection that is opened now. Where its memory is refused the transport comes back.
     pub fn new(alloc: Global, transport: T, now: u64) -> Result<Self, T>
     where
         T: Drop,
         ensures transport { IfOk result (λ connection. connection.transport ≡ transport) }
         ensures session { IfOk result (λ connection. connection.exchange.session ≡ new_session) }
         ensures buffer { IfOk result (λ connection. connection.exchange.buffer ≡ []) }
-        ensures phase { IfOk result (λ connection. connection.phase ≡ Idle now) }
+        ensures phase { IfOk result (λ connection. connection.phase ≡ Opened now) }
         ensures refused { IfErr result (λ back. back ≡ transport) }
     {
         match BufferedSession::new(alloc) {
             Ok(exchange) => Ok(OpenConnection {
                 exchange,
                 transport,
-                phase: Phase::Idle { since: now },
+                phase: Phase::Opened { since: now },
                 dropped: 0,
             }),
             Err(_) => Err(transport),

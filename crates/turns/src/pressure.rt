@@ -21,7 +21,7 @@ impl Pressure {
         ensures { result ≡ rank self phase }
     {
         match (self, phase) {
-            (Pressure::Slot, Phase::Idle { since }) => Some(since),
+            (Pressure::Slot, Phase::Opened { since } | Phase::Idle { since }) => Some(since),
             (Pressure::Room { now }, Phase::Answer { since, sent, .. }) => {
                 let passed = now.saturating_sub(since);
                 if passed > PATIENCE {

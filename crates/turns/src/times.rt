@@ -6,9 +6,9 @@ use crate::{Next, TurnResult};
 /// How long a connection may take, in milliseconds.
 #[derive(Clone, Copy, Debug)]
 pub struct Timeouts {
-    /// Between requests: from the opening, or from the last byte of an answer, up to the first byte of a head.
+    /// Between requests: from the last byte of an answer up to the first byte of a head.
     pub idle: u64,
-    /// A head, from its first byte on; an answer of which no byte is taken.
+    /// From the opening up to the first byte of a head; a head, from its first byte on; an answer of which no byte is taken.
     pub timeout: u64,
     /// A whole answer, besides the time that its bytes have at the least rate.
     pub grace: u64,
@@ -21,7 +21,9 @@ pub struct Timeouts {
 /// What a connection does, and since when, in milliseconds of its worker's clock.
 #[derive(Clone, Copy, Debug)]
 pub enum Phase {
-    /// It is between requests: no byte of a head was taken.
+    /// It was opened, and no byte of a head was taken.
+    Opened { since: u64 },
+    /// It is between requests: no byte of a further head was taken.
     Idle { since: u64 },
     /// Bytes of a head came.
     Head { since: u64 },
@@ -40,7 +42,9 @@ impl Phase {
     {
         match *self {
             Phase::Idle { since } => since.saturating_add(timeouts.idle),
-            Phase::Head { since } => since.saturating_add(timeouts.timeout),
+            Phase::Opened { since } | Phase::Head { since } => {
+                since.saturating_add(timeouts.timeout)
+            }
             Phase::Answer { since, moved, sent } => {
                 let still = moved.saturating_add(timeouts.timeout);
                 let whole = since
@@ -60,11 +64,14 @@ impl Phase {
         matches!(*self, Phase::Over)
     }
 
-    /// Whether it is between requests, or bytes of a head came.
+    /// Whether it waits for a head, or bytes of one came.
     pub fn is_unanswered(&self) -> bool
         ensures { result ≡ is_unanswered self.now }
     {
-        matches!(*self, Phase::Idle { .. } | Phase::Head { .. })
+        matches!(
+            *self,
+            Phase::Opened { .. } | Phase::Idle { .. } | Phase::Head { .. }
+        )
     }
 
     /// What a connection does after a turn, where some or no bytes are still to be sent.
@@ -94,7 +101,8 @@ impl Phase {
             return Phase::Idle { since: now };
         }
         match self {
-            Phase::Idle { .. } if turned.next == Next::Turn || turned.next == Next::Room => {
+            Phase::Opened { .. } | Phase::Idle { .. }
+                if turned.next == Next::Turn || turned.next == Next::Room => {
                 Phase::Head { since: now }
             }
             other => other,
