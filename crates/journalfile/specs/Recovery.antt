@@ -32,12 +32,15 @@ module _ (fingerprint : List ℕ) where
   IsReplayFault bytes old replay_fault.NoMemory = Unit {0}
 
   module _ {L : Type 0} (content : L → List ℕ) where
-    -- the bytes stood for some batches, as many as the count; the log has their journal now, which each crash leaves, and the machine is in
-    -- the state after them
-    abbrev pub HasRecovered : (L → List ℕ → Type 0) → L → L → State → State → ℕ → Type 0
-    HasRecovered may_leave old new first last count =
-        (batches : List (List ℕ)) × StandsFor fingerprint (content old) batches × (content new ≡ journal_of sha256 fingerprint batches)
-        × Only (content new) (may_leave new) × (count ≡ length batches) × (after accepted first batches ≡ Some last)
+    -- the machine is in the state after some batches, as many as the count. Where the log is reliable, the bytes stood for them, and the log
+    -- has their journal now, which each crash leaves
+    pub record HasRecovered (reliable : Type 0) (may_leave : L → List ℕ → Type 0) (old new : L) (first last : State) (count : ℕ) : Type 0 where
+      pub batches : List (List ℕ)
+      pub counted : count ≡ length batches
+      pub after : after accepted first batches ≡ Some last
+      pub stood : reliable → StandsFor fingerprint (content old) batches
+      pub journal : reliable → content new ≡ journal_of sha256 fingerprint batches
+      pub durable : reliable → Only (content new) (may_leave new)
 
     -- the header isn't that of the map's journal
     abbrev pub IsHeaderFault : L → HeaderFault → Type 0

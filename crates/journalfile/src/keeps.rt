@@ -3,7 +3,7 @@
 ghost use Rattle.std.specs.Prelude.{◌≡◌, ◌⊎◌, ◌++◌, [], ◌∷◌, ℕ, List, OnOk, Err};
 ghost use Rattle.journal.specs.Reading.{StandsFor};
 ghost use Rattle.journalfile.specs.Settled.{GarblesNoRecord, IsSettled};
-ghost use Rattle.journalfile.specs.Keeping.{settled_stands};
+ghost use Rattle.journalfile.specs.Keeping.{keeps_of, may_leave_of, option_stays, settled_stands, stands_of};
 
 use crate::log::Log;
 use crate::writing::{Journal, PutFault};
@@ -55,6 +55,24 @@ impl Keeps for Nowhere {
 
     fn keep(&mut self, _batch: &[u8]) -> Result<(), KeepFault> {
         Ok(())
+    }
+}
+
+/// What keeps batches where there is one; without it they end with the process.
+impl<K: Keeps> Keeps for Option<K> {
+    ghost keeps = { keeps_of K.keeps };
+
+    ghost may_leave = { may_leave_of K.may_leave };
+
+    ghost stands = { stands_of K.stands };
+
+    ghost stays = { option_stays K.keeps K.may_leave K.stands K.stays };
+
+    fn keep(&mut self, batch: &[u8]) -> Result<(), KeepFault> {
+        match self {
+            Some(keeper) => keeper.keep(batch),
+            None => Ok(()),
+        }
     }
 }
 

@@ -80,7 +80,7 @@ fn open_log<L: Log>(
     log: &mut L,
     machine: &mut Machine,
 ) -> Result<u64, RecoverFault<L::Failure>>
-    ensures recovered { L.reliable → IfOk result (λ count. HasRecovered fingerprint.now L.content L.may_leave log.old log.new machine.old machine.new count) }
+    ensures recovered { IfOk result (λ count. HasRecovered fingerprint.now L.content L.reliable L.may_leave log.old log.new machine.old machine.new count) }
     ensures fault { L.reliable → IfErr result (λ fault. IsFaultOf fingerprint.now L.content log.old log.new machine.old fault) }
     ensures any_moment { L.reliable → LeavesOnly L.moment L.left_since log.old log.new
         (λ c. L.may_leave log.old c ⊎ StandAlike fingerprint.now (L.content log.old) c) }
@@ -121,8 +121,8 @@ pub fn recover<L: Log>(
     log: &mut L,
     machine: &mut Machine,
 ) -> Result<u64, RecoverFault<L::Failure>>
-    ensures recovered { L.reliable → IfOk result (λ count. HasRecovered fingerprint.now L.content L.may_leave log.old log.new machine.old machine.new count) }
-    ensures counted { L.reliable → IfOk result (λ count. machine.new.sequence ≡ machine.old.sequence + count) }
+    ensures recovered { IfOk result (λ count. HasRecovered fingerprint.now L.content L.reliable L.may_leave log.old log.new machine.old machine.new count) }
+    ensures counted { IfOk result (λ count. machine.new.sequence ≡ machine.old.sequence + count) }
     ensures fault { L.reliable → IfErr result (λ fault. IsFaultOf fingerprint.now L.content log.old log.new machine.old fault) }
 
     // What stands for accepted batches is opened, unless memory is refused or the log fails.

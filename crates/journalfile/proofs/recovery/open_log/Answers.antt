@@ -10,22 +10,23 @@ use Rattle.journalfile.proofs.Standing.{cut_done, cut_crash}
 use Rattle.journalfile.proofs.recovery.open_log.Goals as goal
 
 pub returns-in-Ok-cut_synced-clause-recovered : goal.returns-in-Ok-cut_synced-clause-recovered
-returns-in-Ok-cut_synced-clause-recovered g c reliable =
+returns-in-Ok-cut_synced-clause-recovered g c =
     let fingerprint = c.args.fingerprint.now in
     let found = c.in-Ok-replay.ensures.replayed in
     let tail = c.in-Ok-replay.replayed.1.now in
     let torn : IsTorn sha256 fingerprint tail = iff_false c.in-Ok-false.ensures.within c.in-Ok-false.field-0-test in
     let file : c.as_slice.result.now ≡ journal_of sha256 fingerprint found.0 ++ tail = whole_file fingerprint c.as_slice.result.now c.in-Ok-after_header.rest.now tail found.0 c.in-Ok-after_header.ensures.journal found.1 in
-    let old : g.L.Log.content c.args.log.now ≡ journal_of sha256 fingerprint found.0 ++ tail = sym (c.as_slice.ensures.value ∙ c.in-Ok.ensures.bytes reliable) ∙ file in
+    let old = λ (reliable : g.L.Log.reliable). let same : g.L.Log.content c.args.log.now ≡ journal_of sha256 fingerprint found.0 ++ tail = sym (c.as_slice.ensures.value ∙ c.in-Ok.ensures.bytes reliable) ∙ file in same in
     let end = c.len.result - length tail in
-    let ends : end + length tail ≡ length (g.L.Log.content c.args.log.now) = omega (arith, c.len.ensures, ap length old, length-append (journal_of sha256 fingerprint found.0) tail, ap length (c.in-Ok.ensures.bytes reliable)) in (
-      found.0,
-      subst (λ (f : List ℕ). StandsFor fingerprint f found.0) (sym old) (stands_torn fingerprint found.0 tail torn),
-      c.in-Ok-cut_synced.ensures.shortened reliable ∙ (ap (λ (l : List ℕ). take end l) (c.in-Ok.ensures.content reliable) ∙ cut_done fingerprint found.0 tail (g.L.Log.content c.args.log.now) end old ends),
-      c.in-Ok-cut_synced.ensures.durable reliable,
-      found.2,
-      found.3,
-    )
+    let ends = λ (reliable : g.L.Log.reliable). let same : end + length tail ≡ length (g.L.Log.content c.args.log.now) = omega (arith, c.len.ensures, ap length (old reliable), length-append (journal_of sha256 fingerprint found.0) tail, ap length (c.in-Ok.ensures.bytes reliable)) in same in
+    record {
+      batches = found.0;
+      counted = found.2;
+      after = found.3;
+      stood = λ reliable. subst (λ (f : List ℕ). StandsFor fingerprint f found.0) (sym (old reliable)) (stands_torn fingerprint found.0 tail torn);
+      journal = λ reliable. c.in-Ok-cut_synced.ensures.shortened reliable ∙ (ap (λ (l : List ℕ). take end l) (c.in-Ok.ensures.content reliable) ∙ cut_done fingerprint found.0 tail (g.L.Log.content c.args.log.now) end (old reliable) (ends reliable));
+      durable = λ reliable. c.in-Ok-cut_synced.ensures.durable reliable;
+    }
 
 pub returns-in-Ok-cut_synced-clause-any_moment : goal.returns-in-Ok-cut_synced-clause-any_moment
 returns-in-Ok-cut_synced-clause-any_moment g c reliable =

@@ -8,6 +8,6 @@ returns-in-Err-clause-opens g c reliable batches stands some =
     transient c.args.fingerprint.now g.L.Log.content c.args.log.now c.open_log.new.log c.args.machine.now batches stands some c.in-Err.fault (c.in-Err.ensures.fault reliable)
 
 pub returns-in-Ok-clause-counted : goal.returns-in-Ok-clause-counted
-returns-in-Ok-clause-counted g c reliable =
-    let recovered = c.in-Ok.ensures.recovered reliable in
-    after_counts c.args.machine.now c.open_log.new.machine recovered.0 recovered.5 ∙ ap (λ (n : ℕ). c.args.machine.now.sequence + n) (sym recovered.4)
+returns-in-Ok-clause-counted g c =
+    let recovered = c.in-Ok.ensures.recovered in
+    after_counts c.args.machine.now c.open_log.new.machine recovered.batches recovered.after ∙ ap (λ (n : ℕ). c.args.machine.now.sequence + n) (sym recovered.counted)
