@@ -1,5 +1,5 @@
 -- The command line (docs/PROFILE.md, "The program").
-use Rattle.std.specs.Prelude.{◌≡◌, ◌≤◌, ℕ, pos, All, fold, Ok, List, [], ◌∷◌, Option, Some, None, Bool, true, false, codes}
+use Rattle.std.specs.Prelude.{◌≡◌, ◌≤◌, ℕ, pos, All, fold, Ok, List, [], ◌∷◌, Option, Some, None, option_map, Bool, true, false, codes}
 use Rattle.std.specs.Str.Parse.{ParsesUnsigned}
 use Rattle.std.specs.declared.num.ParseIntError.{ParseIntError}
 use Rattle.clap.specs.declared.builder.action.ArgAction.TheVariants.{SetTrue}
@@ -31,6 +31,18 @@ explain_rule = flag_rule (codes "explain")
 -- `--until-input-ends`
 abbrev pub until_rule : Rule
 until_rule = flag_rule (codes "until-input-ends")
+
+-- `--log`
+abbrev pub log_rule : Rule
+log_rule = flag_rule (codes "log")
+
+-- an option of a name, which is a text
+abbrev pub text_rule : Text → Rule
+text_rule name = record (new_rule name) { long = Some name; value_names = 1 }
+
+-- `--journal JOURNAL`
+abbrev pub journal_rule : Rule
+journal_rule = text_rule (codes "journal")
 
 -- `NAME --explain FILE`
 abbrev pub file_app : Text → App
@@ -79,8 +91,16 @@ abbrev pub numbered_app : App
 numbered_app = fold with_option (file_app (codes "serve")) serve_options
 
 -- the same with `--until-input-ends`
+abbrev pub ended_app : App
+ended_app = with_rule numbered_app until_rule
+
+-- the same with `--log`
+abbrev pub logged_app : App
+logged_app = with_rule ended_app log_rule
+
+-- the same with `--journal JOURNAL`
 abbrev pub serve_app : App
-serve_app = with_rule numbered_app until_rule
+serve_app = with_rule logged_app journal_rule
 
 -- the program by its name, with which its arguments don't begin, and a version, for which `--version` asks
 abbrev pub program_app : App
@@ -115,6 +135,7 @@ pub record IsService (rows : List Row) (service : Service) : Type 0 where
   pub admin_port : IsNumber 16 (codes "admin-port") rows service.admin_port
   pub workers : IsNumber 16 (codes "workers") rows service.workers
   pub until_input_ends : IsFlag (codes "until-input-ends") rows service.until_input_ends
+  pub logs : IsFlag (codes "log") rows service.logs
   pub ranges : All (IsInRange rows) serve_options
 
 -- the rows of matches name a mapfile, and say whether its fault is explained
@@ -127,12 +148,13 @@ abbrev pub IsCommand : Option (Text × List Row) → Command → Type 0
 IsCommand None Session = Unit {0}
 IsCommand None (Check file explains) = ⊥
 IsCommand None (Run file script explains) = ⊥
-IsCommand None (Serve file explains service) = ⊥
+IsCommand None (Serve file explains service journal) = ⊥
 IsCommand (Some m) Session = ⊥
 IsCommand (Some m) (Check file explains) = (m.0 ≡ codes "check") × IsOnFile m.1 file.now explains
 IsCommand (Some m) (Run file script explains) =
     (m.0 ≡ codes "run") × IsOnFile m.1 file.now explains × (first_of (codes "SCRIPT") m.1 ≡ Some script.now)
-IsCommand (Some m) (Serve file explains service) = (m.0 ≡ codes "serve") × IsOnFile m.1 file.now explains × IsService m.1 service
+IsCommand (Some m) (Serve file explains service journal) =
+    (m.0 ≡ codes "serve") × IsOnFile m.1 file.now explains × IsService m.1 service × (first_of (codes "journal") m.1 ≡ option_map (λ name. name.now) journal)
 
 -- the arguments were refused
 abbrev pub is_refusal : WordsFault → Bool
@@ -158,7 +180,7 @@ Plays map_name script_name explained _ = ⊥
 abbrev pub Reads : ℕ → Text → ℕ → Type 0
 Reads bits text n = ParsesUnsigned {E = ParseIntError} bits 10 text (Ok n)
 
--- the texts of the options of `serve`, and whether its flag is there
+-- the texts of the options of `serve`, whether its flags are there, and the name of its journal
 pub record OptionTexts : Type 0 where
   pub port : Text
   pub connections : Text
@@ -167,6 +189,8 @@ pub record OptionTexts : Type 0 where
   pub admin_port : Text
   pub workers : Text
   pub until_input_ends : Bool
+  pub logs : Bool
+  pub journal : Option Text
 
 -- those of options that aren't given
 abbrev pub default_texts : OptionTexts
@@ -178,6 +202,8 @@ default_texts = record {
   admin_port = codes "8081";
   workers = codes "4";
   until_input_ends = false;
+  logs = false;
+  journal = None;
 }
 
 -- a map is served by these texts of options
@@ -189,10 +215,12 @@ pub record IsServedBy (texts : OptionTexts) (service : Service) : Type 0 where
   pub reads_admin_port : Reads 16 texts.admin_port service.admin_port
   pub reads_workers : Reads 16 texts.workers service.workers
   pub ends : service.until_input_ends ≡ texts.until_input_ends
+  pub logs : service.logs ≡ texts.logs
 
 -- the command serves the mapfile of a name, and explains a fault or doesn't, by the texts of its options
 abbrev pub Serves : Text → Bool → OptionTexts → Command → Type 0
-Serves name explained texts (Serve file explains service) = (file.now ≡ name) × (explains ≡ explained) × IsServedBy texts service
+Serves name explained texts (Serve file explains service journal) =
+    (file.now ≡ name) × (explains ≡ explained) × IsServedBy texts service × (option_map (λ text. text.now) journal ≡ texts.journal)
 Serves name explained texts _ = ⊥
 
 -- the commands that arguments may be
@@ -200,7 +228,8 @@ abbrev pub May : List Text → Command → Type 0
 May arguments command = IsCommand (subcommand_of app arguments) command
 
 -- the law on arguments that are written out: none are a session; `check` has its file; `run` has the mapfile before the script; `serve`
--- has its file, and numbers that aren't given are 8080, 0, 60000, 30, 8081 and 4; each flag is there where it is given, and else not
+-- has its file, and numbers that aren't given are 8080, 0, 60000, 30, 8081 and 4; each flag is there where it is given, and else not, and so
+-- is the journal
 pub record CommandsAreWritten : Type 0 where
   pub none : (c : Command) → May [] c → IsSession c
   pub check : (c : Command) → May (codes "check" ∷ codes "a.map" ∷ []) c → Checks (codes "a.map") false c
@@ -212,6 +241,8 @@ pub record CommandsAreWritten : Type 0 where
   pub timed : (c : Command) → May (codes "serve" ∷ codes "a.map" ∷ codes "--timeout" ∷ codes "9" ∷ codes "--idle" ∷ codes "50" ∷ []) c → Serves (codes "a.map") false (record default_texts { idle = codes "50"; timeout = codes "9" }) c
   pub administered : (c : Command) → May (codes "serve" ∷ codes "a.map" ∷ codes "--workers" ∷ codes "8" ∷ codes "--admin-port" ∷ codes "82" ∷ []) c → Serves (codes "a.map") false (record default_texts { admin_port = codes "82"; workers = codes "8" }) c
   pub ended : (c : Command) → May (codes "serve" ∷ codes "a.map" ∷ codes "--until-input-ends" ∷ []) c → Serves (codes "a.map") false (record default_texts { until_input_ends = true }) c
+  pub logged : (c : Command) → May (codes "serve" ∷ codes "--log" ∷ codes "a.map" ∷ []) c → Serves (codes "a.map") false (record default_texts { logs = true }) c
+  pub kept : (c : Command) → May (codes "serve" ∷ codes "a.map" ∷ codes "--journal" ∷ codes "b.journal" ∷ []) c → Serves (codes "a.map") false (record default_texts { journal = Some (codes "b.journal") }) c
   pub serve_explained : (c : Command) → May (codes "serve" ∷ codes "a.map" ∷ codes "--explain" ∷ []) c → Serves (codes "a.map") true default_texts c
 
 -- the law on arguments that are taken or refused: those of each command are taken; those that lack a file, begin with another word, ask
@@ -228,3 +259,4 @@ pub record ArgumentsAreTaken : Type 0 where
       × (takes app (codes "serve" ∷ codes "a.map" ∷ codes "--timeout" ∷ codes "0" ∷ []) ≡ false) × (takes app (codes "serve" ∷ codes "a.map" ∷ codes "--timeout" ∷ codes "3601" ∷ []) ≡ false)
   pub unmanned : (takes app (codes "serve" ∷ codes "a.map" ∷ codes "--workers" ∷ codes "0" ∷ []) ≡ false) × (takes app (codes "serve" ∷ codes "a.map" ∷ codes "--workers" ∷ codes "33" ∷ []) ≡ false)
       × (takes app (codes "serve" ∷ codes "a.map" ∷ codes "--admin-port" ∷ codes "65536" ∷ []) ≡ false)
+  pub nameless : takes app (codes "serve" ∷ codes "a.map" ∷ codes "--journal" ∷ []) ≡ false

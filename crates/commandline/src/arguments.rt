@@ -83,6 +83,7 @@ fn service_of<'a>(matches: &ArgMatches<'a>) -> Option<Service>
         admin_port: number_of(matches, "admin-port")?,
         workers: number_of(matches, "workers")?,
         until_input_ends: flag_of(matches, "until-input-ends"),
+        logs: flag_of(matches, "log"),
     })
 }
 
@@ -106,6 +107,7 @@ fn command_of<'a>(matches: &ArgMatches<'a>) -> Option<Command<'a>>
             file,
             explains,
             service: service_of(inner)?,
+            journal: inner.get_str("journal"),
         }),
         _ => None,
     }

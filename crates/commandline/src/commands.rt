@@ -1,7 +1,7 @@
 ghost use Rattle.std.specs.Prelude.{◌≡◌, IfOk, map, fold, false};
 ghost use Rattle.clap.specs.Words.{app_of, rule_of};
 ghost use Rattle.clap.specs.declared.builder.command.Command.TheViews.{out-Command};
-ghost use Rattle.commandline.specs.Arguments.{app, check_app, file_app, flag_rule, number_rule, numbered_app, option_of, program_app, run_app, serve_app, with_option};
+ghost use Rattle.commandline.specs.Arguments.{app, check_app, ended_app, file_app, flag_rule, logged_app, number_rule, numbered_app, option_of, program_app, run_app, serve_app, text_rule, with_option};
 ghost use Rattle.commandline.specs.Subcommands.{IsWithSubcommand};
 
 use crate::options::{NumberOption, SERVE_OPTIONS};
@@ -95,14 +95,46 @@ fn numbered_command<'a>(alloc: Global) -> Result<clap::Command<'a>, AllocError>
     with_options(alloc, form, &SERVE_OPTIONS)
 }
 
-// `serve --explain FILE` with its options.
-fn serve_command<'a>(alloc: Global) -> Result<clap::Command<'a>, AllocError>
-    ensures app { IfOk result (λ c. app_of c ≡ serve_app) }
+// The same with `--until-input-ends`.
+fn ended_command<'a>(alloc: Global) -> Result<clap::Command<'a>, AllocError>
+    ensures app { IfOk result (λ c. app_of c ≡ ended_app) }
     ensures local { IfOk result (λ c. (out-Command c).has_globals ≡ false) }
 {
     let form = numbered_command(alloc)?;
     let help = "End when standard input does, once those being answered have their answers";
     form.arg(flag(alloc, "until-input-ends", help))
+}
+
+// The same with `--log`.
+fn logged_command<'a>(alloc: Global) -> Result<clap::Command<'a>, AllocError>
+    ensures app { IfOk result (λ c. app_of c ≡ logged_app) }
+    ensures local { IfOk result (λ c. (out-Command c).has_globals ≡ false) }
+{
+    let form = ended_command(alloc)?;
+    let help = "Log each answer and each batch in a line of standard error";
+    form.arg(flag(alloc, "log", help))
+}
+
+// An option of this name, which is a text.
+fn text_option<'a>(alloc: Global, name: &'a str, value: &'a str, help: &'a str) -> Arg<'a>
+    ensures rule { rule_of result ≡ text_rule name.now }
+    ensures local { result.global ≡ false }
+{
+    Arg::new(alloc, name)
+        .long(name)
+        .value_name(value)
+        .help(help)
+}
+
+// `serve --explain FILE` with its options.
+fn serve_command<'a>(alloc: Global) -> Result<clap::Command<'a>, AllocError>
+    ensures app { IfOk result (λ c. app_of c ≡ serve_app) }
+    ensures local { IfOk result (λ c. (out-Command c).has_globals ≡ false) }
+{
+    let form = logged_command(alloc)?;
+    let help =
+        "Journal that keeps batches, so that they outlive the program; made where it isn't there";
+    form.arg(text_option(alloc, "journal", "JOURNAL", help))
 }
 
 // The program by its name, without subcommands.

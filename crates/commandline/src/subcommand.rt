@@ -27,6 +27,8 @@ pub enum Command<'a> {
         explains: bool,
         /// How it is served.
         service: Service,
+        /// The name of the journal that keeps its batches, if they are kept.
+        journal: Option<&'a str>,
     },
 }
 
@@ -56,4 +58,6 @@ pub struct Service {
     pub workers: u16,
     /// The service ends when standard input does.
     pub until_input_ends: bool,
+    /// Each answer, each batch and each connection that is given up is logged in a line of standard error.
+    pub logs: bool,
 }

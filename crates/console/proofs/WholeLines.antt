@@ -4,7 +4,7 @@ use Rattle.std.specs.Io.KnownBytes.{Appends, Keeps}
 use Rattle.std.proofs.KnownBytes.{Appends-kept}
 use Rattle.streams.specs.Sent.{IsSent}
 use Rattle.console.specs.Streams.{WriterState, Outcome, GetsLine, IsWritten, HasFlushed, is_done, is_output_failed}
-use Rattle.console.specs.declared.failure.Failure.TheVariants.{MapfileFault, FileFailed, WordsRefused, InputFailed, OutputFailed, ListenFailed, SocketFailed, NoMemory}
+use Rattle.console.specs.declared.failure.Failure.TheVariants.{MapfileFault, FileFailed, WordsRefused, InputFailed, OutputFailed, ListenFailed, SocketFailed, WatchFailed, JournalFault, JournalFailed, NoMemory}
 
 -- a flush leaves it
 pub whole-line : {S : Type 0} (held : S → Option (List ℕ)) (taken : S → ℕ) (a b : S) (c : Option (List ℕ)) (line : List ℕ) → IsSent held taken a line b → Keeps (held b) c → Appends (held a) c line
@@ -29,6 +29,9 @@ gets-whole (Err FileFailed) a c line bytes only = cc
 gets-whole (Err WordsRefused) a c line bytes only = cc
 gets-whole (Err InputFailed) a c line bytes only = cc
 gets-whole (Err SocketFailed) a c line bytes only = cc
+gets-whole (Err WatchFailed) a c line bytes only = cc
+gets-whole (Err JournalFault) a c line bytes only = cc
+gets-whole (Err JournalFailed) a c line bytes only = cc
 gets-whole (Err (ListenFailed port cause)) a c line bytes only = cc
 gets-whole (Err NoMemory) a c line bytes only = cc
 

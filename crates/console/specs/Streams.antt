@@ -2,7 +2,7 @@
 use Rattle.std.specs.Prelude.{◌≡◌, ◌||◌, ℕ, ◌≤◌, Bool, true, false, List, length, take, Option, Result, Ok, Err}
 use Rattle.std.specs.Io.KnownBytes.{Appends, Keeps}
 use Rattle.console.specs.declared.failure.Failure.{Failure}
-use Rattle.console.specs.declared.failure.Failure.TheVariants.{MapfileFault, FileFailed, WordsRefused, InputFailed, OutputFailed, ListenFailed, SocketFailed, NoMemory}
+use Rattle.console.specs.declared.failure.Failure.TheVariants.{MapfileFault, FileFailed, WordsRefused, InputFailed, OutputFailed, ListenFailed, SocketFailed, WatchFailed, JournalFault, JournalFailed, NoMemory}
 
 -- how the program ends: all that was asked is done, or why not
 abbrev pub Outcome : Type 0
@@ -18,6 +18,9 @@ status_of (Err InputFailed) = 3
 status_of (Err OutputFailed) = 3
 status_of (Err (ListenFailed port cause)) = 3
 status_of (Err SocketFailed) = 3
+status_of (Err WatchFailed) = 3
+status_of (Err JournalFault) = 1
+status_of (Err JournalFailed) = 3
 status_of (Err NoMemory) = 4
 
 -- an input: what is left of it, where that is known, and whether its reader has failed

@@ -34,6 +34,12 @@ pub enum Failure {
     },
     /// A port gave no connection, or a thread could not be started.
     SocketFailed,
+    /// The input with whose end the service ends could not be read.
+    WatchFailed,
+    /// The journal is none, is that of another map, is damaged or has a batch that isn't accepted, which was reported.
+    JournalFault,
+    /// The journal could not be opened, read or written, which was reported.
+    JournalFailed,
     /// Memory was refused for the arguments, for bytes that were read, for the map, for the buffer of the output, or
     /// for the address of a port.
     NoMemory,
@@ -46,12 +52,14 @@ impl Failure {
         ensures { result ≡ status_of (Err self) }
     {
         match self {
-            Failure::MapfileFault | Failure::FileFailed => 1,
+            Failure::MapfileFault | Failure::FileFailed | Failure::JournalFault => 1,
             Failure::WordsRefused => 2,
             Failure::InputFailed
             | Failure::OutputFailed
             | Failure::ListenFailed { .. }
-            | Failure::SocketFailed => 3,
+            | Failure::SocketFailed
+            | Failure::WatchFailed
+            | Failure::JournalFailed => 3,
             Failure::NoMemory => 4,
         }
     }

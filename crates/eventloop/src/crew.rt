@@ -2,6 +2,7 @@ use crate::handover::{Ending, Handover};
 use crate::poller::{Poller, Wakes};
 use crate::turning_away::turn_away;
 use crate::worker::{Worker, run};
+use accesslog::EndsEarly;
 use httpedge::Asks;
 use std::alloc::{AllocError, Global};
 use std::rt::Clock;
@@ -102,7 +103,7 @@ pub fn start_worker<R, A, T, P>(
 where
     R: Clock + Wait + Threads + Send + Copy + Drop + 'static,
     A: Asks + Send + Drop + 'static,
-    T: Transport + Send + Drop + 'static,
+    T: Transport + EndsEarly + Send + Drop + 'static,
     P: Poller<T> + Send + Drop + 'static,
 {
     let Some(waker) = worker.waker() else {

@@ -13,6 +13,7 @@
 #![tactic(auto)]
 
 mod crew;
+mod ending_early;
 mod handover;
 mod poller;
 mod turning_away;

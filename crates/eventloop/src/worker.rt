@@ -2,15 +2,17 @@ ghost use Rattle.std.specs.Prelude.{◌≡◌, ◌<◌, length, None};
 ghost use Rattle.turns.specs.Slots.{at_slot};
 ghost use Rattle.turns.specs.Table.{connections};
 
+use crate::ending_early::early_end;
 use crate::handover::{Ending, Handover};
 use crate::poller::{Poller, Wakes};
 use crate::turning_away::turn_away;
+use accesslog::{Cause, EndsEarly};
 use httpedge::Asks;
 use std::alloc::{AllocError, Global};
 use std::rt::Clock;
 use std::sync::Wait;
 use std::time::{Duration, Instant};
-use turns::{ConnectionTable, Next, OpenConnection, Timeouts, Transport};
+use turns::{Closed, ConnectionTable, Next, OpenConnection, Timeouts, Transport};
 
 /// While so many bytes of answers are to be sent, a worker makes no further answer.
 pub const ROOM: usize = 67_108_864;
@@ -31,12 +33,13 @@ pub struct Worker<A, T: Drop, P> {
     asks: A,
     poller: P,
     table: ConnectionTable<T>,
+    timeouts: Timeouts,
     // The milliseconds of its clock, and when it last looked whose time is over.
     now: u64,
     looked: u64,
 }
 
-impl<A: Asks, T: Transport + Drop, P: Poller<T>> Worker<A, T, P> {
+impl<A: Asks, T: Transport + EndsEarly + Drop, P: Poller<T>> Worker<A, T, P> {
     /// One with so many slots, and no connection. Its error is that memory was refused.
     pub fn new(
         alloc: Global,
@@ -54,6 +57,7 @@ impl<A: Asks, T: Transport + Drop, P: Poller<T>> Worker<A, T, P> {
             asks,
             poller,
             table: ConnectionTable::new(alloc, slots, timeouts, ROOM)?,
+            timeouts,
             now: 0,
             looked: 0,
         })
@@ -84,7 +88,9 @@ impl<A: Asks, T: Transport + Drop, P: Poller<T>> Worker<A, T, P> {
         if !handover.has_waiting(rt) {
             return false;
         }
-        self.table.close_for_slot();
+        if let Some(closed) = self.table.close_for_slot() {
+            give_way(closed);
+        }
         let Some(slot) = self.table.free_slot() else {
             return false;
         };
@@ -111,17 +117,28 @@ impl<A: Asks, T: Transport + Drop, P: Poller<T>> Worker<A, T, P> {
                 return;
             };
             if matches!(served.next, Some(Next::Done) | Some(Next::Failed)) {
-                self.table.close_overdue(served.slot, self.now);
+                self.close_overdue(served.slot);
             }
+        }
+    }
+
+    // Closes the connection at a slot where its time is over. Why is noted, unless its client had all of its answers.
+    fn close_overdue(&mut self, slot: usize) {
+        if let Some(mut connection) = self.table.close_overdue(slot, self.now)
+            && let Some(cause) = early_end(&connection, &self.timeouts, self.now)
+        {
+            connection.transport.note_end(cause);
         }
     }
 
     // Closes those whose time is over, and where an answer waits for room, the slowest reader.
     fn look(&mut self) {
         for slot in 0..self.table.len() {
-            self.table.close_overdue(slot, self.now);
+            self.close_overdue(slot);
         }
-        self.table.close_for_room(self.now);
+        if let Some(closed) = self.table.close_for_room(self.now) {
+            give_way(closed);
+        }
     }
 
     // Looks, where the last look is long enough ago.
@@ -161,12 +178,18 @@ impl<A: Asks, T: Transport + Drop, P: Poller<T>> Worker<A, T, P> {
     }
 }
 
+// Notes that a connection gave way.
+fn give_way<T: EndsEarly + Drop>(closed: Closed<T>) {
+    let Closed { mut connection, .. } = closed;
+    connection.transport.note_end(Cause::GaveWay);
+}
+
 /// Serves connections in turns as they become ready, until its worker may end. Without a clock it ends at once.
 pub fn run<R, A, T, P, W>(rt: &R, mut worker: Worker<A, T, P>, handover: &Handover<T, W>)
 where
     R: Clock + Wait,
     A: Asks + Drop,
-    T: Transport + Drop,
+    T: Transport + EndsEarly + Drop,
     P: Poller<T> + Drop,
     W: Wakes,
 {
@@ -179,8 +202,10 @@ where
         if let Ok(passed) = start.elapsed(rt) {
             worker.now = u64::try_from(passed.as_millis()).unwrap_or(u64::MAX);
         }
-        if handover.take_press(rt) {
-            worker.table.close_for_descriptor();
+        if handover.take_press(rt)
+            && let Some(closed) = worker.table.close_for_descriptor()
+        {
+            give_way(closed);
         }
         // (no connection is handed over any more where a worker ends)
         let ending = handover.ending(rt);

@@ -54,6 +54,13 @@ impl Files {
         Ok(())
     }
 
+    /// All of them, in the order in which their names were added.
+    pub fn as_slice(&self) -> &[FileBytes]
+        ensures { result.now ≡ self.now }
+    {
+        &self.files
+    }
+
     /// The bytes of the file of a name, if there is one.
     pub fn bytes(&self, name: &str) -> Option<&[u8]>
         ensures { option_map (λ x. x.now) result ≡ bytes_in name.now self.now }

@@ -9,12 +9,12 @@
 #![tactic(auto)]
 
 use console::Console;
-use program::{Ending, Program, SystemHost, read_arguments};
+use program::{Ending, JournalFile, Program, SystemHost, read_arguments};
 use service::SocketPort;
 use std::io::{self, BufWriter};
 use streams::Flagged;
 
-fn main(rt: HostRuntime) -> Ending<SocketPort> {
+fn main(rt: HostRuntime) -> Ending<SocketPort, JournalFile> {
     let Ok(output) = BufWriter::new(rt.alloc(), io::writer(&rt)) else {
         return Ending::without_memory();
     };

@@ -18,13 +18,13 @@ pub record IsUntouched (old new : Streams) : Type 0 where
   pub output : new.output ≡ old.output
 
 -- there was no memory for the arguments, and nothing was reported
-pub record IsWithoutMemory {P : Type 0} (ending : EndingValue P) (old new : Streams) : Type 0 where
+pub record IsWithoutMemory {P L : Type 0} (ending : EndingValue P L) (old new : Streams) : Type 0 where
   pub ends : ending ≡ record { outcome = Err NoMemory; served = None }
   pub untouched : IsUntouched old new
   pub errors : new.errors ≡ old.errors
 
 -- the arguments were refused, and the command line doesn't take them; a text on it was reported
-pub record IsRefused {P : Type 0} (arguments : List (List ℕ)) (ending : EndingValue P) (old new : Streams) : Type 0 where
+pub record IsRefused {P L : Type 0} (arguments : List (List ℕ)) (ending : EndingValue P L) (old new : Streams) : Type 0 where
   pub ends : ending ≡ record { outcome = Err WordsRefused; served = None }
   pub refused : takes app arguments ≡ false
   pub untouched : IsUntouched old new
@@ -32,7 +32,7 @@ pub record IsRefused {P : Type 0} (arguments : List (List ℕ)) (ending : Ending
   pub reported : IsReported old.errors new.errors text
 
 -- the arguments ask for a command, which was performed; how it ended was explained, where that is asked for
-pub record IsPerformed {P : Type 0} (host : HostView P) (arguments : List (List ℕ)) (ending : EndingValue P) (old new : Streams) : Type 0 where
+pub record IsPerformed {P L : Type 0} (host : HostView P L) (arguments : List (List ℕ)) (ending : EndingValue P L) (old new : Streams) : Type 0 where
   pub command : Command
   pub asked : IsCommand (subcommand_of app arguments) command
   pub middle : Streams
@@ -42,13 +42,13 @@ pub record IsPerformed {P : Type 0} (host : HostView P) (arguments : List (List 
   pub explained : ExplainsEnd (explains_end command) ending.outcome middle.errors new.errors
 
 -- an argument isn't text, which was reported
-pub record IsNoText {P : Type 0} (ending : EndingValue P) (old new : Streams) : Type 0 where
+pub record IsNoText {P L : Type 0} (ending : EndingValue P L) (old new : Streams) : Type 0 where
   pub ends : ending ≡ record { outcome = Err WordsRefused; served = None }
   pub untouched : IsUntouched old new
   pub reported : IsReported old.errors new.errors (codes "error: a word is not UTF-8\n")
 
 -- what the arguments come to, or arguments that can't be read
-abbrev pub Answers : {P : Type 0} → HostView P → Result (List (List ℕ)) ArgumentsUnread → EndingValue P → Streams → Streams → Type 0
+abbrev pub Answers : {P L : Type 0} → HostView P L → Result (List (List ℕ)) ArgumentsUnread → EndingValue P L → Streams → Streams → Type 0
 Answers host (Ok arguments) ending old new =
     IsPerformed host arguments ending old new ⊎ IsRefused arguments ending old new ⊎ IsWithoutMemory ending old new
 Answers host (Err NoText) ending old new = IsNoText ending old new

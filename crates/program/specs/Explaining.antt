@@ -5,7 +5,7 @@ use Rattle.commandline.specs.declared.subcommand.Command.{Command}
 use Rattle.commandline.specs.declared.subcommand.Command.TheVariants.{Session, Check, Run, Serve}
 use Rattle.console.specs.Streams.{Outcome, Streams, WriterState, IsReported}
 use Rattle.console.specs.declared.failure.Failure.{Failure}
-use Rattle.console.specs.declared.failure.Failure.TheVariants.{OutputFailed, ListenFailed, SocketFailed, NoMemory}
+use Rattle.console.specs.declared.failure.Failure.TheVariants.{OutputFailed, ListenFailed, SocketFailed, WatchFailed, NoMemory}
 use Rattle.console.specs.declared.failure.ListenCause.{ListenCause}
 use Rattle.console.specs.declared.failure.ListenCause.TheVariants.{Taken, NotAllowed, Other}
 
@@ -14,7 +14,7 @@ abbrev pub explains_end : Command → Bool
 explains_end Session = false
 explains_end (Check name explains) = explains
 explains_end (Run name script explains) = explains
-explains_end (Serve name explains service) = explains
+explains_end (Serve name explains service journal) = explains
 
 -- why a port can't be listened on
 unfoldable pub cause_words : ListenCause → List ℕ
@@ -22,12 +22,13 @@ cause_words Taken = codes " is taken\n"
 cause_words NotAllowed = codes " may not be listened on\n"
 cause_words Other = codes " can't be listened on\n"
 
--- the sentence on a failure of the output, a port or memory. Others were reported by a line of their own; standard input is read by a
--- session alone, which takes no option
+-- the sentence on a failure of the output, a port, the input with whose end a service ends, or memory. Others were reported by a line of
+-- their own; a session, which reads standard input, takes no option
 unfoldable pub sentence_on : Failure → Option (List ℕ)
 sentence_on OutputFailed = Some (codes "error: standard output can't be written\n")
 sentence_on (ListenFailed port cause) = Some (codes "error: port " ++ (decimal port ++ (codes " of 127.0.0.1" ++ cause_words cause)))
 sentence_on SocketFailed = Some (codes "error: a port gives no connections, or a thread can't be started\n")
+sentence_on WatchFailed = Some (codes "error: standard input can't be read\n")
 sentence_on NoMemory = Some (codes "error: out of memory\n")
 sentence_on failure = None
 

@@ -2,4 +2,5 @@ pub mod Answering
 pub mod Endings
 pub mod Explaining
 pub mod Hosts
+pub mod Journals
 pub mod Performing

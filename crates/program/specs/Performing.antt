@@ -1,41 +1,48 @@
 -- What the program does for a command on a host (docs/PROFILE.md, "The program").
-use Rattle.std.specs.Prelude.{◌≡◌, ◌⊎◌, ◌*◌, ℕ, Bool, List, [], Option, None, Some, Err}
+use Rattle.std.specs.Prelude.{◌≡◌, ◌⊎◌, ◌*◌, ℕ, Bool, List, [], Option, None, Some, option_map, Err}
 use Rattle.std.specs.Duration.{as_nanos}
 use Rattle.std.specs.Io.KnownBytes.{Keeps}
 use Rattle.commandline.specs.declared.subcommand.Command.{Command}
 use Rattle.commandline.specs.declared.subcommand.Service.{Service}
 use Rattle.commandline.specs.declared.subcommand.Command.TheVariants.{Session, Check, Run, Serve}
-use Rattle.console.specs.Streams.{Streams, WriterState}
+use Rattle.console.specs.Streams.{Streams, WriterState, IsReported}
 use Rattle.console.specs.declared.failure.Failure.{Failure}
+use Rattle.batches.specs.Batch.{State}
+use Rattle.journalfile.specs.declared.writing.Journal.{Journal}
 use Rattle.mapdefs.specs.declared.map.MapFields.{MapFields}
+use Rattle.mapparse.specs.declared.files.FileBytes.{FileBytes}
+use Rattle.program.specs.Journals.{JournalView, IsOpened, IsUnopened, ReportsEnd, failure_of, journal_fault, map_fingerprint}
+use Rattle.program.specs.declared.keeping.JournalFault.{JournalFault}
 use Rattle.service.specs.Serving.{HasAnnounced, IsUnserved}
 use Rattle.service.specs.declared.limits.Waits.{Waits}
 use Rattle.subcommands.specs.Folder.{Giving, IsFront}
-use Rattle.subcommands.specs.Mapfiles.{HasReadMap, GivesNoMap, ReportsWarnings, ChecksTo, RunsTo}
+use Rattle.subcommands.specs.Mapfiles.{HasReadMapfile, GivesNoMap, ReportsWarnings, ChecksTo, RunsTo}
 use Rattle.subcommands.specs.Session.{PlaysTo, opened}
 use Rattle.subcommands.specs.declared.unread.UnreadCause.{UnreadCause}
 use Rattle.program.specs.Endings.{EndingValue}
 use Rattle.program.specs.Hosts.{gives_in}
 
--- what a host is known to have: the bytes of the file of a path, which ports it gives for a number, and the addresses of ports
-pub record HostView (P : Type 0) : Type 1 where
+-- what a host is known to have: the bytes of the file of a path, which ports it gives for a number, the addresses of ports, and journals
+pub record HostView (P L : Type 0) : Type 1 where
   pub file : List ℕ → Option (List ℕ)
   pub listens : ℕ → Waits → P → Type 0
   pub address : P → Option (List ℕ)
+  pub journal : JournalView L
 
 -- how long the calls of a client wait: as the service was asked for, in nanoseconds
 pub record IsOfClients (service : Service) (waits : Waits) : Type 0 where
   pub idle : as_nanos waits.idle ≡ 1000000 * service.idle
   pub timeout : as_nanos waits.timeout ≡ 1000000000 * service.timeout
 
--- how long those of an administrator wait: ten minutes
+-- how long those of an administrator wait: half a minute for its bytes, and ten minutes for a command in all
 pub record IsOfAdministrators (waits : Waits) : Type 0 where
-  pub idle : as_nanos waits.idle ≡ 1000000000 * 600
+  pub idle : as_nanos waits.idle ≡ 1000000000 * 30
+  pub silence : as_nanos waits.silence ≡ 1000000000 * 30
   pub timeout : as_nanos waits.timeout ≡ 1000000000 * 600
 
--- a map was served as it begins, at the two ports that were listened on, and that is how the program ended; where they are was written
--- once, that of clients first
-pub record IsServed {P : Type 0} (host : HostView P) (map : MapFields) (service : Service) (ending : EndingValue P) (old new : WriterState) : Type 0 where
+-- a machine was served as it begins, at the two ports that were listened on, and its batches kept by this; that is how the program ended.
+-- Where the ports are was written once, that of clients first
+pub record IsServed {P L : Type 0} (host : HostView P L) (machine : State) (keeper : Option (Journal L)) (service : Service) (ending : EndingValue P L) (old new : WriterState) : Type 0 where
   pub clients : P
   pub administration : P
   pub clients_wait : Waits
@@ -44,27 +51,61 @@ pub record IsServed {P : Type 0} (host : HostView P) (map : MapFields) (service 
   pub for_administrators : IsOfAdministrators administrators_wait
   pub listens : host.listens service.port clients_wait clients
   pub listens_too : host.listens service.admin_port administrators_wait administration
-  pub served : ending.served ≡ Some (record { machine = opened map; clients = clients; administration = administration; service = service; outcome = ending.outcome })
+  pub served : ending.served ≡ Some (record { machine = machine; keeper = keeper; clients = clients; administration = administration; service = service; outcome = ending.outcome })
   pub announced : HasAnnounced (host.address clients) (host.address administration) ending.outcome old new
 
 -- nothing was served
-abbrev pub ServesNothing : {P : Type 0} → EndingValue P → Type 0
+abbrev pub ServesNothing : {P L : Type 0} → EndingValue P L → Type 0
 ServesNothing ending = ending.served ≡ None
 
--- a map was served; or a port of it couldn't be listened on, or memory was refused before
-abbrev pub ServesMap : {P : Type 0} → HostView P → MapFields → Service → EndingValue P → WriterState → WriterState → Type 0
-ServesMap host map service ending old new =
-    (ServesNothing ending × IsUnserved ending.outcome old new) ⊎ IsServed host map service ending old new
+-- a machine was served; or a port of it couldn't be listened on, or memory was refused before
+abbrev pub ServesMachine : {P L : Type 0} → HostView P L → State → Option (Journal L) → Service → EndingValue P L → WriterState → WriterState → Type 0
+ServesMachine host machine keeper service ending old new =
+    (ServesNothing ending × IsUnserved ending.outcome old new) ⊎ IsServed host machine keeper service ending old new
+
+-- the output before and after, and the errors before and after
+pub record Written : Type 0 where
+  pub output : WriterState
+  pub later_output : WriterState
+  pub errors : WriterState
+  pub later_errors : WriterState
+
+-- a map was served in the state after the batches of its journal, which kept all that followed; where it failed that was reported
+pub record IsJournalServed {P L : Type 0} (host : HostView P L) (path fingerprint : List ℕ) (map : MapFields) (service : Service) (ending : EndingValue P L) (written : Written) : Type 0 where
+  pub machine : State
+  pub journal : Journal L
+  pub is_opened : IsOpened host.journal path fingerprint (opened map) machine journal
+  pub serves : ServesMachine host machine (Some journal) service ending written.output written.later_output
+  pub reported : ReportsEnd path ending.outcome written.errors written.later_errors
+
+-- nothing was served, since the journal wasn't opened, which was reported
+pub record IsWithoutJournal {P L : Type 0} (host : HostView P L) (path fingerprint : List ℕ) (map : MapFields) (ending : EndingValue P L) (written : Written) : Type 0 where
+  pub why : JournalFault
+  pub is_unopened : IsUnopened host.journal path fingerprint (opened map) why
+  pub ends : ending ≡ record { outcome = Err (failure_of why); served = None }
+  pub output : written.later_output ≡ written.output
+  pub reported : IsReported written.errors written.later_errors (journal_fault path why)
+
+-- a map was served: as it begins, or, with the journal of a path, after its batches
+abbrev pub ServesMap : {P L : Type 0} → HostView P L → Option (List ℕ) → List ℕ → MapFields → Service → EndingValue P L → Written → Type 0
+ServesMap host None fingerprint map service ending written =
+    ServesMachine host (opened map) None service ending written.output written.later_output × (written.later_errors ≡ written.errors)
+ServesMap host (Some path) fingerprint map service ending written =
+    IsWithoutJournal host path fingerprint map ending written ⊎ IsJournalServed host path fingerprint map service ending written
 
 -- the warnings on the map of a mapfile were reported, where `explains` says so, and the map was served
-pub record IsMapServed {P : Type 0} (host : HostView P) (gives : Giving) (explains : Bool) (service : Service) (ending : EndingValue P) (name : List ℕ) (before after : Option (List ℕ)) (old new : Streams) : Type 0 where
+pub record IsMapServed {P L : Type 0} (host : HostView P L) (gives : Giving) (explains : Bool) (journal : Option (List ℕ)) (service : Service) (ending : EndingValue P L) (name : List ℕ) (before after : Option (List ℕ)) (old new : Streams) : Type 0 where
   pub map : MapFields
-  pub read : HasReadMap gives before after map
-  pub warnings : ReportsWarnings explains name map old.errors new.errors
-  pub serves_map : ServesMap host map service ending old.output new.output
+  pub mapfile : List ℕ
+  pub files : List FileBytes
+  pub read : HasReadMapfile gives before after mapfile files map
+  pub errors : WriterState
+  pub warnings : ReportsWarnings explains name map old.errors errors
+  pub serves_map : ServesMap host journal (map_fingerprint mapfile files) map service ending
+      (record { output = old.output; later_output = new.output; errors = errors; later_errors = new.errors })
 
 -- no map was served, since the mapfile gave none
-pub record IsWithoutMap {P : Type 0} (gives : Giving) (explains : Bool) (ending : EndingValue P) (name : List ℕ) (before after : Option (List ℕ)) (old new : Streams) : Type 0 where
+pub record IsWithoutMap {P L : Type 0} (gives : Giving) (explains : Bool) (ending : EndingValue P L) (name : List ℕ) (before after : Option (List ℕ)) (old new : Streams) : Type 0 where
   pub failure : Failure
   pub ends : ending.outcome ≡ Err failure
   pub output : Keeps old.output.held new.output.held
@@ -73,9 +114,9 @@ pub record IsWithoutMap {P : Type 0} (gives : Giving) (explains : Bool) (ending 
   pub nothing : ServesNothing ending
 
 -- what serving a mapfile comes to. `before` and `after` are what is left of the mapfile
-abbrev pub ServesTo : {P : Type 0} → HostView P → Giving → Bool → Service → EndingValue P → List ℕ → Option (List ℕ) → Option (List ℕ) → Streams → Streams → Type 0
-ServesTo host gives explains service ending name before after old new =
-    IsWithoutMap gives explains ending name before after old new ⊎ IsMapServed host gives explains service ending name before after old new
+abbrev pub ServesTo : {P L : Type 0} → HostView P L → Giving → Bool → Option (List ℕ) → Service → EndingValue P L → List ℕ → Option (List ℕ) → Option (List ℕ) → Streams → Streams → Type 0
+ServesTo host gives explains journal service ending name before after old new =
+    IsWithoutMap gives explains ending name before after old new ⊎ IsMapServed host gives explains journal service ending name before after old new
 
 -- what is left of a file after so much was read of it
 abbrev pub Left : Type 0
@@ -83,7 +124,7 @@ Left = Option (List ℕ)
 
 -- what performing a command comes to, by its end. The files that a mapfile names are those of its folder; a session's are those of the
 -- current one
-abbrev pub Performs : {P : Type 0} → HostView P → Command → EndingValue P → Streams → Streams → Type 0
+abbrev pub Performs : {P L : Type 0} → HostView P L → Command → EndingValue P L → Streams → Streams → Type 0
 Performs host Session ending old new = PlaysTo (gives_in host.file []) ending.outcome old new × ServesNothing ending
 Performs host (Check name explains) ending old new =
     ((front : List ℕ) × IsFront name.now front × (after : Left) × (cause : UnreadCause)
@@ -92,6 +133,6 @@ Performs host (Run name script explains) ending old new =
     ((front : List ℕ) × IsFront name.now front × (after : Left) × (script_after : Left) × (cause : UnreadCause) × (script_cause : UnreadCause)
     × RunsTo (gives_in host.file front) explains ending.outcome (record { name = name.now; cause = cause }) (record { name = script.now; cause = script_cause })
     (record { mapfile_before = host.file name.now; mapfile_after = after; script_before = host.file script.now; script_after = script_after }) old new) × ServesNothing ending
-Performs host (Serve name explains service) ending old new =
+Performs host (Serve name explains service journal) ending old new =
     (front : List ℕ) × IsFront name.now front × (after : Left)
-    × ServesTo host (gives_in host.file front) explains service ending name.now (host.file name.now) after old new
+    × ServesTo host (gives_in host.file front) explains (option_map (λ text. text.now) journal) service ending name.now (host.file name.now) after old new

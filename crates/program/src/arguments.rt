@@ -42,8 +42,8 @@ impl<R: Runtime, H: Host> Program<'_, R, H> {
         &self,
         texts: &[&str],
         console: &mut Console<I, O, E>,
-    ) -> Ending<H::Port>
-        ensures { Answers (record { file = H.Files.file self.now.host.now; listens = H.listens self.now.host.now; address = H.Port.address })
+    ) -> Ending<H::Port, H::Log>
+        ensures { Answers (record { file = H.Files.file self.now.host.now; listens = H.listens self.now.host.now; address = H.Port.address; journal = record { gives = H.journal self.now.host.now; reliable = H.Log.reliable; content = H.Log.content; may_leave = H.Log.may_leave } })
             (Ok (map (λ text. text.now) texts.entry.now)) result (⟦<Console<I, O, E> as Terminal>⟧.streams console.old) (⟦<Console<I, O, E> as Terminal>⟧.streams console.new) }
     {
         match command(self.rt.alloc(), texts) {
@@ -65,8 +65,8 @@ impl<R: Runtime, H: Host> Program<'_, R, H> {
         &self,
         arguments: &[String],
         console: &mut Console<I, O, E>,
-    ) -> Ending<H::Port>
-        ensures { Answers (record { file = H.Files.file self.now.host.now; listens = H.listens self.now.host.now; address = H.Port.address })
+    ) -> Ending<H::Port, H::Log>
+        ensures { Answers (record { file = H.Files.file self.now.host.now; listens = H.listens self.now.host.now; address = H.Port.address; journal = record { gives = H.journal self.now.host.now; reliable = H.Log.reliable; content = H.Log.content; may_leave = H.Log.may_leave } })
             (Ok (map string_bytes arguments.now)) result (⟦<Console<I, O, E> as Terminal>⟧.streams console.old) (⟦<Console<I, O, E> as Terminal>⟧.streams console.new) }
     {
         match texts_of(self.rt.alloc(), arguments) {
@@ -80,8 +80,8 @@ impl<R: Runtime, H: Host> Program<'_, R, H> {
         &self,
         arguments: Result<Vec<String>, ArgumentsUnread>,
         console: &mut Console<I, O, E>,
-    ) -> Ending<H::Port>
-        ensures answers { Answers (record { file = H.Files.file self.now.host.now; listens = H.listens self.now.host.now; address = H.Port.address })
+    ) -> Ending<H::Port, H::Log>
+        ensures answers { Answers (record { file = H.Files.file self.now.host.now; listens = H.listens self.now.host.now; address = H.Port.address; journal = record { gives = H.journal self.now.host.now; reliable = H.Log.reliable; content = H.Log.content; may_leave = H.Log.may_leave } })
             (result_map_both (λ w. map string_bytes w.items) (λ e. e) arguments) result (⟦<Console<I, O, E> as Terminal>⟧.streams console.old) (⟦<Console<I, O, E> as Terminal>⟧.streams console.new) }
     {
         match arguments {

@@ -3,33 +3,34 @@ ghost use Rattle.std.specs.Process.{exit_status};
 ghost use Rattle.console.specs.Streams.{status_of};
 
 use console::Failure;
+use journalfile::Journal;
 use service::Served;
 use std::io::Eprint;
 use std::marker::Model;
 use std::process::{ExitCode, Termination};
 
-/// How the program ended, and what it served on ports P, if anything. Only `Program::answer`, `Program::perform` and
+/// How the program ended, and what it served on ports P, if anything, with a journal on a log L where batches were kept. Only `Program::answer`, `Program::perform` and
 /// `without_memory` make one, and the exit status is 0 or that of its failure, so that a `main` which returns one ends
 /// as they say.
 #[derive(Drop)]
-pub struct Ending<P> {
+pub struct Ending<P, L> {
     outcome: Result<(), Failure>,
-    served: Option<Served<P>>,
+    served: Option<Served<P, Option<Journal<L>>>>,
 }
 
-impl<P> Model for Ending<P> {
+impl<P, L> Model for Ending<P, L> {
     ghost use Rattle.std.specs.Coded.{codes};
     ghost use Rattle.mapdefs.specs.contracts.expr.Expr as expr;
     ghost use Rattle.program.specs.Endings.{EndingValue};
 
-    ghost Value = { EndingValue P };
+    ghost Value = { EndingValue P L };
 
-    ghost coded = { Prim.hlevel (codes, expr.the_row.coded, P.code) };
+    ghost coded = { Prim.hlevel (codes, expr.the_row.coded, P.code, L.code) };
 
     ghost view = { λ ending. record { outcome = ending.outcome; served = ending.served } };
 }
 
-impl<P> Ending<P> {
+impl<P, L> Ending<P, L> {
     // The end after this, where nothing was served.
     pub(crate) fn after(done: Result<(), Failure>) -> Self
         ensures { result ≡ record { outcome = done; served = None } }
@@ -41,7 +42,7 @@ impl<P> Ending<P> {
     }
 
     // The end after a service.
-    pub(crate) fn of_service(served: Served<P>) -> Self
+    pub(crate) fn of_service(served: Served<P, Option<Journal<L>>>) -> Self
         ensures { result ≡ record { outcome = served.outcome; served = Some served } }
     {
         Ending {
@@ -65,7 +66,7 @@ impl<P> Ending<P> {
     }
 }
 
-impl<P: Drop> Termination for Ending<P> {
+impl<P: Drop, L: Drop> Termination for Ending<P, L> {
     fn report<R: Eprint>(self, _rt: &R) -> ExitCode
         ensures { exit_status result ≡ status_of self.outcome }
     {

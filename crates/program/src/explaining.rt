@@ -49,8 +49,11 @@ fn report_failure<E: Sink>(failure: Failure, errors: &mut E)
             errors,
             &[b"error: a port gives no connections, or a thread can't be started\n"],
         ),
+        Failure::WatchFailed => report(errors, &[b"error: standard input can't be read\n"]),
         Failure::NoMemory => report(errors, &[b"error: out of memory\n"]),
         Failure::MapfileFault
+        | Failure::JournalFault
+        | Failure::JournalFailed
         | Failure::FileFailed
         | Failure::WordsRefused
         | Failure::InputFailed => {}

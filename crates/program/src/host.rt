@@ -1,6 +1,8 @@
-ghost use Rattle.std.specs.Prelude.{◌≡◌, IfOk};
+ghost use Rattle.std.specs.Prelude.{◌≡◌, ℕ, List, IfOk, OnOk};
+ghost use Rattle.journalfile.specs.Settled.{GarblesNoRecord};
 
 use console::ListenCause;
+use journalfile::Log;
 use service::{Network, Waits};
 use std::io::{self, Read};
 use thiserror::Error;
@@ -11,6 +13,20 @@ use thiserror::Error;
 pub struct ListenFailed {
     /// Why.
     pub cause: ListenCause,
+}
+
+/// Why the log of a journal can't be opened.
+#[derive(Clone, Copy, Debug, Error)]
+pub enum OpenFault {
+    /// Another program has it.
+    #[error("another program has the log")]
+    InUse,
+    /// The system doesn't open or make it.
+    #[error("the log can't be opened")]
+    Failed,
+    /// Memory was refused.
+    #[error("out of memory")]
+    NoMemory,
 }
 
 /// What opens files by their paths.
@@ -28,10 +44,16 @@ pub trait Files {
         ensures { IfOk result (λ f. Self.File.remaining f ≡ file self.now path.now) };
 }
 
-/// Where the program runs: its files, and what listens on ports.
+/// Where the program runs: its files, its journals, and what listens on ports.
 pub trait Host: Files + Network {
-    ghost use Rattle.std.specs.Prelude.{ℕ};
+    ghost use Rattle.std.specs.Prelude.{ℕ, List};
     ghost use Rattle.service.specs.declared.limits.Waits.{Waits};
+
+    /// What a journal is written to.
+    type Log: Log + Drop;
+
+    // A log is one that the host gives for a path.
+    ghost journal: { Self → List ℕ → Self.Log → Type 0 };
 
     // A port is one that the host gives for a number, and its connections' calls wait for so long.
     ghost listens: { Self → ℕ → Waits → Self.Port → Type 0 };
@@ -39,6 +61,12 @@ pub trait Host: Files + Network {
     /// Listens on a port by its number, where 0 is one that is free. The calls of its connections wait for so long.
     fn listen(&self, number: u16, waits: Waits) -> Result<Self::Port, ListenFailed>
         ensures { IfOk result (λ p. listens self.now number waits p) };
+
+    /// Opens the log of a path, which no other program has meanwhile. Where there is none one is made that has these bytes: it is there with
+    /// all of them or not at all. What a crash garbles of a log that is reliable is known by its digests.
+    fn open_log(&self, path: &str, bytes: &[u8]) -> Result<Self::Log, OpenFault>
+        ensures given { IfOk result (λ log. journal self.now path.now log) }
+        ensures recognised { OnOk result (Self.Log.reliable → (fingerprint : List ℕ) → GarblesNoRecord Self.Log.garbled fingerprint) };
 
     /// What ends a wait at a port, if the port tells where it is.
     fn waker(&self, port: &Self::Port) -> Option<Self::Waker>;

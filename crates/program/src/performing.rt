@@ -1,8 +1,9 @@
-ghost use Rattle.std.specs.Prelude.{◌≡◌, ◌≢◌, ℕ, List};
+ghost use Rattle.std.specs.Prelude.{◌≡◌, ◌≢◌, ℕ, List, option_map};
 ghost use Rattle.commandline.specs.declared.subcommand.Command.TheVariants.{Session};
 ghost use Rattle.console.specs.Streams.{Leaves};
 ghost use Rattle.program.specs.Hosts.{gives_in, left_of};
-ghost use Rattle.program.specs.Performing.{HostView, Left, Performs, ServesTo};
+ghost use Rattle.program.specs.Journals.{map_fingerprint};
+ghost use Rattle.program.specs.Performing.{HostView, Left, Performs, ServesMap, ServesTo};
 ghost use Rattle.subcommands.specs.Folder.{IsFront};
 ghost use Rattle.subcommands.specs.Mapfiles.{ChecksTo, RunsTo};
 ghost use Rattle.subcommands.specs.Reports.{ReadFile};
@@ -13,10 +14,10 @@ use crate::files::{HostFile, HostFolder};
 use crate::host::{Files, Host};
 use crate::program::Program;
 use commandline::{Command, Service};
-use console::{Console, Failure, Terminal};
+use console::{Console, Failure, Terminal, Writes};
 use service::{Network, Port, Runtime};
 use streams::{Flagged, Sink, Source};
-use subcommands::{Job, NamedFile, check, read_map, run, session};
+use subcommands::{Job, NamedFile, ReadMap, check, read_map, run, session};
 
 // The file of a path, whose name is that path.
 fn named_file<'a, H: Files>(host: &'a H, path: &'a str) -> NamedFile<'a, Flagged<HostFile<'a, H>>>
@@ -79,16 +80,16 @@ impl<R: Runtime, H: Host> Program<'_, R, H> {
         run(self.rt.alloc(), &mut job, &mut commands, console)
     }
 
-    // Answers connections about the map of a mapfile.
+    // Answers connections about the map of a mapfile, with the journal of a path or without.
     fn serve<I: Source, O: Sink, E: Sink>(
         &self,
         file: &str,
         explains: bool,
-        service: Service,
+        asked: (Service, Option<&str>),
         console: &mut Console<I, O, E>,
-    ) -> Ending<H::Port>
+    ) -> Ending<H::Port, H::Log>
         ensures serves { (front : List ℕ) × IsFront file.now front × (after : Left)
-            × ServesTo (record { file = H.Files.file self.now.host.now; listens = H.listens self.now.host.now; address = H.Port.address }) (gives_in (H.Files.file self.now.host.now) front) explains service result file.now (H.Files.file self.now.host.now file.now) after
+            × ServesTo (record { file = H.Files.file self.now.host.now; listens = H.listens self.now.host.now; address = H.Port.address; journal = record { gives = H.journal self.now.host.now; reliable = H.Log.reliable; content = H.Log.content; may_leave = H.Log.may_leave } }) (gives_in (H.Files.file self.now.host.now) front) explains (option_map (λ path. path.now) asked.entry.1) asked.entry.0 result file.now (H.Files.file self.now.host.now file.now) after
             (⟦<Console<I, O, E> as Terminal>⟧.streams console.old) (⟦<Console<I, O, E> as Terminal>⟧.streams console.new) }
         ensures input { console.new.input ≡ console.old.input }
         ensures leaves { Leaves result.outcome (⟦<Console<I, O, E> as Terminal>⟧.streams console.old) (⟦<Console<I, O, E> as Terminal>⟧.streams console.new) }
@@ -100,8 +101,27 @@ impl<R: Runtime, H: Host> Program<'_, R, H> {
             explains,
         };
         match read_map(self.rt.alloc(), &mut job, &mut console.errors) {
-            Ok(map) => self.serve_map(map, service, &mut console.output),
+            Ok(read) => self.serve_read(read, asked, console),
             Err(failure) => Ending::after(Err(failure)),
+        }
+    }
+
+    // Serves a map that was read.
+    fn serve_read<I: Source, O: Sink, E: Sink>(
+        &self,
+        read: ReadMap,
+        asked: (Service, Option<&str>),
+        console: &mut Console<I, O, E>,
+    ) -> Ending<H::Port, H::Log>
+        ensures serves { ServesMap (record { file = H.Files.file self.now.host.now; listens = H.listens self.now.host.now; address = H.Port.address; journal = record { gives = H.journal self.now.host.now; reliable = H.Log.reliable; content = H.Log.content; may_leave = H.Log.may_leave } }) (option_map (λ path. path.now) asked.entry.1) (map_fingerprint read.source.items read.files) read.map asked.entry.0 result
+            (record { output = ⟦<O as Writes>⟧.state console.old.output; later_output = ⟦<O as Writes>⟧.state console.new.output; errors = ⟦<E as Writes>⟧.state console.old.errors; later_errors = ⟦<E as Writes>⟧.state console.new.errors }) }
+        ensures input { console.new.input ≡ console.old.input }
+        ensures leaves { Leaves result.outcome (⟦<Console<I, O, E> as Terminal>⟧.streams console.old) (⟦<Console<I, O, E> as Terminal>⟧.streams console.new) }
+    {
+        let (service, journal) = asked;
+        match journal {
+            Some(path) => self.serve_kept(read, (service, path), console),
+            None => self.serve_map(read.map, service, &mut console.output),
         }
     }
 
@@ -111,8 +131,8 @@ impl<R: Runtime, H: Host> Program<'_, R, H> {
         &self,
         command: Command,
         console: &mut Console<I, O, E>,
-    ) -> Ending<H::Port>
-        ensures performs { Performs (record { file = H.Files.file self.now.host.now; listens = H.listens self.now.host.now; address = H.Port.address }) command.entry result
+    ) -> Ending<H::Port, H::Log>
+        ensures performs { Performs (record { file = H.Files.file self.now.host.now; listens = H.listens self.now.host.now; address = H.Port.address; journal = record { gives = H.journal self.now.host.now; reliable = H.Log.reliable; content = H.Log.content; may_leave = H.Log.may_leave } }) command.entry result
             (⟦<Console<I, O, E> as Terminal>⟧.streams console.old) (⟦<Console<I, O, E> as Terminal>⟧.streams console.new) }
         ensures input { command.entry ≢ Session → console.new.input ≡ console.old.input }
         ensures leaves { Leaves result.outcome (⟦<Console<I, O, E> as Terminal>⟧.streams console.old) (⟦<Console<I, O, E> as Terminal>⟧.streams console.new) }
@@ -132,7 +152,8 @@ impl<R: Runtime, H: Host> Program<'_, R, H> {
                 file,
                 explains,
                 service,
-            } => self.serve(file, explains, service, console),
+                journal,
+            } => self.serve(file, explains, (service, journal), console),
         }
     }
 }

@@ -1,18 +1,26 @@
-ghost use Rattle.std.specs.Prelude.{◌≡◌, IfErr, IfOk, is_some, true};
-ghost use Rattle.program.specs.Performing.{HostView, IsOfAdministrators, IsOfClients, ServesMap};
+ghost use Rattle.std.specs.Prelude.{◌≡◌, ℕ, List, IfErr, IfOk, IfSome, Some, None, is_some, true, false};
+ghost use Rattle.console.specs.Streams.{LeavesOutput, is_input_failed};
+ghost use Rattle.program.specs.Journals.{IsOpened, IsUnopened, map_fingerprint};
+ghost use Rattle.program.specs.Performing.{HostView, IsOfAdministrators, IsOfClients, ServesMachine, ServesMap};
+ghost use Rattle.subcommands.specs.Session.{opened};
 ghost use Rattle.service.specs.Serving.{is_service_failure};
 ghost use Rattle.service.specs.declared.limits.Waits.{Waits as WaitsOf};
 
 use crate::ending::Ending;
 use crate::host::{Files, Host, ListenFailed};
+use crate::keeping::{
+    JournalFault, JournalPlace, fingerprint_of_map, open_journal, report_end, report_journal_fault,
+};
 use crate::program::Program;
 use commandline::Service;
-use console::{Failure, Writes};
+use console::{Console, Failure, Writes};
+use journalfile::{Journal, Keeps};
 use mapdefs::Map;
 use mapmachine::Machine;
-use service::{Network, Port, PortFor, Ports, Runtime, Until, Waits, serve_by_threads};
+use service::{Kept, Network, Port, PortFor, Ports, Runtime, Until, Waits, serve_by_threads};
 use std::alloc::Global;
 use streams::Sink;
+use subcommands::ReadMap;
 
 // A port of a host by its number.
 fn listen_on<H: Host>(host: &H, port: u16, waits: Waits) -> Result<H::Port, Failure>
@@ -74,12 +82,14 @@ fn listen<H: Host>(
     let clients = listen_on(host, service.port, Waits::of(service))?;
     let administration = listen_on(host, service.admin_port, Waits::of_administration())?;
     let waker = host.waker(&administration);
+    let clients_waker = host.waker(&clients);
     let pollers = pollers_of(alloc, host, service.workers)?;
     let until = until_of(host, service, &clients)?;
     Ok(Ports {
         clients: PortFor::new(clients),
         administration: PortFor::new(administration),
         waker,
+        clients_waker,
         pollers,
         until,
         service,
@@ -87,19 +97,103 @@ fn listen<H: Host>(
 }
 
 impl<R: Runtime, H: Host> Program<'_, R, H> {
-    /// Listens on two ports, and serves a map there, as it begins.
-    pub fn serve_map<O: Sink>(&self, map: Map, service: Service, output: &mut O) -> Ending<H::Port>
-        ensures { ServesMap (record { file = H.Files.file self.now.host.now; listens = H.listens self.now.host.now; address = H.Port.address }) map service result
+    // Listens on two ports, and serves a machine there, as it begins, whose batches are kept.
+    fn serve_machine<O: Sink>(
+        &self,
+        kept: Kept<Option<Journal<H::Log>>>,
+        service: Service,
+        output: &mut O,
+    ) -> Ending<H::Port, H::Log>
+        requires ready { (batches : List (List ℕ)) × ⟦<Option<Journal<H::Log>> as Keeps>⟧.keeps kept.keeper batches }
+        ensures serves { ServesMachine (record { file = H.Files.file self.now.host.now; listens = H.listens self.now.host.now; address = H.Port.address; journal = record { gives = H.journal self.now.host.now; reliable = H.Log.reliable; content = H.Log.content; may_leave = H.Log.may_leave } }) kept.machine kept.keeper service result
             (⟦<O as Writes>⟧.state output.old) (⟦<O as Writes>⟧.state output.new) }
+        ensures leaves { LeavesOutput result.outcome (⟦<O as Writes>⟧.state output.old) (⟦<O as Writes>⟧.state output.new) }
+        ensures reads { is_input_failed result.outcome ≡ false }
+    {
+        match listen(self.rt.alloc(), self.host, service) {
+            Ok(ports) => Ending::of_service(serve_by_threads::<R, H, Option<Journal<H::Log>>, O>(
+                &self.rt, kept, ports, output,
+            )),
+            Err(failure) => Ending::after(Err(failure)),
+        }
+    }
+
+    /// Listens on two ports, and serves a map there, as it begins. Its batches end with the program.
+    pub fn serve_map<O: Sink>(
+        &self,
+        map: Map,
+        service: Service,
+        output: &mut O,
+    ) -> Ending<H::Port, H::Log>
+        ensures serves { ServesMachine (record { file = H.Files.file self.now.host.now; listens = H.listens self.now.host.now; address = H.Port.address; journal = record { gives = H.journal self.now.host.now; reliable = H.Log.reliable; content = H.Log.content; may_leave = H.Log.may_leave } }) (opened map) None service result
+            (⟦<O as Writes>⟧.state output.old) (⟦<O as Writes>⟧.state output.new) }
+        ensures leaves { LeavesOutput result.outcome (⟦<O as Writes>⟧.state output.old) (⟦<O as Writes>⟧.state output.new) }
+        ensures reads { is_input_failed result.outcome ≡ false }
     {
         let Ok(machine) = Machine::open(self.rt.alloc(), map) else {
             return Ending::after(Err(Failure::NoMemory));
         };
-        match listen(self.rt.alloc(), self.host, service) {
-            Ok(ports) => Ending::of_service(serve_by_threads::<R, H, O>(
-                &self.rt, machine, ports, output,
-            )),
-            Err(failure) => Ending::after(Err(failure)),
-        }
+        let kept = Kept {
+            machine,
+            keeper: None,
+        };
+        self.serve_machine(kept, service, output)
+    }
+
+    // The machine of a map that was read, after the batches of its journal, and that journal.
+    fn open_kept(
+        &self,
+        read: ReadMap,
+        path: &str,
+    ) -> Result<Kept<Option<Journal<H::Log>>>, JournalFault>
+        ensures opened { IfOk result (λ kept. IfSome kept.keeper (λ journal. IsOpened (record { gives = H.journal self.now.host.now; reliable = H.Log.reliable; content = H.Log.content; may_leave = H.Log.may_leave }) path.now (map_fingerprint read.source.items read.files) (opened read.map) kept.machine journal)) }
+        ensures some { IfOk result (λ kept. is_some kept.keeper ≡ true) }
+        ensures ready { IfOk result (λ kept. (batches : List (List ℕ)) × ⟦<Option<Journal<H::Log>> as Keeps>⟧.keeps kept.keeper batches) }
+        ensures fault { IfErr result (IsUnopened (record { gives = H.journal self.now.host.now; reliable = H.Log.reliable; content = H.Log.content; may_leave = H.Log.may_leave }) path.now (map_fingerprint read.source.items read.files) (opened read.map)) }
+    {
+        let alloc = self.rt.alloc();
+        let Ok(fingerprint) = fingerprint_of_map(alloc, &read) else {
+            return Err(JournalFault::NoMemory);
+        };
+        let ReadMap { map, .. } = read;
+        let Ok(mut machine) = Machine::open(alloc, map) else {
+            return Err(JournalFault::NoMemory);
+        };
+        let place = JournalPlace {
+            host: self.host,
+            path,
+        };
+        let journal = open_journal(alloc, place, fingerprint, &mut machine)?;
+        Ok(Kept {
+            machine,
+            keeper: Some(journal),
+        })
+    }
+
+    /// Serves a map that was read in the state after the batches of its journal, which keeps those that follow. It listens on two ports for
+    /// that. Why the journal can't be opened, or that it failed, is reported.
+    pub fn serve_kept<I, O: Sink, E: Sink>(
+        &self,
+        read: ReadMap,
+        asked: (Service, &str),
+        console: &mut Console<I, O, E>,
+    ) -> Ending<H::Port, H::Log>
+        ensures serves { ServesMap (record { file = H.Files.file self.now.host.now; listens = H.listens self.now.host.now; address = H.Port.address; journal = record { gives = H.journal self.now.host.now; reliable = H.Log.reliable; content = H.Log.content; may_leave = H.Log.may_leave } }) (Some asked.entry.1.now) (map_fingerprint read.source.items read.files) read.map asked.entry.0 result
+            (record { output = ⟦<O as Writes>⟧.state console.old.output; later_output = ⟦<O as Writes>⟧.state console.new.output; errors = ⟦<E as Writes>⟧.state console.old.errors; later_errors = ⟦<E as Writes>⟧.state console.new.errors }) }
+        ensures input { console.new.input ≡ console.old.input }
+        ensures leaves { LeavesOutput result.outcome (⟦<O as Writes>⟧.state console.old.output) (⟦<O as Writes>⟧.state console.new.output) }
+        ensures reads { is_input_failed result.outcome ≡ false }
+    {
+        let (service, path) = asked;
+        let kept = match self.open_kept(read, path) {
+            Ok(kept) => kept,
+            Err(fault) => {
+                report_journal_fault(&mut console.errors, path, fault);
+                return Ending::after(Err(fault.failure()));
+            }
+        };
+        let ending = self.serve_machine(kept, service, &mut console.output);
+        report_end(&mut console.errors, path, ending.outcome());
+        ending
     }
 }

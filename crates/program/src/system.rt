@@ -1,7 +1,8 @@
 ghost use Rattle.std.specs.Prelude.{None};
 
 use crate::arguments::ArgumentsUnread;
-use crate::host::{Files, Host, ListenFailed};
+use crate::host::{Files, Host, ListenFailed, OpenFault};
+use crate::journal_file::JournalFile;
 use console::ListenCause;
 use service::{
     Network, SocketConnection, SocketPoller, SocketPort, SocketTransport, SocketWaker, Waits,
@@ -48,6 +49,10 @@ impl Files for SystemHost {
 }
 
 impl Host for SystemHost {
+    type Log = JournalFile;
+
+    ghost journal = { λ _ _ _. Unit {0} };
+
     ghost listens = { λ _ _ _ _. Unit {0} };
 
     fn listen(&self, number: u16, waits: Waits) -> Result<SocketPort, ListenFailed> {
@@ -62,6 +67,10 @@ impl Host for SystemHost {
                 cause: cause_of(error.kind()),
             }),
         }
+    }
+
+    fn open_log(&self, path: &str, bytes: &[u8]) -> Result<JournalFile, OpenFault> {
+        JournalFile::open(&self.rt, path, bytes)
     }
 
     fn waker(&self, port: &SocketPort) -> Option<SocketWaker> {

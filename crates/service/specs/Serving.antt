@@ -4,20 +4,25 @@ use Rattle.batches.specs.Batch.{State}
 use Rattle.commandline.specs.declared.subcommand.Service.{Service}
 use Rattle.console.specs.Streams.{Outcome, WriterState, IsWritten}
 use Rattle.console.specs.declared.failure.Failure.{Failure}
-use Rattle.console.specs.declared.failure.Failure.TheVariants.{ListenFailed, SocketFailed, NoMemory}
+use Rattle.console.specs.declared.failure.Failure.TheVariants.{ListenFailed, SocketFailed, WatchFailed, JournalFailed, NoMemory}
 
--- what was served: the machine whose map it was, as it began, the ports of clients and of administration, how it was asked for, and how it ended
-pub record ServedValue (P : Type 0) : Type 0 where
+-- what was served: the machine whose map it was and what kept its batches, as they began, the ports of clients and of administration, how it
+-- was asked for, and how it ended
+pub record ServedValue (P K : Type 0) : Type 0 where
   pub machine : State
+  pub keeper : K
   pub clients : P
   pub administration : P
   pub service : Service
   pub outcome : Outcome
 
--- why there is no service, or it ended early: a port or a thread failed, or memory was refused
+-- why there is no service, or it ended early: a port, a thread, the input with whose end it ends, or what keeps batches failed, or memory
+-- was refused
 abbrev pub is_service_failure : Failure → Bool
 is_service_failure (ListenFailed port cause) = true
 is_service_failure SocketFailed = true
+is_service_failure WatchFailed = true
+is_service_failure JournalFailed = true
 is_service_failure NoMemory = true
 is_service_failure failure = false
 

@@ -3,8 +3,10 @@ ghost use Rattle.service.specs.Serving.{GoesOnAfter, is_service_failure};
 
 use crate::accepting::{Accepting, MAX_FAILURES};
 use crate::limits::{slots_of, timeouts_of};
+use crate::logging::LoggedPoller;
 use crate::port::Port;
 use crate::serving::{Clients, IntoTransport, PortFor, Runtime};
+use accesslog::{LogQueue, LoggedTransport};
 use commandline::Service;
 use console::Failure;
 use eventloop::{Crew, Ending, Poller, Wakes, Worker, start_worker};
@@ -15,7 +17,7 @@ use turns::Transport;
 // Starts a worker for a reader.
 fn start_one<S, R, T, Q>(
     rt: &R,
-    crew: &mut Crew<T, Q::Waker>,
+    crew: &mut Crew<LoggedTransport<T, R>, Q::Waker>,
     asked: (Reader<S>, Q),
     service: Service,
 ) -> Result<(), Failure>
@@ -27,6 +29,7 @@ where
     ensures failed { IfErr result (λ failure. is_service_failure failure ≡ true) }
 {
     let (reader, poller) = asked;
+    let poller = LoggedPoller { inner: poller };
     let places = (slots_of(service), timeouts_of(service));
     let Ok(worker) = Worker::new(rt.alloc(), reader, poller, places) else {
         return Err(Failure::NoMemory);
@@ -40,7 +43,7 @@ where
 // Starts a worker for each reader, with a poller of its own.
 fn start_all<S, R, T, Q>(
     rt: &R,
-    crew: &mut Crew<T, Q::Waker>,
+    crew: &mut Crew<LoggedTransport<T, R>, Q::Waker>,
     asked: (Vec<Reader<S>>, Vec<Q>),
     service: Service,
 ) -> Result<(), Failure>
@@ -61,12 +64,21 @@ where
     Ok(())
 }
 
+// The queue of a log for one connection more. Where it has too many ends, that connection isn't logged.
+pub(crate) fn queue_of<R: Runtime>(log: &Option<LogQueue<R>>) -> Option<LogQueue<R>> {
+    match log {
+        Some(queue) => queue.share().ok(),
+        None => None,
+    }
+}
+
 // Hands over the connections of clients to their workers, up to the last that is wanted, or until that is to stop. Where a call for one fails, one that is
 // between requests gives way to it. The port is given up where 100 calls fail one after the other and nobody is served.
 fn accept_all<R, C, T, P, W>(
     rt: &R,
     clients: (&mut Accepting<PortFor<Clients, P>>, &AtomicBool),
-    crew: &mut Crew<T, W>,
+    crew: &mut Crew<LoggedTransport<T, R>, W>,
+    log: &Option<LogQueue<R>>,
 ) -> Result<(), Failure>
 where
     R: Runtime,
@@ -78,6 +90,7 @@ where
 {
     let (port, is_stopped) = clients;
     let mut failures = 0_u32;
+    let mut count = 0_u64;
     for _ in rt.forever() {
         let accepted = port.accept_once();
         if is_stopped.load(Ordering::SeqCst) {
@@ -87,8 +100,11 @@ where
             Ok(None) => return Ok(()),
             Ok(Some(connection)) => {
                 failures = 0;
+                count = count.saturating_add(1);
                 if let Some(transport) = connection.into_transport() {
-                    crew.hand_over(rt, transport);
+                    let queue = queue_of(log);
+                    let logged = LoggedTransport::new(rt.alloc(), transport, count, queue);
+                    crew.hand_over(rt, logged);
                 }
             }
             Err(_) => {
@@ -105,13 +121,15 @@ where
 
 /// The port of clients, what tells its workers which of them may go on, and how they are served.
 #[derive(Drop)]
-pub(crate) struct ClientSide<P, Q> {
+pub(crate) struct ClientSide<P, Q, R> {
     /// Where they come from.
     pub port: Accepting<PortFor<Clients, P>>,
     /// A poller for each worker.
     pub pollers: Vec<Q>,
     /// How they are served.
     pub service: Service,
+    /// Where what becomes of them is logged, if it is.
+    pub log: Option<LogQueue<R>>,
 }
 
 /// Answers the connections of clients by a worker for each reader, up to the last. Those that came are answered to their
@@ -119,7 +137,7 @@ pub(crate) struct ClientSide<P, Q> {
 pub(crate) fn serve_clients<S, R, C, T, P, Q>(
     rt: &R,
     readers: Vec<Reader<S>>,
-    side: ClientSide<P, Q>,
+    side: ClientSide<P, Q, R>,
     is_stopped: &AtomicBool,
 ) -> Result<(), Failure>
 where
@@ -135,13 +153,15 @@ where
         mut port,
         pollers,
         service,
+        log,
     } = side;
-    let Ok(mut crew) = Crew::<T, Q::Waker>::new(rt.alloc(), readers.len()) else {
+    let Ok(mut crew) = Crew::<LoggedTransport<T, R>, Q::Waker>::new(rt.alloc(), readers.len())
+    else {
         return Err(Failure::NoMemory);
     };
     let mut served = start_all::<S, R, T, Q>(rt, &mut crew, (readers, pollers), service);
     if served.is_ok() {
-        served = accept_all::<R, C, T, P, Q::Waker>(rt, (&mut port, is_stopped), &mut crew);
+        served = accept_all::<R, C, T, P, Q::Waker>(rt, (&mut port, is_stopped), &mut crew, &log);
     }
     // from now on the system refuses further ones
     drop(port);

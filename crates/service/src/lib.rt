@@ -17,6 +17,7 @@ mod announcing;
 mod clients;
 mod closing;
 mod limits;
+mod logging;
 mod port;
 mod served;
 mod serving;
@@ -30,7 +31,7 @@ pub use accepting::Accepting;
 pub use closing::{Closing, DRAINED, drain, hang_up};
 pub use limits::{
     ADMINISTRATION_SECONDS, ANSWER_TIMES, CALL_SECONDS, CONNECTIONS, DRAIN_SECONDS,
-    FAILURE_MILLISECONDS, RATE, TimeLimit, Waits, slots_of, timeouts_of,
+    FAILURE_MILLISECONDS, RATE, SILENT_SECONDS, TimeLimit, Waits, slots_of, timeouts_of,
 };
 pub use port::{AcceptFailed, AddressFault, Port};
 pub use served::Served;
@@ -40,5 +41,5 @@ pub use serving::{
 pub use socket_poller::{PollWaker, SocketPoller};
 pub use socket_transport::SocketTransport;
 pub use sockets::{SocketConnection, SocketPort, SocketWaker};
-pub use threaded::serve_by_threads;
+pub use threaded::{Kept, serve_by_threads};
 pub use timed::{Answered, TimedReader, TimedWriter};

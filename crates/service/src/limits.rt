@@ -27,8 +27,11 @@ pub const RATE: u64 = 16;
 /// How many milliseconds are waited after a call for a connection has failed.
 pub const FAILURE_MILLISECONDS: u64 = 10;
 
-/// How many seconds an administrator may be silent, and how many a command may take.
+/// How many seconds a command of an administrator may take.
 pub const ADMINISTRATION_SECONDS: u64 = 600;
+
+/// How many seconds an administrator may be silent whose bytes are waited for.
+pub const SILENT_SECONDS: u64 = 30;
 
 /// How long a connection of a client may take, as a service asks for it.
 pub fn timeouts_of(service: Service) -> Timeouts
@@ -56,6 +59,8 @@ pub fn slots_of(service: Service) -> usize
 pub struct Waits {
     /// A read that follows an answer.
     pub idle: Duration,
+    /// Any read.
+    pub silence: Duration,
     /// A head in all, from its first bytes on, or from the opening of its connection; and an answer of which the client
     /// takes nothing.
     pub timeout: Duration,
@@ -66,20 +71,26 @@ impl Waits {
     pub fn of(service: Service) -> Self
         ensures idle { as_nanos result.idle ≡ 1000000 * service.idle }
         ensures timeout { as_nanos result.timeout ≡ 1000000000 * service.timeout }
+        ensures silence { as_nanos result.silence ≡ max (as_nanos result.idle) (as_nanos result.timeout) }
     {
+        let idle = Duration::from_millis(u64::from(service.idle));
+        let timeout = Duration::from_secs(u64::from(service.timeout));
         Waits {
-            idle: Duration::from_millis(u64::from(service.idle)),
-            timeout: Duration::from_secs(u64::from(service.timeout)),
+            idle,
+            silence: idle.max(timeout),
+            timeout,
         }
     }
 
     /// Those of an administrator.
     pub fn of_administration() -> Self
-        ensures idle { as_nanos result.idle ≡ 1000000000 * 600 }
+        ensures idle { as_nanos result.idle ≡ 1000000000 * 30 }
+        ensures silence { as_nanos result.silence ≡ 1000000000 * 30 }
         ensures timeout { as_nanos result.timeout ≡ 1000000000 * 600 }
     {
         Waits {
-            idle: Duration::from_secs(ADMINISTRATION_SECONDS),
+            idle: Duration::from_secs(SILENT_SECONDS),
+            silence: Duration::from_secs(SILENT_SECONDS),
             timeout: Duration::from_secs(ADMINISTRATION_SECONDS),
         }
     }

@@ -7,37 +7,39 @@ use mapmachine::Machine;
 use std::marker::Model;
 use std::snapshot::Snapshot;
 
-/// What was served: the map of a machine, at the ports of clients and of administration, as it was asked for; and how that
-/// ended. Only `serve_by_threads` makes one, so who has one knows which map and which ports that call was given. That it
-/// started a thread for each is tested.
+/// What was served: the map of a machine, at the ports of clients and of administration, as it was asked for, with what kept its
+/// batches as it began; and how that ended. Only `serve_by_threads` makes one, so who has one knows which map, which ports and which
+/// keeper that call was given. That it started a thread for each port is tested.
 #[derive(Drop)]
-pub struct Served<P> {
+pub struct Served<P, K> {
     machine: Snapshot<Machine>,
+    keeper: Snapshot<K>,
     clients: Snapshot<P>,
     administration: Snapshot<P>,
     service: Service,
     outcome: Result<(), Failure>,
 }
 
-impl<P> Model for Served<P> {
+impl<P, K> Model for Served<P, K> {
     ghost use Rattle.std.specs.Coded.{codes};
     ghost use Rattle.mapdefs.specs.contracts.expr.Expr as expr;
     ghost use Rattle.service.specs.Serving.{ServedValue};
 
-    ghost Value = { ServedValue P };
+    ghost Value = { ServedValue P K };
 
-    ghost coded = { Prim.hlevel (codes, expr.the_row.coded, P.code) };
+    ghost coded = { Prim.hlevel (codes, expr.the_row.coded, P.code, K.code) };
 
-    ghost view = { λ s. record { machine = s.machine.value; clients = s.clients.value; administration = s.administration.value; service = s.service; outcome = s.outcome } };
+    ghost view = { λ s. record { machine = s.machine.value; keeper = s.keeper.value; clients = s.clients.value; administration = s.administration.value; service = s.service; outcome = s.outcome } };
 }
 
-impl<P> Served<P> {
+impl<P, K> Served<P, K> {
     // What is about to be served, which ends well so far.
-    pub(crate) fn begin<W, Q, I>(machine: &Machine, ports: &Ports<P, W, Q, I>) -> Self
-        ensures { result ≡ record { machine = machine.now; clients = ports.now.clients.port; administration = ports.now.administration.port; service = ports.now.service; outcome = Ok tt } }
+    pub(crate) fn begin<W, Q, I>(machine: &Machine, keeper: &K, ports: &Ports<P, W, Q, I>) -> Self
+        ensures { result ≡ record { machine = machine.now; keeper = keeper.now; clients = ports.now.clients.port; administration = ports.now.administration.port; service = ports.now.service; outcome = Ok tt } }
     {
         Served {
             machine: Snapshot::of(machine),
+            keeper: Snapshot::of(keeper),
             clients: Snapshot::of(ports.clients.get()),
             administration: Snapshot::of(ports.administration.get()),
             service: ports.service,
@@ -51,6 +53,7 @@ impl<P> Served<P> {
     {
         let Self {
             machine,
+            keeper,
             clients,
             administration,
             service,
@@ -58,6 +61,7 @@ impl<P> Served<P> {
         } = self;
         Served {
             machine,
+            keeper,
             clients,
             administration,
             service,

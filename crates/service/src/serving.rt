@@ -5,7 +5,7 @@ use commandline::Service;
 use eventloop::{Poller, Wakes};
 use mapdefs::Text;
 use std::alloc::Global;
-use std::io::Read;
+use std::io::{Eprint, Read};
 use std::marker::PhantomData;
 use std::rt::Clock;
 use std::sync::Wait;
@@ -13,10 +13,11 @@ use std::thread::Threads;
 use turns::Transport;
 use workers::Opens;
 
-/// What a service runs on: it takes memory, has a clock, waits, and starts threads.
-pub trait Runtime: AllocGlobal + Clock + Wait + Threads + Send + Copy + Drop + 'static {}
+/// What a service runs on: it takes memory, has a clock, writes a log, waits, and starts threads.
+pub trait Runtime: AllocGlobal + Clock + Eprint + Wait + Threads + Send + Copy + Drop + 'static {}
 
-impl<R: AllocGlobal + Clock + Wait + Threads + Send + Copy + Drop + 'static> Runtime for R {}
+impl<R: AllocGlobal + Clock + Eprint + Wait + Threads + Send + Copy + Drop + 'static> Runtime
+    for R {}
 
 /// A connection whose calls can be made such that none waits.
 pub trait IntoTransport<T> {
@@ -109,6 +110,8 @@ pub struct Ports<P, W, Q, I> {
     pub administration: PortFor<Administrators, P>,
     /// What ends a wait for an administrator, if that port tells where it is.
     pub waker: Option<W>,
+    /// What ends a wait for a client, if that port tells where it is.
+    pub clients_waker: Option<W>,
     /// What tells the workers which of their connections may go on, one for each.
     pub pollers: Vec<Q>,
     /// What the service ends with, where that is asked for.

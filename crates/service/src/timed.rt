@@ -29,8 +29,8 @@ impl Answered {
 }
 
 /// What a client sends. The time of a head begins with its first bytes, that of the first with the opening of the
-/// connection, and each read waits for what is left of it. A read that follows an answer waits for the time of an
-/// idle connection.
+/// connection, and each read waits for what is left of it, and no longer than a client may be silent. A read that follows an
+/// answer waits for the time of an idle connection.
 #[derive(Drop)]
 pub struct TimedReader<S, C> {
     stream: S,
@@ -68,8 +68,11 @@ impl<S, C: Clock> TimedReader<S, C> {
     }
 
     // How long the next read may wait: not longer than a second, where it may come to its end.
-    fn next_wait(&self) -> io::Result<Duration> {
-        let left = self.limit.left(&self.clock)?;
+    fn next_wait(&self, silence: TimeLimit) -> io::Result<Duration> {
+        let left = self
+            .limit
+            .left(&self.clock)?
+            .min(silence.left(&self.clock)?);
         match self.is_ending {
             Some(_) => Ok(left.min(Duration::from_secs(CALL_SECONDS))),
             None => Ok(left),
@@ -115,8 +118,9 @@ impl<S, C: Clock> TimedReader<S, C> {
 impl<S: Read + OpenStream, C: Clock> Read for TimedReader<S, C> {
     fn read(&mut self, room: &mut [u8]) -> io::Result<usize> {
         self.rest()?;
+        let silence = TimeLimit::start(&self.clock, self.waits.silence)?;
         for _ in 0..MAX_TRIES {
-            let wait = self.next_wait()?;
+            let wait = self.next_wait(silence)?;
             self.stream.set_read_timeout(Some(wait))?;
             match self.stream.read(room) {
                 Err(error) if error.kind() == ErrorKind::Interrupted => {}

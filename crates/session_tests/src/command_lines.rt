@@ -8,12 +8,13 @@ fn ending(explains: bool) -> &'static str {
     if explains { " in words" } else { "" }
 }
 
-// What a service says of its end.
-fn end_of(service: Service) -> &'static str {
-    if service.until_input_ends {
-        " until its input ends"
-    } else {
-        ""
+// What a service says of its flags.
+fn flags_of(service: Service) -> &'static str {
+    match (service.until_input_ends, service.logs) {
+        (true, true) => " until its input ends with a log",
+        (true, false) => " until its input ends",
+        (false, true) => " with a log",
+        (false, false) => "",
     }
 }
 
@@ -25,8 +26,16 @@ fn rest_of(alloc: Global, service: Service) -> Result<String, AllocError> {
         service.timeout,
         service.admin_port,
         service.workers,
-        end_of(service)
+        flags_of(service)
     )
+}
+
+// Where batches are kept.
+fn kept_in(alloc: Global, journal: Option<&str>) -> Result<String, AllocError> {
+    match journal {
+        Some(path) => format!(in alloc; " kept in {path}"),
+        None => Ok(String::new(alloc)),
+    }
 }
 
 // What some arguments ask for, or why they were refused.
@@ -48,12 +57,14 @@ fn described(alloc: Global, arguments: &[&str]) -> Result<String, AllocError> {
                 file,
                 explains,
                 service,
+                journal,
             },
         ) => format!(in alloc;
-            "serve {file} on {} for {}{}{}",
+            "serve {file} on {} for {}{}{}{}",
             service.port,
             service.connections,
             rest_of(alloc, service)?,
+            kept_in(alloc, journal)?,
             ending(explains)
         ),
         Err(WordsFault::Refused { text }) => Ok(text),
@@ -96,6 +107,11 @@ serve --explain --explain m.map|error: the argument '--explain' cannot be used m
 serve m.map --admin-port 0 --workers 32|serve m.map on 8080 for 0, idle 60000, timeout 30, batches on 0 and 32 workers
 serve --workers 1 --admin-port 65535 m.map|serve m.map on 8080 for 0, idle 60000, timeout 30, batches on 65535 and 1 workers
 serve m.map --until-input-ends|serve m.map on 8080 for 0, idle 60000, timeout 30, batches on 8081 and 4 workers until its input ends
+serve m.map --log|serve m.map on 8080 for 0, idle 60000, timeout 30, batches on 8081 and 4 workers with a log
+serve m.map --log --until-input-ends|serve m.map on 8080 for 0, idle 60000, timeout 30, batches on 8081 and 4 workers until its input ends with a log
+serve m.map --journal a.journal|serve m.map on 8080 for 0, idle 60000, timeout 30, batches on 8081 and 4 workers kept in a.journal
+serve --journal b.journal --explain m.map|serve m.map on 8080 for 0, idle 60000, timeout 30, batches on 8081 and 4 workers kept in b.journal in words
+serve m.map --journal|error: a value is required for '--journal <JOURNAL>' but none was supplied~~For more information, try '--help'.~
 serve m.map --workers 0|error: invalid value '0' for '--workers <COUNT>': 0 is not in 1..=32~~For more information, try '--help'.~
 serve m.map --workers 33|error: invalid value '33' for '--workers <COUNT>': 33 is not in 1..=32~~For more information, try '--help'.~
 serve m.map --admin-port 65536|error: invalid value '65536' for '--admin-port <PORT>': 65536 is not in 0..=65535~~For more information, try '--help'.~
@@ -108,10 +124,10 @@ CHECK a|error: unrecognized subcommand 'CHECK'~~Usage: mapservd [COMMAND]~~For m
 --port 80|error: unexpected argument '--port' found~~Usage: mapservd [COMMAND]~~For more information, try '--help'.~
 check --help|Check a mapfile, and count its layers and features~~Usage: mapservd check [OPTIONS] <FILE>~~Arguments:~  <FILE>  The mapfile~~Options:~      --explain  Explain the mapfile's first fault, or print warnings~  -h, --help     Print help~
 run --help|Run a script against a map~~Usage: mapservd run [OPTIONS] <FILE> <SCRIPT>~~Arguments:~  <FILE>    The mapfile~  <SCRIPT>  The script: queries and batches~~Options:~      --explain  Explain the mapfile's first fault, or print warnings~  -h, --help     Print help~
-serve --help|Serve the map over HTTP on 127.0.0.1~~Usage: mapservd serve [OPTIONS] <FILE>~~Arguments:~  <FILE>  The mapfile~~Options:~      --explain              Explain the mapfile's first fault, or print warnings~      --port <PORT>          Port for clients, 0 for a free one [default: 8080]~      --connections <COUNT>  Connections that each port takes in all, 0 for no end [default: 0]~      --idle <MILLISECONDS>  How long a connection may be silent between requests [default: 60000]~      --timeout <SECONDS>    How long a request's head, or an answer that isn't read, may take [default: 30]~      --admin-port <PORT>    Port for batches, 0 for a free one [default: 8081]~      --workers <COUNT>      Threads that answer clients [default: 4]~      --until-input-ends     End when standard input does, once those being answered have their answers~  -h, --help                 Print help~
+serve --help|Serve the map over HTTP on 127.0.0.1~~Usage: mapservd serve [OPTIONS] <FILE>~~Arguments:~  <FILE>  The mapfile~~Options:~      --explain              Explain the mapfile's first fault, or print warnings~      --port <PORT>          Port for clients, 0 for a free one [default: 8080]~      --connections <COUNT>  Connections that each port takes in all, 0 for no end [default: 0]~      --idle <MILLISECONDS>  How long a connection may be silent between requests [default: 60000]~      --timeout <SECONDS>    How long a request's head, or an answer that isn't read, may take [default: 30]~      --admin-port <PORT>    Port for batches, 0 for a free one [default: 8081]~      --workers <COUNT>      Threads that answer clients [default: 4]~      --until-input-ends     End when standard input does, once those being answered have their answers~      --log                  Log each answer and each batch in a line of standard error~      --journal <JOURNAL>    Journal that keeps batches, so that they outlive the program; made where it isn't there~  -h, --help                 Print help~
 --help|Serve maps by WMS. Without a command, play a session from standard input~~Usage: mapservd [COMMAND]~~Commands:~  check  Check a mapfile, and count its layers and features~  run    Run a script against a map~  serve  Serve the map over HTTP on 127.0.0.1~  help   Print this message or the help of the given subcommand(s)~~Options:~  -h, --help     Print help~  -V, --version  Print version~
---version|mapservd 2026-11-26, proved by logic dac8208d650f15bf~
--V|mapservd 2026-11-26, proved by logic dac8208d650f15bf~
+--version|mapservd 2026-11-27, proved by logic dac8208d650f15bf~
+-V|mapservd 2026-11-27, proved by logic dac8208d650f15bf~
 check --version|error: unexpected argument '--version' found~~  tip: to pass '--version' as a value, use '-- --version'~~Usage: mapservd check [OPTIONS] <FILE>~~For more information, try '--help'.~";
 
 // Whether arguments ask for the command of their row.
@@ -124,7 +140,7 @@ fn is_command(alloc: Global, row: &str) -> Result<bool, AllocError> {
 
 #[test]
 fn arguments_ask_for_their_commands(rt: HostRuntime) -> Result<(), TableFault> {
-    check_all(rt.alloc(), ARGUMENTS, 50, is_command)
+    check_all(rt.alloc(), ARGUMENTS, 55, is_command)
 }
 
 // The messages on arguments that were refused with this text, and on those for which there was no memory.

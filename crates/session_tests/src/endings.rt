@@ -209,6 +209,7 @@ fn sessions_end_as_they_should(rt: HostRuntime) -> Result<(), TableFault> {
 const TOLD: &str = "\
 SocketFailed 3, OutputFailed 3, FileFailed 1=some
 MapfileFault 1, FileFailed 1, WordsRefused 2=refusals
+JournalFault 1, JournalFailed 3, WatchFailed 3=journals
 InputFailed 3, OutputFailed 3, NoMemory 4=failures
 the reader failed, out of memory=messages";
 
@@ -242,6 +243,14 @@ fn told(alloc: Global, row: &str) -> Result<String, AllocError> {
                 Failure::WordsRefused,
             ],
         ),
+        "journals" => statuses(
+            alloc,
+            [
+                Failure::JournalFault,
+                Failure::JournalFailed,
+                Failure::WatchFailed,
+            ],
+        ),
         "failures" => statuses(
             alloc,
             [
@@ -256,5 +265,5 @@ fn told(alloc: Global, row: &str) -> Result<String, AllocError> {
 
 #[test]
 fn statuses_are_those_of_the_profile(rt: HostRuntime) -> Result<(), TableFault> {
-    check_rows(rt.alloc(), TOLD, '=', 4, told)
+    check_rows(rt.alloc(), TOLD, '=', 5, told)
 }

@@ -18,6 +18,8 @@ mod endings;
 #[cfg(test)]
 mod hosts;
 #[cfg(test)]
+mod journals;
+#[cfg(test)]
 mod long_inputs;
 #[cfg(test)]
 mod memory;
@@ -27,6 +29,8 @@ mod parts;
 mod ports;
 #[cfg(test)]
 mod shelf;
+#[cfg(test)]
+mod shelf_log;
 #[cfg(test)]
 mod stops;
 #[cfg(test)]

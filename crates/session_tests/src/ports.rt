@@ -112,6 +112,7 @@ pub fn service(ports: (u16, u16), workers: u16, connections: u32) -> Service {
         admin_port: ports.1,
         workers,
         until_input_ends: false,
+        logs: false,
     }
 }
 

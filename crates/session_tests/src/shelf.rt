@@ -4,11 +4,12 @@ ghost use Rattle.std.specs.Prelude.{◌≡◌, IfSome, None};
 
 use crate::memory::{Memory, stream_of};
 use crate::ports::{LAST, RESPONSE};
+use crate::shelf_log::{ShelfLog, log_of};
 use console::ListenCause;
 use eventloop::{Poller, Wakes};
 use httpedge::EdgeFault;
 use mapdefs::Text;
-use program::{Files, Host, ListenFailed};
+use program::{Files, Host, ListenFailed, OpenFault};
 use service::{AcceptFailed, AddressFault, IntoTransport, Network, Port, Waits};
 use std::alloc::{AllocError, Global};
 use std::io::{self, Read, Write};
@@ -37,6 +38,12 @@ pub struct Counts {
     pub woken: AtomicU64,
     /// Ends of a wait for a client.
     pub stopped: AtomicU64,
+    /// The sum of the sequences that administrators were told, of 1 and 2.
+    pub published: AtomicU64,
+    /// How often administrators were told that a batch isn't kept.
+    pub failed: AtomicU64,
+    /// How many bytes were added to journals.
+    pub kept: AtomicU64,
 }
 
 // What a client gets, and where it is counted.
@@ -64,6 +71,15 @@ fn count_end(counts: &Counts, held: &[u8], fault: Option<EdgeFault>) {
         }
         None if held == b"IDLE\n".as_slice() => {
             counts.idle.fetch_add(1, Ordering::SeqCst);
+        }
+        None if held == b"PUBLISHED 1\n".as_slice() => {
+            counts.published.fetch_add(1, Ordering::SeqCst);
+        }
+        None if held == b"PUBLISHED 2\n".as_slice() => {
+            counts.published.fetch_add(2, Ordering::SeqCst);
+        }
+        None if held == b"FAILED\n".as_slice() => {
+            counts.failed.fetch_add(1, Ordering::SeqCst);
         }
         Some(EdgeFault::Read { .. }) if held.is_empty() => {
             counts.unread.fetch_add(1, Ordering::SeqCst);
@@ -229,7 +245,7 @@ impl Wakes for Waker {
     }
 }
 
-/// A port at which letters happen: `c` is a connection on which a head is sent, `r` one on which `RETRY` is, `x` one whose
+/// A port at which letters happen: `c` is a connection on which a head is sent, `r` one on which `RETRY` is, `b` one with an empty batch, `x` one whose
 /// reader fails, `w` a call that waits until the port is woken, for ten seconds at most, and gives a connection of `RETRY`
 /// then, and any other a call that fails, as do all after the last letter. A port whose letters begin with `-` can't be woken.
 #[derive(Drop)]
@@ -285,6 +301,7 @@ impl Port<Call> for Letters {
         match letter {
             Some(b'c') => self.call(LAST),
             Some(b'r') => self.call("RETRY\n"),
+            Some(b'b') => self.call("BATCH 0\n"),
             Some(b'x') => self.call("!"),
             Some(b'w') if self.waits() => self.call("RETRY\n"),
             _ => Err(AcceptFailed),
@@ -375,6 +392,10 @@ fn refused<P>(cause: ListenCause) -> Result<P, ListenFailed> {
 }
 
 impl Host for Shelf<'_> {
+    type Log = ShelfLog;
+
+    ghost journal = { λ _ _ _. Unit {0} };
+
     ghost listens = { λ _ _ _ _. Unit {0} };
 
     fn listen(&self, number: u16, _waits: Waits) -> Result<Letters, ListenFailed> {
@@ -389,6 +410,10 @@ impl Host for Shelf<'_> {
             Ok(port) => Ok(port),
             Err(_) => refused(ListenCause::Other),
         }
+    }
+
+    fn open_log(&self, path: &str, bytes: &[u8]) -> Result<ShelfLog, OpenFault> {
+        log_of(self.alloc, &self.counts, path, bytes)
     }
 
     fn waker(&self, port: &Letters) -> Option<Waker> {
@@ -422,6 +447,9 @@ pub fn no_counts(alloc: Global) -> Result<Arc<Counts, Global>, AllocError> {
         idle: AtomicU64::new(0),
         woken: AtomicU64::new(0),
         stopped: AtomicU64::new(0),
+        published: AtomicU64::new(0),
+        failed: AtomicU64::new(0),
+        kept: AtomicU64::new(0),
     };
     Ok(Arc::new(alloc, counts)?)
 }

@@ -4,6 +4,7 @@ use std::cell::Cell;
 use std::io::{self, Read, Write};
 use std::net::{OpenStream, Shutdown};
 use std::rt::Clock;
+use std::test::Fail;
 use std::time::Duration;
 use test_tables::{TableFault, check_rows};
 
@@ -168,6 +169,7 @@ fn times_of(takes: u64, way: &str) -> Times<'_> {
 fn waits() -> Waits {
     Waits {
         idle: Duration::from_secs(7),
+        silence: Duration::from_secs(30),
         timeout: Duration::from_secs(30),
     }
 }
@@ -216,6 +218,33 @@ fn told(alloc: Global, row: &str) -> Result<String, AllocError> {
 #[test]
 fn calls_wait_for_what_is_left_of_a_time(rt: HostRuntime) -> Result<(), TableFault> {
     check_rows(rt.alloc(), WAITS, '=', 16, told)
+}
+
+// For how long two reads may wait of a client that may be silent for 9 seconds: 5 and 24 seconds after its first head began, which has 30.
+fn silent_waits(alloc: Global) -> Result<(u64, u64), AllocError> {
+    let times = times_of(0, "");
+    let (read, _written) = Answered::pair(alloc)?;
+    times.now.set(7);
+    let waits = Waits {
+        silence: Duration::from_secs(9),
+        ..waits()
+    };
+    let Ok(mut reader) = TimedReader::start(Slow(&times), Slow(&times), waits, read) else {
+        return Err(AllocError);
+    };
+    times.now.set(12);
+    let _ = reader.read(&mut [0]);
+    let first = times.waits.get();
+    times.now.set(31);
+    let _ = reader.read(&mut [0]);
+    Ok((first, times.waits.get()))
+}
+
+#[test]
+fn a_read_waits_no_longer_than_a_client_may_be_silent(rt: HostRuntime) -> Result<(), Fail> {
+    let waits = silent_waits(rt.alloc())?;
+    assert_eq!(rt; waits, (9, 6));
+    Ok(())
 }
 
 #[test]

@@ -1,5 +1,5 @@
 -- The fault of a mapfile, with the words on it.
-use Rattle.std.proofs.Common.{◌≡◌, ap, ◌∙◌, Bool, false, ℕ, List, Option, None, Some, Result, Ok, Err}
+use Rattle.std.proofs.Common.{◌≡◌, ap, ◌∙◌, refl, subst, Bool, false, ℕ, List, Option, None, Some, Result, Ok, Err}
 use Rattle.std.specs.Option.{IfSome}
 use Rattle.maplex.specs.Lexed.{lexed}
 use Rattle.mapdefs.specs.declared.map.MapFields.{MapFields}
@@ -18,7 +18,8 @@ use Rattle.mapparse.specs.Mapping.{map_of, told_by}
 use Rattle.mapparse.specs.Uses.{uses_of}
 use Rattle.mapfaults.specs.Missing.{AreOnCause, AreOnFiles, NamesMissing}
 use Rattle.subcommands.specs.Explained.{IsMapFault, NamesFirst, with_words}
-use Rattle.subcommands.specs.Folder.{FilesOf, Giving}
+use Rattle.subcommands.specs.Folder.{ComesTo, FilesOf, Giving}
+use Rattle.subcommands.specs.Mapfiles.{HasReadFile, HasReadMapfile}
 
 -- the fault that is told is that of the first file that has one
 told : (first : Fault) (made : Result MapFields Fault) (fault : Fault) → told_by (Some first) made ≡ Err fault → first ≡ fault
@@ -54,3 +55,23 @@ of-files gives explains mapfile tree files (At line kind) words read are is unas
   unasked = unasked;
   named = named mapfile tree files _ words read is on;
 }
+
+-- the map of a mapfile with the files of a folder, and these files
+pub of-map : (gives : Giving) (mapfile : List ℕ) (tree : MapTree) (files : List FileBytes) (map : MapFields) →
+    tree_of (lexed mapfile) ≡ Ok tree → FilesOf gives (uses_of tree) files → map_of files tree ≡ Ok map →
+    (comes : ComesTo gives mapfile (Ok map)) × (comes.files ≡ files)
+of-map gives mapfile tree files map read are is = (
+  record {
+    files = files;
+    are = λ names e. let same : uses_of tree ≡ names = cc (rw read at e) in rw same at are;
+    is = rw read is;
+  },
+  refl,
+)
+
+-- so it was read from these bytes
+pub has-mapfile : (gives : Giving) (before after : Option (List ℕ)) (source bytes : List ℕ) (files : List FileBytes) (map : MapFields) →
+    HasReadFile before after bytes → source ≡ bytes → ((comes : ComesTo gives source (Ok map)) × (comes.files ≡ files)) → HasReadMapfile gives before after bytes files map
+has-mapfile gives before after source bytes files map read same has =
+    let moved = subst (λ (s : List ℕ). (comes : ComesTo gives s (Ok map)) × (comes.files ≡ files)) same has in
+    record { read = read; is_map = moved.0; uses = moved.1 }

@@ -4,7 +4,7 @@ use Rattle.std.specs.Io.KnownBytes.{Keeps}
 use Rattle.std.proofs.KnownBytes.{Keeps-refl}
 use Rattle.console.specs.Streams.{Outcome, Streams, WriterState}
 use Rattle.console.specs.declared.failure.Failure.{Failure}
-use Rattle.console.specs.declared.failure.Failure.TheVariants.{MapfileFault, FileFailed, WordsRefused, InputFailed, OutputFailed, ListenFailed, SocketFailed, NoMemory}
+use Rattle.console.specs.declared.failure.Failure.TheVariants.{MapfileFault, FileFailed, WordsRefused, InputFailed, OutputFailed, ListenFailed, SocketFailed, WatchFailed, JournalFault, JournalFailed, NoMemory}
 use Rattle.mapdefs.specs.declared.map.MapFields.{MapFields}
 use Rattle.batches.specs.Batch.{State}
 use Rattle.subcommands.specs.Folder.{Giving, ComesTo}
@@ -19,6 +19,9 @@ pub served : (gives : Giving) (outcome : Outcome) (old new : Streams) (mapfile s
 served gives (Ok done) old new mapfile script map read is_map ends kept =
     record { mapfile = mapfile; script = script; read = read; map = map; is_map = is_map; state = ends.0; ends = ends.1; errors = kept }
 served gives (Err SocketFailed) old new mapfile script map read is_map ends kept = absurd ends.1
+served gives (Err WatchFailed) old new mapfile script map read is_map ends kept = absurd ends.1
+served gives (Err JournalFault) old new mapfile script map read is_map ends kept = absurd ends.1
+served gives (Err JournalFailed) old new mapfile script map read is_map ends kept = absurd ends.1
 served gives (Err (ListenFailed port cause)) old new mapfile script map read is_map ends kept = absurd ends.1
 served gives (Err FileFailed) old new mapfile script map read is_map ends kept = absurd ends.1
 served gives (Err WordsRefused) old new mapfile script map read is_map ends kept = absurd ends.1
@@ -41,6 +44,9 @@ ran gives explains (Ok done) mapfile script files old new map bytes read read_sc
 ran gives explains (Err OutputFailed) mapfile script files old new map bytes read read_script ends warnings =
     record { map = map; read = read; script = bytes; read_script = read_script; state = ends.0; ends = ends.1; warnings = warnings }
 ran gives explains (Err SocketFailed) mapfile script files old new map bytes read read_script ends warnings = absurd ends.1
+ran gives explains (Err WatchFailed) mapfile script files old new map bytes read read_script ends warnings = absurd ends.1
+ran gives explains (Err JournalFault) mapfile script files old new map bytes read read_script ends warnings = absurd ends.1
+ran gives explains (Err JournalFailed) mapfile script files old new map bytes read read_script ends warnings = absurd ends.1
 ran gives explains (Err (ListenFailed port cause)) mapfile script files old new map bytes read read_script ends warnings = absurd ends.1
 ran gives explains (Err MapfileFault) mapfile script files old new map bytes read read_script ends warnings = absurd ends.1
 ran gives explains (Err FileFailed) mapfile script files old new map bytes read read_script ends warnings = absurd ends.1
@@ -58,6 +64,9 @@ unscripted gives explains FileFailed mapfile script files old new map read warne
 unscripted gives explains NoMemory mapfile script files old new map read warned unread kept =
     (kept, inr (record { map = map; read = read; warned = warned; unread = unread }))
 unscripted gives explains SocketFailed mapfile script files old new map read warned unread kept = absurd unread
+unscripted gives explains WatchFailed mapfile script files old new map read warned unread kept = absurd unread
+unscripted gives explains JournalFault mapfile script files old new map read warned unread kept = absurd unread
+unscripted gives explains JournalFailed mapfile script files old new map read warned unread kept = absurd unread
 unscripted gives explains (ListenFailed port cause) mapfile script files old new map read warned unread kept = absurd unread
 unscripted gives explains MapfileFault mapfile script files old new map read warned unread kept = absurd unread
 unscripted gives explains WordsRefused mapfile script files old new map read warned unread kept = absurd unread
@@ -78,6 +87,9 @@ unsummed gives explains FileFailed file before after old new map read sums kept 
 unsummed gives explains WordsRefused file before after old new map read sums kept = absurd sums
 unsummed gives explains InputFailed file before after old new map read sums kept = absurd sums
 unsummed gives explains SocketFailed file before after old new map read sums kept = absurd sums
+unsummed gives explains WatchFailed file before after old new map read sums kept = absurd sums
+unsummed gives explains JournalFault file before after old new map read sums kept = absurd sums
+unsummed gives explains JournalFailed file before after old new map read sums kept = absurd sums
 unsummed gives explains (ListenFailed port cause) file before after old new map read sums kept = absurd sums
 unsummed gives explains NoMemory file before after old new map read sums kept = absurd sums
 
@@ -99,5 +111,8 @@ ends-on map (Err FileFailed) script state before after ends = absurd ends
 ends-on map (Err WordsRefused) script state before after ends = absurd ends
 ends-on map (Err InputFailed) script state before after ends = absurd ends
 ends-on map (Err SocketFailed) script state before after ends = absurd ends
+ends-on map (Err WatchFailed) script state before after ends = absurd ends
+ends-on map (Err JournalFault) script state before after ends = absurd ends
+ends-on map (Err JournalFailed) script state before after ends = absurd ends
 ends-on map (Err (ListenFailed port cause)) script state before after ends = absurd ends
 ends-on map (Err NoMemory) script state before after ends = absurd ends

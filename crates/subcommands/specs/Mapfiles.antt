@@ -9,6 +9,7 @@ use Rattle.mapdefs.specs.declared.map.MapFields.{MapFields}
 use Rattle.batches.specs.Batch.{State}
 use Rattle.mapwords.specs.declared.fault.Fault.{Fault}
 use Rattle.mapwords.specs.Fault.{number_of}
+use Rattle.mapparse.specs.declared.files.FileBytes.{FileBytes}
 use Rattle.mapfaults.specs.Warning.{warning_lines}
 use Rattle.subcommands.specs.Explained.{IsExplained}
 use Rattle.subcommands.specs.Folder.{Giving, ComesTo}
@@ -47,6 +48,12 @@ pub record HasReadMap (gives : Giving) (before after : Option (List ℕ)) (map :
   pub mapfile : List ℕ
   pub read : HasReadFile before after mapfile
   pub is_map : ComesTo gives mapfile (Ok map)
+
+-- it was read from these bytes, with these files
+pub record HasReadMapfile (gives : Giving) (before after : Option (List ℕ)) (mapfile : List ℕ) (files : List FileBytes) (map : MapFields) : Type 0 where
+  pub read : HasReadFile before after mapfile
+  pub is_map : ComesTo gives mapfile (Ok map)
+  pub uses : is_map.files ≡ files
 
 -- what is reported of a fault: its line, and then words on it, with the name of the mapfile and the fault's line before them; or its
 -- line alone, where there are no words

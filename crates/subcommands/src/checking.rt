@@ -39,8 +39,8 @@ pub fn check<F: Folder, I: Source + HasCause, J: Source, O: Sink, E: Sink>(
     ensures file { LeavesFile result (⟦<I as Reads>⟧.state job.old.mapfile.reader) (⟦<I as Reads>⟧.state job.new.mapfile.reader) }
     ensures leaves { Leaves result (⟦<Console<J, O, E> as Terminal>⟧.streams console.old) (⟦<Console<J, O, E> as Terminal>⟧.streams console.new) }
 {
-    let map = read_explained(alloc, job, &mut console.errors)?;
-    sum_up(&map, &mut console.output)?;
-    report_warnings(alloc, job, &map, &mut console.errors);
+    let read = read_explained(alloc, job, &mut console.errors)?;
+    sum_up(&read.map, &mut console.output)?;
+    report_warnings(alloc, job, &read.map, &mut console.errors);
     Ok(())
 }

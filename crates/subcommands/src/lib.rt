@@ -26,7 +26,7 @@ pub use folder::{Folder, front_of, path_of};
 pub use job::{Job, NamedFile};
 pub use parts::split_session;
 pub use playing::session;
-pub use reading::read_map;
+pub use reading::{ReadMap, read_map};
 pub use running::run;
 pub use scripts::play_script;
 pub use summing::summary;

@@ -49,7 +49,7 @@ pub fn open_map<F: Folder, E: Sink>(
     ensures without { IfErr result (λ failure. IsWithoutMap (F.gives folder.now) failure mapfile.now (⟦<E as Writes>⟧.state errors.old) (⟦<E as Writes>⟧.state errors.new)) }
 {
     match read_map_of(alloc, folder, false, mapfile) {
-        Ok(map) => Ok(map),
+        Ok((map, _files)) => Ok(map),
         Err(MapFault::Faulty { fault, .. }) => {
             report_mapfile_fault(errors, fault.line, fault.kind.number());
             Err(Failure::MapfileFault)

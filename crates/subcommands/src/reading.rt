@@ -2,7 +2,7 @@ ghost use Rattle.std.specs.Prelude.{◌≡◌, ◌⊎◌, IfOk, IfErr, IfSome, N
 ghost use Rattle.mapfaults.specs.Missing.{AreOnFiles};
 ghost use Rattle.subcommands.specs.Explained.{IsMapFault, has_missing};
 ghost use Rattle.subcommands.specs.Folder.{ComesTo};
-ghost use Rattle.subcommands.specs.Mapfiles.{HasReadFile, HasReadMap, GivesNoMap, IsUnread, LeavesFile, ReportsWarnings, TouchesNeither};
+ghost use Rattle.subcommands.specs.Mapfiles.{HasReadFile, HasReadMap, HasReadMapfile, GivesNoMap, IsUnread, LeavesFile, ReportsWarnings, TouchesNeither};
 ghost use Rattle.subcommands.specs.Reports.{ReadFile};
 
 use crate::folder::{Folder, files_of};
@@ -13,7 +13,7 @@ use crate::unread::HasCause;
 use console::{Failure, ReadFault, Reads, Writes, read_all, report};
 use mapdefs::{Map, Text};
 use mapfaults::{MapfileAtHand, warning_lines, words_on_files, words_on_source};
-use mapparse::{Mapfile, ParseFault, ParseKind};
+use mapparse::{Files, Mapfile, ParseFault, ParseKind};
 use std::alloc::Global;
 use streams::{Sink, Source};
 
@@ -46,14 +46,14 @@ fn file_words(alloc: Global, explains: bool, at_hand: MapfileAtHand<'_>) -> Opti
 }
 
 /// The map of a mapfile with the files of its folder, or its first fault, with the words on it where these are asked
-/// for. A source without a fault of its own is parsed once, and each file is read from the folder once.
+/// for. A source without a fault of its own is parsed once, and each file is read from the folder once. The files come with the map.
 pub fn read_map_of<F: Folder>(
     alloc: Global,
     folder: &F,
     explains: bool,
     source: &[u8],
-) -> Result<Map, MapFault>
-    ensures map { IfOk result (λ map. ComesTo (F.gives folder.now) source.now (Ok map)) }
+) -> Result<(Map, Files), MapFault>
+    ensures map { IfOk result (λ read. (comes : ComesTo (F.gives folder.now) source.now (Ok read.0)) × (comes.files ≡ read.1)) }
     ensures fault { IfErr result (IsMapFault (F.gives folder.now) explains source.now) }
 {
     let mapfile = match Mapfile::read(alloc, source) {
@@ -71,9 +71,20 @@ pub fn read_map_of<F: Folder>(
     };
     let words = file_words(alloc, explains, at_hand);
     match mapfile.into_map(alloc, &files) {
-        Ok(map) => Ok(map),
+        Ok(map) => Ok((map, files)),
         Err(fault) => Err(MapFault::new(fault, words)),
     }
+}
+
+/// A map that was read.
+#[derive(Drop)]
+pub struct ReadMap {
+    /// The map.
+    pub map: Map,
+    /// The bytes of its mapfile.
+    pub source: Vec<u8>,
+    /// The files that the mapfile uses.
+    pub files: Files,
 }
 
 /// The bytes of a file. One that can't be read is reported by its name, and, where that is asked for, why it can't.
@@ -100,14 +111,15 @@ pub fn read_file<I: Source + HasCause, E: Sink>(
     }
 }
 
-/// The map of a mapfile. Its fault is reported, or that it can't be read; where the job explains, a second line has words
+/// The map of a mapfile, with its bytes and its files. Its fault is reported, or that it can't be read; where the job explains, a second line has words
 /// on it, unless memory is refused for these.
 pub fn read_explained<F: Folder, I: Source + HasCause, E: Sink>(
     alloc: Global,
     job: &mut Job<'_, F, I>,
     errors: &mut E,
-) -> Result<Map, Failure>
-    ensures map { IfOk result (λ map. HasReadMap (F.gives job.old.folder.now) (I.left job.old.mapfile.reader) (I.left job.new.mapfile.reader) map) }
+) -> Result<ReadMap, Failure>
+    ensures map { IfOk result (λ read. HasReadMap (F.gives job.old.folder.now) (I.left job.old.mapfile.reader) (I.left job.new.mapfile.reader) read.map) }
+    ensures mapfile { IfOk result (λ read. HasReadMapfile (F.gives job.old.folder.now) (I.left job.old.mapfile.reader) (I.left job.new.mapfile.reader) read.source.items read.files read.map) }
     ensures job { (job.new.mapfile.name.now ≡ job.old.mapfile.name.now) × (job.new.explains ≡ job.old.explains) }
     ensures same { OnOk result (errors.new ≡ errors.old) }
     ensures without { IfErr result (λ failure. GivesNoMap (F.gives job.old.folder.now) job.old.explains failure (record { name = job.old.mapfile.name.now; cause = I.cause job.new.mapfile.reader })
@@ -115,9 +127,9 @@ pub fn read_explained<F: Folder, I: Source + HasCause, E: Sink>(
     ensures neither { IfErr result TouchesNeither }
     ensures leaves { LeavesFile result (⟦<I as Reads>⟧.state job.old.mapfile.reader) (⟦<I as Reads>⟧.state job.new.mapfile.reader) }
 {
-    let mapfile = read_file(alloc, job.explains, &mut job.mapfile, errors)?;
-    match read_map_of(alloc, job.folder, job.explains, &mapfile) {
-        Ok(map) => Ok(map),
+    let source = read_file(alloc, job.explains, &mut job.mapfile, errors)?;
+    match read_map_of(alloc, job.folder, job.explains, &source) {
+        Ok((map, files)) => Ok(ReadMap { map, source, files }),
         Err(MapFault::Faulty { fault, words }) => {
             report_explained(errors, job.mapfile.name, fault, &words);
             Err(Failure::MapfileFault)
@@ -141,22 +153,23 @@ pub fn report_warnings<F, I, E: Sink>(alloc: Global, job: &Job<'_, F, I>, map: &
     }
 }
 
-/// The map of a mapfile. A fault is reported; where the job explains, in words, too, and else the warnings on the map,
+/// The map of a mapfile, with its bytes and its files. A fault is reported; where the job explains, in words, too, and else the warnings on the map,
 /// unless memory is refused for these.
 pub fn read_map<F: Folder, I: Source + HasCause, E: Sink>(
     alloc: Global,
     job: &mut Job<'_, F, I>,
     errors: &mut E,
-) -> Result<Map, Failure>
-    ensures map { IfOk result (λ map. HasReadMap (F.gives job.old.folder.now) (I.left job.old.mapfile.reader) (I.left job.new.mapfile.reader) map) }
-    ensures warnings { IfOk result (λ map. ReportsWarnings job.old.explains job.old.mapfile.name.now map (⟦<E as Writes>⟧.state errors.old) (⟦<E as Writes>⟧.state errors.new)) }
+) -> Result<ReadMap, Failure>
+    ensures map { IfOk result (λ read. HasReadMap (F.gives job.old.folder.now) (I.left job.old.mapfile.reader) (I.left job.new.mapfile.reader) read.map) }
+    ensures mapfile { IfOk result (λ read. HasReadMapfile (F.gives job.old.folder.now) (I.left job.old.mapfile.reader) (I.left job.new.mapfile.reader) read.source.items read.files read.map) }
+    ensures warnings { IfOk result (λ read. ReportsWarnings job.old.explains job.old.mapfile.name.now read.map (⟦<E as Writes>⟧.state errors.old) (⟦<E as Writes>⟧.state errors.new)) }
     ensures same { OnOk result (job.old.explains ≡ false → errors.new ≡ errors.old) }
     ensures without { IfErr result (λ failure. GivesNoMap (F.gives job.old.folder.now) job.old.explains failure (record { name = job.old.mapfile.name.now; cause = I.cause job.new.mapfile.reader })
         (I.left job.old.mapfile.reader) (I.left job.new.mapfile.reader) (⟦<E as Writes>⟧.state errors.old) (⟦<E as Writes>⟧.state errors.new)) }
     ensures neither { IfErr result TouchesNeither }
     ensures leaves { LeavesFile result (⟦<I as Reads>⟧.state job.old.mapfile.reader) (⟦<I as Reads>⟧.state job.new.mapfile.reader) }
 {
-    let map = read_explained(alloc, job, errors)?;
-    report_warnings(alloc, job, &map, errors);
-    Ok(map)
+    let read = read_explained(alloc, job, errors)?;
+    report_warnings(alloc, job, &read.map, errors);
+    Ok(read)
 }

@@ -35,7 +35,7 @@ pub fn run<F: Folder, I: Source + HasCause, S: Source + HasCause, J: Source, O: 
     ensures leaves { Leaves result (⟦<Console<J, O, E> as Terminal>⟧.streams console.old) (⟦<Console<J, O, E> as Terminal>⟧.streams console.new) }
 {
     let explains = job.explains;
-    let map = read_map(alloc, job, &mut console.errors)?;
+    let read = read_map(alloc, job, &mut console.errors)?;
     let commands = read_file(alloc, explains, script, &mut console.errors)?;
-    play_on(alloc, map, &commands, &mut console.output)
+    play_on(alloc, read.map, &commands, &mut console.output)
 }

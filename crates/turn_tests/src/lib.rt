@@ -9,6 +9,8 @@ mod cut_streams;
 #[cfg(test)]
 mod event_loop;
 #[cfg(test)]
+mod logs;
+#[cfg(test)]
 mod times;
 #[cfg(test)]
 mod ways_out;

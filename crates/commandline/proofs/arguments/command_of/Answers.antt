@@ -31,4 +31,5 @@ returns-in_ok-service_of-in-serve c =
     let at = named (out-ArgMatches c.args.matches.now).subcommand c.in-Some.name.now (rows_of inner) s.name s.rows in
     let name : c.in-Some.name.now ≡ codes "serve" = search rules in
     let file = sym (first_value-rows inner (codes "FILE")) ∙ sym c.in_ok-file.ensures in
-    rw at (name, record { named = file; flag = c.flag_of-explains.ensures }, c.in_ok-service_of-in-serve.ensures)
+    let journal = sym (first_value-rows inner (codes "journal")) ∙ sym c.get_str-in-serve.ensures in
+    rw at (name, record { named = file; flag = c.flag_of-explains.ensures }, c.in_ok-service_of-in-serve.ensures, journal)

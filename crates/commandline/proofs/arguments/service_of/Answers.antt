@@ -9,5 +9,6 @@ returns c = record {
   admin_port = c.in_ok-number_of-4.ensures;
   workers = c.in_ok-number_of-5.ensures;
   until_input_ends = c.flag_of.ensures;
+  logs = c.flag_of-2.ensures;
   ranges = c.are_in_range.ensures c.if-not-are_in_range.false;
 }

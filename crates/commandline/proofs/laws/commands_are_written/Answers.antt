@@ -1,4 +1,4 @@
-use Rattle.commandline.proofs.Written.{none, check, explained, run, run_explained, serve, served, timed, administered, ended, serve_explained}
+use Rattle.commandline.proofs.Written.{none, check, explained, run, run_explained, serve, served, timed, administered, ended, logged, kept, serve_explained}
 use Rattle.commandline.proofs.laws.commands_are_written.Goals as goal
 
 pub returns : goal.returns
@@ -13,5 +13,7 @@ returns c = record {
   timed = timed;
   administered = administered;
   ended = ended;
+  logged = logged;
+  kept = kept;
   serve_explained = serve_explained;
 }

@@ -5,4 +5,4 @@ abbrev pub ghosts-serve_named-S-Naming : goal.ghosts-serve_named-S-Naming
 ghosts-serve_named-S-Naming g a = record { book = a.blank.seen.book }
 
 abbrev pub ghosts-serve_named-S-Sharing : goal.ghosts-serve_named-S-Sharing
-ghosts-serve_named-S-Sharing g a = record { opening = a.machine }
+ghosts-serve_named-S-Sharing g a = record { opening = a.kept.machine }

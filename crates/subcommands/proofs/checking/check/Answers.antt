@@ -5,5 +5,5 @@ use Rattle.subcommands.proofs.checking.check.Goals as goal
 pub returns-in_err-sum_up-clause-checks : goal.returns-in_err-sum_up-clause-checks
 returns-in_err-sum_up-clause-checks g c =
     let p = err_from_is_err_and c.from_residual-in_err-sum_up.result c.from_residual-in_err-sum_up.ensures.1 in
-    rw (p.1, p.2, c.in_ok-map.ensures.same)
-    (unsummed _ c.args.job.now.explains _ _ _ _ _ _ c.in_ok-map.map c.in_ok-map.ensures.map c.in_err-sum_up.ensures.sums (unreported _))
+    rw (p.1, p.2, c.in_ok-read.ensures.same)
+    (unsummed _ c.args.job.now.explains _ _ _ _ _ _ c.in_ok-read.read.map c.in_ok-read.ensures.map c.in_err-sum_up.ensures.sums (unreported _))

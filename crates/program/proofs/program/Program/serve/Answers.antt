@@ -8,10 +8,13 @@ returns-in-Ok-clause-serves g c = (
   c.of-folder.ensures.front,
   _,
   inr (record {
-    map = c.in-Ok.map;
-    read = rw (c.of-folder.ensures.host, c.named_file.ensures.host, c.named_file.ensures.path, c.named_file.ensures.left) at c.in-Ok.ensures.map;
+    map = c.in-Ok.read.map;
+    mapfile = c.in-Ok.read.source.items;
+    files = c.in-Ok.read.files;
+    read = rw (c.of-folder.ensures.host, c.named_file.ensures.host, c.named_file.ensures.path, c.named_file.ensures.left) at c.in-Ok.ensures.mapfile;
+    errors = _;
     warnings = rw c.named_file.ensures.name at c.in-Ok.ensures.warnings;
-    serves_map = c.serve_map.ensures;
+    serves_map = c.serve_read.ensures.serves;
   }),
 )
 

@@ -1,0 +1,19 @@
+//! The log of a service: a line for each answer, for each command of an administrator, and for each connection that ended otherwise.
+//!
+//! Proved: each line is the one that its definition says (`answer_line`, `end_line`, `command_line`, `dropped_line`), and a
+//! `LoggedTransport` and a `LoggedSink` do what those do that they stand before, whatever is noted. Which lines come, and when, is tested.
+//!
+//! Words: the *target* of a request is its path with its query.
+#![tactic(auto)]
+
+mod line;
+mod queue;
+mod record;
+mod sink;
+mod transport;
+
+pub use line::{AnswerNote, Cause, answer_line, command_line, dropped_line, end_line};
+pub use queue::{LINES, LogQueue};
+pub use record::Record;
+pub use sink::LoggedSink;
+pub use transport::{EndsEarly, LoggedTransport};

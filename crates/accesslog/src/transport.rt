@@ -1,0 +1,121 @@
+//! A transport whose answers are logged.
+
+ghost use Rattle.std.specs.Prelude.{◌≡◌, ◌++◌, []};
+ghost use Rattle.std.specs.Io.KnownBytes.{Appends};
+ghost use Rattle.turns.specs.Transport.{HasRead, HasWritten};
+
+use crate::line::{Cause, end_line};
+use crate::queue::LogQueue;
+use crate::record::Record;
+use std::alloc::Global;
+use std::rt::Clock;
+use std::sync::Wait;
+use turns::{ReadOutcome, Transport, WriteOutcome};
+
+/// What may be told why its connection ends before its client had all of its answers.
+pub trait EndsEarly {
+    /// It ends, since this happened.
+    fn note_end(&mut self, cause: Cause);
+}
+
+// Where what is noted of a connection goes.
+#[derive(Drop)]
+struct Noted<R> {
+    alloc: Global,
+    record: Record,
+    queue: LogQueue<R>,
+}
+
+/// A transport that does what the one within does. Where a log is kept, a line is put into its queue for each answer that went out whole,
+/// and for an early end.
+#[derive(Drop)]
+pub struct LoggedTransport<T, R> {
+    inner: T,
+    noted: Option<Noted<R>>,
+}
+
+impl<T, R> LoggedTransport<T, R> {
+    /// The transport of the connection of a number, with the queue of the log, if there is one.
+    pub fn new(alloc: Global, inner: T, connection: u64, queue: Option<LogQueue<R>>) -> Self
+        ensures { result.inner ≡ inner }
+    {
+        let noted = match queue {
+            Some(queue) => Some(Noted {
+                alloc,
+                record: Record::new(alloc, connection),
+                queue,
+            }),
+            None => None,
+        };
+        LoggedTransport { inner, noted }
+    }
+
+    /// The transport within.
+    pub fn inner(&mut self) -> &mut T {
+        &mut self.inner
+    }
+}
+
+impl<T: Transport, R: Clock + Wait + Copy> Transport for LoggedTransport<T, R> {
+    ghost delivered = { λ t. T.delivered t.inner };
+
+    ghost accepted = { λ t. T.accepted t.inner };
+
+    ghost reads = { λ old outcome new. T.reads old.inner outcome new.inner };
+
+    ghost writes = { λ old outcome new. T.writes old.inner outcome new.inner };
+
+    ghost shuts = { λ old new. T.shuts old.inner new.inner };
+
+    fn read(&mut self, room: &mut [u8]) -> ReadOutcome {
+        let outcome = self.inner.read(room);
+        if let Some(noted) = &mut self.noted {
+            note_read(noted, room, outcome);
+        }
+        outcome
+    }
+
+    fn write(&mut self, first: &[u8], second: &[u8]) -> WriteOutcome {
+        let outcome = self.inner.write(first, second);
+        if let Some(noted) = &mut self.noted {
+            note_write(noted, (first, second), outcome);
+        }
+        outcome
+    }
+
+    fn shut_down(&mut self) {
+        self.inner.shut_down();
+    }
+}
+
+// Notes what a read gave.
+fn note_read<R: Clock + Wait + Copy>(noted: &mut Noted<R>, room: &[u8], outcome: ReadOutcome) {
+    if let ReadOutcome::Bytes(count) = outcome {
+        let bytes = room.get(..count).unwrap_or(room);
+        noted.record.came(bytes, noted.queue.now());
+    }
+}
+
+// Notes what a write took, and puts the line on an answer that went out whole.
+fn note_write<R: Clock + Wait + Copy>(
+    noted: &mut Noted<R>,
+    parts: (&[u8], &[u8]),
+    outcome: WriteOutcome,
+) {
+    let WriteOutcome::Bytes(count) = outcome else {
+        return;
+    };
+    if noted.record.went(parts, count) {
+        let line = noted.record.line(noted.queue.now());
+        noted.queue.put(line);
+    }
+}
+
+impl<T, R: Clock + Wait + Copy> EndsEarly for LoggedTransport<T, R> {
+    fn note_end(&mut self, cause: Cause) {
+        if let Some(noted) = &mut self.noted {
+            let line = end_line(noted.alloc, noted.record.connection(), cause).ok();
+            noted.queue.put(line);
+        }
+    }
+}

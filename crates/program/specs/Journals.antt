@@ -1,0 +1,111 @@
+-- The journal of a map that is served (docs/PROFILE.md, "Journal").
+use Rattle.std.specs.Prelude.{◌≡◌, ◌⊎◌, ℕ, List, [], ◌++◌, Option, None, Some, Err, codes}
+use Rattle.std.specs.List.{flat_map}
+use Rattle.std.specs.Fmt.{decimal}
+use Rattle.sha2.specs.Sha256.{sha256}
+use Rattle.batches.specs.Batch.{State, accepted}
+use Rattle.sharing.specs.Sharing.{after}
+use Rattle.journal.specs.Fingerprint.{sized, content_message}
+use Rattle.journal.specs.Reading.{StandsFor}
+use Rattle.journal.specs.declared.header.HeaderFault.TheVariants as header_fault
+use Rattle.journalfile.specs.Recovery.{IsFaultOf}
+use Rattle.journalfile.specs.Settled.{IsSettled}
+use Rattle.journalfile.specs.declared.recovery.RecoverFault.{RecoverFault}
+use Rattle.journalfile.specs.declared.recovery.RecoverFault.TheVariants as recover_fault
+use Rattle.journalfile.specs.declared.writing.Journal.{Journal}
+use Rattle.mapparse.specs.declared.files.FileBytes.{FileBytes}
+use Rattle.console.specs.Streams.{Outcome, WriterState, IsReported}
+use Rattle.console.specs.declared.failure.Failure.{Failure}
+use Rattle.console.specs.declared.failure.Failure.TheVariants as failure
+use Rattle.program.specs.declared.keeping.JournalFault.{JournalFault}
+use Rattle.program.specs.declared.keeping.JournalFault.TheVariants as fault
+
+-- what a host is known to have of journals: which logs it gives for a path, whether they are reliable, what they have, and what a crash
+-- may leave of them
+pub record JournalView (L : Type 0) : Type 1 where
+  pub gives : List ℕ → L → Type 0
+  pub reliable : Type 0
+  pub content : L → List ℕ
+  pub may_leave : L → List ℕ → Type 0
+
+-- a file that a mapfile uses, as it is digested: its name, and its bytes
+abbrev pub given_message : FileBytes → List ℕ
+given_message file = sized file.name ++ content_message (Some file.bytes)
+
+-- the fingerprint of a map: the digest of its mapfile and of the files that this uses
+abbrev pub map_fingerprint : List ℕ → List FileBytes → List ℕ
+map_fingerprint mapfile files = sha256 (sized mapfile ++ flat_map given_message files)
+
+-- what a recovery says, without the log's own failure
+abbrev pub erased : {F : Type 0} → RecoverFault F → RecoverFault (Unit {0})
+erased (recover_fault.Header cause) = recover_fault.Header cause
+erased (recover_fault.Damaged number) = recover_fault.Damaged number
+erased (recover_fault.Refused number) = recover_fault.Refused number
+erased recover_fault.NoMemory = recover_fault.NoMemory
+erased (recover_fault.Failed cause) = recover_fault.Failed tt
+
+-- why a journal isn't opened, by what its recovery says
+abbrev pub fault_of : {F : Type 0} → RecoverFault F → JournalFault
+fault_of (recover_fault.Header header_fault.NotAJournal) = fault.NotAJournal
+fault_of (recover_fault.Header header_fault.OtherMap) = fault.OtherMap
+fault_of (recover_fault.Damaged number) = fault.Damaged number
+fault_of (recover_fault.Refused number) = fault.Refused number
+fault_of recover_fault.NoMemory = fault.NoMemory
+fault_of (recover_fault.Failed cause) = fault.Unavailable
+
+-- the words on it, which a number may follow
+unfoldable pub fault_words : JournalFault → List ℕ
+fault_words fault.NotAJournal = codes "it is no journal"
+fault_words fault.OtherMap = codes "it is of another map"
+fault_words (fault.Damaged number) = codes "it is damaged behind record "
+fault_words (fault.Refused number) = codes "the map doesn't accept record "
+fault_words fault.InUse = codes "another program has it"
+fault_words fault.Unavailable = codes "it can't be read or written"
+fault_words fault.NoMemory = codes "out of memory"
+
+-- the number of a record
+abbrev pub number_text : JournalFault → List ℕ
+number_text (fault.Damaged number) = decimal number
+number_text (fault.Refused number) = decimal number
+number_text other = []
+
+-- how the program ends for it
+abbrev pub failure_of : JournalFault → Failure
+failure_of fault.InUse = failure.JournalFailed
+failure_of fault.Unavailable = failure.JournalFailed
+failure_of fault.NoMemory = failure.NoMemory
+failure_of other = failure.JournalFault
+
+-- the line that reports it, with the path of the journal
+abbrev pub journal_fault : List ℕ → JournalFault → List ℕ
+journal_fault path why = codes "fault journal " ++ (path ++ (codes ": " ++ (fault_words why ++ (number_text why ++ codes "\n"))))
+
+-- a host gave no log for a path, or memory was refused
+abbrev pub is_unopened : JournalFault → Type 0
+is_unopened fault.InUse = Unit {0}
+is_unopened fault.Unavailable = Unit {0}
+is_unopened fault.NoMemory = Unit {0}
+is_unopened other = ⊥
+
+module _ {L : Type 0} (view : JournalView L) (path fingerprint : List ℕ) (first : State) where
+  -- a journal was opened on a log of the host: the machine is in the state after some batches, of which the journal has as many as its
+  -- count. Where the log is reliable, they are those that its bytes stood for, and it keeps them
+  pub record IsOpened (last : State) (journal : Journal L) : Type 0 where
+    pub log : L
+    pub gives : view.gives path log
+    pub of_map : journal.fingerprint ≡ fingerprint
+    pub batches : List (List ℕ)
+    pub after : after accepted first batches ≡ Some last
+    pub stood : view.reliable → StandsFor fingerprint (view.content log) batches
+    pub settled : view.reliable → IsSettled view.content view.may_leave journal batches
+
+  -- why none was: the host gave no log, or its bytes are to blame
+  abbrev pub IsUnopened : JournalFault → Type 0
+  IsUnopened why =
+      is_unopened why
+      ⊎ ((log new : L) × view.gives path log × (cause : RecoverFault (Unit {0})) × (why ≡ fault_of cause) × (view.reliable → IsFaultOf fingerprint view.content log new first cause))
+
+-- where the journal of a service failed, that is reported at its end
+abbrev pub ReportsEnd : List ℕ → Outcome → WriterState → WriterState → Type 0
+ReportsEnd path (Err failure.JournalFailed) old new = IsReported old new (journal_fault path fault.Unavailable)
+ReportsEnd path outcome old new = new ≡ old

@@ -1,0 +1,129 @@
+//! The file of a journal on the machine that the program runs on.
+
+ghost use Rattle.std.specs.Prelude.{[]};
+
+use crate::host::OpenFault;
+use journalfile::{FileLog, Log, ReadError};
+use std::alloc::Global;
+use std::fs::{self, File, OpenOptions, TryLockError};
+use std::io::{self, ErrorKind, Write};
+use subcommands::front_of;
+
+impl From<io::Error> for OpenFault {
+    fn from(error: io::Error) -> Self {
+        match error.kind() {
+            ErrorKind::OutOfMemory => OpenFault::NoMemory,
+            _ => OpenFault::Failed,
+        }
+    }
+}
+
+// Locks a file. Another program that serves the journal has the lock, up to its end.
+fn lock(file: &File) -> Result<(), OpenFault> {
+    match file.try_lock() {
+        Ok(()) => Ok(()),
+        Err(TryLockError::WouldBlock) => Err(OpenFault::InUse),
+        Err(TryLockError::Error(error)) => Err(OpenFault::from(error)),
+    }
+}
+
+// The file of a path, for reading and appending. It has to be there, or is made, as `create` says.
+fn open(rt: &HostRuntime, path: &str, create: bool) -> io::Result<File> {
+    OpenOptions::new()
+        .read(true)
+        .append(true)
+        .create(create)
+        .open(rt, path)
+}
+
+// Puts the name of a new file away, which stands in its folder.
+fn sync_folder(rt: &HostRuntime, path: &str) -> io::Result<()> {
+    let folder = match front_of(path) {
+        "" => "./",
+        front => front,
+    };
+    fs::open(rt, folder)?.sync_all()
+}
+
+// Makes the file of a path with these bytes: under another name first, so that the path has all of them or no file. The other name is locked
+// meanwhile, so that two programs don't make one file.
+fn make(rt: &HostRuntime, path: &str, bytes: &[u8]) -> Result<File, OpenFault> {
+    let Ok(other) = format!(in rt.alloc(); "{path}.new") else {
+        return Err(OpenFault::NoMemory);
+    };
+    let mut file = open(rt, other.as_str(), true)?;
+    lock(&file)?;
+    if open(rt, path, false).is_ok() {
+        return Err(OpenFault::InUse);
+    }
+    file.set_len(0)?;
+    file.write_all(bytes)?;
+    file.sync_all()?;
+    fs::rename(rt, other.as_str(), path)?;
+    sync_folder(rt, path)?;
+    Ok(file)
+}
+
+// The file of a journal, locked for this program. Where there is none, it is made with these bytes.
+fn open_or_make(rt: &HostRuntime, path: &str, bytes: &[u8]) -> Result<File, OpenFault> {
+    match open(rt, path, false) {
+        Ok(file) => {
+            lock(&file)?;
+            Ok(file)
+        }
+        Err(error) if error.kind() == ErrorKind::NotFound => make(rt, path, bytes),
+        Err(error) => Err(OpenFault::from(error)),
+    }
+}
+
+/// The log of a journal on a file of the machine. Of what a file does nothing is known, so it isn't called reliable.
+#[derive(Drop)]
+pub struct JournalFile {
+    log: FileLog<File>,
+}
+
+impl JournalFile {
+    /// The file of a path, locked for this program. Where there is none, it is made with these bytes.
+    pub(crate) fn open(rt: &HostRuntime, path: &str, bytes: &[u8]) -> Result<Self, OpenFault> {
+        let file = open_or_make(rt, path, bytes)?;
+        Ok(JournalFile {
+            log: FileLog::new(file),
+        })
+    }
+}
+
+impl Log for JournalFile {
+    type Failure = io::Error;
+
+    ghost reliable = { ⊥ };
+
+    ghost content = { λ _. [] };
+
+    ghost may_leave = { λ _ _. Unit {0} };
+
+    ghost moment = { λ _. 0 };
+
+    ghost left_since = { λ _ _ _. Unit {0} };
+
+    ghost garbled = { λ _. Unit {0} };
+
+    ghost counts_now = { λ reliable. absurd reliable };
+
+    ghost only_now = { λ reliable. absurd reliable };
+
+    fn read(&mut self, alloc: Global) -> Result<Vec<u8>, ReadError<io::Error>> {
+        self.log.read(alloc)
+    }
+
+    fn append(&mut self, bytes: &[u8]) -> Result<(), io::Error> {
+        self.log.append(bytes)
+    }
+
+    fn cut(&mut self, end: usize) -> Result<(), io::Error> {
+        self.log.cut(end)
+    }
+
+    fn sync(&mut self) -> Result<(), io::Error> {
+        self.log.sync()
+    }
+}

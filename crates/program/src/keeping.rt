@@ -1,0 +1,214 @@
+//! The journal of a map that is served.
+
+ghost use Rattle.std.specs.Prelude.{◌≡◌, ◌++◌, ℕ, List, [], map, codes, IfOk, IfErr, MatchOption, OnOk};
+ghost use Rattle.std.specs.Fmt.{decimal};
+ghost use Rattle.console.specs.Streams.{IsReported};
+ghost use Rattle.journal.specs.Fingerprint.{file_message};
+ghost use Rattle.journalfile.specs.Settled.{GarblesNoRecord};
+ghost use Rattle.subcommands.specs.Mapfiles.{TouchesNeither};
+ghost use Rattle.program.specs.Journals.{IsOpened, IsUnopened, ReportsEnd, failure_of, fault_of, fault_words, given_message, is_unopened, journal_fault, map_fingerprint, number_text};
+
+use crate::host::{Files, Host, OpenFault};
+use console::{Failure, Writes, report};
+use itoa::Buffer;
+use journal::{HeaderFault, UsedFile, fingerprint_of, push_header};
+use journalfile::{Journal, Log, RecoverFault, recover};
+use mapmachine::Machine;
+use mapparse::Files as MapFiles;
+use service::Network;
+use std::alloc::{AllocError, Global};
+use streams::Sink;
+use subcommands::ReadMap;
+
+/// Why a map has no journal.
+#[derive(Clone, Copy, Debug)]
+pub enum JournalFault {
+    /// The file isn't one.
+    NotAJournal,
+    /// It is that of another map, or of other files.
+    OtherMap,
+    /// After so many records something stands that is no record, and a whole record further on.
+    Damaged(u64),
+    /// The batch of the record of this number isn't accepted.
+    Refused(u64),
+    /// Another program has it open.
+    InUse,
+    /// It can't be opened, made, read or written.
+    Unavailable,
+    /// Memory was refused.
+    NoMemory,
+}
+
+impl JournalFault {
+    /// How the program ends for it.
+    pub fn failure(self) -> Failure
+        ensures failure { result ≡ failure_of self }
+        ensures neither { TouchesNeither result }
+    {
+        match self {
+            JournalFault::NotAJournal
+            | JournalFault::OtherMap
+            | JournalFault::Damaged(_)
+            | JournalFault::Refused(_) => Failure::JournalFault,
+            JournalFault::InUse | JournalFault::Unavailable => Failure::JournalFailed,
+            JournalFault::NoMemory => Failure::NoMemory,
+        }
+    }
+
+    // The number of a record that it has.
+    fn number(self) -> Option<u64>
+        ensures { MatchOption result (number_text self ≡ []) (λ number. number_text self ≡ decimal number) }
+    {
+        match self {
+            JournalFault::Damaged(number) | JournalFault::Refused(number) => Some(number),
+            _ => None,
+        }
+    }
+
+    // The words on it, which a number may follow.
+    #[tactic(auto, unfolding(crate::specs::Journals::fault_words))]
+    fn words(self) -> &'static [u8]
+        ensures { result.now ≡ fault_words self }
+    {
+        match self {
+            JournalFault::NotAJournal => b"it is no journal",
+            JournalFault::OtherMap => b"it is of another map",
+            JournalFault::Damaged(_) => b"it is damaged behind record ",
+            JournalFault::Refused(_) => b"the map doesn't accept record ",
+            JournalFault::InUse => b"another program has it",
+            JournalFault::Unavailable => b"it can't be read or written",
+            JournalFault::NoMemory => b"out of memory",
+        }
+    }
+}
+
+// Reports a fault, in parts.
+fn report_parts<'a, E: Sink>(errors: &mut E, path: &'a [u8], words: &'a [u8], number: &'a [u8])
+    ensures { IsReported (⟦<E as Writes>⟧.state errors.old) (⟦<E as Writes>⟧.state errors.new) (codes "fault journal " ++ (path.now ++ (codes ": " ++ (words.now ++ (number.now ++ codes "\n"))))) }
+{
+    report(
+        errors,
+        &[b"fault journal ", path, b": ", words, number, b"\n"],
+    );
+}
+
+/// Reports why a map has no journal, with the journal's path.
+pub(crate) fn report_journal_fault<E: Sink>(errors: &mut E, path: &str, fault: JournalFault)
+    ensures { IsReported (⟦<E as Writes>⟧.state errors.old) (⟦<E as Writes>⟧.state errors.new) (journal_fault path.now fault) }
+{
+    match fault.number() {
+        Some(number) => {
+            let mut digits = Buffer::new();
+            let number = digits.format(number).as_bytes();
+            report_parts(errors, path.as_bytes(), fault.words(), number);
+        }
+        None => report_parts(errors, path.as_bytes(), fault.words(), b""),
+    }
+}
+
+/// Reports that the journal of a service failed, where its outcome is that.
+pub(crate) fn report_end<E: Sink>(errors: &mut E, path: &str, outcome: Result<(), Failure>)
+    ensures { ReportsEnd path.now outcome (⟦<E as Writes>⟧.state errors.old) (⟦<E as Writes>⟧.state errors.new) }
+{
+    if let Err(Failure::JournalFailed) = outcome {
+        report_journal_fault(errors, path, JournalFault::Unavailable);
+    }
+}
+
+// The files of a map as its fingerprint has them.
+fn used_files<'a>(alloc: Global, files: &'a MapFiles) -> Result<Vec<UsedFile<'a>>, AllocError>
+    ensures { IfOk result (λ used. map file_message used.items ≡ map given_message files.now) }
+{
+    let mut used = Vec::new(alloc);
+    let given = files.as_slice();
+    for file in given {
+        used.push(UsedFile {
+            name: file.name.as_str().as_bytes(),
+            content: Some(file.bytes.as_slice()),
+        })?;
+    }
+    Ok(used)
+}
+
+/// The fingerprint of a map that was read. The error is that memory was refused.
+pub(crate) fn fingerprint_of_map(alloc: Global, read: &ReadMap) -> Result<[u8; 32], AllocError>
+    ensures { IfOk result (λ fingerprint. fingerprint ≡ map_fingerprint read.now.source.items read.now.files) }
+{
+    let used = used_files(alloc, &read.files)?;
+    Ok(fingerprint_of(&read.source, &used))
+}
+
+// A journal without a record. The error is that memory was refused.
+fn header_of(alloc: Global, fingerprint: &[u8; 32]) -> Result<Vec<u8>, AllocError> {
+    let mut header = Vec::new(alloc);
+    push_header(&mut header, fingerprint)?;
+    Ok(header)
+}
+
+// Why a journal isn't opened, by what its recovery says.
+fn fault_of<F: Drop>(fault: RecoverFault<F>) -> JournalFault
+    ensures { result ≡ fault_of fault }
+{
+    match fault {
+        RecoverFault::Header(HeaderFault::NotAJournal) => JournalFault::NotAJournal,
+        RecoverFault::Header(HeaderFault::OtherMap) => JournalFault::OtherMap,
+        RecoverFault::Damaged(number) => JournalFault::Damaged(number),
+        RecoverFault::Refused(number) => JournalFault::Refused(number),
+        RecoverFault::NoMemory => JournalFault::NoMemory,
+        RecoverFault::Failed(_) => JournalFault::Unavailable,
+    }
+}
+
+// The log of a path on a host. One that isn't there is made, without a record.
+fn log_of<H: Host>(
+    alloc: Global,
+    host: &H,
+    path: &str,
+    fingerprint: &[u8; 32],
+) -> Result<H::Log, JournalFault>
+    ensures given { IfOk result (λ log. H.journal host.now path.now log) }
+    ensures recognised { OnOk result (H.Log.reliable → (fingerprint : List ℕ) → GarblesNoRecord H.Log.garbled fingerprint) }
+    ensures unopened { IfErr result is_unopened }
+{
+    let Ok(header) = header_of(alloc, fingerprint) else {
+        return Err(JournalFault::NoMemory);
+    };
+    match host.open_log(path, &header) {
+        Ok(log) => Ok(log),
+        Err(OpenFault::InUse) => Err(JournalFault::InUse),
+        Err(OpenFault::Failed) => Err(JournalFault::Unavailable),
+        Err(OpenFault::NoMemory) => Err(JournalFault::NoMemory),
+    }
+}
+
+/// Where a journal is.
+#[derive(Clone, Copy)]
+pub(crate) struct JournalPlace<'a, H> {
+    /// The host that has it.
+    pub host: &'a H,
+    /// Its path there.
+    pub path: &'a str,
+}
+
+/// Opens the journal of a map and brings the map's machine to the state after its batches. One that isn't there is made.
+pub(crate) fn open_journal<H: Host>(
+    alloc: Global,
+    place: JournalPlace<'_, H>,
+    fingerprint: [u8; 32],
+    machine: &mut Machine,
+) -> Result<Journal<H::Log>, JournalFault>
+    ensures opened { IfOk result (λ journal. IsOpened (record { gives = H.journal place.entry.host.now; reliable = H.Log.reliable; content = H.Log.content; may_leave = H.Log.may_leave }) place.entry.path.now fingerprint machine.old machine.new journal) }
+    ensures recognised { OnOk result (H.Log.reliable → (fingerprint : List ℕ) → GarblesNoRecord H.Log.garbled fingerprint) }
+    ensures fault { IfErr result (λ fault. IsUnopened (record { gives = H.journal place.entry.host.now; reliable = H.Log.reliable; content = H.Log.content; may_leave = H.Log.may_leave }) place.entry.path.now fingerprint machine.old fault) }
+{
+    let mut log = log_of(alloc, place.host, place.path, &fingerprint)?;
+    match recover(alloc, &fingerprint, &mut log, machine) {
+        Ok(count) => Ok(Journal {
+            alloc,
+            log,
+            fingerprint,
+            count,
+        }),
+        Err(fault) => Err(fault_of(fault)),
+    }
+}

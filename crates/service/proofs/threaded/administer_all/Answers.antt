@@ -1,0 +1,36 @@
+use Rattle.std.proofs.Common.{◌≡◌, true, refl, sym, ap, subst, List, ℕ}
+use Rattle.administration.specs.Keeping.{IsKeptSince}
+use Rattle.administration.proofs.KeptBatches.{more_kept, same_kept}
+use Rattle.administration.proofs.Steps.{known-none}
+use Rattle.mapshare.specs.Admin.{all_of}
+use Rattle.service.proofs.threaded.administer_all.Goals as goal
+
+pub loop-init : goal.loop-init
+loop-init g c = record {
+  ready = c.requires.ready;
+  keeps = λ kept was. same_kept g.K.Keeps.keeps c.args.admin c.args.admin kept c.args.keeper.now refl was;
+}
+
+pub loop-preserved-in_default-attempt : goal.loop-preserved-in_default-attempt
+loop-preserved-in_default-attempt g c =
+    let keeps = g.K.Keeps.keeps in
+    let after = c.administer_one-after in
+    let (opened, same, still) = known-none after.result.1 _ _ c.in_default-attempt.not-Some after.ensures.served in
+    let moved = λ (kept : List (List ℕ)) (is : keeps c.loop.keeper kept). subst (λ k. keeps k kept) (sym still) is in
+    let step = λ (kept : List (List ℕ)) (is : keeps c.loop.keeper kept). same_kept keeps c.loop.admin after.result.0 kept after.new.keeper (ap all_of same) (moved kept is) in
+    record {
+      ready = (c.loop.invariant.ready.0, moved c.loop.invariant.ready.0 c.loop.invariant.ready.1);
+      keeps = λ kept was. more_kept keeps c.args.admin c.loop.admin after.result.0 kept c.loop.keeper after.new.keeper (c.loop.invariant.keeps kept was) step;
+    }
+
+pub loop-preserved : goal.loop-preserved
+loop-preserved g c =
+    let keeps = g.K.Keeps.keeps in
+    let after = c.administer_one-after in
+    let has : c.in-Some-attempt.field-0.has_kept ≡ true = cc (c.in-Some-attempt.has_kept-is, c.if-not-has_kept.false) in
+    let step = λ (kept : List (List ℕ)) (is : keeps c.loop.keeper kept).
+    let all : c.in-Some-attempt.field-0.has_kept ≡ true → IsKeptSince keeps c.loop.admin kept after.result.0 after.new.keeper = rw c.in-Some-attempt.is at (after.ensures.kept kept is) in all has in
+    record {
+      ready = (_, (step c.loop.invariant.ready.0 c.loop.invariant.ready.1).2);
+      keeps = λ kept was. more_kept keeps c.args.admin c.loop.admin after.result.0 kept c.loop.keeper after.new.keeper (c.loop.invariant.keeps kept was) step;
+    }

@@ -1,0 +1,10 @@
+use Rattle.std.proofs.Common.{List, ℕ}
+use Rattle.administration.specs.Keeping.{IsKeptSince}
+use Rattle.service.proofs.threaded.administer_all.Given as goal
+
+-- what was accepted so far is kept, behind what was kept before
+abbrev pub invariant-loop : goal.invariant-loop
+invariant-loop g l = record {
+  ready : (kept : List (List ℕ)) × g.K.Keeps.keeps l.keeper kept;
+  keeps : (kept : List (List ℕ)) → g.K.Keeps.keeps l.fn.keeper kept → IsKeptSince g.K.Keeps.keeps l.fn.admin kept l.admin l.keeper;
+}

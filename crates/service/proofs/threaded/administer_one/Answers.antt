@@ -1,0 +1,27 @@
+use Rattle.std.proofs.Common.{◌≡◌, ◌∙◌, ◌-◌, sym, ap, ap₂}
+use Rattle.service.proofs.Administered.{administered, kept-of}
+use Rattle.service.proofs.threaded.administer_one.Goals as goal
+
+pub returns-clause-served : goal.returns-clause-served
+returns-clause-served g c =
+    let done = c.administer_kept-admin in
+    let held = g.C.Writer.Sink.held in
+    let taken = g.C.Writer.Sink.taken in
+    let count : c.saturating_sub.result ≡ taken done.new.writer.inner - taken c.new-logged.result.inner =
+    c.saturating_sub.ensures ∙ ap₂ ◌-◌ (c.taken.ensures ∙ ap taken c.into_inner-writer.ensures) (c.taken-before.ensures ∙ ap taken (sym c.new-logged.ensures)) in
+    record {
+      reader = c.in-Some.sides.reader;
+      writer = c.in-Some.sides.writer;
+      opened = c.in-Some.ensures;
+      fault = c.fault_of-fault.result;
+      rest = done.new.reader;
+      got = c.into_inner-writer.result;
+      served = rw (c.has_kept.ensures, c.fault_of-fault.ensures, c.into_inner-writer.ensures, sym c.new-logged.ensures)
+          (administered (λ s. s.inner) held taken g.S.Sharing.opening g.C.Reader.Source.left g.C.Reader.Source.take_failed done.result.1 c.in-Some.sides.reader done.new.reader c.args.admin done.result.0
+          c.new-logged.result done.new.writer c.saturating_sub.result done.ensures.served done.ensures.stopped done.ensures.failed count);
+      ended = c.close.ensures;
+    }
+
+pub returns-clause-kept : goal.returns-clause-kept
+returns-clause-kept g c kept was e =
+    kept-of c.administer_kept-admin.result.1 _ (c.administer_kept-admin.ensures.kept kept was) (sym c.has_kept.ensures ∙ e)

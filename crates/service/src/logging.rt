@@ -1,0 +1,141 @@
+//! The log of a service: the thread that writes it, and what stands before a poller where connections are logged.
+
+ghost use Rattle.std.specs.Prelude.{◌≡◌, ◌≤◌, IfErr, length, true};
+ghost use Rattle.service.specs.Serving.{is_service_failure};
+
+use crate::serving::Runtime;
+use accesslog::{LogQueue, LoggedTransport};
+use console::Failure;
+use eventloop::Poller;
+use std::str;
+use std::thread::{self, JoinHandle};
+use std::time::Duration;
+
+// How many milliseconds the thread of the log waits for a line.
+const PAUSE: u64 = 20;
+
+/// A poller of transports that are logged.
+#[derive(Drop)]
+pub(crate) struct LoggedPoller<Q> {
+    pub inner: Q,
+}
+
+impl<T, R, Q: Poller<T>> Poller<LoggedTransport<T, R>> for LoggedPoller<Q> {
+    type Waker = Q::Waker;
+
+    fn waker(&self) -> Option<Q::Waker> {
+        self.inner.waker()
+    }
+
+    fn register(&mut self, transport: &mut LoggedTransport<T, R>, slot: usize) -> bool {
+        self.inner.register(transport.inner(), slot)
+    }
+
+    fn wait(&mut self, at_most: Duration, room: &mut [usize]) -> usize {
+        self.inner.wait(at_most, room)
+    }
+}
+
+// Writes the lines that wait.
+fn write_waiting<R: Runtime>(rt: &R, queue: &LogQueue<R>) {
+    for _ in 0..u64::MAX {
+        let Some(line) = queue.take(rt.alloc()) else {
+            return;
+        };
+        // Where standard error fails, nobody reads the log.
+        let _ = eprint!(rt; "{}", str::from_utf8(&line).unwrap_or(""));
+    }
+}
+
+// Writes the lines of a log up to its end.
+fn write_log<R: Runtime>(rt: &R, queue: &LogQueue<R>) {
+    for _ in rt.forever() {
+        let is_ended = queue.is_ended();
+        write_waiting(rt, queue);
+        if is_ended {
+            return;
+        }
+        thread::sleep(rt, Duration::from_millis(PAUSE));
+    }
+    unreachable!()
+}
+
+/// A log, and the thread that writes it.
+#[derive(Drop)]
+pub(crate) struct Log<R> {
+    queue: LogQueue<R>,
+    thread: JoinHandle<()>,
+}
+
+impl<R: Runtime> Log<R> {
+    /// Starts the thread of a log.
+    pub fn start(rt: &R) -> Result<Self, Failure>
+        ensures failed { IfErr result (λ failure. is_service_failure failure ≡ true) }
+    {
+        let Some(queue) = LogQueue::new(rt, rt.alloc()) else {
+            return Err(Failure::NoMemory);
+        };
+        let Ok(theirs) = queue.share() else {
+            return Err(Failure::NoMemory);
+        };
+        let handle = *rt;
+        match thread::spawn(rt, move || write_log(&handle, &theirs)) {
+            Ok(thread) => Ok(Log { queue, thread }),
+            Err(_) => Err(Failure::SocketFailed),
+        }
+    }
+
+    /// Its queue, for another thread.
+    pub fn queue(&self) -> Result<LogQueue<R>, Failure>
+        ensures failed { IfErr result (λ failure. is_service_failure failure ≡ true) }
+    {
+        match self.queue.share() {
+            Ok(queue) => Ok(queue),
+            Err(_) => Err(Failure::NoMemory),
+        }
+    }
+
+    /// Writes the lines that wait, and ends.
+    pub fn end(self, rt: &R) {
+        let Log { queue, thread } = self;
+        queue.end();
+        thread.join(rt);
+    }
+}
+
+/// Where what becomes of clients is logged, and what of administrators, if it is.
+#[derive(Drop)]
+pub(crate) struct Logs<R> {
+    pub clients: Option<LogQueue<R>>,
+    pub administration: Option<LogQueue<R>>,
+}
+
+impl<R> Logs<R> {
+    /// No log is kept.
+    pub fn none() -> Self {
+        Logs {
+            clients: None,
+            administration: None,
+        }
+    }
+}
+
+/// Starts a log for both.
+pub(crate) fn start_log<R: Runtime>(rt: &R) -> Result<(Log<R>, Logs<R>), Failure>
+    ensures failed { IfErr result (λ failure. is_service_failure failure ≡ true) }
+{
+    let log = Log::start(rt)?;
+    match (log.queue(), log.queue()) {
+        (Ok(clients), Ok(administration)) => Ok((
+            log,
+            Logs {
+                clients: Some(clients),
+                administration: Some(administration),
+            },
+        )),
+        _ => {
+            log.end(rt);
+            Err(Failure::NoMemory)
+        }
+    }
+}

@@ -1,0 +1,92 @@
+//! What the program does with a journal.
+
+use crate::endings::end_of;
+use crate::hosts::words_of;
+use crate::memory::stream_of;
+use crate::shelf::{Shelf, no_counts};
+use crate::texts::{columns, spelt};
+use console::Console;
+use program::Program;
+use service::Runtime;
+use std::alloc::AllocError;
+use std::str;
+use std::sync::Arc;
+use std::sync::atomic::Ordering;
+use test_tables::{TableFault, check_all};
+
+// Words with spaces between them, the letters of the ports, and how the program ends: its exit status with what failed, the sum of the
+// sequences that were published, how often that a batch isn't kept was answered, how many bytes were added to the journal, the output, and
+// the errors. `~` is a line feed. A record of an empty batch has 42 bytes.
+const JOURNALS: &str = "\
+serve a.map --port 81 --admin-port 82 --connections 1 --journal fresh.journal|c b|0 done 1 0 42|listening a port another port~|
+serve a.map --port 81 --admin-port 82 --connections 2 --journal fresh.journal|cc bb|0 done 3 0 84|listening a port another port~|
+serve a.map --port 81 --admin-port 82 --connections 1 --journal kept.journal|c b|0 done 2 0 42|listening a port another port~|
+serve a.map --port 81 --admin-port 82 --connections 1 --journal torn.journal|c b|0 done 2 0 42|listening a port another port~|
+serve a.map --port 81 --admin-port 82 --connections 1 --journal kept.journal|c r|0 done 0 0 0|listening a port another port~|
+serve a.map --port 81 --admin-port 82 --connections 1|c b|0 done 1 0 0|listening a port another port~|
+# a journal that fails ends the wait for a client, and the program
+serve a.map --port 81 --admin-port 82 --journal stuck.journal|w b|3 JournalFailed 0 1 0|listening a port another port~|fault journal stuck.journal: it can't be read or written~
+serve --explain a.map --port 81 --admin-port 82 --connections 1 --journal stuck.journal|c b|3 JournalFailed 0 1 0|listening a port another port~|a.map: warning: the service has no wms_onlineresource, and http://localhost/wms? has no port~fault journal stuck.journal: it can't be read or written~
+# none of these is listened with
+serve a.map --port 81 --admin-port 82 --journal none.journal||1 JournalFault 0 0 0||fault journal none.journal: it is no journal~
+serve a.map --port 81 --admin-port 82 --journal other.journal||1 JournalFault 0 0 0||fault journal other.journal: it is of another map~
+serve t.map --port 81 --admin-port 82 --journal kept.journal||1 JournalFault 0 0 0||fault journal kept.journal: it is of another map~
+serve a.map --port 81 --admin-port 82 --journal damaged.journal||1 JournalFault 0 0 0||fault journal damaged.journal: it is damaged behind record 0~
+serve a.map --port 81 --admin-port 82 --journal refused.journal||1 JournalFault 0 0 0||fault journal refused.journal: the map doesn't accept record 1~
+serve a.map --port 81 --admin-port 82 --journal locked.journal||3 JournalFailed 0 0 0||fault journal locked.journal: another program has it~
+serve a.map --port 81 --admin-port 82 --journal folder||3 JournalFailed 0 0 0||fault journal folder: it can't be read or written~
+serve a.map --port 81 --admin-port 82 --journal small.journal||4 NoMemory 0 0 0||fault journal small.journal: out of memory~
+serve c.map --port 81 --admin-port 82 --journal none.journal||1 FileFailed 0 0 0||fault file c.map~
+serve a.map --port 80 --journal kept.journal||3 ListenFailed { port: 80, cause: NotAllowed } 0 0 0||";
+
+// How the program ends on a host whose ports have those letters.
+fn ended<R: Runtime>(
+    rt: &R,
+    system: &HostRuntime,
+    words: &str,
+    letters: &str,
+) -> Result<String, AllocError> {
+    let alloc = rt.alloc();
+    let counts = no_counts(alloc)?;
+    let (clients, administration) = letters.split_once(' ').unwrap_or((letters, ""));
+    let host = Shelf {
+        rt: *system,
+        alloc,
+        clients,
+        administration,
+        counts: Arc::try_clone(&counts)?,
+    };
+    let program = Program {
+        rt: *rt,
+        host: &host,
+    };
+    let mut console = Console {
+        input: stream_of(alloc, "", 7, None),
+        output: stream_of(alloc, "", 7, None),
+        errors: stream_of(alloc, "", 7, None),
+    };
+    let ending = program.answer(Ok(words_of(alloc, words)?), &mut console);
+    let end = end_of(alloc, ending.outcome())?;
+    let (output, errors) = (console.output.into_inner(), console.errors.into_inner());
+    format!(in alloc;
+        "{end} {} {} {}|{}|{}",
+        counts.published.load(Ordering::SeqCst),
+        counts.failed.load(Ordering::SeqCst),
+        counts.kept.load(Ordering::SeqCst),
+        str::from_utf8(&output.held).unwrap_or("?"),
+        str::from_utf8(&errors.held).unwrap_or("?")
+    )
+}
+
+// Whether the program ends as a row says.
+fn is_ended<R: Runtime>(rt: &R, system: &HostRuntime, line: &str) -> Result<bool, AllocError> {
+    let row = spelt(rt.alloc(), line)?;
+    let (words, letters, expected) = columns(row.as_str());
+    let found = ended(rt, system, words, letters)?;
+    Ok(found.as_str() == expected)
+}
+
+#[test]
+fn batches_are_kept_in_the_journal_that_is_asked_for(rt: HostRuntime) -> Result<(), TableFault> {
+    check_all(rt.alloc(), JOURNALS, 18, |_, line| is_ended(&rt, &rt, line))
+}

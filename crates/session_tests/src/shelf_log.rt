@@ -1,0 +1,151 @@
+//! Journals in memory, by their paths.
+
+ghost use Rattle.std.specs.Prelude.{[]};
+
+use crate::shelf::Counts;
+use journalfile::{Log, ReadError};
+use program::OpenFault;
+use std::alloc::Global;
+use std::sync::Arc;
+use std::sync::atomic::Ordering;
+
+/// A log in memory. Whether it is reliable isn't known.
+#[derive(Drop)]
+pub struct ShelfLog {
+    held: Vec<u8>,
+    takes_more: bool,
+    counts: Arc<Counts, Global>,
+}
+
+// The call of a log failed.
+#[derive(Drop)]
+pub struct LogFailed;
+
+impl Log for ShelfLog {
+    type Failure = LogFailed;
+
+    ghost reliable = { ⊥ };
+
+    ghost content = { λ _. [] };
+
+    ghost may_leave = { λ _ _. Unit {0} };
+
+    ghost moment = { λ _. 0 };
+
+    ghost left_since = { λ _ _ _. Unit {0} };
+
+    ghost garbled = { λ _. Unit {0} };
+
+    ghost counts_now = { λ reliable. absurd reliable };
+
+    ghost only_now = { λ reliable. absurd reliable };
+
+    fn read(&mut self, alloc: Global) -> Result<Vec<u8>, ReadError<LogFailed>> {
+        match Vec::from_slice(alloc, &self.held) {
+            Ok(bytes) => Ok(bytes),
+            Err(_) => Err(ReadError::NoMemory),
+        }
+    }
+
+    // What was appended is counted.
+    fn append(&mut self, bytes: &[u8]) -> Result<(), LogFailed> {
+        if !self.takes_more || self.held.extend_from_slice(bytes).is_err() {
+            return Err(LogFailed);
+        }
+        self.counts
+            .kept
+            .fetch_add(bytes.len() as u64, Ordering::SeqCst);
+        Ok(())
+    }
+
+    fn cut(&mut self, end: usize) -> Result<(), LogFailed> {
+        self.held.truncate(end);
+        Ok(())
+    }
+
+    fn sync(&mut self) -> Result<(), LogFailed> {
+        Ok(())
+    }
+}
+
+// The journal of `MAP END` and an LF that has no record, in hexadecimal digits: worked out from the rules of the format by another program,
+// as the records are.
+const EMPTY: &str =
+    "4b45534d4f4348204a4f55524e414c20310ada21d5448cab06b0073428c7c16c73f905ee6f9dfec08b8b9291d2598a373f46";
+
+// Its record of number 1, of the empty batch.
+const FIRST: &str =
+    "c00000000000000001368418a429d203e8314acce9bd5a3fef8c6a603f5d0b7a535f995f766bbfa8bfc0";
+
+// That of number 2.
+const SECOND: &str =
+    "c00000000000000002b3d651f9d9c81d3624d674c33564274f04161e2b4784365c22ca5f26fa15fb89c0";
+
+// The beginning of such a record.
+const TORN: &str = "c000000000000000024f";
+
+// A record of number 1, of the batch `OFF a` and an LF.
+const REFUSED: &str =
+    "c000000000000000014f464620610a3900ee67a476174cfa1c912a0c5763d7fc6d72586c47ff348d9e29f777bcc764c0";
+
+// The signature of a journal, and a fingerprint that is all zeros.
+const OTHER: &str =
+    "4b45534d4f4348204a4f55524e414c20310a0000000000000000000000000000000000000000000000000000000000000000";
+
+// Adds bytes by their digits.
+fn add(held: &mut Vec<u8>, alloc: Global, digits: &str) -> bool {
+    match hex::decode(alloc, digits) {
+        Ok(bytes) => held.extend_from_slice(&bytes).is_ok(),
+        Err(_) => false,
+    }
+}
+
+// Adds what the journal of a path has.
+fn add_journal(held: &mut Vec<u8>, alloc: Global, path: &str) -> Result<(), OpenFault> {
+    let is_made = match path {
+        "kept.journal" => add(held, alloc, EMPTY) && add(held, alloc, FIRST),
+        "torn.journal" => {
+            add(held, alloc, EMPTY) && add(held, alloc, FIRST) && add(held, alloc, TORN)
+        }
+        "damaged.journal" => {
+            add(held, alloc, EMPTY) && add(held, alloc, "c0ff") && add(held, alloc, SECOND)
+        }
+        "refused.journal" => add(held, alloc, EMPTY) && add(held, alloc, REFUSED),
+        "other.journal" => add(held, alloc, OTHER),
+        "none.journal" => add(held, alloc, "4b45"),
+        _ => return Err(OpenFault::Failed),
+    };
+    if is_made {
+        Ok(())
+    } else {
+        Err(OpenFault::NoMemory)
+    }
+}
+
+// The log of a path: that of `fresh.journal` is made with these bytes, and so is that of `stuck.journal`, which takes no more.
+pub fn log_of(
+    alloc: Global,
+    counts: &Arc<Counts, Global>,
+    path: &str,
+    bytes: &[u8],
+) -> Result<ShelfLog, OpenFault> {
+    let mut held = Vec::new(alloc);
+    match path {
+        "locked.journal" => return Err(OpenFault::InUse),
+        "small.journal" => return Err(OpenFault::NoMemory),
+        "fresh.journal" | "stuck.journal" => {
+            if held.extend_from_slice(bytes).is_err() {
+                return Err(OpenFault::NoMemory);
+            }
+        }
+        _ => add_journal(&mut held, alloc, path)?,
+    }
+    match Arc::try_clone(counts) {
+        Ok(counts) => Ok(ShelfLog {
+            held,
+            takes_more: path != "stuck.journal",
+            counts,
+        }),
+        Err(_) => Err(OpenFault::NoMemory),
+    }
+}
