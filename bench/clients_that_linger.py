@@ -8,9 +8,9 @@ or a second head follow the first.
 
 Then clients linger at a server of one worker: one sends nothing; one half a head; one half a head, and a byte each
 second; one a head for a picture of 12 MB, of which it reads nothing; one has its answer, and neither sends more nor leaves.
-Another client that asks beside each of them is to be answered at once. The first four are to be dropped: after 3 seconds
-the one that sends nothing, as --idle says, and after 2 the next two, as --timeout says, whether bytes come or not; the
-one that reads nothing 2 seconds after the last byte that the system took for it.
+Another client that asks beside each of them is to be answered at once. All are to be dropped: the first three after 2
+seconds, as --timeout says, whether bytes come or not; the one that reads nothing 2 seconds after the last byte that the
+system took for it; and the one that stays after 3 seconds, as --idle says.
 """
 import http.client
 import os
@@ -34,10 +34,12 @@ def head_of(target):
 
 
 HALF = b"GET /wms HTTP/1.1\r\nHost: "
+# a head that doesn't close, for a short answer
+STAYING = b"GET /wms HTTP/1.1\r\n\r\n"
 IDLE, TIMEOUT = 3, 2
 # what each client sends that lingers, whether it goes on by a byte each second, and after how many seconds it is dropped
 LINGERING = [
-    ("nothing", b"", False, IDLE),
+    ("nothing", b"", False, TIMEOUT),
     ("half a head", HALF, False, TIMEOUT),
     ("a byte each second", HALF, True, TIMEOUT),
 ]
@@ -163,6 +165,8 @@ def try_unread(mapfile):
     """A client that reads nothing can't see that it was dropped: the server has a descriptor less then."""
     with Server(mapfile, 1) as port:
         seconds_of(port, LARGE)
+        # until the server has seen that this client has gone
+        time.sleep(0.5)
         count = descriptors()
         stream = connected(port)
         stream.setsockopt(socket.SOL_SOCKET, socket.SO_RCVBUF, 4_096)
@@ -192,14 +196,12 @@ def try_lingering(mapfile):
             lingering.append((name, most, Lingering(port, sent, is_slow)))
             seconds, whole = seconds_of(port, SMALL)
             wrong += is_wrong(f"beside {name}", "answered", seconds, 0, 1 + 3 * alone) or not whole
-        stays = connected(port)
-        stays.sendall(head_of(SMALL))
-        wrong += not is_whole(read_all(stays))
+        stays = Lingering(port, STAYING, False)
         seconds, whole = seconds_of(port, SMALL)
         wrong += is_wrong("beside all, and one that stays", "answered", seconds, 0, 1 + 3 * alone) or not whole
         for name, most, client in lingering:
             wrong += is_wrong(name, "dropped", client.dropped(), most - 0.1, most + 1.5)
-        stays.close()
+        wrong += is_wrong("one that stays", "dropped", stays.dropped(), IDLE - 0.1, IDLE + 1.5)
     return wrong
 
 
