@@ -3,7 +3,7 @@
 
 Usage: administration.py PROGRAM
 
-It serves demo/square.map with two workers. The lines that are expected come from docs/PROFILE.md, "Administration" and
+It serves demo/square.map with two workers. The lines that are expected come from docs/SERVICE.md, "Administration" and
 "Batches", by hand: each kind of line, but for HELD and NOMEMORY, for which memory must be refused (failing_calls.py
 does that). After each group of commands a client asks for the picture and the sequence, which are to be those of the
 state that the lines say. Two administrators come at once; one vanishes within a line, and within a batch; one sends a

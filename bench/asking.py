@@ -5,7 +5,7 @@ Usage: asking.py PROGRAM
 
 A figure is the number of instructions that callgrind of valgrind counts: of a script with 11 equal queries less that
 of one with 1, divided by 10; 3 million stand for a millisecond of processor. Each answer is compared with one that is
-made here by the rules of docs/PROFILE.md. It fails where one differs, and where a document, or an answer on a map of
+made here by the rules of docs/WMS.md. It fails where one differs, and where a document, or an answer on a map of
 which some 50 features are in the view, costs more than 3 million. Everything that it reads it makes by rule.
 """
 import sys

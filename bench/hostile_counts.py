@@ -156,7 +156,7 @@ class Font:
         return 0 if re.fullmatch(rb"[0-9a-fA-F]{%d}" % digits, line) else 3
 
 
-# Batches: docs/PROFILE.md, Batches
+# Batches: docs/SERVICE.md, Batches
 def command(line):
     """The word of a line, its count and its name, or none where the line can't be read."""
     whole = re.fullmatch(rb"(?:(ON|OFF|CLEAR)|APPEND (\d{1,10})) (.*)", line, re.S)
@@ -184,7 +184,7 @@ def batch(source):
                 raise Fault(kind, number)
 
 
-# Request heads: docs/PROFILE.md, HTTP. Kinds are 1 bad request, 2 not found, 3 another method, 4 nothing
+# Request heads: docs/WMS.md, HTTP. Kinds are 1 bad request, 2 not found, 3 another method, 4 nothing
 TOKEN = rb"[!#$%&'*+.^_`|~0-9A-Za-z-]+"
 HEAD = re.compile(rb"(?:\r?\n)*(" + TOKEN + rb") ([\x21-\x7e\x80-\xff]+) HTTP/1\.([01])\r?\n((?:" + TOKEN + rb":[\t\x20-\x7e\x80-\xff]*\r?\n)*)\r?\n")
 
@@ -205,7 +205,7 @@ def head(source):
         raise Fault(2, 0)
 
 
-# Scripts and administrators: docs/PROFILE.md, Sessions and Administration
+# Scripts and administrators: docs/SERVICE.md, Sessions and Administration
 def script(source):
     at, number = 0, 0
     while at < len(source):

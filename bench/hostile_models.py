@@ -326,7 +326,7 @@ def pixmap(source):
         raise Fault(4, 0)
 
 
-# Queries: docs/PROFILE.md, Queries. Kinds are the codes of the table in their order, a place is its row
+# Queries: docs/WMS.md, Queries. Kinds are the codes of the table in their order, a place is its row
 CODES = ["", "Missing", "Invalid", "Operation", "LayerNotDefined", "StyleNotDefined", "InvalidCRS", "InvalidFormat"]
 
 

@@ -1,4 +1,4 @@
-"""Labels placed and painted by the rules of docs/PROFILE.md, "Labels": what the program's are compared with."""
+"""Labels placed and painted by the rules of docs/DRAWING.md, "Labels": what the program's are compared with."""
 import re
 
 AUTO = ["UR", "UL", "LR", "LL", "CR", "CL", "UC", "LC"]

@@ -1,4 +1,4 @@
-"""Pictures painted by the rules of docs/PROFILE.md, in whole numbers: what the program's are compared with."""
+"""Pictures painted by the rules of docs/DRAWING.md, in whole numbers: what the program's are compared with."""
 import re
 
 

@@ -5,7 +5,7 @@ Usage: table.py PROGRAM [RUNS] [CITIES]
 
 Everything that it reads it makes, from demo and by rule, in a folder of its own. CITIES is a table of cities with
 the columns name, long and lat; where it isn't given, the row of their labels is left out. Each picture is
-compared, pixel by pixel, with one that this script paints by the rules of docs/PROFILE.md, in whole numbers
+compared, pixel by pixel, with one that this script paints by the rules of docs/DRAWING.md, in whole numbers
 and without looking at what the program does. A time is that of the pictures without that of as many empty
 ones of the same map, so that it is the painting alone. The figures are medians of RUNS runs (7 where it
 isn't given), with the least and the greatest. All workloads are run in turn, RUNS times: what else the

@@ -1,6 +1,6 @@
 """What the scripts that change a served map have in common: its administration port, and the lines that answer there.
 
-docs/PROFILE.md has both, under "Batches" and "Administration".
+docs/SERVICE.md has both, under "Batches" and "Administration".
 """
 import http.client
 import re

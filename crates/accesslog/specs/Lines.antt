@@ -1,4 +1,4 @@
--- The lines of a log (docs/PROFILE.md, "Log").
+-- The lines of a log (docs/SERVICE.md, "Log").
 use Rattle.std.specs.Prelude.{ℕ, ◌+◌, ◌/◌, ◌%◌, nat_lt, nat_le, ◌==◌, ◌||◌, Bool, List, [], ◌∷◌, ◌++◌, if◌then◌else◌, codes}
 use Rattle.std.specs.List.{flat_map}
 use Rattle.std.specs.Fmt.{decimal}

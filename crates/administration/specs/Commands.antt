@@ -1,4 +1,4 @@
--- What a client of the administration port asks for (docs/PROFILE.md, "Administration").
+-- What a client of the administration port asks for (docs/SERVICE.md, "Administration").
 use Rattle.std.specs.Prelude.{ℕ, nat_eq, nat_le, nat_lt, if◌then◌else◌, List, length, take, drop, Option, None, Some, codes}
 use Rattle.std.specs.List.{before_first, after_first, list_any, starts_with}
 use Rattle.std.specs.Str.{bytes_eq}

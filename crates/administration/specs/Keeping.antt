@@ -1,4 +1,4 @@
--- What the client of an administrator does whose batches are kept (docs/PROFILE.md, "Administration" and "Journal").
+-- What the client of an administrator does whose batches are kept (docs/SERVICE.md, "Administration" and "Journal").
 use Rattle.std.specs.Prelude.{◌≡◌, ◌⊎◌, ℕ, ◌+◌, false, List, [], ◌++◌, length, Option, Some, codes}
 use Rattle.std.specs.List.{list_any}
 use Rattle.streams.specs.Sent.{IsSent, IsCutSomewhere}

@@ -1,4 +1,4 @@
--- How commands are read from a stream (docs/PROFILE.md, "Administration").
+-- How commands are read from a stream (docs/SERVICE.md, "Administration").
 use Rattle.std.specs.Prelude.{◌≡◌, ◌⊎◌, ℕ, Bool, true, List, ◌++◌, Option, Some, IfSome}
 use Rattle.std.specs.Io.KnownBytes.{Consumes, IsAtEnd}
 use Rattle.administration.specs.Commands.{Command, Submit, Publish, Malformed, command_of, front_command}

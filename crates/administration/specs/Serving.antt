@@ -1,4 +1,4 @@
--- What the client of an administrator does, and is told (docs/PROFILE.md, "Administration").
+-- What the client of an administrator does, and is told (docs/SERVICE.md, "Administration").
 use Rattle.std.specs.Prelude.{◌≡◌, ◌≢◌, ◌⊎◌, ℕ, ◌+◌, Bool, true, false, List, [], ◌∷◌, ◌++◌, length, Option, None, Some, codes}
 use Rattle.std.specs.List.{list_any}
 use Rattle.std.specs.Io.KnownBytes.{Consumes, IsAtEnd}

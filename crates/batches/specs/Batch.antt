@@ -1,4 +1,4 @@
--- What a batch does to a state (docs/PROFILE.md, "Batches").
+-- What a batch does to a state (docs/SERVICE.md, "Batches").
 use Rattle.std.specs.Prelude.{◌≡◌, ℕ, ◌+◌, ◌-◌, ◌^◌, ◌==◌, true, false, nat_lt, if◌then◌else◌, List, [], ◌∷◌, length, Option, None, Some, Result, Ok, Err, IfSome, MatchResult, slice_get}
 use Rattle.std.specs.Result.{result_ok}
 use Rattle.csvpoints.specs.Source.{records_of}

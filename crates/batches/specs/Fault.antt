@@ -1,4 +1,4 @@
--- The numbers of the kinds of faults of batches (docs/PROFILE.md, "Batches").
+-- The numbers of the kinds of faults of batches (docs/SERVICE.md, "Batches").
 use Rattle.std.specs.Prelude.{ℕ}
 use Rattle.layers.specs.declared.fault.Refusal.TheVariants.{UnknownLayer, NotPoints, Full}
 use Rattle.batches.specs.declared.command.CommandFault.TheVariants.{UnknownWord, Short}

@@ -1,4 +1,4 @@
--- Batches as they are written (docs/PROFILE.md, "Batches").
+-- Batches as they are written (docs/SERVICE.md, "Batches").
 use Rattle.std.specs.Prelude.{◌≡◌, ℕ, ◌<◌, ◌^◌, false, List, ◌++◌, length, All, None, codes}
 use Rattle.std.specs.Fmt.{decimal}
 use Rattle.std.specs.List.{flat_map, list_any}

@@ -1,4 +1,4 @@
--- The document of the service's capabilities (OGC 06-042, 7.2; docs/PROFILE.md, "Capabilities").
+-- The document of the service's capabilities (OGC 06-042, 7.2; docs/WMS.md, "Capabilities").
 use Rattle.std.specs.Prelude.{ℕ, List, ◌++◌, codes}
 use Rattle.std.specs.List.{flat_map}
 use Rattle.std.specs.Fmt.{decimal}

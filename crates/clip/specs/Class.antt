@@ -1,4 +1,4 @@
--- Which rows of a picture an edge crosses, and on which side of it (docs/PROFILE.md, "When a pixel belongs to a polygon").
+-- Which rows of a picture an edge crosses, and on which side of it (docs/DRAWING.md, "When a pixel belongs to a polygon").
 use Rattle.std.specs.Prelude.{◌≡◌, ℕ, min, max, ◌<◌, ◌⊎◌, Bool, true, false, ◌&&◌, ◌||◌, nat_le, nat_lt, if◌then◌else◌, ℤ, pos, negsuc, ◌+ℤ◌, ◌-ℤ◌, int_le, int_lt}
 use Rattle.std.specs.Int.{int_div_euclid}
 use Rattle.geom.specs.Device.{centre}

@@ -1,4 +1,4 @@
--- The command line (docs/PROFILE.md, "The program").
+-- The command line (docs/SERVICE.md, "The program").
 use Rattle.std.specs.Prelude.{◌≡◌, ◌≤◌, ℕ, pos, All, fold, Ok, List, [], ◌∷◌, Option, Some, None, option_map, Bool, true, false, codes}
 use Rattle.std.specs.Str.Parse.{ParsesUnsigned}
 use Rattle.std.specs.declared.num.ParseIntError.{ParseIntError}

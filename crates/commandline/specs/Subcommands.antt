@@ -1,4 +1,4 @@
--- How the command line (docs/PROFILE.md, "The program") is made of its subcommands.
+-- How the command line (docs/SERVICE.md, "The program") is made of its subcommands.
 use Rattle.std.specs.Prelude.{◌≡◌, Result, IsOkAnd, false}
 use Rattle.clap.specs.Words.{app_of, with_subcommand}
 use Rattle.clap.specs.declared.builder.command.Command.{Command}

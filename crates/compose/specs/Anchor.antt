@@ -1,4 +1,4 @@
--- Where labels are anchored (docs/PROFILE.md, "Labels").
+-- Where labels are anchored (docs/DRAWING.md, "Labels").
 use Rattle.std.specs.Prelude.{◌≡◌, ℕ, ◌/◌, ◌&&◌, Bool, if◌then◌else◌, ℤ, pos, ◌+ℤ◌, int_le, int_lt, List, [], ◌∷◌, map, Option, None, Some, slice_get, length}
 use Rattle.std.specs.Int.{int_div_euclid, int_max, int_min}
 use Rattle.std.specs.List.{fold}

@@ -1,4 +1,4 @@
--- Painting the features that are met and adding their candidates, in one walk; and then the labels (docs/PROFILE.md, "Labels").
+-- Painting the features that are met and adding their candidates, in one walk; and then the labels (docs/DRAWING.md, "Labels").
 use Rattle.std.specs.Prelude.{◌≡◌, ℕ, List, ◌++◌, Option, ◌⊎◌}
 use Rattle.std.specs.List.{Contains, flat_map}
 use Rattle.labelcache.specs.Candidate.{CandidateValue}

@@ -1,4 +1,4 @@
--- Flips that stand for the edges of rings in a picture (docs/PROFILE.md, "When a pixel belongs to a polygon").
+-- Flips that stand for the edges of rings in a picture (docs/DRAWING.md, "When a pixel belongs to a polygon").
 use Rattle.std.specs.Prelude.{◌≡◌, ℕ, ◌<◌, ℤ, pos, ◌-ℤ◌, ◌≤ℤ◌, ◌<ℤ◌, List, length, slice_index_or}
 use Rattle.geom.specs.Device.{pixel_centre}
 use Rattle.geom.specs.Edge.{EdgeEnds, crosses_at_or_left}

@@ -1,4 +1,4 @@
--- The candidates for a picture's labels, and their ink (docs/PROFILE.md, "Labels").
+-- The candidates for a picture's labels, and their ink (docs/DRAWING.md, "Labels").
 use Rattle.std.specs.Prelude.{◌≡◌, ℕ, Bool, List, [], ◌∷◌, ◌++◌, Option, None, Some, slice_get, take}
 use Rattle.std.specs.List.{flat_map}
 use Rattle.std.specs.Option.{is_some, option_map_or}

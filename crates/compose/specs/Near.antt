@@ -1,4 +1,4 @@
--- How far a feature's paint reaches from its points (docs/PROFILE.md, "How features are painted").
+-- How far a feature's paint reaches from its points (docs/DRAWING.md, "How features are painted").
 use Rattle.std.specs.Prelude.{◌≡◌, ℕ, ◌<◌, max, true, List, [], ◌∷◌, Option, None, Some, length, All, slice_get}
 use Rattle.std.specs.List.{Contains, flat_map, list_any}
 use Rattle.std.specs.List.Sorted.{IsStrictlyIncreasing}

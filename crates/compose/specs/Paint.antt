@@ -1,4 +1,4 @@
--- What is painted, and in which order (docs/PROFILE.md, "How features are painted").
+-- What is painted, and in which order (docs/DRAWING.md, "How features are painted").
 use Rattle.std.specs.Prelude.{ℕ, Bool, true, false, if◌then◌else◌, pos, List, [], ◌∷◌, ◌++◌, map, Option, None, Some, slice_get}
 use Rattle.std.specs.List.{flat_map}
 use Rattle.std.specs.Option.{option_map_or}

@@ -1,4 +1,4 @@
--- Painting over a picture (docs/PROFILE.md, "How features are painted").
+-- Painting over a picture (docs/DRAWING.md, "How features are painted").
 use Rattle.std.specs.Prelude.{◌≡◌, ℕ, Bool, ◌/◌, ◌%◌, ◌<◌, ◌≤◌, if◌then◌else◌, List, length, Option, None, slice_index_or}
 use Rattle.mapdefs.specs.declared.colour.Rgb.{Rgb}
 use Rattle.mapdefs.specs.declared.picture.PictureFields.{PictureFields}

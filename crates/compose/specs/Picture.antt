@@ -1,4 +1,4 @@
--- The picture of a map (docs/PROFILE.md, "How features are painted" and "Labels").
+-- The picture of a map (docs/DRAWING.md, "How features are painted" and "Labels").
 use Rattle.std.specs.Prelude.{◌≡◌, ℕ, ◌+◌, ◌*◌, ◌<◌, List, ◌∷◌, ◌++◌, length, reverse, find, Option, Some, slice_get}
 use Rattle.std.specs.List.{Contains}
 use Rattle.std.specs.Option.{option_map_or}

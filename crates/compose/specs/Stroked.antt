@@ -1,4 +1,4 @@
--- What a line covers, from vertex to vertex (docs/PROFILE.md, "When a pixel belongs to a line").
+-- What a line covers, from vertex to vertex (docs/DRAWING.md, "When a pixel belongs to a line").
 use Rattle.std.specs.Prelude.{◌≡◌, ℕ, ◌*◌, ◌<◌, ◌≤◌, length, Bool, true, false, ◌&&◌, ◌||◌, pos, int_le, List, [], ◌∷◌, map, Some}
 use Rattle.std.specs.List.{list_any}
 use Rattle.geom.specs.Device.{DevicePoint, pixel_centre}

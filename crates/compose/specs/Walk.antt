@@ -1,4 +1,4 @@
--- The features that are met when the chosen layers are gone through (docs/PROFILE.md, "How features are painted").
+-- The features that are met when the chosen layers are gone through (docs/DRAWING.md, "How features are painted").
 use Rattle.std.specs.Prelude.{◌≡◌, ℕ, if◌then◌else◌, List, [], ◌∷◌, slice_get}
 use Rattle.std.specs.List.{flat_map}
 use Rattle.std.specs.Option.{option_map_or}

@@ -1,4 +1,4 @@
--- Why an input was not read to its end (docs/PROFILE.md, "The program").
+-- Why an input was not read to its end (docs/SERVICE.md, "The program").
 use Rattle.std.specs.Prelude.{Bool, true, false}
 use Rattle.console.specs.declared.input.ReadFault.{ReadFault}
 use Rattle.console.specs.declared.input.ReadFault.TheVariants.{Input, NoMemory}

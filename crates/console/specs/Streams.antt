@@ -1,4 +1,4 @@
--- The three streams of the program, and what an outcome leaves of them (docs/PROFILE.md, "The program").
+-- The three streams of the program, and what an outcome leaves of them (docs/SERVICE.md, "The program").
 use Rattle.std.specs.Prelude.{◌≡◌, ◌||◌, ℕ, ◌≤◌, Bool, true, false, List, length, take, Option, Result, Ok, Err}
 use Rattle.std.specs.Io.KnownBytes.{Appends, Keeps}
 use Rattle.console.specs.declared.failure.Failure.{Failure}

@@ -1,4 +1,4 @@
--- Coordinate reference systems and their axis orders (OGC 06-042, 7.3; docs/PROFILE.md, "Axis order").
+-- Coordinate reference systems and their axis orders (OGC 06-042, 7.3; docs/WMS.md, "Axis order").
 use Rattle.std.specs.Prelude.{◌≡◌, ℕ, Bool, ◌==◌, ◌&&◌, nat_eq, if◌then◌else◌, List, [], ◌∷◌, ℤ, int_lt, Option, None, Some, Result, Ok, Err, codes}
 use Rattle.std.specs.List.{slice_split}
 use Rattle.std.specs.Option.{option_map_or}

@@ -1,4 +1,4 @@
--- What is promised of a service with a journal, whatever happens (docs/PROFILE.md, "Journal").
+-- What is promised of a service with a journal, whatever happens (docs/SERVICE.md, "Journal").
 use Rattle.std.specs.Prelude.{◌≡◌, ◌⊎◌, ℕ, List, [], ◌∷◌, All, Option, IsSome}
 use mathlib.Core.List.{IsPrefix}
 use Rattle.journal.specs.Record.{header}

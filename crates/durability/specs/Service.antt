@@ -1,4 +1,4 @@
--- A service over all its lives: what it has, what happens to it, and what it publishes (docs/PROFILE.md, "Journal").
+-- A service over all its lives: what it has, what happens to it, and what it publishes (docs/SERVICE.md, "Journal").
 use Rattle.std.specs.Prelude.{◌≡◌, ◌⊎◌, ℕ, List, [], ◌∷◌, ◌++◌, Option, IsSome}
 use Rattle.sha2.specs.Sha256.{sha256}
 use Rattle.journal.specs.Record.{journal_of}

@@ -1,4 +1,4 @@
--- The text of the features that were hit (OGC 06-042, 7.4; docs/PROFILE.md, "Feature information").
+-- The text of the features that were hit (OGC 06-042, 7.4; docs/WMS.md, "Feature information").
 use Rattle.std.specs.Prelude.{ℕ, List, [], ◌∷◌, ◌++◌, slice_get, codes}
 use Rattle.std.specs.Fmt.{decimal}
 use Rattle.std.specs.List.{flat_map}

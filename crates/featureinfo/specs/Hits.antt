@@ -1,4 +1,4 @@
--- Which features are seen near a pixel of a picture (OGC 06-042, 7.4; docs/PROFILE.md, "Feature information").
+-- Which features are seen near a pixel of a picture (OGC 06-042, 7.4; docs/WMS.md, "Feature information").
 use Rattle.std.specs.Prelude.{◌≡◌, ◌⊎◌, ℕ, ◌<◌, ◌≤◌, Bool, true, false, pos, List, map, length, All, Some, is_some, slice_get, IfSome}
 use Rattle.std.specs.List.{AllPairs, Contains, list_any}
 use Rattle.geom.specs.Device.{DevicePoint, pixel_centre}

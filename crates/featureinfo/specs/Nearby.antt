@@ -1,4 +1,4 @@
--- The pixels of a picture that are near the asked one (docs/PROFILE.md, "Feature information").
+-- The pixels of a picture that are near the asked one (docs/WMS.md, "Feature information").
 use Rattle.std.specs.Prelude.{◌≡◌, ℕ, ◌+◌, ◌-◌, ◌<◌, ◌≤◌, List, min, Bool, true, ◌&&◌, ◌↔◌, pos, int_le, int_lt, nat_lt}
 use Rattle.std.specs.Int.{abs_diff}
 use Rattle.std.specs.List.{list_any}

@@ -1,5 +1,5 @@
 -- Which features can't lie near the asked pixel: those whose vertices all lie beyond one side of the pixels near it
--- (docs/PROFILE.md, "Feature information").
+-- (docs/WMS.md, "Feature information").
 use Rattle.std.specs.Prelude.{◌≡◌, ◌+◌, ◌*◌, Bool, false, ◌&&◌, not, ℤ, pos, ◌-ℤ◌, int_le, List}
 use Rattle.std.specs.List.{list_any}
 use Rattle.geom.specs.Device.{DevicePoint}

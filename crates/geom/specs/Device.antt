@@ -1,4 +1,4 @@
--- Points and pixels of the picture (docs/PROFILE.md, "From the world to the picture").
+-- Points and pixels of the picture (docs/DRAWING.md, "From the world to the picture").
 use Rattle.std.specs.Prelude.{◌^◌, ℤ, pos, ◌+ℤ◌, ◌*ℤ◌}
 use Rattle.std.specs.Int.{int_div_euclid}
 use Rattle.geom.specs.Range.{IsBelow}

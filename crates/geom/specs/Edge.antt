@@ -1,4 +1,4 @@
--- Edges, and where they cross the height of a point (docs/PROFILE.md, "When a pixel belongs to a polygon").
+-- Edges, and where they cross the height of a point (docs/DRAWING.md, "When a pixel belongs to a polygon").
 use Rattle.std.specs.Prelude.{Bool, not, ◌&&◌, if◌then◌else◌, ℤ, ◌-ℤ◌, ◌*ℤ◌, int_le}
 use Rattle.geom.specs.Device.{DevicePoint, IsDevicePoint}
 

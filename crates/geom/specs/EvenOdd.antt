@@ -1,4 +1,4 @@
--- The even-odd rule over rings (docs/PROFILE.md, "When a pixel belongs to a polygon").
+-- The even-odd rule over rings (docs/DRAWING.md, "When a pixel belongs to a polygon").
 use Rattle.std.specs.Prelude.{ℕ, Bool, ◌==◌, ◌++◌, ◌%◌, List, map, take, drop, count_by}
 use Rattle.std.specs.List.{zip, flat_map}
 use Rattle.geom.specs.Device.{DevicePoint}

@@ -1,4 +1,4 @@
--- Laws of crossings and of the even-odd rule (docs/PROFILE.md, "When a pixel belongs to a polygon").
+-- Laws of crossings and of the even-odd rule (docs/DRAWING.md, "When a pixel belongs to a polygon").
 use Rattle.std.specs.Prelude.{◌≡◌, ◌++◌, Bool, true, not, if◌then◌else◌, ℤ, pos, ◌-ℤ◌, ◌*ℤ◌, ◌<ℤ◌, ◌≤ℤ◌, int_le, List, ◌∷◌, reverse}
 use Rattle.geom.specs.Device.{DevicePoint}
 use Rattle.geom.specs.Edge.{EdgeEnds, crosses_at_or_left, crosses_height}

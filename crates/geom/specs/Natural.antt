@@ -1,4 +1,4 @@
--- Whole numbers of digits, as far as they are read (docs/PROFILE.md, "Queries"; docs/FILES.md, "Lines of a font").
+-- Whole numbers of digits, as far as they are read (docs/WMS.md, "Queries"; docs/FILES.md, "Lines of a font").
 use Rattle.std.specs.Prelude.{ℕ, List, Option, Some, None, if◌then◌else◌, min}
 use Rattle.std.specs.Char.{is_ascii_digit}
 use Rattle.std.specs.List.{list_all}

@@ -1,4 +1,4 @@
--- Boxes of pixels (docs/PROFILE.md, "From the world to the picture").
+-- Boxes of pixels (docs/DRAWING.md, "From the world to the picture").
 use Rattle.std.specs.Prelude.{ℕ, ℤ, pos, ◌≤ℤ◌, ◌<ℤ◌, ◌-ℤ◌, ◌+ℤ◌}
 use Rattle.geom.specs.Range.{IsBelow}
 

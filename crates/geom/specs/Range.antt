@@ -1,4 +1,4 @@
--- Sizes of numbers: of points, pixels and boxes (docs/PROFILE.md, "From the world to the picture"), and within limits (docs/MAPFILE.md, "Numbers").
+-- Sizes of numbers: of points, pixels and boxes (docs/DRAWING.md, "From the world to the picture"), and within limits (docs/MAPFILE.md, "Numbers").
 use Rattle.std.specs.Prelude.{ℕ, ℤ, pos, neg_ℤ, ◌<ℤ◌, ◌≤ℤ◌}
 
 -- the number lies strictly between the limit's opposite and the limit

@@ -1,4 +1,4 @@
--- Scales, and what is visible at them (OGC 06-042, 7.2, the pixel of 0.28 mm; the rest docs/PROFILE.md, "Scale").
+-- Scales, and what is visible at them (OGC 06-042, 7.2, the pixel of 0.28 mm; the rest docs/DRAWING.md, "Scale").
 use Rattle.std.specs.Prelude.{◌≡◌, ℕ, ◌*◌, ◌≤◌, ℤ, pos, ◌*ℤ◌, ◌<ℤ◌, ◌≤ℤ◌, int_le, Bool, true, not, ◌||◌, ◌&&◌, ◌↔◌, IsTrue, Option, None, Some}
 
 -- the scale of a picture: so many millionths of a degree are shown by so many pixels, from left to right

@@ -1,4 +1,4 @@
--- The sides of pictures (docs/PROFILE.md, "Limits").
+-- The sides of pictures (docs/SERVICE.md, "Limits").
 use Rattle.std.specs.Prelude.{ℕ, ◌≤◌, ◌&&◌, nat_le, if◌then◌else◌, Option, None, Some}
 use Rattle.geom.specs.declared.side.TheConstants.{MAX_PICTURE_SIDE}
 

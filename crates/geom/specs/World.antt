@@ -1,4 +1,4 @@
--- Places and boxes of the world (docs/MAPFILE.md, "Numbers" and "Values"; docs/PROFILE.md, "From the world to the picture").
+-- Places and boxes of the world (docs/MAPFILE.md, "Numbers" and "Values"; docs/DRAWING.md, "From the world to the picture").
 use Rattle.std.specs.Prelude.{ℤ, ◌<ℤ◌, ◌≤ℤ◌}
 use Rattle.geom.specs.declared.micro.TheConstants.{COORDINATE_LIMIT}
 use Rattle.geom.specs.Range.{IsWithin}

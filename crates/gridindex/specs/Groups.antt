@@ -1,4 +1,4 @@
--- Groups of boxes that lie near one another (docs/PROFILE.md, "From the world to the picture").
+-- Groups of boxes that lie near one another (docs/DRAWING.md, "From the world to the picture").
 use Rattle.std.specs.Prelude.{ℕ, List, nat_eq, ◌≡◌, ◌≤◌, ◌<◌, ◌/◌, ◌^◌, ◌↔◌, length, Some, slice_index_or}
 use Rattle.std.specs.List.{All, Contains, IsDistinct, slice_get}
 use Rattle.geom.specs.World.{Area, Place, HasPlace}

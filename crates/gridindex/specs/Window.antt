@@ -1,4 +1,4 @@
--- The boxes of a list that meet a window (docs/PROFILE.md, "From the world to the picture").
+-- The boxes of a list that meet a window (docs/DRAWING.md, "From the world to the picture").
 use Rattle.std.specs.Prelude.{ℕ, List, ◌≡◌, ◌↔◌, ◌<◌, Some}
 use Rattle.std.specs.List.{Contains, slice_get}
 use Rattle.std.specs.List.Sorted.{IsStrictlyIncreasing}

@@ -1,4 +1,4 @@
--- The rule of a history: what the shared word has, and what the step that adds a batch tells (docs/PROFILE.md, "Sharing").
+-- The rule of a history: what the shared word has, and what the step that adds a batch tells (docs/SERVICE.md, "Sharing").
 use Rattle.std.specs.Prelude.{ℕ, ◌≡◌, ◌==◌, true, List, [], ◌∷◌, ◌++◌, length, MatchBool}
 use Rattle.logbook.specs.Pages.{Cell, Step, View, Book, Named}
 

@@ -1,4 +1,4 @@
--- What whoever is asked says to a query (docs/PROFILE.md, "HTTP").
+-- What whoever is asked says to a query (docs/WMS.md, "HTTP").
 use Rattle.std.specs.Prelude.{◌≡◌, ℕ, true, List, Result, IfOk}
 use mathlib.Core.List.{IsPrefix}
 use Rattle.batches.specs.Batch.{State, accepted}

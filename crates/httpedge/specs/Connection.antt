@@ -1,4 +1,4 @@
--- How far a connection has come, by the bytes that came since the last forgotten head (docs/PROFILE.md, "HTTP").
+-- How far a connection has come, by the bytes that came since the last forgotten head (docs/WMS.md, "HTTP").
 use Rattle.std.specs.Prelude.{◌≡◌, ℕ, ◌+◌, ◌<◌, ◌≤◌, List, [], ◌∷◌, ◌++◌, length, take, Bool, true, false, not, ◌&&◌, ◌||◌, ◌==◌, Option, None, Some}
 use Rattle.httparse.specs.Spans.{span_bytes}
 use Rattle.httpedge.specs.Head.{HasNoHead}

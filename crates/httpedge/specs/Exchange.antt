@@ -1,4 +1,4 @@
--- What a stream is answered with, on the whole (docs/PROFILE.md, "HTTP").
+-- What a stream is answered with, on the whole (docs/WMS.md, "HTTP").
 use Rattle.std.specs.Prelude.{◌≡◌, ◌⊎◌, ℕ, ◌+◌, ◌≤◌, List, [], ◌∷◌, ◌++◌, length, Result, Ok, Err, Bool, true, false, ◌==◌, All, suc, zero}
 use Rattle.std.specs.List.{flat_map, concat}
 use Rattle.httparse.specs.Grammar.{RequestHead, print_request, IsRequestHead}

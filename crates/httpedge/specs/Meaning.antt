@@ -1,4 +1,4 @@
--- What a stream asks for (docs/PROFILE.md, "HTTP").
+-- What a stream asks for (docs/WMS.md, "HTTP").
 use Rattle.std.specs.Prelude.{ℕ, List, Bool, Option, None, Some, ◌||◌, ◌==◌, if◌then◌else◌, codes}
 use Rattle.std.specs.List.{before_first, after_first}
 use Rattle.std.specs.Str.{bytes_eq}

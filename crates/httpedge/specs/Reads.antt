@@ -1,4 +1,4 @@
--- How far a stream is read (docs/PROFILE.md, "HTTP").
+-- How far a stream is read (docs/WMS.md, "HTTP").
 use Rattle.std.specs.Prelude.{◌⊎◌, ◌<◌, ℕ, zero, suc, List, [], ◌++◌, length, Option, None, Some, ◌==◌}
 use Rattle.std.specs.List.{All, FoldsTo, concat}
 use Rattle.std.specs.Option.{unwrap_or}

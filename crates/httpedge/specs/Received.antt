@@ -1,4 +1,4 @@
--- What is kept of the bytes that came (RFC 9112; docs/PROFILE.md, "HTTP").
+-- What is kept of the bytes that came (RFC 9112; docs/WMS.md, "HTTP").
 use Rattle.std.specs.Prelude.{◌≡◌, ◌≤◌, ◌<◌, ◌*◌, ℕ, length, Bool, true, false, ◌==◌, ◌||◌, None}
 use Rattle.std.specs.Prelude.{vec_capacity}
 use Rattle.std.specs.List.{list_all}

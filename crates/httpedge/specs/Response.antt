@@ -1,4 +1,4 @@
--- The bytes of responses (RFC 9112; docs/PROFILE.md, "HTTP").
+-- The bytes of responses (RFC 9112; docs/WMS.md, "HTTP").
 use Rattle.std.specs.Prelude.{ℕ, List, ◌++◌, length, codes, Bool, true, false}
 use Rattle.std.specs.Fmt.{decimal}
 use Rattle.mapmachine.specs.declared.reply.Answer.{Answer}

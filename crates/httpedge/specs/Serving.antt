@@ -1,4 +1,4 @@
--- How far a connection was served, on the way through its stream (docs/PROFILE.md, "HTTP").
+-- How far a connection was served, on the way through its stream (docs/WMS.md, "HTTP").
 use Rattle.std.specs.Prelude.{ℕ, ◌-◌, ◌*◌, ◌<◌, List, [], ◌++◌, length, Bool, true, false}
 use Rattle.httpedge.specs.Connection.{Progress, Open, Decided, Course, LeavesOpen}
 use Rattle.httpedge.specs.Exchange.{Said, IsExchange, IsBegun}

@@ -1,4 +1,4 @@
--- What a session has sent of what answers the bytes that it was fed (docs/PROFILE.md, "HTTP").
+-- What a session has sent of what answers the bytes that it was fed (docs/WMS.md, "HTTP").
 use Rattle.std.specs.Prelude.{◌≡◌, ◌⊎◌, ℕ, List, [], ◌∷◌, ◌++◌, length, Bool, true, false, not, ◌&&◌, ◌==◌}
 use Rattle.httpedge.specs.Connection.{Course, Open}
 use Rattle.httpedge.specs.Exchange.{Said, IsExchange}

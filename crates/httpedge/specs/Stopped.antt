@@ -1,4 +1,4 @@
--- What went out of an exchange, also where it was given up (docs/PROFILE.md, "HTTP").
+-- What went out of an exchange, also where it was given up (docs/WMS.md, "HTTP").
 use Rattle.std.specs.Prelude.{◌≡◌, ℕ, List, length, Option, Bool, true, false}
 use Rattle.streams.specs.Sent.{IsSent, IsCut}
 use Rattle.httpedge.specs.Connection.{LeavesOpen}

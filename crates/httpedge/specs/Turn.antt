@@ -1,4 +1,4 @@
--- What the rest of a stream asks for first, and what follows it (docs/PROFILE.md, "HTTP").
+-- What the rest of a stream asks for first, and what follows it (docs/WMS.md, "HTTP").
 use Rattle.std.specs.Prelude.{◌≡◌, ◌⊎◌, ℕ, List, [], ◌∷◌, ◌++◌, Bool, true, false, ◌||◌, if◌then◌else◌}
 use Rattle.httparse.specs.Grammar.{RequestHead}
 use Rattle.httpedge.specs.Fields.{announces_body, closes}

@@ -1,4 +1,4 @@
--- What a verdict on some bytes says of the stream that they begin (RFC 9112; docs/PROFILE.md, "HTTP").
+-- What a verdict on some bytes says of the stream that they begin (RFC 9112; docs/WMS.md, "HTTP").
 use Rattle.std.specs.Prelude.{◌≡◌, ◌<◌, ◌≤◌, ℕ, List, [], length, take, Bool, ◌||◌, Option, None, Some}
 use Rattle.httparse.specs.Grammar.{RequestHead}
 use Rattle.httparse.specs.Spans.{span_bytes, IsWithin}

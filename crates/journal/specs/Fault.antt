@@ -1,4 +1,4 @@
--- Why a file isn't read as the journal of a map (docs/PROFILE.md, "Journal").
+-- Why a file isn't read as the journal of a map (docs/SERVICE.md, "Journal").
 use Rattle.std.specs.Prelude.{◌≡◌, ℕ, List, ◌++◌, length, map, Vec}
 use Rattle.std.specs.declared.alloc.Global.{Global}
 use Rattle.sha2.specs.Sha256.{sha256}

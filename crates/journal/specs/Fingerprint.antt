@@ -1,4 +1,4 @@
--- The fingerprint of a map: the digest of its mapfile and of the files that this uses (docs/PROFILE.md, "Journal").
+-- The fingerprint of a map: the digest of its mapfile and of the files that this uses (docs/SERVICE.md, "Journal").
 use Rattle.std.specs.Prelude.{ℕ, List, [], ◌∷◌, ◌++◌, length, Option, None, Some, option_map}
 use Rattle.sha2.specs.Sha256.{sha256}
 use Rattle.journal.specs.Record.{sequence_bytes}

@@ -1,4 +1,4 @@
--- What is promised of the format, for each digest of 32 bytes (docs/PROFILE.md, "Journal").
+-- What is promised of the format, for each digest of 32 bytes (docs/SERVICE.md, "Journal").
 use Rattle.std.specs.Prelude.{◌≡◌, ◌≢◌, ℕ, ◌+◌, List, [], ◌∷◌, ◌++◌, length}
 use Rattle.journal.specs.Record.{header, sequence_bytes, record_of, records, journal_of}
 use Rattle.journal.specs.Reading.{ContainsRecord, Reads, IsTorn}

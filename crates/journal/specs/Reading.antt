@@ -1,4 +1,4 @@
--- What is read of a file, whatever became of its end (docs/PROFILE.md, "Journal").
+-- What is read of a file, whatever became of its end (docs/SERVICE.md, "Journal").
 use Rattle.std.specs.Prelude.{◌≡◌, ◌⊎◌, ℕ, ◌+◌, List, [], ◌∷◌, ◌++◌, length}
 use Rattle.sha2.specs.Sha256.{sha256}
 use Rattle.journal.specs.Record.{sequence_bytes, record_of, journal_of}

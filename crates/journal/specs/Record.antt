@@ -1,4 +1,4 @@
--- The format of a journal: a header that names the map, and a record of each batch (docs/PROFILE.md, "Journal").
+-- The format of a journal: a header that names the map, and a record of each batch (docs/SERVICE.md, "Journal").
 use Rattle.std.specs.Prelude.{ℕ, ◌+◌, List, [], ◌∷◌, ◌++◌, codes}
 use Rattle.std.specs.Int.{w64, to_be_bytes}
 use Rattle.journal.specs.Slip.{frame}

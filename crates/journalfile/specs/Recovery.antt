@@ -1,4 +1,4 @@
--- What it means that a journal is opened (docs/PROFILE.md, "Journal").
+-- What it means that a journal is opened (docs/SERVICE.md, "Journal").
 use Rattle.std.specs.Prelude.{◌≡◌, ℕ, ◌+◌, List, ◌++◌, Some, None, length}
 use Rattle.sha2.specs.Sha256.{sha256}
 use Rattle.batches.specs.Batch.{State, accepted}

@@ -1,4 +1,4 @@
--- A journal whose log keeps all of it (docs/PROFILE.md, "Journal").
+-- A journal whose log keeps all of it (docs/SERVICE.md, "Journal").
 use Rattle.std.specs.Prelude.{◌≡◌, ℕ, List, length}
 use Rattle.sha2.specs.Sha256.{sha256}
 use Rattle.journal.specs.Record.{journal_of}

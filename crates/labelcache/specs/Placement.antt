@@ -1,4 +1,4 @@
--- Which labels are placed, and where (docs/PROFILE.md, "Labels").
+-- Which labels are placed, and where (docs/DRAWING.md, "Labels").
 use Rattle.std.specs.Prelude.{◌≡◌, ℕ, ℤ, ◌<◌, ◌≤◌, false, List, Some, slice_get, All}
 use Rattle.std.specs.List.{AllPairs}
 use Rattle.geom.specs.Device.{PixelPlace}

@@ -1,4 +1,4 @@
--- Layers of which the changes of a batch are collected (docs/PROFILE.md, "Batches").
+-- Layers of which the changes of a batch are collected (docs/SERVICE.md, "Batches").
 use Rattle.std.specs.Prelude.{List, [], ◌∷◌}
 use Rattle.mapdefs.specs.Change.{extended}
 use Rattle.mapdefs.specs.declared.feature.FeatureFields.{FeatureFields}

@@ -1,4 +1,4 @@
--- The sizes of fonts (Glyph Bitmap Distribution Format 2.1; docs/PROFILE.md, "Limits").
+-- The sizes of fonts (Glyph Bitmap Distribution Format 2.1; docs/SERVICE.md, "Limits").
 use Rattle.std.specs.Prelude.{◌≡◌, ◌*◌, ◌<◌, ◌≤◌, List, length, All}
 use Rattle.std.specs.List.{AllPairs}
 use Rattle.geom.specs.Range.{IsWithin}

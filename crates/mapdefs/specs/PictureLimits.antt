@@ -1,4 +1,4 @@
--- The sides of pictures and of pixmaps (docs/PROFILE.md, "Limits").
+-- The sides of pictures and of pixmaps (docs/SERVICE.md, "Limits").
 use Rattle.std.specs.Prelude.{◌≡◌, ◌*◌, ◌≤◌, length}
 use Rattle.mapdefs.specs.declared.picture.PictureFields.{PictureFields}
 use Rattle.mapdefs.specs.declared.symbol.PixmapFields.{PixmapFields}

@@ -1,4 +1,4 @@
--- The bytes of a pixel, which has a colour or nothing (Netpbm, PPM and PAM; docs/PROFILE.md, "Pictures").
+-- The bytes of a pixel, which has a colour or nothing (Netpbm, PPM and PAM; docs/WMS.md, "Pictures").
 use Rattle.std.specs.Prelude.{ℕ, List, [], ◌∷◌, Option, None, Some}
 use Rattle.mapdefs.specs.declared.colour.Rgb.{Rgb}
 

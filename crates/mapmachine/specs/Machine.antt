@@ -1,4 +1,4 @@
--- The map machine: what it answers to a query, what a batch does to it, and its runs (docs/PROFILE.md, "The machine").
+-- The map machine: what it answers to a query, what a batch does to it, and its runs (docs/SERVICE.md, "The machine").
 use Rattle.std.specs.Prelude.{◌≡◌, ℕ, ◌+◌, ◌-ℤ◌, unsigned_abs, List, [], ◌∷◌, Result, Ok, Err}
 use Rattle.std.specs.List.{AllZip}
 use Rattle.geom.specs.Scale.{PictureScale}

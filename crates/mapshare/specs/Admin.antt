@@ -1,4 +1,4 @@
--- What an administrator does (docs/PROFILE.md, "Sharing").
+-- What an administrator does (docs/SERVICE.md, "Sharing").
 use Rattle.std.specs.Prelude.{◌≡◌, ℕ, List, [], ◌∷◌, ◌++◌, Some, IsSome, Err}
 use Rattle.batches.specs.Batch.{State, batched, accepted}
 use Rattle.batches.specs.declared.fault.BatchError.{BatchError}

@@ -1,4 +1,4 @@
--- What is kept of the batches that are submitted (docs/PROFILE.md, "Journal").
+-- What is kept of the batches that are submitted (docs/SERVICE.md, "Journal").
 use Rattle.std.specs.Prelude.{◌≡◌, ℕ, List, [], ◌∷◌, ◌++◌}
 use Rattle.batches.specs.Batch.{State}
 use Rattle.mapshare.specs.Admin.{Batches, IsAccepted, IsRefused, with_batch}

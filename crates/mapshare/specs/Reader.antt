@@ -1,4 +1,4 @@
--- What is known of a reader (docs/PROFILE.md, "Sharing").
+-- What is known of a reader (docs/SERVICE.md, "Sharing").
 use Rattle.std.specs.Prelude.{ℕ, Bool, true, false, List, []}
 
 -- the batches that a reader knows to be published, those that its last entry showed, and whether its part of the map is

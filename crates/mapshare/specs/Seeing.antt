@@ -1,4 +1,4 @@
--- What readers have seen, and the rule that joins it with what is published (docs/PROFILE.md, "Sharing").
+-- What readers have seen, and the rule that joins it with what is published (docs/SERVICE.md, "Sharing").
 use Rattle.std.specs.Prelude.{◌≡◌, ℕ, List, []}
 use mathlib.Core.List.{IsPrefix}
 use mathlib.Core.Option.{some}

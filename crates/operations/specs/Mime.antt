@@ -1,4 +1,4 @@
--- The mime types of answers (docs/PROFILE.md, "Pictures", "Exceptions", "Capabilities" and "Feature information").
+-- The mime types of answers (docs/WMS.md, "Pictures", "Exceptions", "Capabilities" and "Feature information").
 use Rattle.std.specs.Prelude.{ℕ, List, codes}
 use Rattle.operations.specs.declared.mime.Mime.{Mime}
 use Rattle.operations.specs.declared.mime.Mime.TheVariants.{Pixmap, ArbitraryMap, Xml, Plain}

@@ -1,4 +1,4 @@
--- What the program does for its arguments on a host (docs/PROFILE.md, "The program").
+-- What the program does for its arguments on a host (docs/SERVICE.md, "The program").
 use Rattle.std.specs.Prelude.{◌≡◌, ◌⊎◌, false, ℕ, List, None, Result, Ok, Err, codes}
 use Rattle.std.specs.Io.KnownBytes.{Keeps}
 use Rattle.clap.specs.Words.{subcommand_of, takes}

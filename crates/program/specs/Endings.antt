@@ -1,4 +1,4 @@
--- How the program ends (docs/PROFILE.md, "The program").
+-- How the program ends (docs/SERVICE.md, "The program").
 use Rattle.std.specs.Prelude.{Option}
 use Rattle.journalfile.specs.declared.writing.Journal.{Journal}
 use Rattle.service.specs.Serving.{ServedValue}

@@ -1,4 +1,4 @@
--- What is said of an end that no other line explains (docs/PROFILE.md, "The program").
+-- What is said of an end that no other line explains (docs/SERVICE.md, "The program").
 use Rattle.std.specs.Prelude.{◌≡◌, ℕ, Bool, true, false, List, ◌++◌, Option, None, Some, Ok, Err, codes}
 use Rattle.std.specs.Fmt.{decimal}
 use Rattle.commandline.specs.declared.subcommand.Command.{Command}

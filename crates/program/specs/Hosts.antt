@@ -1,4 +1,4 @@
--- What a host gives to the program: its files (docs/PROFILE.md, "The program").
+-- What a host gives to the program: its files (docs/SERVICE.md, "The program").
 use Rattle.std.specs.Prelude.{◌≡◌, ℕ, List, Option, None, Some, IfSome, ⊤}
 use Rattle.std.specs.declared.io.ErrorKind.{ErrorKind}
 use Rattle.std.specs.declared.io.ErrorKind.TheVariants.{NotFound, PermissionDenied}

@@ -1,4 +1,4 @@
--- The journal of a map that is served (docs/PROFILE.md, "Journal").
+-- The journal of a map that is served (docs/SERVICE.md, "Journal").
 use Rattle.std.specs.Prelude.{◌≡◌, ◌⊎◌, ℕ, List, [], ◌++◌, Option, None, Some, Err, codes}
 use Rattle.std.specs.List.{flat_map}
 use Rattle.std.specs.Fmt.{decimal}

@@ -1,4 +1,4 @@
--- What the program does for a command on a host (docs/PROFILE.md, "The program").
+-- What the program does for a command on a host (docs/SERVICE.md, "The program").
 use Rattle.std.specs.Prelude.{◌≡◌, ◌⊎◌, ◌*◌, ℕ, Bool, List, [], Option, None, Some, option_map, Err}
 use Rattle.std.specs.Duration.{as_nanos}
 use Rattle.std.specs.Io.KnownBytes.{Keeps}

@@ -1,4 +1,4 @@
--- The column in which an edge crosses a row (docs/PROFILE.md, "When a pixel belongs to a polygon").
+-- The column in which an edge crosses a row (docs/DRAWING.md, "When a pixel belongs to a polygon").
 use Rattle.std.specs.Prelude.{◌≡◌, ℕ, ◌≤◌, ◌<◌, true, ℤ, pos, neg_ℤ, ◌-ℤ◌, ◌*ℤ◌, int_le}
 use Rattle.std.specs.Int.{int_div_euclid}
 use Rattle.geom.specs.Device.{centre, pixel_centre}

@@ -1,4 +1,4 @@
--- The edges of a polygon as a sweep knows them (docs/PROFILE.md, "When a pixel belongs to a polygon").
+-- The edges of a polygon as a sweep knows them (docs/DRAWING.md, "When a pixel belongs to a polygon").
 use Rattle.std.specs.Prelude.{◌≡◌, ℕ, ◌+◌, ◌≤◌, ◌<◌, ◌^◌, Bool, ◌&&◌, pos, int_le, List, length, slice_index_or, count_by}
 use Rattle.clip.specs.Class.{has_row}
 use Rattle.scanfill.specs.Column.{column_of}

@@ -1,4 +1,4 @@
--- The columns of a row at which its pixels go in or out (docs/PROFILE.md, "When a pixel belongs to a polygon").
+-- The columns of a row at which its pixels go in or out (docs/DRAWING.md, "When a pixel belongs to a polygon").
 use Rattle.std.specs.Prelude.{◌≡◌, ℕ, ◌+◌, ◌≤◌, ◌<◌, Bool, false, not, if◌then◌else◌, ℤ, pos, int_le, List, length, take, slice_index_or, count_by}
 use Rattle.geom.specs.EvenOdd.{is_odd}
 use Rattle.geom.specs.declared.side.TheConstants.{MAX_PICTURE_SIDE}

@@ -1,4 +1,4 @@
--- The pixels of rings by clipped edges and their columns (docs/PROFILE.md, "When a pixel belongs to a polygon").
+-- The pixels of rings by clipped edges and their columns (docs/DRAWING.md, "When a pixel belongs to a polygon").
 use Rattle.std.specs.Prelude.{◌≡◌, ℕ, ◌+◌, ◌<◌, Bool, false, ◌&&◌, pos, int_le, List, count_by}
 use Rattle.geom.specs.Device.{DevicePoint, pixel_centre}
 use Rattle.geom.specs.Edge.{EdgeEnds}

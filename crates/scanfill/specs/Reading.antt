@@ -1,4 +1,4 @@
--- How a row is read from left to right (docs/PROFILE.md, "When a pixel belongs to a polygon").
+-- How a row is read from left to right (docs/DRAWING.md, "When a pixel belongs to a polygon").
 use Rattle.std.specs.Prelude.{◌≡◌, ℕ, ◌≤◌, ◌<◌, Bool, true, List, ◌++◌}
 use Rattle.scanfill.specs.Runs.{AreRunsFrom}
 use Rattle.scanfill.specs.declared.reading.Reading.{Reading}

@@ -1,4 +1,4 @@
--- The pixels at which the rows of a picture go in or out, in one list for all rows (docs/PROFILE.md, "When a pixel belongs to a polygon").
+-- The pixels at which the rows of a picture go in or out, in one list for all rows (docs/DRAWING.md, "When a pixel belongs to a polygon").
 use Rattle.std.specs.Prelude.{ℕ, ◌+◌, ◌*◌, ◌/◌, ◌%◌, ◌≤◌, ◌<◌, Bool, ◌&&◌, ◌==◌, nat_le, nat_lt, List, All, length, slice_index_or, count_by}
 use Rattle.geom.specs.EvenOdd.{is_odd}
 use Rattle.scanfill.specs.declared.row_spans.RowSpan.{RowSpan}

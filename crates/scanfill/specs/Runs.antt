@@ -1,4 +1,4 @@
--- The runs of a row (docs/PROFILE.md, "When a pixel belongs to a polygon").
+-- The runs of a row (docs/DRAWING.md, "When a pixel belongs to a polygon").
 use Rattle.std.specs.Prelude.{◌≡◌, ℕ, ◌≤◌, ◌<◌, Bool, true, false, ◌&&◌, nat_le, nat_lt, List, [], ◌∷◌}
 use Rattle.std.specs.List.{list_any}
 use Rattle.scanfill.specs.declared.span.Span.{Span}

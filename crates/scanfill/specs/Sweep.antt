@@ -1,4 +1,4 @@
--- A sweep over the rows of a polygon, from the top (docs/PROFILE.md, "When a pixel belongs to a polygon").
+-- A sweep over the rows of a polygon, from the top (docs/DRAWING.md, "When a pixel belongs to a polygon").
 use Rattle.std.specs.Prelude.{◌≡◌, ℕ, ◌≤◌, ◌<◌, Bool, true, false, pos, List, replicate, count_by}
 use Rattle.geom.specs.Device.{pixel_centre}
 use Rattle.geom.specs.Edge.{EdgeEnds, crosses_at_or_left}

@@ -1,4 +1,4 @@
--- How an edge is walked down, row by row, without a division (docs/PROFILE.md, "When a pixel belongs to a polygon").
+-- How an edge is walked down, row by row, without a division (docs/DRAWING.md, "When a pixel belongs to a polygon").
 use Rattle.std.specs.Prelude.{◌≡◌, ℕ, ◌≤◌, ◌<◌, ◌^◌, if◌then◌else◌, ℤ, pos, ◌+ℤ◌, ◌-ℤ◌, ◌*ℤ◌, int_lt}
 use Rattle.std.specs.Int.{int_div_euclid}
 use Rattle.geom.specs.Edge.{EdgeEnds, IsDeviceEdge, rise, run}

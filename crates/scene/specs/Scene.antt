@@ -1,4 +1,4 @@
--- What is looked at (docs/PROFILE.md, "How features are painted").
+-- What is looked at (docs/DRAWING.md, "How features are painted").
 use Rattle.geom.specs.Scale.{PictureScale}
 use Rattle.mapdefs.specs.declared.map.MapFields.{MapFields}
 use Rattle.viewport.specs.View.{ViewValue}

@@ -1,4 +1,4 @@
--- Lines of hexadecimal digits, and the bytes that they stand for (docs/PROFILE.md, "Sessions").
+-- Lines of hexadecimal digits, and the bytes that they stand for (docs/SERVICE.md, "Sessions").
 use Rattle.std.specs.Prelude.{◌≡◌, ◌≤◌, ◌<◌, ◌+◌, ◌-◌, ◌*◌, ◌&&◌, nat_le, ℕ, if◌then◌else◌, List, [], ◌∷◌, ◌++◌, length, Option, None, Some, codes}
 use Rattle.std.specs.List.{All, concat, flat_map}
 use Rattle.operations.specs.declared.mime.Mime.TheVariants.{Pixmap, ArbitraryMap}

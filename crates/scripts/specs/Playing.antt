@@ -1,4 +1,4 @@
--- What playing a script writes (docs/PROFILE.md, "Sessions").
+-- What playing a script writes (docs/SERVICE.md, "Sessions").
 use Rattle.std.specs.Prelude.{◌≡◌, ℕ, ◌<◌, ◌≤◌, List, [], ◌∷◌, ◌++◌, length, take, Option, Result, Ok, Err}
 use Rattle.std.specs.Io.KnownBytes.{Appends}
 use Rattle.batches.specs.Batch.{State}

@@ -1,4 +1,4 @@
--- Scripts (docs/PROFILE.md, "Sessions").
+-- Scripts (docs/SERVICE.md, "Sessions").
 use Rattle.std.specs.Prelude.{ℕ, zero, suc, ◌+◌, Bool, nat_eq, nat_lt, if◌then◌else◌, List, [], ◌∷◌, length, drop, take, Option, None, Some, Result, Ok, Err, codes}
 use Rattle.std.specs.List.{before_first, after_first, position_or_len, starts_with}
 use Rattle.batches.specs.Command.{count_of, is_line_end}

@@ -1,4 +1,4 @@
--- What went out of the reply to an event (docs/PROFILE.md, "Sessions").
+-- What went out of the reply to an event (docs/SERVICE.md, "Sessions").
 use Rattle.std.specs.Prelude.{ℕ, List, Option}
 use Rattle.streams.specs.Sent.{IsSent, IsCutSomewhere}
 use Rattle.batches.specs.Batch.{State}

@@ -1,4 +1,4 @@
--- Replies, and the fault of a script, as they are written (docs/PROFILE.md, "Sessions").
+-- Replies, and the fault of a script, as they are written (docs/SERVICE.md, "Sessions").
 use Rattle.std.specs.Prelude.{ℕ, zero, suc, List, [], ◌∷◌, ◌++◌, length, take, drop, codes}
 use Rattle.std.specs.List.{flat_map}
 use Rattle.std.specs.Fmt.{decimal}

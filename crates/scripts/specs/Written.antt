@@ -1,4 +1,4 @@
--- Scripts as they are written from events (docs/PROFILE.md, "Sessions").
+-- Scripts as they are written from events (docs/SERVICE.md, "Sessions").
 use Rattle.std.specs.Prelude.{◌≡◌, ℕ, ◌<◌, ◌^◌, List, ◌++◌, length, false, Ok, codes}
 use Rattle.std.specs.Fmt.{decimal}
 use Rattle.std.specs.List.{All, flat_map, list_any}

@@ -1,4 +1,4 @@
--- One connection of an administrator (docs/PROFILE.md, "Administration").
+-- One connection of an administrator (docs/SERVICE.md, "Administration").
 use Rattle.std.specs.Prelude.{◌≡◌, ℕ, ◌-◌, Bool, true, false, List, Option, None, Some, Result, Ok, Err}
 use Rattle.administration.specs.Commands.{Command}
 use Rattle.administration.specs.Keeping.{IsFailed}

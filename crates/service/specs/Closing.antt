@@ -1,4 +1,4 @@
--- How a connection is closed (docs/PROFILE.md, "HTTP").
+-- How a connection is closed (docs/WMS.md, "HTTP").
 use Rattle.std.specs.Prelude.{◌≡◌, ◌⊎◌, ℕ, ◌≤◌, Bool, true, List, length, Option}
 use Rattle.std.specs.Io.KnownBytes.{Consumes, IsAtEnd}
 

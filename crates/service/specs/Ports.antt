@@ -1,4 +1,4 @@
--- The connections that come at a port, one after the other (docs/PROFILE.md, "The program").
+-- The connections that come at a port, one after the other (docs/SERVICE.md, "The program").
 use Rattle.std.specs.Prelude.{◌≡◌, ◌≢◌, ◌⊎◌, ℕ, zero, suc, ◌-◌, ◌<◌, Bool, true, List, [], ◌∷◌, ◌++◌, replicate, Option, None, Some, option_map, ⊤}
 
 -- what happens at a port: a call for a connection fails, or one is opened

@@ -1,4 +1,4 @@
--- How a service begins and ends (docs/PROFILE.md, "The program").
+-- How a service begins and ends (docs/SERVICE.md, "The program").
 use Rattle.std.specs.Prelude.{◌≡◌, ◌⊎◌, ◌++◌, ℕ, Bool, true, false, List, Option, IfSome, Ok, Err, MatchResult, codes}
 use Rattle.batches.specs.Batch.{State}
 use Rattle.commandline.specs.declared.subcommand.Service.{Service}

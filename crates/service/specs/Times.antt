@@ -1,4 +1,4 @@
--- How long a connection may take (docs/PROFILE.md, "HTTP").
+-- How long a connection may take (docs/WMS.md, "HTTP").
 use Rattle.std.specs.Prelude.{◌≡◌, ℕ, ◌+◌, ◌-◌, ◌*◌, ◌<◌, ◌≤◌, Option, None, Some}
 use Rattle.commandline.specs.declared.subcommand.Service.{Service}
 use Rattle.turns.specs.declared.times.Timeouts.{Timeouts}

@@ -1,4 +1,4 @@
--- What happens to a sharing, and what it shows and tells its readers (docs/PROFILE.md, "Sharing").
+-- What happens to a sharing, and what it shows and tells its readers (docs/SERVICE.md, "Sharing").
 use Rattle.std.specs.Prelude.{ℕ, ◌==◌, if◌then◌else◌, List, [], ◌∷◌, ◌++◌, Option, None, Some, slice_get}
 use Rattle.sharing.specs.Sharing.{Reader, Sharing, after, longer}
 

@@ -1,4 +1,4 @@
--- What is promised, whatever happens (docs/PROFILE.md, "Sharing").
+-- What is promised, whatever happens (docs/SERVICE.md, "Sharing").
 use Rattle.std.specs.Prelude.{◌≡◌, ℕ, List, ◌∷◌, ◌++◌, length, All, Option, Some, IfSome, IsSome}
 use mathlib.Core.List.{IsPrefix}
 use Rattle.sharing.specs.Sharing.{Sharing, after, opened}

@@ -1,4 +1,4 @@
--- What is replied to events (docs/PROFILE.md, "Sharing").
+-- What is replied to events (docs/SERVICE.md, "Sharing").
 use Rattle.std.specs.Prelude.{◌≡◌, List, [], ◌∷◌, Option, None, Some, IsSomeAnd}
 use Rattle.sharing.specs.Sharing.{Sharing, after}
 use Rattle.sharing.specs.Event.Event.{Answer}

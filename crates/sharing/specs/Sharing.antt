@@ -1,4 +1,4 @@
--- What is shared: the batches that are published and pending, receipts, and what each reader knows (docs/PROFILE.md, "Sharing").
+-- What is shared: the batches that are published and pending, receipts, and what each reader knows (docs/SERVICE.md, "Sharing").
 use Rattle.std.specs.Prelude.{ℕ, nat_lt, if◌then◌else◌, List, [], ◌∷◌, length, Option, None, Some, option_and_then}
 
 -- what a reader knows to be published, and the batches that its entry shows, if it has one

@@ -1,4 +1,4 @@
--- The columns of a row that a line covers (docs/PROFILE.md, "When a pixel belongs to a line").
+-- The columns of a row that a line covers (docs/DRAWING.md, "When a pixel belongs to a line").
 use Rattle.std.specs.Prelude.{◌≡◌, ℕ, ◌<◌, Bool, ◌||◌, false, ℤ, pos, ◌+ℤ◌, ◌*ℤ◌, int_le, List, length, slice_index_or}
 use Rattle.scanfill.specs.Runs.{has_column}
 use Rattle.scanfill.specs.declared.span.Span.{Span}

@@ -1,4 +1,4 @@
--- What follows from the rules of segments (docs/PROFILE.md, "When a pixel belongs to a line").
+-- What follows from the rules of segments (docs/DRAWING.md, "When a pixel belongs to a line").
 use Rattle.std.specs.Prelude.{◌≡◌, ℕ, ◌<◌, ◌≤◌, ◌⊎◌, Bool, false, ◌&&◌, ℤ, pos, ◌+ℤ◌, ◌-ℤ◌, ◌≤ℤ◌, int_le, int_lt}
 use Rattle.std.specs.Int.RustNames.{unsigned_abs}
 use Rattle.geom.specs.Device.{DevicePoint, centre, pixel_centre}

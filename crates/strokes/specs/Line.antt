@@ -1,4 +1,4 @@
--- The pixels of a line of a width (docs/PROFILE.md, "When a pixel belongs to a line").
+-- The pixels of a line of a width (docs/DRAWING.md, "When a pixel belongs to a line").
 use Rattle.std.specs.Prelude.{ℕ, Bool, ◌||◌, if◌then◌else◌, ℤ, List, map, drop}
 use Rattle.std.specs.List.{flat_map, list_any, zip}
 use Rattle.geom.specs.Device.{DevicePoint, pixel_centre, pixel_of}

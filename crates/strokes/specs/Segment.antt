@@ -1,4 +1,4 @@
--- The pixels of a segment of a line (docs/PROFILE.md, "When a pixel belongs to a line").
+-- The pixels of a segment of a line (docs/DRAWING.md, "When a pixel belongs to a line").
 use Rattle.std.specs.Prelude.{ℕ, ◌≤◌, ◌*◌, Bool, ◌&&◌, ◌||◌, if◌then◌else◌, nat_lt, ℤ, pos, neg_ℤ, ◌+ℤ◌, ◌-ℤ◌, ◌*ℤ◌, int_le, int_lt}
 use Rattle.std.specs.Int.RustNames.{unsigned_abs}
 use Rattle.geom.specs.Device.{DevicePoint}

@@ -1,4 +1,4 @@
--- Short segments of a line, which its squares cover (docs/PROFILE.md, "When a pixel belongs to a line").
+-- Short segments of a line, which its squares cover (docs/DRAWING.md, "When a pixel belongs to a line").
 use Rattle.std.specs.Prelude.{◌≡◌, ℕ, ◌%◌, ◌<◌, Bool, true, not, ◌&&◌, ◌||◌, ℤ, pos, ◌+ℤ◌, ◌-ℤ◌, int_le, List, filter}
 use Rattle.geom.specs.Device.{DevicePoint, PixelPlace, pixel_centre, pixel_of}
 use Rattle.strokes.specs.Line.{LineValue, covers_pixel, line_of, square_at}

@@ -1,4 +1,4 @@
--- The square of a size round a pixel (docs/PROFILE.md, "When a pixel belongs to a line").
+-- The square of a size round a pixel (docs/DRAWING.md, "When a pixel belongs to a line").
 use Rattle.std.specs.Prelude.{ℕ, ◌≤◌, ◌-◌, ◌/◌, Bool, ◌&&◌, ℤ, pos, ◌+ℤ◌, ◌-ℤ◌, int_le}
 use Rattle.geom.specs.Device.{PixelPlace}
 use Rattle.mapdefs.specs.declared.limits.TheConstants.{MAX_SQUARE}

@@ -1,4 +1,4 @@
--- Segments that are walked row by row, or turned ones column by column (docs/PROFILE.md, "When a pixel belongs to a line").
+-- Segments that are walked row by row, or turned ones column by column (docs/DRAWING.md, "When a pixel belongs to a line").
 use Rattle.std.specs.Prelude.{◌≡◌, ℕ, ◌*◌, ◌^◌, ◌≤◌, Bool, ◌&&◌, nat_lt, ℤ, pos, neg_ℤ, ◌+ℤ◌, ◌-ℤ◌, ◌*ℤ◌, ◌<ℤ◌, ◌≤ℤ◌}
 use Rattle.std.specs.Int.RustNames.{unsigned_abs}
 use Rattle.geom.specs.Device.{DevicePoint, pixel_centre}

@@ -1,4 +1,4 @@
--- The files of a mapfile, and the folder that they are in (docs/PROFILE.md, "The program").
+-- The files of a mapfile, and the folder that they are in (docs/SERVICE.md, "The program").
 use Rattle.std.specs.Prelude.{◌≡◌, ◌≢◌, ◌==◌, ◌⊎◌, if◌then◌else◌, ℕ, List, [], ◌∷◌, ◌++◌, All, Option, None, Some, Result, Ok, codes}
 use Rattle.mapdefs.specs.declared.map.MapFields.{MapFields}
 use Rattle.mapwords.specs.declared.fault.Fault.{Fault}

@@ -1,4 +1,4 @@
--- Whole lines (docs/PROFILE.md, "Sessions").
+-- Whole lines (docs/SERVICE.md, "Sessions").
 use Rattle.std.specs.Prelude.{◌≡◌, ℕ, List, [], ◌++◌, ◌⊎◌, codes}
 
 -- some bytes are whole lines: there are none, or the last is an LF

@@ -1,4 +1,4 @@
--- The parts of a session (docs/PROFILE.md, "Sessions").
+-- The parts of a session (docs/SERVICE.md, "Sessions").
 use Rattle.std.specs.Prelude.{◌≡◌, ℕ, ◌≤◌, List, [], ◌++◌, length, ◌⊎◌, codes}
 use Rattle.subcommands.specs.Lines.{AreLines}
 

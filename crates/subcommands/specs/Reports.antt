@@ -1,4 +1,4 @@
--- Faults as they are reported (docs/PROFILE.md, "The program" and "Sessions").
+-- Faults as they are reported (docs/SERVICE.md, "The program" and "Sessions").
 use Rattle.std.specs.Prelude.{ℕ, Bool, true, false, List, ◌++◌, codes}
 use Rattle.std.specs.Fmt.{decimal}
 use Rattle.subcommands.specs.declared.unread.UnreadCause.{UnreadCause}

@@ -1,4 +1,4 @@
--- A session, from the bytes of the input to what its writers get (docs/PROFILE.md, "Sessions").
+-- A session, from the bytes of the input to what its writers get (docs/SERVICE.md, "Sessions").
 use Rattle.std.specs.Prelude.{ℕ, List, Option, Ok, Err, ◌⊎◌}
 use Rattle.std.specs.Io.KnownBytes.{Keeps, Consumes, IsAtEnd}
 use Rattle.console.specs.Streams.{Outcome, Streams, WriterState, IsReported}

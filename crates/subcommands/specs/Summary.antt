@@ -1,4 +1,4 @@
--- What is said of a map that has no fault (docs/PROFILE.md, "The program").
+-- What is said of a map that has no fault (docs/SERVICE.md, "The program").
 use Rattle.std.specs.Prelude.{ℕ, ◌<◌, List, ◌++◌, length, take, Option, codes, sum_by}
 use Rattle.std.specs.Fmt.{decimal}
 use Rattle.std.specs.Io.KnownBytes.{Appends}

@@ -1,4 +1,4 @@
--- Files that are made from their parts, and pictures that are written, are read (docs/FILES.md, "Pixmaps"; docs/PROFILE.md, "Pictures").
+-- Files that are made from their parts, and pictures that are written, are read (docs/FILES.md, "Pixmaps"; docs/WMS.md, "Pictures").
 use Rattle.std.specs.Prelude.{◌≡◌, ◌≤◌, map, Some, Ok}
 use Rattle.geom.specs.Decimal.{number_of}
 use Rattle.geom.specs.Side.{IsPictureSide}

@@ -1,4 +1,4 @@
--- The bytes of a picture as a portable pixmap, or as a portable arbitrary map (Netpbm, PPM and PAM; docs/PROFILE.md, "Pictures").
+-- The bytes of a picture as a portable pixmap, or as a portable arbitrary map (Netpbm, PPM and PAM; docs/WMS.md, "Pictures").
 use Rattle.std.specs.Prelude.{ℕ, List, [], ◌∷◌, ◌++◌, Option, None, Some, codes}
 use Rattle.std.specs.List.{flat_map}
 use Rattle.std.specs.Fmt.{decimal}

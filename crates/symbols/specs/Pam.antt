@@ -1,4 +1,4 @@
--- The picture that a portable arbitrary map shows (Netpbm, pam(5); docs/PROFILE.md, "Pictures").
+-- The picture that a portable arbitrary map shows (Netpbm, pam(5); docs/WMS.md, "Pictures").
 use Rattle.std.specs.Prelude.{ℕ, zero, suc, ◌*◌, ◌==◌, ◌&&◌, Bool, if◌then◌else◌, List, [], ◌∷◌, length, take, drop, Option, None, Some, codes}
 use Rattle.std.specs.List.{before_first, after_first}
 use Rattle.std.specs.Option.{option_and_then}

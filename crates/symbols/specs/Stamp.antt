@@ -1,4 +1,4 @@
--- The pixels of a pixmap that is stamped on the picture (docs/PROFILE.md, "When a pixel belongs to a symbol").
+-- The pixels of a pixmap that is stamped on the picture (docs/DRAWING.md, "When a pixel belongs to a symbol").
 use Rattle.std.specs.Prelude.{ℕ, ◌+◌, ◌-◌, ◌*◌, ◌/◌, ◌==◌, ◌&&◌, not, Bool, false, if◌then◌else◌, nat_le, ℤ, pos, ◌-ℤ◌, int_le, int_lt, List, Option, None, Some, slice_get}
 use Rattle.std.specs.Option.{option_and_then}
 use Rattle.clip.specs.Class.{at_least_zero}

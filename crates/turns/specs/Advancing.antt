@@ -1,4 +1,4 @@
--- How a connection goes on by a turn (docs/PROFILE.md, "HTTP").
+-- How a connection goes on by a turn (docs/WMS.md, "HTTP").
 use Rattle.std.specs.Prelude.{◌≡◌, ◌⊎◌, ℕ, List, [], ◌∷◌, ◌++◌, length, Option, Bool, true, false}
 use Rattle.std.specs.Io.KnownBytes.{Appends}
 use Rattle.httpedge.specs.Exchange.{Said}

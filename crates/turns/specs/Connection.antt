@@ -1,4 +1,4 @@
--- A turn of a connection, up to its closing (docs/PROFILE.md, "HTTP").
+-- A turn of a connection, up to its closing (docs/WMS.md, "HTTP").
 use Rattle.std.specs.Prelude.{◌≡◌, ◌⊎◌, ◌≤◌, ◌<◌, ◌+◌, ℕ, List, [], length, Option, Bool, true, false, not, ◌==◌}
 use Rattle.std.specs.Io.KnownBytes.{Appends}
 use Rattle.httpedge.specs.Exchange.{Said}

@@ -1,4 +1,4 @@
--- What is read after the last answer (docs/PROFILE.md, "HTTP").
+-- What is read after the last answer (docs/WMS.md, "HTTP").
 use Rattle.std.specs.Prelude.{ℕ, nat_lt, if◌then◌else◌}
 use Rattle.turns.specs.declared.drained.TheConstants.{DRAINED_BYTES}
 use Rattle.turns.specs.declared.outcomes.ReadOutcome.{ReadOutcome}

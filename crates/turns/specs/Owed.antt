@@ -1,4 +1,4 @@
--- How many bytes of responses are to be sent to the connections of a worker (docs/PROFILE.md, "HTTP").
+-- How many bytes of responses are to be sent to the connections of a worker (docs/WMS.md, "HTTP").
 use Rattle.std.specs.Prelude.{ℕ, List, Option, None, Some}
 use Rattle.std.specs.List.{sum_by}
 use Rattle.turns.specs.Connection.{owed_by}

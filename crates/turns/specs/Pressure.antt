@@ -1,4 +1,4 @@
--- Which connection is closed before its time is over (docs/PROFILE.md, "HTTP").
+-- Which connection is closed before its time is over (docs/WMS.md, "HTTP").
 use Rattle.std.specs.Prelude.{◌≡◌, ◌≤◌, ◌<◌, ℕ, ◌-◌, ◌/◌, List, Option, None, Some, get_or, nat_lt, if◌then◌else◌}
 use Rattle.turns.specs.declared.open_connection.OpenConnection.{OpenConnection}
 use Rattle.turns.specs.declared.pressure.Pressure.{Pressure}

@@ -1,4 +1,4 @@
--- Which connection has the next turn (docs/PROFILE.md, "HTTP").
+-- Which connection has the next turn (docs/WMS.md, "HTTP").
 use Rattle.std.specs.Prelude.{◌≡◌, ◌≤◌, ℕ, List, [], ◌∷◌, ◌++◌, Bool, true, false, not, ◌&&◌, ◌==◌, if◌then◌else◌, get_or, length}
 use Rattle.std.specs.List.{list_any, count_by}
 

@@ -1,4 +1,4 @@
--- The connections of a worker, each at a slot (docs/PROFILE.md, "HTTP").
+-- The connections of a worker, each at a slot (docs/WMS.md, "HTTP").
 use Rattle.std.specs.Prelude.{◌≡◌, ℕ, List, Option, None, Some, get_or, Bool}
 use Rattle.httpedge.specs.Exchange.{Said}
 use Rattle.turns.specs.Connection.{IsTurn}

@@ -1,4 +1,4 @@
--- What a table of connections is seen as (docs/PROFILE.md, "HTTP").
+-- What a table of connections is seen as (docs/WMS.md, "HTTP").
 use Rattle.std.specs.Prelude.{◌≡◌, ◌⊎◌, ℕ, List, Option, Bool, true, nat_lt}
 use Rattle.turns.specs.Queue.{has}
 use Rattle.turns.specs.declared.open_connection.OpenConnection.{OpenConnection}

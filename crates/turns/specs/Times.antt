@@ -1,4 +1,4 @@
--- What a connection does, since when, and when its time is over (docs/PROFILE.md, "HTTP").
+-- What a connection does, since when, and when its time is over (docs/WMS.md, "HTTP").
 use Rattle.std.specs.Prelude.{ℕ, ◌+◌, ◌/◌, ◌-◌, ◌^◌, ◌==◌, min, max, Bool, true, false, nat_lt, if◌then◌else◌}
 use Rattle.turns.specs.declared.turn.Next.{Next}
 use Rattle.turns.specs.declared.turn.Next.TheVariants.{Turn, Room, Done, Failed}

@@ -1,4 +1,4 @@
--- One axis of a view, without a division for each place (docs/PROFILE.md, "From the world to the picture").
+-- One axis of a view, without a division for each place (docs/DRAWING.md, "From the world to the picture").
 use Rattle.std.specs.Prelude.{◌≡◌, ℕ, ◌+◌, ◌*◌, ◌/◌, ◌<◌, ◌≤◌, ◌^◌}
 
 -- a side of so many sixteenths of a pixel, and the whole that it shows in millionths of a degree

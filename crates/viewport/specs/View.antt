@@ -1,4 +1,4 @@
--- From the world to the picture (docs/PROFILE.md, "From the world to the picture").
+-- From the world to the picture (docs/DRAWING.md, "From the world to the picture").
 use Rattle.std.specs.Prelude.{ℕ, ◌+◌, ◌*◌, ◌≤◌, ℤ, pos, neg_ℤ, ◌+ℤ◌, ◌-ℤ◌, ◌*ℤ◌, ◌<ℤ◌, ◌≤ℤ◌, unsigned_abs}
 use Rattle.std.specs.Int.{div_ceil, int_div_euclid}
 use Rattle.geom.specs.Device.{DevicePoint, PixelPlace, pixel_of}

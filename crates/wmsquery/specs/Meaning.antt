@@ -1,4 +1,4 @@
--- What a query means: a request, or the fault of its first parameter that is refused (docs/PROFILE.md, "Queries").
+-- What a query means: a request, or the fault of its first parameter that is refused (docs/WMS.md, "Queries").
 use Rattle.std.specs.Prelude.{◌≡◌, ℕ, List, [], ◌∷◌, ◌++◌, All, None, Some, Result, Ok, Err}
 use Rattle.operations.specs.declared.operation.Operation.TheVariants as operation
 use Rattle.mapdefs.specs.declared.map.MapFields.{MapFields}

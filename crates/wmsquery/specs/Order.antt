@@ -1,4 +1,4 @@
--- The order of refusal: which parameters an operation has, and which of them is at fault (OGC 06-042, 7.2 to 7.4; docs/PROFILE.md, "Queries").
+-- The order of refusal: which parameters an operation has, and which of them is at fault (OGC 06-042, 7.2 to 7.4; docs/WMS.md, "Queries").
 use Rattle.std.specs.Prelude.{List, [], ◌∷◌, ◌++◌, Option, None, Some}
 use Rattle.operations.specs.declared.operation.Operation.TheVariants as operation
 use Rattle.operations.specs.declared.operation.Operation.{Operation}

@@ -1,4 +1,4 @@
--- The parameters of a query (URL Standard, application/x-www-form-urlencoded; docs/PROFILE.md, "Queries").
+-- The parameters of a query (URL Standard, application/x-www-form-urlencoded; docs/WMS.md, "Queries").
 use Rattle.std.specs.Prelude.{◌==◌, ℕ, Bool, List, [], ◌∷◌, map, find, Option, None, Some}
 use Rattle.std.specs.List.{slice_split}
 use Rattle.std.specs.Option.{option_map, option_and_then}

@@ -1,4 +1,4 @@
--- What the parameters of a query mean together (OGC 06-042, 7.2 to 7.4; docs/PROFILE.md, "Queries").
+-- What the parameters of a query mean together (OGC 06-042, 7.2 to 7.4; docs/WMS.md, "Queries").
 use Rattle.std.specs.Prelude.{ℕ, List, [], ◌∷◌, length, Option, Result, Ok}
 use Rattle.std.specs.Option.{option_map_or}
 use Rattle.std.specs.Result.{result_ok, result_err}

@@ -1,4 +1,4 @@
--- Service exceptions (OGC 06-042, 7.3; docs/PROFILE.md, "Exceptions").
+-- Service exceptions (OGC 06-042, 7.3; docs/WMS.md, "Exceptions").
 use Rattle.std.specs.Prelude.{ℕ, List, ◌++◌, codes}
 use Rattle.wmsquery.specs.declared.fault.Code.{Code}
 use Rattle.wmsquery.specs.declared.fault.Code.TheVariants as code

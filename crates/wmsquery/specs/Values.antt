@@ -1,4 +1,4 @@
--- What the text of each parameter means, or the code that refuses it (OGC 06-042, 7.2 to 7.4; docs/PROFILE.md, "Queries").
+-- What the text of each parameter means, or the code that refuses it (OGC 06-042, 7.2 to 7.4; docs/WMS.md, "Queries").
 use Rattle.std.specs.Prelude.{ℕ, ◌==◌, ◌&&◌, ◌||◌, Bool, true, false, not, slice_get, nat_le, nat_lt, if◌then◌else◌, List, [], ◌∷◌, length, Option, None, Some, Result, Ok, Err, codes, option_and_then, ok_or, min}
 use Rattle.std.specs.Option.{option_map_or}
 use Rattle.std.specs.Result.{result_ok}

@@ -1,4 +1,4 @@
--- What each request keeps of its map, and of the limits (docs/PROFILE.md, "Queries").
+-- What each request keeps of its map, and of the limits (docs/WMS.md, "Queries").
 use Rattle.std.specs.Prelude.{ℕ, ◌≤◌, ◌<◌, All}
 use Rattle.geom.specs.World.{IsExtent}
 use Rattle.mapdefs.specs.declared.limits.TheConstants.{MAX_FEATURES}

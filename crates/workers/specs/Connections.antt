@@ -1,4 +1,4 @@
--- One connection that is answered (docs/PROFILE.md, "HTTP").
+-- One connection that is answered (docs/WMS.md, "HTTP").
 use Rattle.std.specs.Prelude.{◌≡◌, ◌⊎◌, ℕ, ◌<◌, List, length, take, Option, None, Some, IfSome, true}
 use Rattle.std.specs.Io.KnownBytes.{Appends}
 use Rattle.httpedge.specs.Exchange.{Said, IsExchange, IsBegun}
