@@ -1,8 +1,23 @@
 //! Laws of the definitions. A law is a function without arguments whose contract states it.
 
 ghost use Rattle.mapmachine.specs.Machine.{PublishedCounts};
+ghost use Rattle.mapmachine.specs.Replicas.{ReplicasAnswerAlike};
+
+use compose::laws::one_picture;
+use featureinfo::laws::one_hit_list;
+use wmsquery::laws::one_meaning;
 
 /// The sequence after a run is that before it plus the number of the batches that were published.
 pub fn published_counts()
     ensures { PublishedCounts }
 {}
+
+/// Two machines that began alike and published equal lists of batches have one state, whatever else each was asked and refused. Where
+/// both answer a query, they answer it with the same bytes. So servers that follow one log are as good as one.
+pub fn replicas_answer_alike()
+    ensures { ReplicasAnswerAlike }
+{
+    one_meaning();
+    one_picture();
+    one_hit_list();
+}

@@ -4,7 +4,8 @@
 //! answered query what it asks for, which is the capabilities document, a picture or feature information,
 //! or the document of its first fault, a batch that is published leads to the state after all its
 //! commands, and a reply that refuses a batch or is out of memory leaves the state. `reply`, `batch` and `step` are single events of it. `laws::published_counts`
-//! says that the sequence grows by the number of published batches.
+//! says that the sequence grows by the number of published batches, and `laws::replicas_answer_alike` that machines which published
+//! equal batches answer a query with the same bytes.
 //!
 //! Words: the *state* is the map and a *sequence*, which counts published batches. An *event* is what
 //! comes in, a *reply* what goes out. The reply to a query is an *answer*: a mime type and a body.
