@@ -1,6 +1,6 @@
 use Rattle.std.proofs.Common.{◌≡◌, ◌∙◌, ◌-◌, sym, ap, ap₂}
 use Rattle.service.proofs.Administered.{administered, kept-of}
-use Rattle.service.proofs.threaded.administer_one.Goals as goal
+use Rattle.service.proofs.administering.administer_one.Goals as goal
 
 pub returns-clause-served : goal.returns-clause-served
 returns-clause-served g c =

@@ -3,7 +3,7 @@ use Rattle.administration.specs.Keeping.{IsKeptSince}
 use Rattle.administration.proofs.KeptBatches.{more_kept, same_kept}
 use Rattle.administration.proofs.Steps.{known-none}
 use Rattle.mapshare.specs.Admin.{all_of}
-use Rattle.service.proofs.threaded.administer_all.Goals as goal
+use Rattle.service.proofs.administering.administer_all.Goals as goal
 
 pub loop-init : goal.loop-init
 loop-init g c = record {

@@ -1,6 +1,6 @@
 use Rattle.std.proofs.Common.{List, ℕ}
 use Rattle.administration.specs.Keeping.{IsKeptSince}
-use Rattle.service.proofs.threaded.administer_all.Given as goal
+use Rattle.service.proofs.administering.administer_all.Given as goal
 
 -- what was accepted so far is kept, behind what was kept before
 abbrev pub invariant-loop : goal.invariant-loop

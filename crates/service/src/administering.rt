@@ -1,0 +1,148 @@
+//! The connections of administrators: one after the other, each until it ends, and each accepted batch kept.
+
+ghost use Rattle.std.specs.Prelude.{◌≡◌, ℕ, List, IfSome, MatchOption, OnOk, None, true};
+ghost use Rattle.administration.specs.Keeping.{IsKeptSince};
+ghost use Rattle.service.specs.Administering.{Administers, fault_of, has_kept};
+ghost use Rattle.workers.specs.Connections.{IsServedOne};
+
+use crate::accepting::Accepting;
+use crate::clients::queue_of;
+use crate::port::Port;
+use crate::serving::{Administrators, PortFor, Runtime};
+use accesslog::{LogQueue, LoggedSink};
+use administration::{AdministerFault, administer_kept};
+use httpedge::EdgeFault;
+use journalfile::Keeps;
+use mapshare::{Admin, KeepFailed, Sharing};
+use std::alloc::Global;
+use std::sync::Arc;
+use std::sync::atomic::{AtomicBool, Ordering};
+use streams::Sink;
+use workers::{Opens, Sides};
+
+// A connection of an administrator that was closed.
+#[derive(Drop)]
+struct Attempt<D> {
+    // What is left of it.
+    closed: D,
+    // What keeps batches didn't fail.
+    has_kept: bool,
+}
+
+// The fault with which a connection is closed: its writer failed. One that was sent `FAILED` has none, so that its client gets that.
+fn fault_of(served: Result<(), AdministerFault>, written: u128) -> Option<EdgeFault>
+    ensures { result ≡ fault_of served written }
+{
+    match served {
+        Ok(()) | Err(AdministerFault::KeepFailed) => None,
+        Err(AdministerFault::PutFailed) => Some(EdgeFault::Write { written }),
+    }
+}
+
+// Whether what keeps batches didn't fail.
+fn has_kept(served: Result<(), AdministerFault>) -> bool
+    ensures { result ≡ has_kept served }
+{
+    !matches!(served, Err(AdministerFault::KeepFailed))
+}
+
+// A connection of an administrator, its number, and where its commands are logged, if they are.
+#[derive(Drop)]
+struct Numbered<C, R> {
+    connection: C,
+    number: u64,
+    log: Option<LogQueue<R>>,
+}
+
+// Serves one connection of an administrator, and closes it with the fault of that, if it had one. What is accepted is kept. Nothing is
+// left of a connection that can't be opened.
+fn administer_one<S: Sharing, K: Keeps, R: Runtime, C: Opens>(
+    rt: &R,
+    admin: Admin<S>,
+    keeper: &mut K,
+    numbered: Numbered<C, R>,
+) -> (Admin<S>, Option<Attempt<C::Closed>>)
+    requires ready { (kept : List (List ℕ)) × K.keeps keeper.old kept }
+    ensures served { MatchOption result.1 (C.opens numbered.connection None × (result.0 ≡ admin) × (keeper.new ≡ keeper.old))
+        (λ attempt. IsServedOne C.opens C.closes (Administers S.opening C.Reader.Source.left C.Reader.Source.take_failed C.Writer.Sink.held C.Writer.Sink.taken attempt.has_kept) numbered.connection admin result.0 attempt.closed) }
+    ensures kept { (kept : List (List ℕ)) → K.keeps keeper.old kept
+        → IfSome result.1 (λ attempt. attempt.has_kept ≡ true → IsKeptSince K.keeps admin kept result.0 keeper.new) }
+{
+    let Numbered {
+        connection,
+        number,
+        log,
+    } = numbered;
+    let Some(sides) = connection.open(rt.alloc()) else {
+        return (admin, None);
+    };
+    let Sides { mut reader, writer } = sides;
+    let before = writer.taken();
+    let mut logged = LoggedSink::new(rt.alloc(), writer, number, log);
+    let (admin, served) = administer_kept(rt, admin, keeper, &mut reader, &mut logged);
+    let writer = logged.into_inner();
+    let fault = fault_of(served, writer.taken().saturating_sub(before));
+    let attempt = Attempt {
+        closed: C::close(Sides { reader, writer }, fault),
+        has_kept: has_kept(served),
+    };
+    (admin, Some(attempt))
+}
+
+/// The port of administrators, what says that no client is served any more, and where their commands are logged, if they are.
+#[derive(Drop)]
+pub(crate) struct Administering<P, R> {
+    pub port: Accepting<PortFor<Administrators, P>>,
+    pub is_given: Arc<AtomicBool, Global>,
+    pub log: Option<LogQueue<R>>,
+}
+
+/// Serves the connections of administrators, one after the other, up to the last, until the signal is given, or until what keeps batches
+/// fails. All that was accepted is kept then.
+pub(crate) fn administer_all<S, K, R, C, P>(
+    rt: &R,
+    admin: Admin<S>,
+    keeper: &mut K,
+    asked: Administering<P, R>,
+) -> (Admin<S>, Result<(), KeepFailed>)
+where
+    S: Sharing,
+    K: Keeps,
+    R: Runtime,
+    C: Opens + Drop,
+    P: Port<C> + Drop,
+    requires ready { (kept : List (List ℕ)) × K.keeps keeper.old kept }
+    ensures kept { (kept : List (List ℕ)) → K.keeps keeper.old kept → OnOk result.1 (IsKeptSince K.keeps admin kept result.0 keeper.new) }
+{
+    let Administering {
+        mut port,
+        is_given,
+        log,
+    } = asked;
+    let mut admin = admin;
+    let mut number = 0_u64;
+    for _ in rt.forever() {
+        let Some(connection) = port.accept() else {
+            return (admin, Ok(()));
+        };
+        if is_given.load(Ordering::SeqCst) {
+            return (admin, Ok(()));
+        }
+        number = number.saturating_add(1);
+        let numbered = Numbered {
+            connection,
+            number,
+            log: queue_of(&log),
+        };
+        let (after, attempt) = administer_one(rt, admin, keeper, numbered);
+        admin = after;
+        let Some(Attempt { closed, has_kept }) = attempt else {
+            continue;
+        };
+        drop(closed);
+        if !has_kept {
+            return (admin, Err(KeepFailed));
+        }
+    }
+    unreachable!()
+}

@@ -1,0 +1,213 @@
+//! The signals between the threads of a service: that clients are served no more, and that the input ended.
+
+ghost use Rattle.std.specs.Prelude.{◌≡◌, IfErr, true};
+ghost use Rattle.service.specs.Serving.{is_service_failure};
+
+use crate::serving::{Runtime, Until};
+use console::Failure;
+use eventloop::Wakes;
+use std::alloc::{AllocError, Global};
+use std::io::{ErrorKind, Read};
+use std::sync::Arc;
+use std::sync::atomic::{AtomicBool, Ordering};
+use std::thread;
+
+/// What tells the administrator that no client is served any more.
+#[derive(Drop)]
+pub(crate) struct StopSignal<W: Wakes> {
+    pub is_given: Arc<AtomicBool, Global>,
+    pub waker: W,
+}
+
+impl<W: Wakes> StopSignal<W> {
+    /// Says so, and ends the wait for a connection.
+    pub(crate) fn give(&self) {
+        self.is_given.store(true, Ordering::SeqCst);
+        self.waker.wake();
+    }
+}
+
+// A signal of this waker, and what says whether it was given.
+fn stop_signal_of<W: Wakes + Drop>(
+    alloc: Global,
+    waker: Option<W>,
+) -> Result<(StopSignal<W>, Arc<AtomicBool, Global>), Failure>
+    ensures failed { IfErr result (λ failure. is_service_failure failure ≡ true) }
+{
+    let Some(waker) = waker else {
+        return Err(Failure::SocketFailed);
+    };
+    let Ok(is_given) = Arc::new(alloc, AtomicBool::new(false)) else {
+        return Err(Failure::NoMemory);
+    };
+    match Arc::try_clone(&is_given) {
+        Ok(theirs) => Ok((
+            StopSignal {
+                is_given: theirs,
+                waker,
+            },
+            is_given,
+        )),
+        Err(_) => Err(Failure::NoMemory),
+    }
+}
+
+/// What has the thread of clients stop.
+#[derive(Drop)]
+pub(crate) struct ClientStop<W: Wakes> {
+    pub is_stopped: Arc<AtomicBool, Global>,
+    /// What ends its wait for a client, if their port tells where it is.
+    pub waker: Option<W>,
+}
+
+impl<W: Wakes> ClientStop<W> {
+    /// Says so, and ends the wait for a connection.
+    pub(crate) fn give(&self) {
+        self.is_stopped.store(true, Ordering::SeqCst);
+        if let Some(waker) = &self.waker {
+            waker.wake();
+        }
+    }
+}
+
+/// What the thread of clients is told, and tells.
+#[derive(Drop)]
+pub(crate) struct ClientSignals<W: Wakes> {
+    /// That it is to stop.
+    pub is_stopped: Arc<AtomicBool, Global>,
+    /// That no client is served any more.
+    pub is_over: StopSignal<W>,
+}
+
+// What an input says of its end.
+#[derive(Drop)]
+struct InputEnds {
+    // The thread of clients is to stop.
+    is_stopped: Arc<AtomicBool, Global>,
+    // The input could not be read to its end.
+    has_failed: Arc<AtomicBool, Global>,
+}
+
+impl InputEnds {
+    // Neither.
+    fn new(alloc: Global) -> Result<Self, AllocError> {
+        Ok(InputEnds {
+            is_stopped: Arc::new(alloc, AtomicBool::new(false))?,
+            has_failed: Arc::new(alloc, AtomicBool::new(false))?,
+        })
+    }
+
+    // The same for another thread.
+    fn share(&self) -> Result<Self, AllocError> {
+        Ok(InputEnds {
+            is_stopped: Arc::try_clone(&self.is_stopped)?,
+            has_failed: Arc::try_clone(&self.has_failed)?,
+        })
+    }
+}
+
+// Reads an input to its end. Says whether it didn't fail.
+fn read_out<I: Read>(input: &mut I) -> bool {
+    let mut room = [0; 1_024];
+    for _ in 0..u64::MAX {
+        match input.read(&mut room) {
+            Ok(0) => return true,
+            Err(error) if error.kind() != ErrorKind::Interrupted => return false,
+            _ => {}
+        }
+    }
+    true
+}
+
+// Waits for the end of an input, and then has the clients' thread stop. An input that fails has ended, which is noted.
+fn watch<W: Wakes + Drop, I: Read + Drop>(until: Until<W, I>, ends: &InputEnds) {
+    let Until { waker, mut input } = until;
+    if !read_out(&mut input) {
+        ends.has_failed.store(true, Ordering::SeqCst);
+    }
+    ends.is_stopped.store(true, Ordering::SeqCst);
+    waker.wake();
+}
+
+// What says that the clients' thread is to stop. A thread sets it at the end of the input, where one is waited for.
+fn input_ends_of<R, W, I>(rt: &R, until: Option<Until<W, I>>) -> Result<InputEnds, Failure>
+where
+    R: Runtime,
+    W: Wakes + Send + Drop + 'static,
+    I: Read + Send + Drop + 'static,
+    ensures failed { IfErr result (λ failure. is_service_failure failure ≡ true) }
+{
+    let Ok(ends) = InputEnds::new(rt.alloc()) else {
+        return Err(Failure::NoMemory);
+    };
+    let Some(until) = until else {
+        return Ok(ends);
+    };
+    let Ok(theirs) = ends.share() else {
+        return Err(Failure::NoMemory);
+    };
+    match thread::spawn(rt, move || watch(until, &theirs)) {
+        Ok(child) => {
+            // it goes on where the service ends before the input does
+            drop(child);
+            Ok(ends)
+        }
+        Err(_) => Err(Failure::SocketFailed),
+    }
+}
+
+/// The signals between the threads of a service.
+#[derive(Drop)]
+pub(crate) struct Signals<W: Wakes> {
+    /// Those of the thread of clients.
+    pub clients: ClientSignals<W>,
+    /// No client is served any more.
+    pub is_given: Arc<AtomicBool, Global>,
+    /// What has clients served no more.
+    pub stop: ClientStop<W>,
+    /// The input with whose end the service ends could not be read.
+    pub has_failed: Arc<AtomicBool, Global>,
+}
+
+/// The wakers of a service, and what it ends with.
+#[derive(Drop)]
+pub(crate) struct Wakers<W, I> {
+    /// What ends a wait for an administrator.
+    pub administration: Option<W>,
+    /// What ends a wait for a client.
+    pub clients: Option<W>,
+    /// What the service ends with, where that is asked for.
+    pub until: Option<Until<W, I>>,
+}
+
+/// The signals between the threads of a service.
+pub(crate) fn signals_of<R, W, I>(rt: &R, wakers: Wakers<W, I>) -> Result<Signals<W>, Failure>
+where
+    R: Runtime,
+    W: Wakes + Send + Drop + 'static,
+    I: Read + Send + Drop + 'static,
+    ensures failed { IfErr result (λ failure. is_service_failure failure ≡ true) }
+{
+    let Wakers {
+        administration,
+        clients,
+        until,
+    } = wakers;
+    let (is_over, is_given) = stop_signal_of(rt.alloc(), administration)?;
+    let ends = input_ends_of(rt, until)?;
+    let Ok(theirs) = ends.share() else {
+        return Err(Failure::NoMemory);
+    };
+    Ok(Signals {
+        clients: ClientSignals {
+            is_stopped: theirs.is_stopped,
+            is_over,
+        },
+        is_given,
+        stop: ClientStop {
+            is_stopped: ends.is_stopped,
+            waker: clients,
+        },
+        has_failed: ends.has_failed,
+    })
+}
