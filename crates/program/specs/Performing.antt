@@ -1,6 +1,5 @@
 -- What the program does for a command on a host (docs/SERVICE.md, "The program").
-use Rattle.std.specs.Prelude.{◌≡◌, ◌⊎◌, ◌*◌, ℕ, Bool, List, [], Option, None, Some, option_map, Err}
-use Rattle.std.specs.Duration.{as_nanos}
+use Rattle.std.specs.Prelude.{◌≡◌, ◌⊎◌, ℕ, Bool, List, [], Option, None, Some, option_map, Err}
 use Rattle.std.specs.Io.KnownBytes.{Keeps}
 use Rattle.commandline.specs.declared.subcommand.Command.{Command}
 use Rattle.commandline.specs.declared.subcommand.Service.{Service}
@@ -14,7 +13,6 @@ use Rattle.mapparse.specs.declared.files.FileBytes.{FileBytes}
 use Rattle.program.specs.Journals.{JournalView, IsOpened, IsUnopened, ReportsEnd, failure_of, journal_fault, map_fingerprint}
 use Rattle.program.specs.declared.keeping.JournalFault.{JournalFault}
 use Rattle.service.specs.Serving.{HasAnnounced, IsUnserved}
-use Rattle.service.specs.declared.limits.Waits.{Waits}
 use Rattle.subcommands.specs.Folder.{Giving, IsFront}
 use Rattle.subcommands.specs.Mapfiles.{HasReadMapfile, GivesNoMap, ReportsWarnings, ChecksTo, RunsTo}
 use Rattle.subcommands.specs.Session.{PlaysTo, opened}
@@ -25,32 +23,17 @@ use Rattle.program.specs.Hosts.{gives_in}
 -- what a host is known to have: the bytes of the file of a path, which ports it gives for a number, the addresses of ports, and journals
 pub record HostView (P L : Type 0) : Type 1 where
   pub file : List ℕ → Option (List ℕ)
-  pub listens : ℕ → Waits → P → Type 0
+  pub listens : ℕ → P → Type 0
   pub address : P → Option (List ℕ)
   pub journal : JournalView L
-
--- how long the calls of a client wait: as the service was asked for, in nanoseconds
-pub record IsOfClients (service : Service) (waits : Waits) : Type 0 where
-  pub idle : as_nanos waits.idle ≡ 1000000 * service.idle
-  pub timeout : as_nanos waits.timeout ≡ 1000000000 * service.timeout
-
--- how long those of an administrator wait: half a minute for its bytes, and ten minutes for a command in all
-pub record IsOfAdministrators (waits : Waits) : Type 0 where
-  pub idle : as_nanos waits.idle ≡ 1000000000 * 30
-  pub silence : as_nanos waits.silence ≡ 1000000000 * 30
-  pub timeout : as_nanos waits.timeout ≡ 1000000000 * 600
 
 -- a machine was served as it begins, at the two ports that were listened on, and its batches kept by this; that is how the program ended.
 -- Where the ports are was written once, that of clients first
 pub record IsServed {P L : Type 0} (host : HostView P L) (machine : State) (keeper : Option (Journal L)) (service : Service) (ending : EndingValue P L) (old new : WriterState) : Type 0 where
   pub clients : P
   pub administration : P
-  pub clients_wait : Waits
-  pub administrators_wait : Waits
-  pub for_clients : IsOfClients service clients_wait
-  pub for_administrators : IsOfAdministrators administrators_wait
-  pub listens : host.listens service.port clients_wait clients
-  pub listens_too : host.listens service.admin_port administrators_wait administration
+  pub listens : host.listens service.port clients
+  pub listens_too : host.listens service.admin_port administration
   pub served : ending.served ≡ Some (record { machine = machine; keeper = keeper; clients = clients; administration = administration; service = service; outcome = ending.outcome })
   pub announced : HasAnnounced (host.address clients) (host.address administration) ending.outcome old new
 

@@ -3,7 +3,7 @@ ghost use Rattle.journalfile.specs.Settled.{GarblesNoRecord};
 
 use console::ListenCause;
 use journalfile::Log;
-use service::{Network, Waits};
+use service::Network;
 use std::io::{self, Read};
 use thiserror::Error;
 
@@ -47,7 +47,6 @@ pub trait Files {
 /// Where the program runs: its files, its journals, and what listens on ports.
 pub trait Host: Files + Network {
     ghost use Rattle.std.specs.Prelude.{ℕ, List};
-    ghost use Rattle.service.specs.declared.limits.Waits.{Waits};
 
     /// What a journal is written to.
     type Log: Log + Drop;
@@ -55,12 +54,12 @@ pub trait Host: Files + Network {
     // A log is one that the host gives for a path.
     ghost journal: { Self → List ℕ → Self.Log → Type 0 };
 
-    // A port is one that the host gives for a number, and its connections' calls wait for so long.
-    ghost listens: { Self → ℕ → Waits → Self.Port → Type 0 };
+    // A port is one that the host gives for a number.
+    ghost listens: { Self → ℕ → Self.Port → Type 0 };
 
-    /// Listens on a port by its number, where 0 is one that is free. The calls of its connections wait for so long.
-    fn listen(&self, number: u16, waits: Waits) -> Result<Self::Port, ListenFailed>
-        ensures { IfOk result (λ p. listens self.now number waits p) };
+    /// Listens on a port by its number, where 0 is one that is free.
+    fn listen(&self, number: u16) -> Result<Self::Port, ListenFailed>
+        ensures { IfOk result (λ p. listens self.now number p) };
 
     /// Opens the log of a path, which no other program has meanwhile. Where there is none one is made that has these bytes: it is there with
     /// all of them or not at all. What a crash garbles of a log that is reliable is known by its digests.

@@ -1,10 +1,9 @@
 ghost use Rattle.std.specs.Prelude.{◌≡◌, ℕ, List, IfErr, IfOk, IfSome, Some, None, is_some, true, false};
 ghost use Rattle.console.specs.Streams.{LeavesOutput, is_input_failed};
 ghost use Rattle.program.specs.Journals.{IsOpened, IsUnopened, map_fingerprint};
-ghost use Rattle.program.specs.Performing.{HostView, IsOfAdministrators, IsOfClients, ServesMachine, ServesMap};
+ghost use Rattle.program.specs.Performing.{HostView, ServesMachine, ServesMap};
 ghost use Rattle.subcommands.specs.Session.{opened};
 ghost use Rattle.service.specs.Serving.{is_service_failure};
-ghost use Rattle.service.specs.declared.limits.Waits.{Waits as WaitsOf};
 
 use crate::ending::Ending;
 use crate::host::{Files, Host, ListenFailed};
@@ -17,17 +16,17 @@ use console::{Console, Failure, Writes};
 use journalfile::{Journal, Keeps};
 use mapdefs::Map;
 use mapmachine::Machine;
-use service::{Kept, Network, Port, PortFor, Ports, Runtime, Until, Waits, serve_by_threads};
+use service::{Kept, Network, Port, PortFor, Ports, Runtime, Until, serve_by_threads};
 use std::alloc::Global;
 use streams::Sink;
 use subcommands::ReadMap;
 
 // A port of a host by its number.
-fn listen_on<H: Host>(host: &H, port: u16, waits: Waits) -> Result<H::Port, Failure>
-    ensures listens { IfOk result (λ p. H.listens host.now port waits p) }
+fn listen_on<H: Host>(host: &H, port: u16) -> Result<H::Port, Failure>
+    ensures listens { IfOk result (λ p. H.listens host.now port p) }
     ensures failed { IfErr result (λ failure. is_service_failure failure ≡ true) }
 {
-    match host.listen(port, waits) {
+    match host.listen(port) {
         Ok(listened) => Ok(listened),
         Err(ListenFailed { cause }) => Err(Failure::ListenFailed { port, cause }),
     }
@@ -73,14 +72,14 @@ fn listen<H: Host>(
     host: &H,
     service: Service,
 ) -> Result<Ports<H::Port, H::Waker, H::Poller, H::Input>, Failure>
-    ensures clients { IfOk result (λ ports. (waits : WaitsOf) × IsOfClients service waits × H.listens host.now service.port waits ports.clients.port) }
-    ensures administration { IfOk result (λ ports. (waits : WaitsOf) × IsOfAdministrators waits × H.listens host.now service.admin_port waits ports.administration.port) }
+    ensures clients { IfOk result (λ ports. H.listens host.now service.port ports.clients.port) }
+    ensures administration { IfOk result (λ ports. H.listens host.now service.admin_port ports.administration.port) }
     ensures service { IfOk result (λ ports. ports.service ≡ service) }
     ensures until { IfOk result (λ ports. is_some ports.until ≡ service.until_input_ends) }
     ensures failed { IfErr result (λ failure. is_service_failure failure ≡ true) }
 {
-    let clients = listen_on(host, service.port, Waits::of(service))?;
-    let administration = listen_on(host, service.admin_port, Waits::of_administration())?;
+    let clients = listen_on(host, service.port)?;
+    let administration = listen_on(host, service.admin_port)?;
     let waker = host.waker(&administration);
     let clients_waker = host.waker(&clients);
     let pollers = pollers_of(alloc, host, service.workers)?;

@@ -4,9 +4,7 @@ use crate::arguments::ArgumentsUnread;
 use crate::host::{Files, Host, ListenFailed, OpenFault};
 use crate::journal_file::JournalFile;
 use console::ListenCause;
-use service::{
-    Network, SocketConnection, SocketPoller, SocketPort, SocketTransport, SocketWaker, Waits,
-};
+use service::{Network, SocketConnection, SocketPoller, SocketPort, SocketTransport, SocketWaker};
 use std::fs::{self, File};
 use std::net::{Ipv4Addr, TcpListener};
 use std::{env, io};
@@ -53,11 +51,11 @@ impl Host for SystemHost {
 
     ghost journal = { λ _ _ _. Unit {0} };
 
-    ghost listens = { λ _ _ _ _. Unit {0} };
+    ghost listens = { λ _ _ _. Unit {0} };
 
-    fn listen(&self, number: u16, waits: Waits) -> Result<SocketPort, ListenFailed> {
+    fn listen(&self, number: u16) -> Result<SocketPort, ListenFailed> {
         match TcpListener::bind(&self.rt, (Ipv4Addr::LOCALHOST, number)) {
-            Ok(listener) => match SocketPort::new(&self.rt, listener, waits) {
+            Ok(listener) => match SocketPort::new(&self.rt, listener) {
                 Ok(port) => Ok(port),
                 Err(_) => Err(ListenFailed {
                     cause: ListenCause::Other,

@@ -54,7 +54,7 @@ pub fn slots_of(service: Service) -> usize
     CONNECTIONS / usize::from(service.workers.max(1))
 }
 
-/// How long the calls of a connection may wait.
+/// How long the calls of a connection may wait that waits in its reads and writes, as an administrator's does.
 #[derive(Clone, Copy)]
 pub struct Waits {
     /// A read that follows an answer.
@@ -67,21 +67,6 @@ pub struct Waits {
 }
 
 impl Waits {
-    /// Those that a service asks for.
-    pub fn of(service: Service) -> Self
-        ensures idle { as_nanos result.idle ≡ 1000000 * service.idle }
-        ensures timeout { as_nanos result.timeout ≡ 1000000000 * service.timeout }
-        ensures silence { as_nanos result.silence ≡ max (as_nanos result.idle) (as_nanos result.timeout) }
-    {
-        let idle = Duration::from_millis(u64::from(service.idle));
-        let timeout = Duration::from_secs(u64::from(service.timeout));
-        Waits {
-            idle,
-            silence: idle.max(timeout),
-            timeout,
-        }
-    }
-
     /// Those of an administrator.
     pub fn of_administration() -> Self
         ensures idle { as_nanos result.idle ≡ 1000000000 * 30 }

@@ -30,18 +30,16 @@ type SocketWriter = Flagged<TimedWriter<TcpStream, HostRuntime>>;
 pub struct SocketPort {
     rt: HostRuntime,
     listener: TcpListener,
-    waits: Waits,
     // Its service ends.
     is_ending: Arc<AtomicBool, Global>,
 }
 
 impl SocketPort {
-    /// The port of a listener, with how long the calls of its connections wait.
-    pub fn new(rt: &HostRuntime, listener: TcpListener, waits: Waits) -> Result<Self, AllocError> {
+    /// The port of a listener.
+    pub fn new(rt: &HostRuntime, listener: TcpListener) -> Result<Self, AllocError> {
         Ok(SocketPort {
             rt: *rt,
             listener,
-            waits,
             is_ending: Arc::new(rt.alloc(), AtomicBool::new(false))?,
         })
     }
@@ -79,7 +77,6 @@ impl Port<SocketConnection> for SocketPort {
             (Ok((stream, _)), Ok(is_ending)) => Ok(SocketConnection {
                 rt: self.rt,
                 stream,
-                waits: self.waits,
                 is_ending,
             }),
             _ => {
@@ -118,7 +115,6 @@ impl Wakes for SocketWaker {
 pub struct SocketConnection {
     rt: HostRuntime,
     stream: TcpStream,
-    waits: Waits,
     is_ending: Arc<AtomicBool, Global>,
 }
 
@@ -152,14 +148,14 @@ impl Opens for SocketConnection {
 
     ghost closes = { λ _ _ _ _. Unit {0} };
 
-    // The time of its first command begins. What is written leaves at once.
+    // It is an administrator's: the time of its first command begins. What is written leaves at once.
     fn open(self, alloc: Global) -> Option<Sides<SocketReader, SocketWriter>> {
         let SocketConnection {
             rt,
             stream,
-            waits,
             is_ending,
         } = self;
+        let waits = Waits::of_administration();
         stream.set_nodelay(true).ok()?;
         let (read, written) = Answered::pair(alloc).ok()?;
         let reader = TimedReader::start(stream.try_clone().ok()?, rt, waits, read).ok()?;

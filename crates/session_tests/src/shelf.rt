@@ -10,7 +10,7 @@ use eventloop::{Poller, Wakes};
 use httpedge::EdgeFault;
 use mapdefs::Text;
 use program::{Files, Host, ListenFailed, OpenFault};
-use service::{AcceptFailed, AddressFault, IntoTransport, Network, Port, Waits};
+use service::{AcceptFailed, AddressFault, IntoTransport, Network, Port};
 use std::alloc::{AllocError, Global};
 use std::io::{self, Read, Write};
 use std::sync::Arc;
@@ -396,9 +396,9 @@ impl Host for Shelf<'_> {
 
     ghost journal = { λ _ _ _. Unit {0} };
 
-    ghost listens = { λ _ _ _ _. Unit {0} };
+    ghost listens = { λ _ _ _. Unit {0} };
 
-    fn listen(&self, number: u16, _waits: Waits) -> Result<Letters, ListenFailed> {
+    fn listen(&self, number: u16) -> Result<Letters, ListenFailed> {
         let port = match number {
             81 => self.port(CLIENTS, self.clients),
             82 => self.port("another port", self.administration),
