@@ -3,21 +3,18 @@
 //! Proved, of any log that is reliable: `Journal::put` keeps a batch at `Ok` (clause `kept`), and a crash at any moment of the call
 //! leaves the batches with it or without (`any_moment`). `recover` brings a map machine to the state after just the batches of the
 //! log (`recovered`) or says why it doesn't (`fault`), doesn't refuse what stands for accepted batches (`opens`), and may itself be
-//! interrupted at any moment (`any_moment`). `FileLog` is a log on a file of the system. It isn't called reliable: no clause says what
-//! a file does.
+//! interrupted at any moment (`any_moment`).
 //!
 //! Words: a log is *settled* where a crash leaves just what it has. Bytes *stand for* batches where they are their journal, perhaps
 //! with a torn tail.
 #![tactic(auto)]
 
-mod file;
 mod keeps;
 mod log;
 mod recovery;
 mod steps;
 mod writing;
 
-pub use file::{FileLog, open_file};
 pub use keeps::{KeepFault, Keeps, Nowhere};
 pub use log::{Log, ReadError};
 pub use recovery::{RecoverFault, recover};

@@ -3,10 +3,10 @@
 ghost use Rattle.std.specs.Prelude.{[]};
 
 use crate::host::OpenFault;
-use journalfile::{FileLog, Log, ReadError};
+use journalfile::{Log, ReadError};
 use std::alloc::Global;
 use std::fs::{self, File, OpenOptions, TryLockError};
-use std::io::{self, ErrorKind, Write};
+use std::io::{self, ErrorKind, Read, Seek, SeekFrom, Write};
 use subcommands::front_of;
 
 impl From<io::Error> for OpenFault {
@@ -76,18 +76,18 @@ fn open_or_make(rt: &HostRuntime, path: &str, bytes: &[u8]) -> Result<File, Open
     }
 }
 
-/// The log of a journal on a file of the machine. Of what a file does nothing is known, so it isn't called reliable.
+/// The log of a journal on a file of the machine: it is read from its begin and written at its end. No clause says what a file does, so it
+/// isn't called reliable.
 #[derive(Drop)]
 pub struct JournalFile {
-    log: FileLog<File>,
+    file: File,
 }
 
 impl JournalFile {
     /// The file of a path, locked for this program. Where there is none, it is made with these bytes.
     pub(crate) fn open(rt: &HostRuntime, path: &str, bytes: &[u8]) -> Result<Self, OpenFault> {
-        let file = open_or_make(rt, path, bytes)?;
         Ok(JournalFile {
-            log: FileLog::new(file),
+            file: open_or_make(rt, path, bytes)?,
         })
     }
 }
@@ -112,18 +112,26 @@ impl Log for JournalFile {
     ghost only_now = { λ reliable. absurd reliable };
 
     fn read(&mut self, alloc: Global) -> Result<Vec<u8>, ReadError<io::Error>> {
-        self.log.read(alloc)
+        if let Err(failure) = self.file.seek(SeekFrom::Start(0)) {
+            return Err(ReadError::Failed(failure));
+        }
+        let mut bytes = Vec::new(alloc);
+        match self.file.read_to_end(&mut bytes) {
+            Ok(_) => Ok(bytes),
+            Err(failure) if failure.kind() == ErrorKind::OutOfMemory => Err(ReadError::NoMemory),
+            Err(failure) => Err(ReadError::Failed(failure)),
+        }
     }
 
     fn append(&mut self, bytes: &[u8]) -> Result<(), io::Error> {
-        self.log.append(bytes)
+        self.file.write_all(bytes)
     }
 
     fn cut(&mut self, end: usize) -> Result<(), io::Error> {
-        self.log.cut(end)
+        self.file.set_len(end as u64)
     }
 
     fn sync(&mut self) -> Result<(), io::Error> {
-        self.log.sync()
+        self.file.sync_data()
     }
 }
