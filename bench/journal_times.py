@@ -1,0 +1,184 @@
+#!/usr/bin/env python3
+"""Measures what a journal costs, and what a start with one costs. Usage: journal_times.py PROGRAM [SECONDS [FOLDER]]
+
+The journals stand in FOLDER, so on its disk; in a folder of the system's for files of a moment where it isn't given. First it
+measures what the disk takes to put away 4 KB at the end of a file (write and fsync, for so many SECONDS, 5 where it isn't given).
+Then a served map gets batches of one command without pause, with a journal and without: by one submitter on one connection, by one
+and by eight on a connection for each batch. A line has the batches a second, and the median and the 99th of 100 in milliseconds
+from the first byte that is sent to the answer. Another client asks for a tile of 256 by 256 pixels meanwhile, again and again on
+one connection: its median and 99th are in the same line, behind those of a line without batches.
+
+At last the seconds from the start to the line that says where the ports are: with a journal of 10,000 batches of one command, and
+with one of 100 batches that each empty a layer and append 100,000 rows to it.
+"""
+import http.client
+import os
+import pathlib
+import shutil
+import socket
+import subprocess
+import sys
+import tempfile
+import threading
+import time
+
+from served import ports_of
+
+DEMO = pathlib.Path(__file__).resolve().parent.parent / "demo"
+LAYER = b"""  LAYER NAME "stops" TYPE POINT CLASS STYLE COLOR 10 20 30 SIZE 3 END END END
+END
+"""
+TILE = ("/wms?VERSION=1.3.0&REQUEST=GetMap&LAYERS=countries,borders&STYLES=&CRS=CRS:84&FORMAT=image/x-portable-pixmap"
+        "&BBOX=0,40,11.25,51.25&WIDTH=256&HEIGHT=256")
+BATCHES = [b"OFF stops\n", b"ON stops\n"]
+
+
+class Server:
+    def __init__(self, program, folder, journal=None):
+        words = [program, "serve", "map.map", "--port", "0", "--admin-port", "0", "--workers", "4", "--explain"]
+        self.began = time.monotonic()
+        self.process = subprocess.Popen(words + (["--journal", journal] if journal else []), stdout=subprocess.PIPE, cwd=folder)
+        self.port, self.administration = ports_of(self.process.stdout.readline())
+        self.started = time.monotonic() - self.began
+
+    def __enter__(self):
+        return self
+
+    def __exit__(self, *_):
+        self.process.kill()
+        self.process.wait()
+
+
+class Submitter:
+    """Submits batches, on one connection or on one for each."""
+
+    def __init__(self, port, keeps):
+        self.port, self.keeps, self.stream = port, keeps, None
+
+    def submit(self, batch):
+        if self.stream is None:
+            self.stream = socket.create_connection(("127.0.0.1", self.port))
+            self.stream.setsockopt(socket.IPPROTO_TCP, socket.TCP_NODELAY, 1)
+        self.stream.sendall(b"BATCH %d\n" % len(batch) + batch)
+        line = b""
+        while not line.endswith(b"\n"):
+            got = self.stream.recv(100)
+            if not got:
+                sys.exit(f"journal_times: the connection ended after {line}")
+            line += got
+        if not line.startswith(b"PUBLISHED "):
+            sys.exit(f"journal_times: {line}")
+        if not self.keeps:
+            self.close()
+
+    def close(self):
+        if self.stream:
+            self.stream.close()
+            self.stream = None
+
+
+def share(times, hundredth):
+    times = sorted(times)
+    return times[min(len(times) * hundredth // 100, len(times) - 1)] * 1_000 if times else float("nan")
+
+
+def put_away(folder, seconds):
+    """How long each 4 KB takes at the end of a file."""
+    times = []
+    with tempfile.TemporaryFile(dir=folder, buffering=0) as file:
+        until = time.monotonic() + seconds
+        while time.monotonic() < until:
+            began = time.monotonic()
+            file.write(bytes(4_096))
+            os.fsync(file.fileno())
+            times.append(time.monotonic() - began)
+    return times
+
+
+def ask(port, until, times):
+    client = http.client.HTTPConnection("127.0.0.1", port)
+    while time.monotonic() < until:
+        began = time.monotonic()
+        client.request("GET", TILE)
+        if len(client.getresponse().read()) < 3 * 256 * 256:
+            sys.exit("journal_times: a picture is too short")
+        times.append(time.monotonic() - began)
+    client.close()
+
+
+def submit_all(port, keeps, until, times):
+    submitter, number = Submitter(port, keeps), 0
+    while time.monotonic() < until:
+        began = time.monotonic()
+        submitter.submit(BATCHES[number % 2])
+        times.append(time.monotonic() - began)
+        number += 1
+    submitter.close()
+
+
+def meanwhile(server, seconds, count, keeps):
+    """What batches took that so many submit, and what pictures took meanwhile."""
+    until, batches, pictures = time.monotonic() + seconds, [], []
+    threads = [threading.Thread(target=submit_all, args=(server.administration, keeps, until, batches)) for _ in range(count)]
+    threads.append(threading.Thread(target=ask, args=(server.port, until, pictures)))
+    for thread in threads:
+        thread.start()
+    for thread in threads:
+        thread.join()
+    return batches, pictures
+
+
+def row(what, seconds, times, pictures):
+    if times:
+        print(f"{what}: {len(times) / seconds:.0f} batches a second, {share(times, 50):.2f} and {share(times, 99):.2f} ms; ", end="")
+    else:
+        print(f"{what}: ", end="")
+    print(f"a tile {share(pictures, 50):.2f} and {share(pictures, 99):.2f} ms", flush=True)
+
+
+def make_map(folder):
+    world = (DEMO / "world.map").read_bytes().rstrip()
+    (folder / "map.map").write_bytes(world[: world.rindex(b"END")] + LAYER)
+    shutil.copy(DEMO / "anchor.ppm", folder)
+
+
+def beside_pictures(program, folder, seconds):
+    with Server(program, folder) as server:
+        row("no batches", seconds, *meanwhile(server, seconds, 0, True))
+    for named, count, keeps in (("one submitter, one connection", 1, True), ("one submitter", 1, False), ("eight submitters", 8, False)):
+        for words, journal in (("without a journal", None), ("with a journal", "times.journal")):
+            with Server(program, folder, journal) as server:
+                row(f"{named}, {words}", seconds, *meanwhile(server, seconds, count, keeps))
+
+
+def start_after(program, folder, name, batches):
+    with Server(program, folder, name) as server:
+        submitter = Submitter(server.administration, True)
+        for batch in batches:
+            submitter.submit(batch)
+        submitter.close()
+    size = (folder / name).stat().st_size
+    with Server(program, folder, name) as server:
+        print(f"a start with {len(batches)} batches, {size / 1e6:.1f} MB of journal: {server.started:.2f} s", flush=True)
+
+
+def main():
+    if len(sys.argv) not in (2, 3, 4):
+        sys.exit(__doc__)
+    program = os.path.abspath(sys.argv[1])
+    seconds = int(sys.argv[2]) if len(sys.argv) > 2 else 5
+    with tempfile.TemporaryDirectory(dir=sys.argv[3] if len(sys.argv) > 3 else None) as name:
+        folder = pathlib.Path(name)
+        make_map(folder)
+        times = put_away(folder, seconds)
+        print(f"4 KB put away: {share(times, 50):.2f} and {share(times, 99):.2f} ms, {len(times) / seconds:.0f} a second", flush=True)
+        beside_pictures(program, folder, seconds)
+        with Server(program, folder) as server:
+            print(f"a start without a journal: {server.started:.2f} s", flush=True)
+        start_after(program, folder, "many.journal", [BATCHES[number % 2] for number in range(10_000)])
+        rows = b"x,y\n" + b"".join(b"%d.%d,%d.%d\n" % (n % 180, n // 180 % 10, n % 90, n % 7) for n in range(100_000))
+        start_after(program, folder, "large.journal", [b"CLEAR stops\nAPPEND %d stops\n" % len(rows) + rows] * 100)
+
+
+if __name__ == "__main__":
+    main()
