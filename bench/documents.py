@@ -11,7 +11,7 @@ Read are README.md, CHANGELOG.md, what lies in docs/, and the README.md of bench
 - calls and other code: `name` of `crate`, `name` of `crate/src/file.rt`, `crate::Type::call` and `Type::call`, but not
   in CHANGELOG.md, which says what was;
 - definitions: `Name` before or behind a file of specs/, and the modules that stand behind `crate/specs`:;
-- edits that must fail, by their names that end in .edit, and in docs/PLANTED.md the calls that the kept ones change;
+- edits that must fail, by their names that end in .edit, and what bench/planted.csv names (planted.py);
 - clauses: in the tables of docs/PROMISES.md those behind a call, elsewhere `name` behind the word clause.
 
 The script prints each that isn't there, with the file and the line of the document, and at the end how many names
@@ -20,6 +20,8 @@ are there and how many aren't. It ends with 1 where one isn't.
 import pathlib
 import re
 import sys
+
+import planted
 
 TOP = pathlib.Path(__file__).resolve().parent.parent
 FOLDERS = ("bench", "demo", "deploy")
@@ -212,30 +214,25 @@ def found_clauses(document, line):
         yield f"the clause {clause}", clause in CLAUSES
 
 
-def found_kept(crate, line):
-    """What docs/PLANTED.md says of the edits of a crate that are kept."""
-    for edit, call in re.findall(r"`(\w+\.edit)` in `([\w:]+)`", line):
-        yield f"{call}, which {edit} changes, of {crate}", crate in CRATES and edit in CRATES[crate].edits and CRATES[crate].has(call)
-
-
 def main():
     documents = [TOP / "README.md", TOP / "CHANGELOG.md", *sorted(TOP.glob("docs/*.md")), *(TOP / name / "README.md" for name in FOLDERS)]
     passed = failed = 0
     for document in documents:
-        section, is_code = "", False
+        is_code = False
         for number, line in enumerate(document.read_text().splitlines(), 1):
             is_code ^= line.startswith("```")
             if is_code or line.startswith("    "):
                 continue
-            section = line[3:] if line.startswith("## ") else section
             finders = (found_links, found_paths, found_edits, found_definitions, found_clauses)
             finders += () if document.name == "CHANGELOG.md" else (found_code,)
             found = [one for finder in finders for one in finder(document, line)]
-            found += found_kept(section, line) if document.name == "PLANTED.md" else []
             for what, is_there in found:
                 passed, failed = passed + is_there, failed + (not is_there)
                 if not is_there:
                     print(f"{document.relative_to(TOP)}:{number}: {what} isn't there")
+    for what in planted.check(CRATES):
+        print(what)
+        failed += 1
     print(f"{passed} passed, {failed} failed")
     sys.exit(failed > 0)
 
