@@ -3,7 +3,8 @@
 
 Usage: documents.py
 
-Read are README.md, CHANGELOG.md, what lies in docs/, and the README.md of bench/, demo/ and deploy/. Looked for are
+Read are README.md, CHANGELOG.md, what lies in docs/, the README.md of bench/, demo/ and deploy/, and of bench/results/,
+which says what was, the links. Looked for are
 
 - links: the file, and the heading in it;
 - paths that begin with a folder of the repository or with a crate, also without .antt or .rt at the end, and files in
@@ -215,9 +216,10 @@ def found_clauses(document, line):
 
 
 def main():
+    results = sorted(TOP.glob("bench/results/*.md"))
     documents = [TOP / "README.md", TOP / "CHANGELOG.md", *sorted(TOP.glob("docs/*.md")), *(TOP / name / "README.md" for name in FOLDERS)]
     passed = failed = 0
-    for document in documents:
+    for document in [*documents, *results]:
         is_code = False
         for number, line in enumerate(document.read_text().splitlines(), 1):
             is_code ^= line.startswith("```")
@@ -225,6 +227,7 @@ def main():
                 continue
             finders = (found_links, found_paths, found_edits, found_definitions, found_clauses)
             finders += () if document.name == "CHANGELOG.md" else (found_code,)
+            finders = (found_links,) if document in results else finders
             found = [one for finder in finders for one in finder(document, line)]
             for what, is_there in found:
                 passed, failed = passed + is_there, failed + (not is_there)
