@@ -18,6 +18,7 @@ which says what was, the links. Looked for are
 The script prints each that isn't there, with the file and the line of the document, and at the end how many names
 are there and how many aren't. It ends with 1 where one isn't.
 """
+import functools
 import pathlib
 import re
 import sys
@@ -71,6 +72,8 @@ class Crate:
         return re.search(rf"^pub use [^;]*\b{name}\b[^;]*;", self.files.get("lib.rt", ""), re.M) is not None
 
     def is_variant(self, owner, name):
+        if not declares(self.code, owner):
+            return False
         body = re.search(rf"\b(?:enum|struct) {owner}\b.*?^}}", self.code, re.M | re.S)
         return body is not None and re.search(rf"^    (pub )?{name}\b", body[0], re.M) is not None
 
@@ -93,9 +96,16 @@ def is_method(owner, name):
     return any((owner, name) in crate.calls for crate in CRATES.values())
 
 
+@functools.cache
+def declared(text):
+    """What a text of code declares: items, ghost members and variants."""
+    items = re.findall(r"\b(?:fn|struct|enum|trait|const|type|mod|ghost|static) (?=(\w+))", text)
+    return {*items, *re.findall(r"^    (\w+)[,({ ]", text, re.M)}
+
+
 def declares(text, name):
     """Whether a text of code declares an item, a ghost member or a variant of that name."""
-    return re.search(rf"\b(fn|struct|enum|trait|const|type|mod|ghost|static) {name}\b|^    {name}[,({{ ]", text, re.M) is not None
+    return name in declared(text)
 
 
 def blocks(text):

@@ -54,8 +54,8 @@ def kind_of(row):
     return {"test": "tests", "proof": "nothing"}.get(first, first)
 
 
-def missing(row, crates):
-    """What a row names and isn't there."""
+def missing(row, crates, names):
+    """What a row names and isn't there, where `names` are the clauses and the functions of all crates."""
     crate = crates.get(row["crate"])
     if crate is None:
         yield f"the crate {row['crate']}"
@@ -67,24 +67,25 @@ def missing(row, crates):
     if not row["wrong behaviour"]:
         yield "the wrong behaviour"
     for part in row["refused by"].removeprefix(AT_FIRST).split("; "):
-        yield from missing_of(part, crate, crates)
+        yield from missing_of(part, crate, names)
 
 
-def missing_of(part, crate, crates):
+def missing_of(part, crate, names):
     """What a part of the column of what refuses a mutant names and isn't there."""
     word, _, rest = part.partition(" ")
+    clauses, every_function, laws = names
     if word == "edit" and rest not in crate.edits:
         yield f"the edit {rest}"
     elif word == "clause":
-        names, _, function = rest.partition("of ")
+        listed, _, function = rest.partition("of ")
         functions = re.findall(r"[\w:]+", re.sub(r"\b(and of|or)\b", " ", function))
-        found = set().union(*(crate.clauses(name) for name in functions)) if functions else all_clauses(crates)
+        found = set().union(*(crate.clauses(name) for name in functions)) if functions else clauses
         yield from (f"the function {name}" for name in functions if not crate.has(name))
-        yield from (f"the clause {name} of {function or 'any function'}" for name in names.split() if name not in found)
+        yield from (f"the clause {name} of {function or 'any function'}" for name in listed.split() if name not in found)
     elif word in ("test", "tests") or part.startswith("prover and test "):
-        names = part.removeprefix("prover and ").split()[1:]
-        yield from (f"the test {name}" for name in names if not any(has_test(one, name) for one in crates.values()))
-    elif word == "law" and not any(one.has(f"laws::{rest}") for one in crates.values()):
+        tests = part.removeprefix("prover and ").split()[1:]
+        yield from (f"the test {name}" for name in tests if name not in every_function)
+    elif word == "law" and rest not in laws:
         yield f"the law {rest}"
     elif word == "script" and not (TABLE.parent.parent / rest).exists():
         yield f"the script {rest}"
@@ -92,19 +93,18 @@ def missing_of(part, crate, crates):
         yield f"anything of the name {word}, which refuses a mutant,"
 
 
-def all_clauses(crates):
-    return {name for crate in crates.values() for name in re.findall(r"\bensures\*? (\w+)", crate.code)}
-
-
-def has_test(crate, name):
-    return re.search(rf"\bfn {name}\b", crate.code) is not None
+def all_names(crates):
+    """The clauses, the functions and the laws of all crates."""
+    code = "\n".join(crate.code for crate in crates.values())
+    laws = "\n".join(crate.files.get("laws.rt", "") for crate in crates.values())
+    return set(re.findall(r"\bensures\*? (\w+)", code)), set(re.findall(r"\bfn (\w+)", code)), set(re.findall(r"\bfn (\w+)", laws))
 
 
 def check(crates):
     """What the table names and isn't there, a line each."""
-    table = rows()
+    table, names = rows(), all_names(crates)
     for number, row in enumerate(table, 2):
-        yield from (f"bench/planted.csv:{number}: {what} isn't there" for what in missing(row, crates))
+        yield from (f"bench/planted.csv:{number}: {what} isn't there" for what in missing(row, crates, names))
     listed = [(row["crate"], row["refused by"].removeprefix("edit ")) for row in table if kind_of(row) == "edit"]
     for name, crate in crates.items():
         for edit in sorted(crate.edits):
