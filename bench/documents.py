@@ -3,7 +3,8 @@
 
 Usage: documents.py
 
-Read are README.md, CHANGELOG.md, what lies in docs/, and the README.md of bench/, demo/ and deploy/. Looked for are
+Read are README.md, CHANGELOG.md, what lies in docs/, the README.md of bench/, demo/ and deploy/, and of bench/results/,
+which says what was, the links. Looked for are
 
 - links: the file, and the heading in it;
 - paths that begin with a folder of the repository or with a crate, also without .antt or .rt at the end, and files in
@@ -11,15 +12,18 @@ Read are README.md, CHANGELOG.md, what lies in docs/, and the README.md of bench
 - calls and other code: `name` of `crate`, `name` of `crate/src/file.rt`, `crate::Type::call` and `Type::call`, but not
   in CHANGELOG.md, which says what was;
 - definitions: `Name` before or behind a file of specs/, and the modules that stand behind `crate/specs`:;
-- edits that must fail, by their names that end in .edit, and in docs/PLANTED.md the calls that the kept ones change;
+- edits that must fail, by their names that end in .edit, and what bench/planted.csv names (planted.py);
 - clauses: in the tables of docs/PROMISES.md those behind a call, elsewhere `name` behind the word clause.
 
 The script prints each that isn't there, with the file and the line of the document, and at the end how many names
 are there and how many aren't. It ends with 1 where one isn't.
 """
+import functools
 import pathlib
 import re
 import sys
+
+import planted
 
 TOP = pathlib.Path(__file__).resolve().parent.parent
 FOLDERS = ("bench", "demo", "deploy")
@@ -68,6 +72,8 @@ class Crate:
         return re.search(rf"^pub use [^;]*\b{name}\b[^;]*;", self.files.get("lib.rt", ""), re.M) is not None
 
     def is_variant(self, owner, name):
+        if not declares(self.code, owner):
+            return False
         body = re.search(rf"\b(?:enum|struct) {owner}\b.*?^}}", self.code, re.M | re.S)
         return body is not None and re.search(rf"^    (pub )?{name}\b", body[0], re.M) is not None
 
@@ -90,9 +96,16 @@ def is_method(owner, name):
     return any((owner, name) in crate.calls for crate in CRATES.values())
 
 
+@functools.cache
+def declared(text):
+    """What a text of code declares: items, ghost members and variants."""
+    items = re.findall(r"\b(?:fn|struct|enum|trait|const|type|mod|ghost|static) (?=(\w+))", text)
+    return {*items, *re.findall(r"^    (\w+)[,({ ]", text, re.M)}
+
+
 def declares(text, name):
     """Whether a text of code declares an item, a ghost member or a variant of that name."""
-    return re.search(rf"\b(fn|struct|enum|trait|const|type|mod|ghost|static) {name}\b|^    {name}[,({{ ]", text, re.M) is not None
+    return name in declared(text)
 
 
 def blocks(text):
@@ -212,30 +225,27 @@ def found_clauses(document, line):
         yield f"the clause {clause}", clause in CLAUSES
 
 
-def found_kept(crate, line):
-    """What docs/PLANTED.md says of the edits of a crate that are kept."""
-    for edit, call in re.findall(r"`(\w+\.edit)` in `([\w:]+)`", line):
-        yield f"{call}, which {edit} changes, of {crate}", crate in CRATES and edit in CRATES[crate].edits and CRATES[crate].has(call)
-
-
 def main():
+    results = sorted(TOP.glob("bench/results/*.md"))
     documents = [TOP / "README.md", TOP / "CHANGELOG.md", *sorted(TOP.glob("docs/*.md")), *(TOP / name / "README.md" for name in FOLDERS)]
     passed = failed = 0
-    for document in documents:
-        section, is_code = "", False
+    for document in [*documents, *results]:
+        is_code = False
         for number, line in enumerate(document.read_text().splitlines(), 1):
             is_code ^= line.startswith("```")
             if is_code or line.startswith("    "):
                 continue
-            section = line[3:] if line.startswith("## ") else section
             finders = (found_links, found_paths, found_edits, found_definitions, found_clauses)
             finders += () if document.name == "CHANGELOG.md" else (found_code,)
+            finders = (found_links,) if document in results else finders
             found = [one for finder in finders for one in finder(document, line)]
-            found += found_kept(section, line) if document.name == "PLANTED.md" else []
             for what, is_there in found:
                 passed, failed = passed + is_there, failed + (not is_there)
                 if not is_there:
                     print(f"{document.relative_to(TOP)}:{number}: {what} isn't there")
+    for what in planted.check(CRATES):
+        print(what)
+        failed += 1
     print(f"{passed} passed, {failed} failed")
     sys.exit(failed > 0)
 
