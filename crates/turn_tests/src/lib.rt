@@ -11,6 +11,8 @@ mod event_loop;
 #[cfg(test)]
 mod logs;
 #[cfg(test)]
+mod stopping;
+#[cfg(test)]
 mod times;
 #[cfg(test)]
 mod ways_out;
