@@ -12,13 +12,13 @@
 
 mod advances;
 mod anchors;
-mod bucket;
 mod cache;
 mod candidate;
 mod label_box;
 pub mod laws;
 mod order;
 mod page;
+mod places;
 mod placing;
 mod trial;
 
