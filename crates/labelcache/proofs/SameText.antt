@@ -1,5 +1,9 @@
 -- Candidates of one text, and their anchors.
-use Rattle.std.proofs.Common.{◌≡◌, Bool, true, false, ◌&&◌, ◌||◌, cond, nat_lt, List, [], ◌∷◌, map, refl, ap, sym, ◌∙◌, rules, arith}
+use Rattle.std.proofs.Common.{◌++◌, ◌+◌, ◌-◌, ◌<◌, ◌≤◌, length, ⊎_elim, inl, inr, ◌≡◌, Bool, true, false, ◌&&◌, ◌||◌, cond, nat_lt, List, [], ◌∷◌, map, refl, ap, sym, ◌∙◌, rules, arith}
+use Rattle.std.proofs.Math.Seq.{get_or-append_right}
+use Rattle.std.proofs.lemmas.Bool.{cases_lt}
+use Rattle.std.proofs.lemmas.List.{get_or-append-add, get_or_append_left, length-append}
+use Rattle.std.specs.Prelude.{◌⊎◌}
 use Rattle.std.proofs.lemmas.List.Folds.{Any-from_list_any, list_any-from_Any}
 use Rattle.std.proofs.lemmas.Slice.Eq.{bytes_eq-Decides}
 use Rattle.std.specs.List.{Any, filter, list_any}
@@ -8,7 +12,7 @@ use Rattle.geom.specs.Device.{PixelPlace}
 use Rattle.labelcache.specs.Anchors.{IsNear, IsPlaceNear, anchors_with}
 use Rattle.labelcache.specs.Candidate.{CandidateValue, square, squared_distance}
 
-any-weaker : {X : Type 0} (P Q : X → Type 0) (xs : List X) → ((x : X) → P x → Q x) → Any P xs → Any Q xs
+pub any-weaker : {X : Type 0} (P Q : X → Type 0) (xs : List X) → ((x : X) → P x → Q x) → Any P xs → Any Q xs
 any-weaker P Q xs h a = (a.0, a.1, a.2, a.3, h a.1 a.4)
 
 -- what is tested of those that pass a filter
@@ -59,3 +63,22 @@ place-near c placed a =
 -- none of no anchors is near
 pub none-any : {X : Type 0} {P : X → Type 0} → Any P [] → ⊥
 none-any a = absurd (omega (arith, a.2))
+
+-- what holds of one of some holds of one of them and another
+pub any-append : {X : Type 0} (P : X → Type 0) (xs : List X) (y : X) → Any P xs → Any P (xs ++ y ∷ [])
+any-append P xs y a =
+    (a.0, a.1, omega (arith, a.2, length-append xs (y ∷ [])), get_or_append_left xs (y ∷ []) a.1 a.0 a.2 ∙ a.3, a.4)
+
+pub any-left : {X : Type 0} (P : X → Type 0) (xs ys : List X) → Any P xs → Any P (xs ++ ys)
+any-left P xs ys a =
+    (a.0, a.1, omega (arith, a.2, length-append xs ys), get_or_append_left xs ys a.1 a.0 a.2 ∙ a.3, a.4)
+
+pub any-right : {X : Type 0} (P : X → Type 0) (xs ys : List X) → Any P ys → Any P (xs ++ ys)
+any-right P xs ys a =
+    (length xs + a.0, a.1, omega (arith, a.2, length-append xs ys), get_or-append-add xs ys a.0 a.1 ∙ a.3, a.4)
+
+pub any-cases : {X : Type 0} (P : X → Type 0) (xs ys : List X) → Any P (xs ++ ys) → Any P xs ⊎ Any P ys
+any-cases P xs ys a = ⊎_elim
+    (λ (h : a.0 < length xs). inl (a.0, a.1, h, sym (get_or_append_left xs ys a.1 a.0 h) ∙ a.3, a.4))
+    (λ (h : length xs ≤ a.0). inr (a.0 - length xs, a.1, omega (arith, a.2, h, length-append xs ys), sym (get_or-append_right xs ys a.0 a.1 h) ∙ a.3, a.4))
+    (cases_lt a.0 (length xs))

@@ -1,29 +1,35 @@
-ghost use Rattle.std.specs.Prelude.{◌≡◌, ◌^◌, ◌-ℤ◌, unsigned_abs, ◌+◌, ◌*◌, ◌<◌, [], ◌∷◌, ◌++◌, ◌↔◌, All, IsTrue, OnOk, OnErr};
+ghost use Rattle.std.specs.Prelude.{◌≡◌, ◌^◌, ◌-ℤ◌, unsigned_abs, ◌<◌, [], ◌∷◌, ◌++◌, ◌↔◌, All, IsTrue, OnOk, OnErr};
 ghost use Rattle.std.specs.List.{Any};
+ghost use Rattle.geom.specs.Range.{IsBelow};
 ghost use Rattle.labelcache.specs.Anchors.{IsPlaceNear};
 ghost use Rattle.labelcache.specs.Candidate.{IsAnchor, square, squared_distance};
-ghost use Rattle.geom.specs.Range.{IsBelow};
 
+use crate::distance::is_within;
+use crate::marked::MarkedAnchors;
 use geom::Pixel;
 use std::alloc::{AllocError, Global};
 use std::marker::Model;
 
-/// The anchors of the labels of one text, in the order in which they were added.
+// How many anchors of a text are asked one by one, for which no cell is marked. Most texts have one.
+const FEW: usize = 16;
+
+/// The anchors of the labels of one text, in the order in which they were added: the first few, and the others.
 #[derive(Drop)]
 pub struct Places {
-    anchors: Vec<Pixel>,
+    first: Vec<Pixel>,
+    others: MarkedAnchors,
 }
 
 impl Model for Places {
-    ghost use Rattle.std.specs.Prelude.{List, All};
+    ghost use Rattle.std.specs.Prelude.{List, ◌++◌};
     ghost use Rattle.geom.specs.Device.{PixelPlace};
-    ghost use Rattle.labelcache.specs.Candidate.{IsAnchor};
+    ghost use Rattle.labelcache.specs.Anchors.{AreFirst};
 
     ghost Value = { List PixelPlace };
 
-    ghost view = { λ p. p.anchors.items };
+    ghost view = { λ p. p.first.items ++ p.others };
 
-    ghost invariant = { λ p. All IsAnchor p.anchors.items };
+    ghost invariant = { λ p. AreFirst p.first.items p.others };
 }
 
 impl Places {
@@ -32,7 +38,8 @@ impl Places {
         ensures { result ≡ [] }
     {
         Places {
-            anchors: Vec::new(alloc),
+            first: Vec::new(alloc),
+            others: MarkedAnchors::new(alloc),
         }
     }
 
@@ -42,8 +49,11 @@ impl Places {
         ensures ok { OnOk result (self.new ≡ self.old ++ anchor ∷ []) }
         ensures err { OnErr result (self.new ≡ self.old) }
     {
-        self.anchors.push(anchor)?;
-        Ok(())
+        if self.first.len() < FEW {
+            self.first.push(anchor)?;
+            return Ok(());
+        }
+        self.others.add(anchor)
     }
 
     /// Whether one of them is nearer to an anchor than a distance.
@@ -51,7 +61,10 @@ impl Places {
         requires { IsAnchor anchor }
         ensures { IsTrue result ↔ Any (IsPlaceNear anchor distance) self.now }
     {
-        has_close(&self.anchors, anchor, distance)
+        if has_close(&self.first, anchor, distance) {
+            return true;
+        }
+        self.others.has_near(anchor, distance)
     }
 }
 
@@ -87,13 +100,4 @@ fn apart(a: i64, b: i64) -> u64
     ensures { result ≡ unsigned_abs (a -ℤ b) }
 {
     a.abs_diff(b)
-}
-
-// Whether a distance across and one down come to less than a distance.
-#[tactic(auto, using(crate::proofs::Squares::far_across, crate::proofs::Squares::far_down))]
-fn is_within(across: u64, down: u64, distance: u16) -> bool
-    ensures { IsTrue result ↔ (square across + square down < square distance) }
-{
-    let distance = u64::from(distance);
-    across < distance && down < distance && across * across + down * down < distance * distance
 }
