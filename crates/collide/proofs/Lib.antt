@@ -1,4 +1,3 @@
 pub mod Bitwise
 pub mod Boxed
-pub mod Listed
 pub mod Marking

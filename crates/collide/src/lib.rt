@@ -1,7 +1,7 @@
 //! Boxes that were placed on a picture, and whether a further one shares a pixel with any of them.
 //!
 //! Proved: `Boxes::add` keeps each box that it is given, on the picture or off it, and `Boxes::hits`
-//! says whether a box shares a pixel with one of them. `Indices::add` adds one index, or changes nothing.
+//! says whether a box shares a pixel with one of them.
 //!
 //! Words: two boxes *meet* where some pixel lies in both; boxes that only touch don't. A pixel is *marked*
 //! where it lies in a box that was added.
@@ -9,8 +9,6 @@
 
 mod bits;
 mod boxes;
-mod indices;
 mod marks;
 
 pub use boxes::Boxes;
-pub use indices::{Indices, empty_lists};

@@ -9,7 +9,7 @@ ghost use Rattle.featureinfo.specs.Nearby.{SomeNear, part_near, points_near};
 use crate::nearby::Nearby;
 use crate::reach::is_far;
 use geom::World;
-use mapdefs::{FeatureFields, Items, Kind, LayerFields, Map, Near, Part};
+use mapdefs::{FeatureFields, Items, Kind, LayerFields, Map, Near, Part, Shared};
 use scaledenom::Scale;
 use scanfill::Polygon;
 use scene::Scene;
@@ -32,8 +32,9 @@ pub struct Asked {
 pub struct LayerHits {
     /// The index of the layer in the map.
     pub layer: usize,
-    /// The indices of the features that were hit, in order.
-    pub features: Items<u32>,
+    /// The indices of the features that were hit, in order. The hits of a layer that is asked several times share
+    /// them.
+    pub features: Shared<Items<u32>>,
 }
 
 // Whether some point of a part has its pixel among those.

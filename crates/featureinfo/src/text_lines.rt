@@ -108,7 +108,7 @@ fn add_hits(out: &mut Vec<u8>, map: &MapFields, hits: &LayerHits) -> Result<(), 
     ensures { OnOk result (out.new.items ≡ out.old.items ++ hit_lines map.now hits.now) }
 {
     match map.layers.as_slice().get(hits.layer) {
-        Some(layer) => add_layer(out, layer.get(), hits.features.as_slice()),
+        Some(layer) => add_layer(out, layer.get(), hits.features.get().as_slice()),
         None => Ok(()),
     }
 }

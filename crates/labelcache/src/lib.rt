@@ -12,13 +12,16 @@
 
 mod advances;
 mod anchors;
-mod bucket;
 mod cache;
 mod candidate;
+mod cells;
+mod distance;
 mod label_box;
 pub mod laws;
+mod marked;
 mod order;
 mod page;
+mod places;
 mod placing;
 mod trial;
 

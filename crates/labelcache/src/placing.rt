@@ -38,7 +38,7 @@ impl<'a> Placing<'a> {
         Ok(Placing {
             labels: Vec::new(alloc),
             boxes: Boxes::new(alloc, width, height)?,
-            anchors: Anchors::new(alloc)?,
+            anchors: Anchors::new(alloc),
         })
     }
 

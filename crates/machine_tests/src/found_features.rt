@@ -3,7 +3,7 @@ ghost use Rattle.std.specs.Prelude.{◌≡◌, length};
 use crate::maps::map_of;
 use featureinfo::{Asked, LayerHits, hits, text};
 use geom::{Micro, PictureSide, WorldBox};
-use mapdefs::{AllFeatures, Items, Map, Near};
+use mapdefs::{AllFeatures, Items, Map, Near, Shared};
 use scaledenom::Scale;
 use std::alloc::{AllocError, Global};
 use test_tables::{TableFault, check_rows};
@@ -123,7 +123,7 @@ fn hits_of(alloc: Global, word: &str) -> Result<LayerHits, AllocError> {
     }
     Ok(LayerHits {
         layer: layer.parse().unwrap_or(9),
-        features,
+        features: Shared::new(alloc, features)?,
     })
 }
 

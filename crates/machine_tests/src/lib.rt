@@ -3,6 +3,8 @@
 #![tactic(auto)]
 
 #[cfg(test)]
+mod asked_layers;
+#[cfg(test)]
 mod changed_layers;
 #[cfg(test)]
 mod commands;

@@ -1,8 +1,13 @@
 -- The hits of the layers that are asked for features, one layer after the other.
-use Rattle.std.proofs.Common.{◌≡◌, ℕ, suc, ◌+◌, ◌<◌, List, [], ◌∷◌, ◌++◌, length, take, slice_index_or, sym, subst, arith}
+use Rattle.std.proofs.Common.{◌≡◌, ℕ, suc, ◌+◌, ◌<◌, List, [], ◌∷◌, ◌++◌, length, take, slice_index_or, refl, sym, subst, arith}
 use Rattle.std.proofs.Math.Seq.{take-suc}
-use Rattle.std.specs.List.{AllZip}
+use Rattle.std.proofs.lemmas.List.Elements.{All-cons, All-nil}
+use Rattle.std.specs.List.{All, AllZip}
+use Rattle.featureinfo.specs.Hits.{AreHitsOf}
 use Rattle.featureinfo.specs.declared.asked.LayerHits.{LayerHits}
+use Rattle.mapdefs.specs.declared.map.MapFields.{MapFields}
+use Rattle.mapmachine.specs.Machine.{AreAskedHits, scene_of}
+use Rattle.wmsquery.specs.declared.request.InformationRequest.{InformationRequest}
 
 -- one more item on each side
 zip-push : {A B : Type 0} (R : A → B → Type 0) (xs : List A) (ys : List B) (x : A) (y : B) → AllZip R xs ys → R x y → AllZip R (xs ++ x ∷ []) (ys ++ y ∷ [])
@@ -22,3 +27,14 @@ next-hits R asked items index found hits same within zip one =
     subst (λ (n : ℕ). AllZip R (take n asked) (found ++ hits ∷ [])) (sym next)
     (subst (λ (l : List ℕ). AllZip R l (found ++ hits ∷ [])) (sym (take-suc asked index 0 below))
     (zip-push R (take index asked) found (slice_index_or asked index 0) hits zip at))
+
+-- the hits that were found are each of their own layer
+pub own-hits : (map : MapFields) (request : InformationRequest) (asked : List ℕ) (found : List LayerHits) →
+    AllZip (AreAskedHits map request) asked found → All (λ h. AreAskedHits map request h.layer h) found
+own-hits map request [] [] zip = All-nil (λ h. AreAskedHits map request h.layer h)
+own-hits map request [] (h ∷ found) zip = absurd zip
+own-hits map request (a ∷ asked) [] zip = absurd zip
+own-hits map request (a ∷ asked) (h ∷ found) zip =
+    All-cons (λ h. AreAskedHits map request h.layer h) h found
+    (refl, subst (λ (index : ℕ). AreHitsOf (scene_of map request.map) index request.column request.row request.count h.features) (sym zip.0.0) zip.0.1)
+    (own-hits map request asked found zip.1)

@@ -1,5 +1,5 @@
-ghost use Rattle.std.specs.Prelude.{◌≡◌, ◌-ℤ◌, unsigned_abs, length, Ok, Err, IfOk, IfErr, OnErr};
-ghost use Rattle.std.specs.List.{AllZip};
+ghost use Rattle.std.specs.Prelude.{◌≡◌, ◌<◌, ◌-ℤ◌, unsigned_abs, length, All, Ok, Err, IfOk, IfSome, IfErr, OnErr};
+ghost use Rattle.std.specs.List.{AllZip, Contains};
 ghost use Rattle.geom.specs.World.{IsExtent};
 ghost use Rattle.mapmachine.specs.Machine.{written_picture};
 
@@ -10,7 +10,7 @@ use compose::draw;
 use featureinfo::{Asked, LayerHits, hits_in, text};
 use geom::{PictureSide, WorldBox};
 use layers::Layers;
-use mapdefs::{Items, Map, Picture};
+use mapdefs::{Items, Map, Picture, Shared};
 use operations::Mime;
 use scaledenom::Scale;
 use scene::Scene;
@@ -66,6 +66,19 @@ fn written_picture(alloc: Global, format: Format, picture: &Picture) -> Result<A
             body: write_pam(alloc, picture)?,
         }),
     }
+}
+
+// The hits of a layer once more, where they were found before.
+fn found_before(found: &[LayerHits], layer: usize) -> Result<Option<LayerHits>, AllocError>
+    ensures { IfOk result (λ hits. IfSome hits (λ h. (h.layer ≡ layer) × Contains found.now h)) }
+{
+    for hits in found {
+        if hits.layer == layer {
+            let features = hits.features.share()?;
+            return Ok(Some(LayerHits { layer, features }));
+        }
+    }
+    Ok(None)
 }
 
 impl Machine {
@@ -149,10 +162,11 @@ impl Machine {
         written_picture(self.alloc, request.format, &picture)
     }
 
-    // The hits of each layer that a request asks for features, in its order.
-    fn found(&self, request: &InformationRequest) -> Result<Items<LayerHits>, AllocError>
+    // The hits of a layer that a request asks for features.
+    fn hits_of(&self, request: &InformationRequest, layer: usize) -> Result<LayerHits, AllocError>
         requires within { IsInformationWithin (length self.now.map.layers) request.now }
-        ensures { IfOk result (λ found. AllZip (AreAskedHits self.now.map request.now) request.now.asked found) }
+        requires layer { layer < length self.now.map.layers }
+        ensures { IfOk result (AreAskedHits self.now.map request.now layer) }
     {
         let scene = self.scene(&request.map);
         let asked = Asked {
@@ -160,11 +174,41 @@ impl Machine {
             row: request.row as u16,
             count: request.count,
         };
+        let features = hits_in(self.alloc, &scene, &self.layers, layer, asked)?;
+        Ok(LayerHits {
+            layer,
+            features: Shared::new(self.alloc, features)?,
+        })
+    }
+
+    // The same, from those that were found so far where they are among them.
+    fn next_hits(
+        &self,
+        request: &InformationRequest,
+        found: &[LayerHits],
+        layer: usize,
+    ) -> Result<LayerHits, AllocError>
+        requires within { IsInformationWithin (length self.now.map.layers) request.now }
+        requires layer { layer < length self.now.map.layers }
+        requires found { All (λ h. AreAskedHits self.now.map request.now h.layer h) found.now }
+        ensures { IfOk result (AreAskedHits self.now.map request.now layer) }
+    {
+        match found_before(found, layer)? {
+            Some(hits) => Ok(hits),
+            None => self.hits_of(request, layer),
+        }
+    }
+
+    // The hits of each layer that a request asks for features, in its order. Those of a layer that it asks several
+    // times are found once, and shared.
+    fn found(&self, request: &InformationRequest) -> Result<Items<LayerHits>, AllocError>
+        requires within { IsInformationWithin (length self.now.map.layers) request.now }
+        ensures { IfOk result (λ found. AllZip (AreAskedHits self.now.map request.now) request.now.asked found) }
+    {
         let mut found = Items::new(self.alloc);
         for layer in request.asked.as_slice() {
-            let layer = *layer;
-            let features = hits_in(self.alloc, &scene, &self.layers, layer, asked)?;
-            found.push(LayerHits { layer, features })?;
+            let hits = self.next_hits(request, found.as_slice(), *layer)?;
+            found.push(hits)?;
         }
         Ok(found)
     }

@@ -1,0 +1,68 @@
+-- Cells of a picture, squares of 2^level pixels a side, by which near anchors are found: the account of the code.
+use Rattle.std.specs.Prelude.{◌≡◌, ℕ, ◌+◌, ◌-◌, ◌*◌, ◌/◌, ◌^◌, ◌<◌, ◌≤◌, Bool, pos, ℤ, ◌+ℤ◌, unsigned_abs, IsTrue, List, All}
+use Rattle.std.specs.BTreeSet.{BTreeSet, contains}
+use Rattle.std.specs.List.{Any}
+use Rattle.std.specs.Ordering.{nat_cmp, ordering_then}
+use Rattle.std.specs.declared.cmp.Ordering.{Ordering}
+use Rattle.geom.specs.Device.{PixelPlace}
+use Rattle.labelcache.specs.Candidate.{IsAnchor, square}
+use Rattle.labelcache.specs.declared.cells.Cell.{Cell}
+use Rattle.labelcache.specs.declared.cells.Spot.{Spot}
+
+-- a column or a row of an anchor, counted from 2^32 before the picture's first
+abbrev pub offset : ℤ → ℕ
+offset position = unsigned_abs (position +ℤ pos (2 ^ 32))
+
+abbrev pub spot_of : PixelPlace → Spot
+spot_of p = record { column = offset p.i; row = offset p.j }
+
+-- the cell of a level that has a spot
+abbrev pub cell_of : ℕ → Spot → Cell
+cell_of level spot = record { level = level; column = spot.column / 2 ^ level; row = spot.row / 2 ^ level }
+
+-- a quarter of a cell
+abbrev pub child_of : Cell → ℕ → ℕ → Cell
+child_of cell right down = record { level = cell.level - 1; column = 2 * cell.column + right; row = 2 * cell.row + down }
+
+-- spots have these sizes
+pub record IsWithin (spot : Spot) : Type 0 where
+  pub column : spot.column < 2 ^ 33
+  pub row : spot.row < 2 ^ 33
+
+-- a cell ends with them
+pub record IsCell (cell : Cell) : Type 0 where
+  pub column : (cell.column + 1) * 2 ^ cell.level ≤ 2 ^ 33
+  pub row : (cell.row + 1) * 2 ^ cell.level ≤ 2 ^ 33
+
+-- how far apart two columns, or rows, are
+abbrev pub apart : ℕ → ℕ → ℕ
+apart a b = (a - b) + (b - a)
+
+-- a spot is nearer to another than a distance
+abbrev pub IsSpotNear : Spot → ℕ → Spot → Type 0
+IsSpotNear a distance b = square (apart a.column b.column) + square (apart a.row b.row) < square distance
+
+-- the order of marked cells
+abbrev pub cell_cmp : ℕ × (ℕ × ℕ) → ℕ × (ℕ × ℕ) → Ordering
+cell_cmp a b = ordering_then (nat_cmp a.0 b.0) (ordering_then (nat_cmp a.1.0 b.1.0) (nat_cmp a.1.1 b.1.1))
+
+-- whether a cell is marked
+abbrev pub has : BTreeSet (ℕ × (ℕ × ℕ)) → Cell → Bool
+has marked cell = contains cell_cmp marked (cell.level, (cell.column, cell.row))
+
+-- the cells of all levels that have a spot are marked
+abbrev pub IsMarked : BTreeSet (ℕ × (ℕ × ℕ)) → Spot → Type 0
+IsMarked marked spot = (level : ℕ) → level ≤ 33 → IsTrue (has marked (cell_of level spot))
+
+-- the cell of one spot is marked, and the spot is nearer to another than a distance
+pub record HasNearSpot (marked : BTreeSet (ℕ × (ℕ × ℕ))) (spot : Spot) (distance : ℕ) : Type 0 where
+  pub cell : Cell
+  pub lowest : cell.level ≡ 0
+  pub is : IsTrue (has marked cell)
+  pub near : IsSpotNear spot distance (record { column = cell.column; row = cell.row })
+
+-- anchors are noted: the cells that have one are marked, and of one spot no others
+pub record AreNoted (marked : BTreeSet (ℕ × (ℕ × ℕ))) (anchors : List PixelPlace) : Type 0 where
+  pub sizes : All IsAnchor anchors
+  pub each : All (λ p. IsMarked marked (spot_of p)) anchors
+  pub only : (cell : Cell) → cell.level ≡ 0 → IsTrue (has marked cell) → Any (λ p. cell ≡ cell_of 0 (spot_of p)) anchors

@@ -1,0 +1,210 @@
+ghost use Rattle.std.specs.Prelude.{◌≡◌, ◌⊎◌, ℕ, ◌<◌, ◌≤◌, ◌+◌, ◌^◌, IsTrue, OnOk, OnErr};
+ghost use Rattle.geom.specs.Range.{IsBelow};
+ghost use Rattle.labelcache.specs.Candidate.{IsAnchor};
+ghost use Rattle.labelcache.specs.Cells.{HasNearSpot, IsCell, IsMarked, IsSpotNear, IsWithin, apart, cell_of, child_of, has, offset, spot_of};
+
+use crate::distance::is_within;
+use geom::Pixel;
+use std::alloc::{AllocError, Global};
+use std::collections::BTreeSet;
+
+// The level of the cell that has all anchors: its sides have 2^33 pixels.
+const TOP: u8 = 33;
+
+/// A column and a row of an anchor, counted from 2^32 before the picture's first.
+#[derive(Clone, Copy)]
+pub struct Spot {
+    pub column: u64,
+    pub row: u64,
+}
+
+/// A square of 2^level pixels a side, by its column and its row of such squares.
+#[derive(Clone, Copy)]
+pub struct Cell {
+    pub level: u8,
+    pub column: u64,
+    pub row: u64,
+}
+
+/// The cells that are marked: of each a level, a column and a row.
+pub type Marked = BTreeSet<(u8, (u64, u64))>;
+
+// A column or a row, counted from 2^32 before the first.
+fn offset(position: i64) -> u64
+    requires { IsBelow (2 ^ 32) position }
+    ensures value { result ≡ offset position }
+    ensures bound { result < 2 ^ 33 }
+{
+    (position + 4_294_967_296).unsigned_abs()
+}
+
+/// The spot of an anchor.
+pub fn spot_of(anchor: Pixel) -> Spot
+    requires { IsAnchor anchor }
+    ensures value { result ≡ spot_of anchor }
+    ensures within { IsWithin result }
+{
+    Spot {
+        column: offset(anchor.i()),
+        row: offset(anchor.j()),
+    }
+}
+
+// The cell of a level that has a spot.
+fn cell_of(level: u8, spot: Spot) -> Cell
+    requires { level ≤ 33 }
+    ensures { result ≡ cell_of level spot }
+{
+    Cell {
+        level,
+        column: spot.column >> level,
+        row: spot.row >> level,
+    }
+}
+
+// A quarter of a cell.
+fn child_of(cell: Cell, right: u64, down: u64) -> Cell
+    requires level { 0 < cell.level }
+    requires right { right ≤ 1 }
+    requires down { down ≤ 1 }
+    requires columns { cell.column ≤ 2 ^ 33 }
+    requires rows { cell.row ≤ 2 ^ 33 }
+    requires cell { IsCell cell }
+    ensures value { result ≡ child_of cell right down }
+    ensures within { IsCell result }
+{
+    Cell {
+        level: cell.level - 1,
+        column: 2 * cell.column + right,
+        row: 2 * cell.row + down,
+    }
+}
+
+// Marks a cell. Where memory is refused nothing changes.
+fn mark_cell(marked: &mut Marked, cell: Cell) -> Result<(), AllocError>
+    ensures grows { (q : Cell) → IsTrue (has marked.old q) → IsTrue (has marked.new q) }
+    ensures done { OnOk result (IsTrue (has marked.new cell)) }
+    ensures only { OnOk result ((q : Cell) → IsTrue (has marked.new q) → IsTrue (has marked.old q) ⊎ (q ≡ cell)) }
+    ensures err { OnErr result ((q : Cell) → IsTrue (has marked.new q) → IsTrue (has marked.old q)) }
+{
+    match marked.insert((cell.level, (cell.column, cell.row))) {
+        Ok(_) => Ok(()),
+        Err(_) => Err(AllocError),
+    }
+}
+
+/// Marks the cells of all levels that have a spot. Where memory is refused no further spot is marked.
+///
+/// The cell of the spot alone is the last.
+pub fn mark_spot(marked: &mut Marked, spot: Spot) -> Result<(), AllocError>
+    ensures grows { (q : Cell) → IsTrue (has marked.old q) → IsTrue (has marked.new q) }
+    ensures done { OnOk result (IsMarked marked.new spot) }
+    ensures only { OnOk result ((q : Cell) → q.level ≡ 0 → IsTrue (has marked.new q) → IsTrue (has marked.old q) ⊎ (q ≡ cell_of 0 spot)) }
+    ensures err { OnErr result ((q : Cell) → q.level ≡ 0 → IsTrue (has marked.new q) → IsTrue (has marked.old q)) }
+{
+    mark_above(marked, spot)?;
+    mark_cell(marked, cell_of(0, spot))
+}
+
+// Marks the cells of all levels but the lowest that have a spot.
+fn mark_above(marked: &mut Marked, spot: Spot) -> Result<(), AllocError>
+    ensures grows { (q : Cell) → IsTrue (has marked.old q) → IsTrue (has marked.new q) }
+    ensures done { OnOk result ((level : ℕ) → 0 < level → level ≤ 33 → IsTrue (has marked.new (cell_of level spot))) }
+    ensures only { (q : Cell) → q.level ≡ 0 → IsTrue (has marked.new q) → IsTrue (has marked.old q) }
+{
+    let mut level = TOP;
+    while level > 0 {
+        mark_cell(marked, cell_of(level, spot))?;
+        level -= 1;
+    }
+    Ok(())
+}
+
+// How many pixels a side of a cell has.
+fn side_of(level: u8) -> u64
+    requires { level ≤ 33 }
+    ensures value { result ≡ 2 ^ level }
+    ensures least { 1 ≤ result }
+    ensures most { result ≤ 2 ^ 33 }
+{
+    2_u64.pow(u32::from(level))
+}
+
+// How far a position is from the nearest of so many positions from the first on.
+fn gap(first: u64, side: u64, at: u64) -> u64
+    requires side { 1 ≤ side }
+    requires end { first + side ≤ 2 ^ 34 }
+    requires at { at < 2 ^ 33 }
+    ensures least { (x : ℕ) → first ≤ x → x < first + side → result ≤ apart at x }
+    ensures exact { side ≡ 1 → result ≡ apart at first }
+{
+    if at < first {
+        first - at
+    } else if at - first < side {
+        0
+    } else {
+        at - first - (side - 1)
+    }
+}
+
+// Whether a cell may have a spot that is nearer to another than a distance.
+fn may_be_near(cell: Cell, spot: Spot, distance: u16) -> bool
+    requires level { cell.level ≤ 33 }
+    requires cell { IsCell cell }
+    requires spot { IsWithin spot }
+    ensures complete { (p : Spot) → cell ≡ cell_of cell.level p → IsSpotNear spot distance p → IsTrue result }
+    ensures sound { cell.level ≡ 0 → IsTrue result → IsSpotNear spot distance (record { column = cell.column; row = cell.row }) }
+{
+    let side = side_of(cell.level);
+    let across = gap(cell.column * side, side, spot.column);
+    let down = gap(cell.row * side, side, spot.row);
+    is_within(across, down, distance)
+}
+
+// Whether a cell is marked.
+fn has(marked: &Marked, cell: Cell) -> bool
+    ensures { result ≡ has marked.now cell }
+{
+    marked.contains(&(cell.level, (cell.column, cell.row)))
+}
+
+// Whether a cell has a marked spot that is nearer to another than a distance. Cells that are too far are passed by
+// with all that they have.
+fn finds(marked: &Marked, cell: Cell, spot: Spot, distance: u16) -> bool
+    requires level { cell.level ≤ 33 }
+    requires cell { IsCell cell }
+    requires spot { IsWithin spot }
+    ensures sound { IsTrue result → HasNearSpot marked.now spot distance }
+    ensures complete { (p : Spot) → IsMarked marked.now p → cell ≡ cell_of cell.level p → IsSpotNear spot distance p → IsTrue result }
+{
+    if !may_be_near(cell, spot, distance) || !has(marked, cell) {
+        return false;
+    }
+    if cell.level == 0 {
+        return true;
+    }
+    if finds(marked, child_of(cell, 0, 0), spot, distance) {
+        return true;
+    }
+    if finds(marked, child_of(cell, 1, 0), spot, distance) {
+        return true;
+    }
+    if finds(marked, child_of(cell, 0, 1), spot, distance) {
+        return true;
+    }
+    finds(marked, child_of(cell, 1, 1), spot, distance)
+}
+
+/// Whether a marked spot is nearer to another than a distance.
+pub fn has_near(marked: &Marked, spot: Spot, distance: u16) -> bool
+    requires { IsWithin spot }
+    ensures sound { IsTrue result → HasNearSpot marked.now spot distance }
+    ensures complete { (p : Spot) → IsWithin p → IsMarked marked.now p → IsSpotNear spot distance p → IsTrue result }
+{
+    let all = Cell {
+        level: TOP,
+        column: 0,
+        row: 0,
+    };
+    finds(marked, all, spot, distance)
+}

@@ -1,0 +1,62 @@
+ghost use Rattle.std.specs.Prelude.{◌≡◌, ◌↔◌, [], ◌∷◌, ◌++◌, IsTrue, OnOk, OnErr};
+ghost use Rattle.std.specs.List.{Any};
+ghost use Rattle.labelcache.specs.Anchors.{IsPlaceNear};
+ghost use Rattle.labelcache.specs.Candidate.{IsAnchor};
+
+use crate::cells::{Marked, has_near, mark_spot, spot_of};
+use geom::Pixel;
+use std::alloc::{AllocError, Global};
+use std::collections::BTreeSet;
+use std::marker::Model;
+
+/// Anchors in the order in which they were added. A near one is looked for in cells within cells, so that it doesn't
+/// matter how many there are and where.
+#[derive(Drop)]
+pub struct MarkedAnchors {
+    anchors: Vec<Pixel>,
+    marked: Marked,
+}
+
+impl Model for MarkedAnchors {
+    ghost use Rattle.std.specs.Prelude.{List};
+    ghost use Rattle.geom.specs.Device.{PixelPlace};
+    ghost use Rattle.labelcache.specs.Cells.{AreNoted};
+
+    ghost Value = { List PixelPlace };
+
+    ghost view = { λ p. p.anchors.items };
+
+    ghost invariant = { λ p. AreNoted p.marked p.anchors.items };
+}
+
+impl MarkedAnchors {
+    /// None. It takes no memory.
+    pub fn new(alloc: Global) -> Self
+        ensures { result ≡ [] }
+    {
+        MarkedAnchors {
+            anchors: Vec::new(alloc),
+            marked: BTreeSet::new(alloc),
+        }
+    }
+
+    /// Adds an anchor. Where memory is refused nothing changes.
+    pub fn add(&mut self, anchor: Pixel) -> Result<(), AllocError>
+        requires { IsAnchor anchor }
+        ensures ok { OnOk result (self.new ≡ self.old ++ anchor ∷ []) }
+        ensures err { OnErr result (self.new ≡ self.old) }
+    {
+        self.anchors.reserve(1)?;
+        mark_spot(&mut self.marked, spot_of(anchor))?;
+        self.anchors.push_reserved(anchor);
+        Ok(())
+    }
+
+    /// Whether one of them is nearer to an anchor than a distance.
+    pub fn has_near(&self, anchor: Pixel, distance: u16) -> bool
+        requires { IsAnchor anchor }
+        ensures { IsTrue result ↔ Any (IsPlaceNear anchor distance) self.now }
+    {
+        has_near(&self.marked, spot_of(anchor), distance)
+    }
+}
