@@ -117,11 +117,21 @@ def spiked(size):
     return {"map": whole(*layers), "script": get_map(",".join(f"l{k}" for k in range(size)), 2048) + "\n"}
 
 
-def labels(label, text):
+def spread(k):
+    """Places on a grid over the picture, of which 40,000 fill it."""
+    return (k % 200 + 0.5) / 50, (k // 200 % 200 + 0.5) / 50
+
+
+def of_one_bucket(k):
+    """Texts of 32 letters that many a hash by 31 takes for one."""
+    return "".join("BB" if k >> bit & 1 else "Aa" for bit in range(16))
+
+
+def labels(label, text, place=lambda k: (2, 2)):
     def files(size):
         drawn = table_layer(f"CLASS LABEL POSITION AUTO {label} END END")
         named = "MAP CONFIG LABELFONT a.bdf\n" + drawn + "END\n"
-        return {"map": named, "a.bdf": font(60), "a.csv": points(size, text=text), "script": get_map("a", 2048) + "\n"}
+        return {"map": named, "a.bdf": font(60), "a.csv": points(size, place, text), "script": get_map("a", 2048) + "\n"}
 
     return files
 
@@ -143,10 +153,12 @@ def hits(size):
     return {"map": whole(table_layer("CLASS END")), "a.csv": points(200_000 // PART), "script": f"QUERY {asked}&QUERY_LAYERS={names}\n"}
 
 
-def appends(size):
-    row = "APPEND 8 a\nx,y\n1,2\n"
-    batch = row * size
-    return {"map": whole(layer("a", "POINT", "")), "script": f"BATCH {len(batch)}\n{batch}"}
+def repeated(command):
+    def files(size):
+        batch = command * size
+        return {"map": whole(layer("a", "POINT", "")), "script": f"BATCH {len(batch)}\n{batch}"}
+
+    return files
 
 
 def append_batches(size):
@@ -167,10 +179,14 @@ PLAYED = [
     ("layers of a polygon of 65,536 spikes", 64, spiked),
     ("labels of one text, MINDISTANCE 4,096", 43_645, labels("MINDISTANCE 4096", lambda k: "a")),
     ("labels of different texts, FORCE", 43_645, labels("FORCE TRUE", lambda k: f"t{k}")),
+    ("labels of one text over the picture, MINDISTANCE 1", 40_000, labels("MINDISTANCE 1", lambda k: "A", spread)),
+    ("labels of texts of one bucket, MINDISTANCE 1", 40_000, labels("MINDISTANCE 1", of_one_bucket, spread)),
     ("points with a symbol of 256 by 256", 200_000, large_symbols),
     ("times one layer of 200,000 labels", 64, often_labelled),
     ("times one layer of 200,000 hits", 64, hits),
-    ("APPENDs in a batch", 1_000, appends),
+    ("CLEARs in a batch of 4 MiB", 524_288, repeated("CLEAR a\n")),
+    ("APPENDs without rows in a batch of 4 MiB", 279_620, repeated("APPEND 4 a\nx,y\n")),
+    ("APPENDs of a row in a batch", 199_998, repeated("APPEND 8 a\nx,y\n1,2\n")),
     ("batches of an APPEND", 1_000, append_batches),
 ]
 # whose size is no count that PART divides
