@@ -28,6 +28,8 @@ const byId = (id) => document.getElementById(id);
 const say = (text) => { byId("message").textContent = text; };
 const source = () => document.querySelector("input[name=source]:checked").value;
 const isTiled = () => ["png", "tiles"].includes(source());
+// as many names of QUERY_LAYERS as the front hands on
+const MOST_ASKED = 16;
 const layersOn = () => served.layers.filter((layer) => layer.input.checked);
 
 // Asking
@@ -311,9 +313,9 @@ function clickOf(layers, latlng, point) {
     return { ...picture, I: column, J: row };
 }
 
-/** Shows the features at a click, of the layers that can be asked. */
+/** Shows the features at a click, of the layers that can be asked: the topmost, as the front refuses more names. */
 async function showFeatures(event) {
-    const layers = layersOn().filter((layer) => layer.queryable);
+    const layers = layersOn().filter((layer) => layer.queryable).slice(-MOST_ASKED);
     if (layers.length === 0) {
         say("No layer that is on can be asked for its features.");
         return;
