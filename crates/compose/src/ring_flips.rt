@@ -1,4 +1,4 @@
-ghost use Rattle.std.specs.Prelude.{◌≡◌, [], map, IfOk, OnOk};
+ghost use Rattle.std.specs.Prelude.{◌≡◌, [], map, max, min, IfOk, OnOk};
 ghost use Rattle.geom.specs.EvenOdd.{edges, ring_edges};
 ghost use Rattle.viewport.specs.View.{device_point};
 ghost use Rattle.compose.specs.Chain.{AddsChain, HasChain, chain_end};
@@ -7,6 +7,7 @@ ghost use Rattle.compose.specs.Flipped.{Adds, AddsEdge, IsRun, StandFor};
 use crate::chain::{Block, FEW_VERTICES, last_of};
 use crate::run::{RowFinder, Run};
 use crate::trail::Tip;
+use clip::Rows;
 use geom::{Edge, World};
 use mapdefs::{Part, split_block};
 use scanfill::{FlipFault, RowFlips};
@@ -180,6 +181,17 @@ fn go_on(flips: &mut RowFlips, rows: &RowFinder<'_>, run: Run, to: World) -> Res
         return Ok(rows.begin(to, row));
     }
     let projection = rows.projection();
-    flips.add(Edge::new(projection.device(run.from), projection.device(to)))?;
+    let edge = Edge::new(projection.device(run.from), projection.device(to));
+    flips.add_crossing(edge, rows_between(run.row, row))?;
     Ok(rows.begin(to, row))
+}
+
+// The rows that an edge crosses whose ends are of two rows.
+fn rows_between(a: u16, b: u16) -> Rows
+    ensures { result ≡ record { from = min a b; to = max a b } }
+{
+    Rows {
+        from: a.min(b),
+        to: a.max(b),
+    }
 }
