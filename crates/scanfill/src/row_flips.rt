@@ -11,7 +11,7 @@ use crate::place::Place;
 use crate::row_spans::RowSpans;
 use crate::walk::EdgeWalk;
 use crate::work::Work;
-use clip::{Class, Rows, clamped, classify_in, rows_of};
+use clip::{Class, Rows, clamped, classify_in};
 use geom::{Edge, PictureSide};
 use std::alloc::{AllocError, Global};
 use std::marker::Model;
@@ -71,17 +71,9 @@ impl RowFlips {
         self.height = height;
     }
 
-    /// Adds the flips of an edge: one in each row that it crosses. After a fault some may have been added.
-    pub fn add(&mut self, edge: Edge) -> Result<(), FlipFault>
-        ensures sides { self.new ≡ record self.old { flips = self.new.flips } }
-        ensures counts { OnOk result ((i j : ℕ) → i < self.old.width → j < self.old.height →
-            count_by (flips_by i j) self.new.flips ≡ count_by (flips_by i j) self.old.flips + cond (crosses_at_or_left (pixel_centre (pos i) (pos j)) edge) 1 0) }
-    {
-        self.add_crossing(edge, rows_of(edge, self.height))
-    }
-
-    /// The same, where the rows that the edge crosses are known: those of `rows_of`.
-    pub fn add_crossing(&mut self, edge: Edge, rows: Rows) -> Result<(), FlipFault>
+    /// Adds the flips of an edge: one in each of the rows that it crosses, which are known. After a fault some may have
+    /// been added.
+    pub fn add(&mut self, edge: Edge, rows: Rows) -> Result<(), FlipFault>
         requires { rows ≡ rows_of edge self.old.height }
         ensures sides { self.new ≡ record self.old { flips = self.new.flips } }
         ensures counts { OnOk result ((i j : ℕ) → i < self.old.width → j < self.old.height →

@@ -13,8 +13,8 @@ returns-then-row-run-clause-edge c =
     let row : row_of c.args.rows.now c.args.to.y ≡ c.args.run.row = ap (row_of c.args.rows.now) (sym c.y.ensures) ∙ (sym c.row_of-row.ensures ∙ c.if-row-run.true) in
     run-missed c.args.rows.now c.args.run c.args.to c.args.flips.now.flips c.requires.run row
 
-pub add_crossing-requires : goal.add_crossing-requires
-add_crossing-requires c =
+pub add-requires : goal.add-requires
+add-requires c =
     let view = c.args.rows.now in
     let p : DevicePoint = device_point view c.args.run.from in
     let q : DevicePoint = device_point view c.args.to in
@@ -29,5 +29,5 @@ returns-clause-edge c = λ i j column below.
     let view = c.args.rows.now in
     let e : EdgeEnds = edge_between (device_point view c.args.run.from, device_point view c.args.to) in
     let same : c.new-edge.result ≡ e = rw (c.new-edge.ensures, c.device.ensures, c.device-2.ensures, c.projection-projection.ensures) refl in
-    added c.args.flips.now.flips c.add_crossing.new.self.flips i j (crosses_at_or_left (pixel_centre (pos i) (pos j)) e)
-    (rw same at (c.in_ok-add_crossing.ensures.counts i j (omega (arith, column, c.requires.width)) (omega (arith, below, c.requires.height))))
+    added c.args.flips.now.flips c.add.new.self.flips i j (crosses_at_or_left (pixel_centre (pos i) (pos j)) e)
+    (rw same at (c.in_ok-add.ensures.counts i j (omega (arith, column, c.requires.width)) (omega (arith, below, c.requires.height))))

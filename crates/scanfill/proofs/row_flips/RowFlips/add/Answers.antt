@@ -4,7 +4,7 @@ use Rattle.std.specs.List.{count_by}
 use Rattle.scanfill.specs.RowFlips.{RowFlipsValue, flips_by}
 use Rattle.scanfill.proofs.Shares.{drop-share, left-share, walk-share}
 use Rattle.scanfill.proofs.Sweeping.{rows-within}
-use Rattle.scanfill.proofs.row_flips.RowFlips.add_crossing.Goals as goal
+use Rattle.scanfill.proofs.row_flips.RowFlips.add.Goals as goal
 
 pub add_left-requires-clause-within : goal.add_left-requires-clause-within
 add_left-requires-clause-within c =
