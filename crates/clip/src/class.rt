@@ -1,7 +1,7 @@
 ghost use Rattle.std.specs.Prelude.{◌≡◌, ◌^◌, pos, ◌-ℤ◌};
 ghost use Rattle.geom.specs.Device.{centre};
 ghost use Rattle.geom.specs.Range.{IsBelow};
-ghost use Rattle.clip.specs.Class.{class_of, IsClass, is_left_of_view, is_right_of_view};
+ghost use Rattle.clip.specs.Class.{class_of, IsClass, is_left_of_view, is_right_of_view, rows_of};
 
 use crate::rows::{Rows, rows_of};
 use geom::{Edge, PictureSide};
@@ -24,12 +24,20 @@ pub enum Class {
 }
 
 /// The class of an edge, on a picture of that width and height. It takes no memory.
-#[tactic(auto, unfolding(crate::specs::Class::class_of))]
 pub fn classify(edge: Edge, width: PictureSide, height: PictureSide) -> Class
     ensures class { result ≡ class_of edge width height }
     ensures cases { IsClass edge width height result }
 {
-    let rows = rows_of(edge, height);
+    classify_in(edge, rows_of(edge, height), width, height)
+}
+
+/// The same, where the rows that the edge crosses are known.
+#[tactic(auto, unfolding(crate::specs::Class::class_of))]
+pub fn classify_in(edge: Edge, rows: Rows, width: PictureSide, height: PictureSide) -> Class
+    requires { rows ≡ rows_of edge height }
+    ensures class { result ≡ class_of edge width height }
+    ensures cases { IsClass edge width height result }
+{
     if rows.is_empty() || is_right_of_view(edge, width) {
         return Class::Drop;
     }

@@ -13,6 +13,6 @@ mod class;
 mod index;
 mod rows;
 
-pub use class::{Class, classify};
+pub use class::{Class, classify, classify_in};
 pub use index::clamped;
 pub use rows::{Rows, rows_of};

@@ -1,5 +1,5 @@
 -- Flips that stand for the edges of rings.
-use Rattle.std.proofs.Common.{◌≡◌, ◌∙◌, ℕ, ◌+◌, ◌*◌, ◌<◌, ◌≤◌, min, Bool, true, false, not, if◌then◌else◌, cond, List, [], ◌∷◌, ◌++◌, map, take, drop, suc, add-one, append-nil, append_assoc, length, get_or, refl, sym, ap, arith}
+use Rattle.std.proofs.Common.{◌≡◌, ◌∙◌, ℕ, ◌+◌, ◌*◌, ◌<◌, ◌≤◌, max, min, Bool, true, false, not, if◌then◌else◌, cond, List, [], ◌∷◌, ◌++◌, map, take, drop, suc, add-one, append-nil, append_assoc, length, get_or, refl, sym, ap, arith}
 use Rattle.std.proofs.lemmas.Bool.{and_left}
 use Rattle.std.proofs.Math.Seq.{drop-cons}
 use Rattle.std.proofs.lemmas.List.{take_more}
@@ -15,10 +15,11 @@ use Rattle.geom.specs.Edge.{EdgeEnds, crosses_height, crosses_at_or_left, meets_
 use Rattle.geom.specs.EvenOdd.{edge_between, edges, is_covered, is_odd, ring_edges}
 use Rattle.geom.specs.Laws.{is_one_of}
 use Rattle.geom.specs.World.{Place}
-use Rattle.geom.proofs.Products.{mul-sub, product_nonneg}
+use Rattle.geom.proofs.Products.{le_of, mul-sub, not_le_of, product_nonneg}
 use Rattle.geom.proofs.Rings.{closing_edges}
 use Rattle.geom.proofs.Quotients.{at_most-by_product, quotient_parts}
-use Rattle.clip.specs.Class.{at_least_zero, first_row}
+use Rattle.clip.specs.Class.{at_least_zero, first_row, rows_of}
+use Rattle.clip.specs.declared.rows.Rows.{Rows}
 use Rattle.clip.proofs.Rowed.{first_row-at_most}
 use Rattle.viewport.specs.View.{ViewValue, device_point, sixteenths}
 use Rattle.scanfill.specs.RowFlips.{is_pixel_flipped, flips_by}
@@ -107,10 +108,34 @@ covered-cons e es p =
     ∙ (odd-add (cond {A = ℕ} (crosses_at_or_left p e) 1 0) (count_by (crosses_at_or_left p) es)
     ∙ ap (λ b. is_one_of b (is_covered es p)) (odd-one (crosses_at_or_left p e)))
 
+-- the rows that an edge crosses lie between those of its ends
+abbrev pub between : ℕ → ℕ → Rows
+between a b = record { from = min a b; to = max a b }
+
+pub rows-crossed : (p q : DevicePoint) (h : ℕ) → between (first_row p.y h) (first_row q.y h) ≡ rows_of (edge_between (p, q)) h
+rows-crossed p q h = go (int_le p.y q.y) refl
+  where
+    go : (t : Bool) → int_le p.y q.y ≡ t → between (first_row p.y h) (first_row q.y h) ≡ rows_of (edge_between (p, q)) h
+    go true e =
+        let up : first_row p.y h ≤ first_row q.y h = first_row-rising p.y q.y h (le_of p.y q.y e) in
+        let least : min (first_row p.y h) (first_row q.y h) ≡ first_row p.y h = omega (arith, up) in
+        let most : max (first_row p.y h) (first_row q.y h) ≡ first_row q.y h = omega (arith, up) in
+        rw (least, most, e) refl
+    go false e =
+        let below : q.y ≤ℤ p.y = omega (arith, ints, not_le_of p.y q.y e) in
+        let down : first_row q.y h ≤ first_row p.y h = first_row-rising q.y p.y h below in
+        let least : min (first_row p.y h) (first_row q.y h) ≡ first_row q.y h = omega (arith, down) in
+        let most : max (first_row p.y h) (first_row q.y h) ≡ first_row p.y h = omega (arith, down) in
+        rw (least, most, e) refl
+
+-- the row of a run is that of its last vertex
+pub run-row : (view : ViewValue) (run : Run) → IsRun view run → row_of view run.from.y ≡ run.row
+run-row view run is = row-between view run.low run.high run.from.y run.row is.rows is.low is.high is.least is.most
+
 -- a vertex of the run's row adds nothing
 pub run-missed : (view : ViewValue) (run : Run) (to : Place) (flips : List ℕ) → IsRun view run → row_of view to.y ≡ run.row → AddsEdge view flips run.from to flips
 run-missed view run to flips is row i j column below =
-    let from : row_of view run.from.y ≡ run.row = row-between view run.low run.high run.from.y run.row is.rows is.low is.high is.least is.most in
+    let from : row_of view run.from.y ≡ run.row = run-row view run is in
     sym (ap (λ b. is_one_of (is_pixel_flipped flips i j) b) (row-missed (edge_between (device_point view run.from, device_point view to)) view.height i j (from ∙ sym row) below)
     ∙ one-false (is_pixel_flipped flips i j))
 

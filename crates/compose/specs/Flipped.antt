@@ -9,6 +9,7 @@ use Rattle.clip.specs.Class.{first_row}
 use Rattle.scanfill.specs.RowFlips.{is_pixel_flipped}
 use Rattle.viewport.specs.View.{ViewValue, device_point, sixteenths}
 use Rattle.compose.specs.declared.latitudes.Band.{Band}
+use Rattle.compose.specs.declared.run.Corner.{Corner}
 use Rattle.compose.specs.declared.run.Run.{Run}
 
 -- the first of the rows of a picture from one latitude to another whose pixel centres lie at a latitude or below it, or their number
@@ -42,6 +43,11 @@ pub record IsRun (view : ViewValue) (run : Run) : Type 0 where
   pub least : run.low ≤ℤ run.from.y
   pub most : run.from.y ≤ℤ run.high
   pub rows : view.area.miny <ℤ view.area.maxy
+
+-- a corner is where its place lies, and of that row
+pub record IsCorner (view : ViewValue) (corner : Corner) : Type 0 where
+  pub at : corner.at ≡ device_point view corner.from
+  pub row : corner.row ≡ first_row corner.at.y view.height
 
 -- by the flips those pixels of the picture lie inside that the edges cover
 pub record StandFor (view : ViewValue) (flips : List ℕ) (whole : List EdgeEnds) : Type 0 where

@@ -1,8 +1,8 @@
-ghost use Rattle.std.specs.Prelude.{◌≡◌, [], ◌*◌, ◌+◌, ◌≤◌, ◌<◌, All, Some, length, replicate, IfOk};
-ghost use Rattle.scanfill.specs.Runs.{is_in_spans};
-ghost use Rattle.compose.specs.Painted.{HasRowsFilled};
+ghost use Rattle.std.specs.Prelude.{◌≡◌, [], ◌*◌, ◌+◌, ◌≤◌, ◌<◌, ◌&&◌, All, Some, length, replicate, IfOk};
+ghost use Rattle.scanfill.specs.Runs.{has_column, is_in_spans};
+ghost use Rattle.compose.specs.Painted.{HasRowsFilled, IsFilled};
 
-use crate::colouring::{ColouredSpans, Colouring};
+use crate::colouring::{ColouredSpans, Colouring, fill_box, fill_rows};
 use crate::latitudes::RowLatitudes;
 use geom::PictureSide;
 use mapdefs::{Items, Picture, PictureFields, PixelColour, Rgb};
@@ -119,6 +119,27 @@ impl Canvas {
         let width = usize::from(self.width.pixels());
         let start = usize::from(j) * width;
         colouring.fill(&mut self.pixels[start..start + width]);
+    }
+
+    /// Gives the colour to the pixels in some columns and some rows.
+    pub fn fill_box(&mut self, columns: Span, rows: Span, colour: Rgb)
+        requires order { columns.from ≤ columns.to }
+        requires columns { columns.to ≤ self.old.width }
+        requires rows { rows.to ≤ self.old.height }
+        ensures { IsFilled (λ i j. has_column columns i && has_column rows j) (λ i j. Some colour) self.old self.new }
+    {
+        let width = self.width.pixels();
+        fill_box(&mut self.pixels, width, columns, rows, colour);
+    }
+
+    /// Gives the colour to the pixels of a column in some rows.
+    pub fn fill_column(&mut self, column: u16, rows: Span, colour: Rgb)
+        requires column { column < self.old.width }
+        requires rows { rows.to ≤ self.old.height }
+        ensures { IsFilled (λ i j. has_column (record { from = column; to = column + 1 }) i && has_column rows j) (λ i j. Some colour) self.old self.new }
+    {
+        let width = self.width.pixels();
+        fill_rows(&mut self.pixels, width, column, 1, rows, colour);
     }
 
     /// The picture as it has been painted.

@@ -1,8 +1,8 @@
-ghost use Rattle.std.specs.Prelude.{◌≡◌, ℕ, ◌+◌, ◌<◌, ◌≤◌, Bool, if◌then◌else◌, length, All, Option, Some};
+ghost use Rattle.std.specs.Prelude.{◌≡◌, ℕ, ◌+◌, ◌*◌, ◌<◌, ◌≤◌, ◌&&◌, Bool, if◌then◌else◌, length, All, Option, Some};
 ghost use Rattle.mapdefs.specs.declared.colour.Rgb.{Rgb as RgbValue};
 ghost use Rattle.scanfill.specs.Runs.{has_column, is_in_spans};
 ghost use Rattle.symbols.specs.Stamp.{is_coloured, is_transparent, pixel_from};
-ghost use Rattle.compose.specs.Painted.{colour_of};
+ghost use Rattle.compose.specs.Painted.{AreFilled, colour_of};
 
 use mapdefs::{PixelColour, Rgb};
 use scanfill::Span;
@@ -52,6 +52,56 @@ fn fill_span(row: &mut [PixelColour], span: Span, colour: Rgb)
     ensures { (i : ℕ) → colour_of row.new i ≡ (if has_column span i then Some colour else colour_of row.old i) }
 {
     row[usize::from(span.from)..usize::from(span.to)].fill(PixelColour::new(Some(colour)));
+}
+
+/// Gives the colour to the pixels in some columns and some rows of a picture that is so many pixels wide. A number of
+/// columns that is known when this is compiled takes a store or two a row.
+pub fn fill_box(pixels: &mut [PixelColour], width: u16, columns: Span, rows: Span, colour: Rgb)
+    requires some { 0 < width }
+    requires order { columns.from ≤ columns.to }
+    requires columns { columns.to ≤ width }
+    requires rows { rows.to * width ≤ length pixels.old }
+    ensures area { length pixels.new ≡ length pixels.old }
+    ensures filled { AreFilled (λ i j. has_column columns i && has_column rows j) (λ i j. Some colour) width pixels.old pixels.new }
+{
+    let from = columns.from;
+    match columns.to - from {
+        1 => fill_rows(pixels, width, from, 1, rows, colour),
+        3 => fill_rows(pixels, width, from, 3, rows, colour),
+        5 => fill_rows(pixels, width, from, 5, rows, colour),
+        count => fill_rows(pixels, width, from, count, rows, colour),
+    }
+}
+
+/// Gives the colour to the pixels of so many columns from one on, in some rows of a picture that is so many pixels wide.
+pub fn fill_rows(
+    pixels: &mut [PixelColour],
+    width: u16,
+    from: u16,
+    count: u16,
+    rows: Span,
+    colour: Rgb,
+)
+    requires some { 0 < width }
+    requires columns { from + count ≤ width }
+    requires rows { rows.to * width ≤ length pixels.old }
+    ensures area { length pixels.new ≡ length pixels.old }
+    ensures filled { AreFilled (λ i j. has_column (record { from = from; to = from + count }) i && has_column rows j) (λ i j. Some colour) width pixels.old pixels.new }
+{
+    let stride = usize::from(width);
+    for row in rows.from..rows.to {
+        let start = usize::from(row) * stride;
+        fill_run(&mut pixels[start..start + stride], from, count, colour);
+    }
+}
+
+// Gives the colour to the pixels of so many columns of a row from one on.
+fn fill_run(row: &mut [PixelColour], from: u16, count: u16, colour: Rgb)
+    requires { from + count ≤ length row.old }
+    ensures { (i : ℕ) → colour_of row.new i ≡ (if has_column (record { from = from; to = from + count }) i then Some colour else colour_of row.old i) }
+{
+    let first = usize::from(from);
+    row[first..first + usize::from(count)].fill(PixelColour::new(Some(colour)));
 }
 
 impl Colouring for RowPixels<'_> {

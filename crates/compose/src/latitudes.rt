@@ -134,9 +134,9 @@ fn southward(latitude: Coordinate) -> Coordinate {
     }
 }
 
-// The first row whose pixel centres lie at that height or below it, or the picture's height.
+/// The first row whose pixel centres lie at that height or below it, or the picture's height.
 #[tactic(auto, unfolding(clip::specs::Class::first_row))]
-fn first_row(y: i64, height: PictureSide) -> u16
+pub fn first_row(y: i64, height: PictureSide) -> u16
     requires { IsBelow (2 ^ 47) y }
     ensures { result ≡ first_row y height }
 {

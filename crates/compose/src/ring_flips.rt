@@ -1,12 +1,17 @@
-ghost use Rattle.std.specs.Prelude.{◌≡◌, [], map, IfOk, OnOk};
-ghost use Rattle.geom.specs.EvenOdd.{edges, ring_edges};
+ghost use Rattle.std.specs.Prelude.{◌≡◌, ℕ, ◌<◌, [], map, max, min, pos, IfOk, OnOk};
+ghost use Rattle.geom.specs.Device.{pixel_centre};
+ghost use Rattle.geom.specs.Edge.{crosses_at_or_left};
+ghost use Rattle.geom.specs.EvenOdd.{edge_between, edges, ring_edges};
+ghost use Rattle.geom.specs.Laws.{is_one_of};
+ghost use Rattle.clip.specs.Class.{first_row};
+ghost use Rattle.scanfill.specs.RowFlips.{is_pixel_flipped};
 ghost use Rattle.viewport.specs.View.{device_point};
 ghost use Rattle.compose.specs.Chain.{AddsChain, HasChain, chain_end};
-ghost use Rattle.compose.specs.Flipped.{Adds, AddsEdge, IsRun, StandFor};
+ghost use Rattle.compose.specs.Flipped.{Adds, AddsEdge, IsCorner, IsRun, StandFor};
 
 use crate::chain::{Block, FEW_VERTICES, last_of};
-use crate::run::{RowFinder, Run};
-use crate::trail::Tip;
+use crate::run::{Corner, RowFinder, Run};
+use clip::Rows;
 use geom::{Edge, World};
 use mapdefs::{Part, split_block};
 use scanfill::{FlipFault, RowFlips};
@@ -53,35 +58,47 @@ fn add_small(flips: &mut RowFlips, rows: &RowFinder<'_>, ring: &[World]) -> Resu
     let Some((first, rest)) = ring.split_first() else {
         return Ok(());
     };
-    let from = *first;
-    let at = rows.projection().device(from);
-    let end = add_few(flips, rows, Tip { from, at }, rest)?;
-    flips.add(Edge::new(end.at, at))?;
-    Ok(())
+    let start = rows.corner(*first);
+    let end = add_few(flips, rows, &start, rest)?;
+    add_edge(flips, &end, &start)
 }
 
-// Adds the flips of the edges from a vertex over those that follow. Each is projected once, and none is skipped.
+// Adds the flips of the edges from a vertex over those that follow. Each is projected once.
 fn add_few(
     flips: &mut RowFlips,
     rows: &RowFinder<'_>,
-    mut tip: Tip,
+    start: &Corner,
     rest: &[World],
-) -> Result<Tip, FlipFault>
+) -> Result<Corner, FlipFault>
     requires width { flips.old.width ≡ rows.now.width }
     requires height { flips.old.height ≡ rows.now.height }
-    requires at { tip.at ≡ device_point rows.now tip.from }
+    requires corner { IsCorner rows.now start.now }
     ensures sides { flips.new ≡ record flips.old { flips = flips.new.flips } }
-    ensures from { IfOk result (λ end. end.from ≡ chain_end tip.from rest.now) }
-    ensures at { IfOk result (λ end. end.at ≡ device_point rows.now end.from) }
-    ensures adds { OnOk result (AddsChain rows.now flips.old.flips tip.from rest.now flips.new.flips) }
+    ensures from { IfOk result (λ end. end.from ≡ chain_end start.now.from rest.now) }
+    ensures corner { IfOk result (λ end. IsCorner rows.now end) }
+    ensures adds { OnOk result (AddsChain rows.now flips.old.flips start.now.from rest.now flips.new.flips) }
 {
-    let projection = rows.projection();
+    let mut corner = *start;
     for to in rest {
-        let at = projection.device(*to);
-        flips.add(Edge::new(tip.at, at))?;
-        tip = Tip { from: *to, at };
+        let next = rows.corner(*to);
+        add_edge(flips, &corner, &next)?;
+        corner = next;
     }
-    Ok(tip)
+    Ok(corner)
+}
+
+// Adds the flips of the edge between two vertices. Within a row it crosses none.
+fn add_edge(flips: &mut RowFlips, from: &Corner, to: &Corner) -> Result<(), FlipFault>
+    requires from { from.now.row ≡ first_row from.now.at.y flips.old.height }
+    requires to { to.now.row ≡ first_row to.now.at.y flips.old.height }
+    ensures sides { flips.new ≡ record flips.old { flips = flips.new.flips } }
+    ensures edge { OnOk result ((i j : ℕ) → i < flips.old.width → j < flips.old.height → is_pixel_flipped flips.new.flips i j ≡
+        is_one_of (is_pixel_flipped flips.old.flips i j) (crosses_at_or_left (pixel_centre (pos i) (pos j)) (edge_between (from.now.at, to.now.at)))) }
+{
+    if from.row == to.row {
+        return Ok(());
+    }
+    flips.add(Edge::new(from.at, to.at), rows_between(from.row, to.row))
 }
 
 // Adds the flips of a ring, block by block.
@@ -180,6 +197,17 @@ fn go_on(flips: &mut RowFlips, rows: &RowFinder<'_>, run: Run, to: World) -> Res
         return Ok(rows.begin(to, row));
     }
     let projection = rows.projection();
-    flips.add(Edge::new(projection.device(run.from), projection.device(to)))?;
+    let edge = Edge::new(projection.device(run.from), projection.device(to));
+    flips.add(edge, rows_between(run.row, row))?;
     Ok(rows.begin(to, row))
+}
+
+// The rows that an edge crosses whose ends are of two rows.
+fn rows_between(a: u16, b: u16) -> Rows
+    ensures { result ≡ record { from = min a b; to = max a b } }
+{
+    Rows {
+        from: a.min(b),
+        to: a.max(b),
+    }
 }

@@ -3,10 +3,10 @@ ghost use Rattle.geom.specs.Range.{IsBelow};
 ghost use Rattle.geom.specs.World.{IsExtent};
 ghost use Rattle.clip.specs.Class.{first_row};
 ghost use Rattle.compose.specs.Chain.{is_left, is_right};
-ghost use Rattle.compose.specs.Flipped.{IsRun, row_of};
+ghost use Rattle.compose.specs.Flipped.{IsCorner, IsRun, row_of};
 
-use crate::latitudes::{Band, RowLatitudes, row_at};
-use geom::{Coordinate, World};
+use crate::latitudes::{Band, RowLatitudes, first_row, row_at};
+use geom::{Coordinate, Device, World};
 use mapdefs::BlockBox;
 use std::marker::Model;
 use viewport::Projection;
@@ -28,6 +28,15 @@ impl Run {
     {
         is_at_most(self.low, latitude) && is_at_most(latitude, self.high)
     }
+}
+
+/// A vertex of a ring: its place, where it lies on the picture, and the first row whose pixel centres lie at it or below
+/// it, or the picture's height.
+#[derive(Clone, Copy)]
+pub struct Corner {
+    pub from: World,
+    pub at: Device,
+    pub row: u16,
 }
 
 /// Finds the rows of a picture by latitudes.
@@ -71,6 +80,16 @@ impl<'a> RowFinder<'a> {
         ensures { result ≡ row_of self.now latitude }
     {
         row_at(self.projection, latitude)
+    }
+
+    /// The corner of a ring at a place.
+    pub fn corner(&self, from: World) -> Corner
+        ensures from { result.from ≡ from }
+        ensures corner { IsCorner self.now result }
+    {
+        let at = self.projection.device(from);
+        let row = first_row(at.y(), self.projection.height());
+        Corner { from, at, row }
     }
 
     /// The run that begins with a vertex of that row.

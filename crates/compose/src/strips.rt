@@ -3,10 +3,8 @@ ghost use Rattle.geom.specs.Device.{pixel_centre};
 ghost use Rattle.strokes.specs.Segment.{covers_by_rows, turned};
 ghost use Rattle.compose.specs.Painted.{IsFilled};
 
-use crate::boxes::fill_box;
 use crate::canvas::Canvas;
 use mapdefs::Rgb;
-use scanfill::Span;
 use strokes::Strip;
 
 /// Gives the colour to the pixels that a strip covers, row by row.
@@ -20,11 +18,7 @@ pub fn fill_down(canvas: &mut Canvas, strip: Strip, colour: Rgb)
     }
     let mut walk = strip.walk(rows.from);
     for row in rows.from..rows.to {
-        let here = Span {
-            from: row,
-            to: row + 1,
-        };
-        fill_box(canvas, walk.columns(width), here, colour);
+        canvas.fill_row(row, &[walk.columns(width)], colour);
         walk.next();
     }
 }
@@ -40,11 +34,7 @@ pub fn fill_across(canvas: &mut Canvas, strip: Strip, colour: Rgb)
     }
     let mut walk = strip.walk(columns.from);
     for column in columns.from..columns.to {
-        let here = Span {
-            from: column,
-            to: column + 1,
-        };
-        fill_box(canvas, here, walk.columns(height), colour);
+        canvas.fill_column(column, walk.columns(height), colour);
         walk.next();
     }
 }

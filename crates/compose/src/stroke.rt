@@ -10,7 +10,7 @@ ghost use Rattle.compose.specs.Chain.{HasChain, chain_end};
 ghost use Rattle.compose.specs.Painted.{IsFilled};
 ghost use Rattle.compose.specs.Stroked.{HasAlready, IsOf, IsTip, IsTrail, chain_covers, part_covers, pen_covers, segment_covers, step_covers, vertex_covers};
 
-use crate::boxes::fill_square;
+use crate::boxes::{fill_pixel, fill_square};
 use crate::canvas::Canvas;
 use crate::chain::{Block, FEW_VERTICES, last_of};
 use crate::pen::{Pen, has_box, has_place};
@@ -284,6 +284,10 @@ fn fill_segment(canvas: &mut Canvas, edge: Edge, width: u8, colour: Rgb)
 fn fill_vertex(canvas: &mut Canvas, pen: &Pen<'_>, vertex: Device)
     ensures { IsFilled (vertex_covers pen.now.width vertex) (λ i j. Some pen.now.colour) canvas.old canvas.new }
 {
-    let square = Square::new(vertex.pixel(), u16::from(pen.width()));
-    fill_square(canvas, square, pen.colour());
+    let (pixel, width) = (vertex.pixel(), pen.width());
+    if width == 1 {
+        fill_pixel(canvas, pixel, pen.colour());
+        return;
+    }
+    fill_square(canvas, Square::new(pixel, u16::from(width)), pen.colour());
 }

@@ -2,7 +2,7 @@ ghost use Rattle.std.specs.Prelude.{◌≡◌, ℕ, ◌+◌, ◌*◌, ◌≤◌,
 ghost use Rattle.geom.specs.Device.{pixel_centre};
 ghost use Rattle.geom.specs.Edge.{crosses_at_or_left};
 ghost use Rattle.geom.specs.Range.{IsBelow};
-ghost use Rattle.clip.specs.Class.{crosses_row, has_row};
+ghost use Rattle.clip.specs.Class.{crosses_row, has_row, rows_of};
 ghost use Rattle.geom.specs.declared.side.TheConstants.{MAX_PICTURE_SIDE};
 ghost use Rattle.scanfill.specs.Column.{CrossesRows, column_of};
 ghost use Rattle.scanfill.specs.RowFlips.{AreRising, index_of, is_pixel_flipped, flips_by};
@@ -11,7 +11,7 @@ use crate::place::Place;
 use crate::row_spans::RowSpans;
 use crate::walk::EdgeWalk;
 use crate::work::Work;
-use clip::{Class, Rows, clamped, classify};
+use clip::{Class, Rows, clamped, classify_in};
 use geom::{Edge, PictureSide};
 use std::alloc::{AllocError, Global};
 use std::marker::Model;
@@ -71,13 +71,15 @@ impl RowFlips {
         self.height = height;
     }
 
-    /// Adds the flips of an edge: one in each row that it crosses. After a fault some may have been added.
-    pub fn add(&mut self, edge: Edge) -> Result<(), FlipFault>
+    /// Adds the flips of an edge: one in each of the rows that it crosses, which are known. After a fault some may have
+    /// been added.
+    pub fn add(&mut self, edge: Edge, rows: Rows) -> Result<(), FlipFault>
+        requires { rows ≡ rows_of edge self.old.height }
         ensures sides { self.new ≡ record self.old { flips = self.new.flips } }
         ensures counts { OnOk result ((i j : ℕ) → i < self.old.width → j < self.old.height →
             count_by (flips_by i j) self.new.flips ≡ count_by (flips_by i j) self.old.flips + cond (crosses_at_or_left (pixel_centre (pos i) (pos j)) edge) 1 0) }
     {
-        match classify(edge, self.width, self.height) {
+        match classify_in(edge, rows, self.width, self.height) {
             Class::Drop => Ok(()),
             Class::LeftOfView { rows } => self.add_left(rows),
             Class::Walk { rows } => self.add_walked(edge, rows),

@@ -29,5 +29,5 @@ mod strip;
 pub use line::Line;
 pub use neighbours::are_neighbours;
 pub use segment::{Segment, is_steep};
-pub use square::Square;
+pub use square::{Square, single_column};
 pub use strip::{RowWalk, Strip, is_small};

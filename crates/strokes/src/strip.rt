@@ -144,8 +144,8 @@ fn columns_after(column: i64, width: u8, end: u16) -> Span
 {
     let last = column + i64::from(width);
     Span {
-        from: clamped(i128::from(column) + 1, end),
-        to: clamped(i128::from(last) + 1, end),
+        from: clamped(i128::from(column + 1), end),
+        to: clamped(i128::from(last + 1), end),
     }
 }
 

@@ -12,4 +12,4 @@ returns c =
     c.across-columns.ensures.all i (omega (arith, h, c.pixels.ensures.value, c.width.ensures.value)) in
     let down : (j : ℕ) → j < c.args.canvas.now.height → has_column c.down-rows.result j ≡ is_beside s.size s.pixel.j (pos j) = λ j h.
     c.down-rows.ensures.all j (omega (arith, h, c.pixels-2.ensures.value, c.height.ensures)) in
-    filled-square s c.across-columns.result c.down-rows.result (λ i j. Some c.args.colour) c.args.canvas.now c.fill_box.new.canvas c.width.ensures.area across down c.fill_box.ensures
+    filled-square s c.across-columns.result c.down-rows.result (λ i j. Some c.args.colour) c.args.canvas.now c.fill_box.new.self c.width.ensures.area across down c.fill_box.ensures
