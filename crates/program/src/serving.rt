@@ -1,4 +1,4 @@
-ghost use Rattle.std.specs.Prelude.{◌≡◌, ℕ, List, IfErr, IfOk, IfSome, Some, None, is_some, true, false};
+ghost use Rattle.std.specs.Prelude.{◌≡◌, ℕ, List, IfErr, IfOk, IfSome, Some, None, is_some, true, false, vec_len};
 ghost use Rattle.console.specs.Streams.{LeavesOutput, is_input_failed};
 ghost use Rattle.program.specs.Journals.{IsOpened, IsUnopened, map_fingerprint};
 ghost use Rattle.program.specs.Performing.{HostView, ServesMachine, ServesMap};
@@ -34,6 +34,7 @@ fn listen_on<H: Host>(host: &H, port: u16) -> Result<H::Port, Failure>
 
 // A poller for each of so many workers.
 fn pollers_of<H: Host>(alloc: Global, host: &H, workers: u16) -> Result<Vec<H::Poller>, Failure>
+    ensures number { IfOk result (λ pollers. vec_len pollers ≡ workers) }
     ensures failed { IfErr result (λ failure. is_service_failure failure ≡ true) }
 {
     let mut pollers = Vec::new(alloc);
@@ -75,6 +76,7 @@ fn listen<H: Host>(
     ensures clients { IfOk result (λ ports. H.listens host.now service.port ports.clients.port) }
     ensures administration { IfOk result (λ ports. H.listens host.now service.admin_port ports.administration.port) }
     ensures service { IfOk result (λ ports. ports.service ≡ service) }
+    ensures pollers { IfOk result (λ ports. vec_len ports.pollers ≡ service.workers) }
     ensures until { IfOk result (λ ports. is_some ports.until ≡ service.until_input_ends) }
     ensures failed { IfErr result (λ failure. is_service_failure failure ≡ true) }
 {

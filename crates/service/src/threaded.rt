@@ -53,7 +53,7 @@ fn start_clients<S, R, C, T, P, Q, W>(
     readers: Vec<Reader<S>>,
     side: ClientSide<P, Q, R>,
     signals: ClientSignals<W>,
-) -> Option<JoinHandle<Result<(), Failure>>>
+) -> Result<JoinHandle<Result<(), Failure>>, Failure>
 where
     S: Sharing + Send + Sync + 'static,
     R: Runtime,
@@ -62,13 +62,14 @@ where
     P: Port<C> + Send + Drop + 'static,
     Q: Poller<T> + Send + Drop + 'static,
     W: Wakes + Send + Drop + 'static,
+    ensures failed { IfErr result (λ failure. is_service_failure failure ≡ true) }
 {
     let handle = *rt;
     match thread::spawn(rt, move || {
         serve_all::<S, R, C, T, P, Q, W>(&handle, readers, side, &signals)
     }) {
-        Ok(child) => Some(child),
-        Err(_) => None,
+        Ok(child) => Ok(child),
+        Err(_) => Err(Failure::SocketFailed),
     }
 }
 
@@ -141,15 +142,12 @@ where
         service,
         log: logs.clients,
     };
-    let child = start_clients::<S, R, N::Connection, N::Transport, N::Port, N::Poller, N::Waker>(
+    let clients = start_clients::<S, R, N::Connection, N::Transport, N::Port, N::Poller, N::Waker>(
         rt,
         readers,
         side,
         signals.clients,
-    );
-    let Some(clients) = child else {
-        return Err(Failure::SocketFailed);
-    };
+    )?;
     Ok(Started {
         clients,
         administering: Administering {
