@@ -103,7 +103,11 @@ def tried(shim, name, right):
     for first in range(1, MOST):
         got, asked, _ = shim.run(name, FAIL_FIRST=first)
         if asked < first:
-            return (first - 1, without), again, wrong + ([] if got == right else [got])
+            wrong += [] if got == right else [got]
+            # the library that refuses has no effect, or the call takes no memory any more
+            wrong += ["no growth was refused"] if first == 1 else []
+            wrong += ["no batch was held"] if name == "submit" and again is None else []
+            return (first - 1, without), again, wrong
         without += got == right
         if got != right and not may_be(name, got, right):
             wrong.append(f"growth {first}: {got}")
