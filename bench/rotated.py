@@ -1,8 +1,8 @@
 #!/usr/bin/env python3
 """Tries `deploy/rotate`: whether a new journal of what it writes has the map of the old one. Usage: rotated.py PROGRAM [ROUNDS [SEED]]
 
-In each of ROUNDS, 20 where it isn't given, a server with a journal gets up to 60 batches by lot and is killed; every third time the
-journal ends within a record. What is written of the journal is sent by `deploy/batch` to a server with a new one, which is killed and
+In each of ROUNDS, 20 where it isn't given, a server with a journal gets up to 60 batches by lot, in the first none, and is killed; every third
+time the journal ends within a record. What is written of the journal is sent by `deploy/batch` to a server with a new one, which is killed and
 started again: its picture and what it tells of its features have to be those of all batches, worked out by the rules. A journal with
 a changed byte has to be refused, or to lack its last record, and a file that is none to be refused. It ends with 1 where something else came out.
 """
@@ -76,7 +76,7 @@ def send(folder, server, to):
 
 def attempt(program, folder, chance, number):
     old, new, to = (f"{number}.{name}" for name in ("old", "new", "rotated"))
-    batches = [batch_by_lot(chance, f"{number}-{count}") for count in range(chance.randrange(60))]
+    batches = [batch_by_lot(chance, f"{number}-{count}") for count in range(chance.randrange(60) if number > 1 else 0)]
     with Server(program, folder, old) as server:
         submit(server, batches)
     with open(os.path.join(folder, old), "ab") as file:
@@ -127,7 +127,8 @@ def main():
         try:
             for number in range(1, rounds + 1):
                 attempt(os.path.abspath(words[0]), folder, chance, number)
-            changed(folder, chance, "2.old")
+            journals = [f"{number}.old" for number in range(1, rounds + 1)]
+            changed(folder, chance, max(journals, key=lambda name: os.path.getsize(os.path.join(folder, name))))
             refused(folder)
         except Wrong as why:
             sys.exit(f"wrong: {why}")
