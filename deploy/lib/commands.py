@@ -46,13 +46,18 @@ def command_of(text, standard_input):
     return Command(text, b"APPEND %d %s\n%s" % (len(table), os.fsencode(words[2]), table), table)
 
 
+def lines_of(text):
+    """The lines of a text, which LF ends or CR and LF: a layer's name may have other characters that end lines elsewhere."""
+    return [line.removesuffix("\r") for line in text.removesuffix("\n").split("\n")] if text else []
+
+
 def commands_of(texts, standard_input):
     """The commands; where one text is -, its lines on standard input are commands."""
     if sum(text == "-" or text.startswith("APPEND - ") for text in texts) > 1:
         raise Unreadable("standard input is named twice, and can be read once")
     found = []
     for text in texts:
-        lines = os.fsdecode(table_of("-", standard_input)).splitlines() if text == "-" else [text]
+        lines = lines_of(os.fsdecode(table_of("-", standard_input))) if text == "-" else [text]
         if text == "-" and any(line.startswith("APPEND - ") for line in lines):
             raise Unreadable("APPEND - stands among the commands on standard input: name a file there")
         found += [command_of(line, standard_input) for line in lines]

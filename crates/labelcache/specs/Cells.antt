@@ -13,6 +13,7 @@ use Rattle.labelcache.specs.declared.cells.Spot.{Spot}
 abbrev pub offset : ℤ → ℕ
 offset position = unsigned_abs (position +ℤ pos (2 ^ 32))
 
+-- the spot of a place
 abbrev pub spot_of : PixelPlace → Spot
 spot_of p = record { column = offset p.i; row = offset p.j }
 
@@ -24,12 +25,12 @@ cell_of level spot = record { level = level; column = spot.column / 2 ^ level; r
 abbrev pub child_of : Cell → ℕ → ℕ → Cell
 child_of cell right down = record { level = cell.level - 1; column = 2 * cell.column + right; row = 2 * cell.row + down }
 
--- spots have these sizes
+-- a column and a row are below 2^33, as those of each anchor are
 pub record IsWithin (spot : Spot) : Type 0 where
   pub column : spot.column < 2 ^ 33
   pub row : spot.row < 2 ^ 33
 
--- a cell ends with them
+-- a cell lies among such columns and rows
 pub record IsCell (cell : Cell) : Type 0 where
   pub column : (cell.column + 1) * 2 ^ cell.level ≤ 2 ^ 33
   pub row : (cell.row + 1) * 2 ^ cell.level ≤ 2 ^ 33
@@ -54,14 +55,14 @@ has marked cell = contains cell_cmp marked (cell.level, (cell.column, cell.row))
 abbrev pub IsMarked : BTreeSet (ℕ × (ℕ × ℕ)) → Spot → Type 0
 IsMarked marked spot = (level : ℕ) → level ≤ 33 → IsTrue (has marked (cell_of level spot))
 
--- the cell of one spot is marked, and the spot is nearer to another than a distance
+-- the cell that has one spot alone is marked, and that spot is nearer to another than a distance
 pub record HasNearSpot (marked : BTreeSet (ℕ × (ℕ × ℕ))) (spot : Spot) (distance : ℕ) : Type 0 where
   pub cell : Cell
   pub lowest : cell.level ≡ 0
   pub is : IsTrue (has marked cell)
   pub near : IsSpotNear spot distance (record { column = cell.column; row = cell.row })
 
--- anchors are noted: the cells that have one are marked, and of one spot no others
+-- anchors are noted: all cells that have one are marked, and of the cells of one spot no others
 pub record AreNoted (marked : BTreeSet (ℕ × (ℕ × ℕ))) (anchors : List PixelPlace) : Type 0 where
   pub sizes : All IsAnchor anchors
   pub each : All (λ p. IsMarked marked (spot_of p)) anchors

@@ -4,8 +4,8 @@
 //! Proved: `Accepting::accept` gives connections up to the last that is wanted, or up to 100 calls that fail one after the
 //! other. `hang_up` closes the writing side of a connection after its answer and reads what still comes, up to a limit. `serve_by_threads`
 //! writes where the ports are once, and ends as that did, or for want of a port, a thread or memory (`announced`); what it
-//! gives says which map it served, and where (`served`). All batches that it accepted are kept, up to one that can't be: then it ends
-//! with that failure. What its threads do is said by the calls that they make: of clients by
+//! gives says which map it served, and where (`served`). `administer_all` keeps all batches that it accepts, unless that fails (`kept`),
+//! and then the service ends with that failure (`outcome_of`). What its threads do is said by the calls that they make: of clients by
 //! `ConnectionTable::serve_next` of `turns`, and of an administrator's connection by `administer` of `administration`. How long a
 //! client may take is said by `timeouts_of`; for an administrator by `TimeLimit`, which `TimedReader` and `TimedWriter` keep.
 //!

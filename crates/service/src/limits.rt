@@ -57,12 +57,12 @@ pub fn slots_of(service: Service) -> usize
 /// How long the calls of a connection may wait that waits in its reads and writes, as an administrator's does.
 #[derive(Clone, Copy)]
 pub struct Waits {
-    /// A read that follows an answer.
+    /// The first read behind an answer.
     pub idle: Duration,
     /// Any read.
     pub silence: Duration,
-    /// A head in all, from its first bytes on, or from the opening of its connection; and an answer of which the client
-    /// takes nothing.
+    /// A command in all, from its first bytes on, or from the opening of its connection; and an answer of which nothing is
+    /// taken.
     pub timeout: Duration,
 }
 

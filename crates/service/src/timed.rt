@@ -28,8 +28,8 @@ impl Answered {
     }
 }
 
-/// What a client sends. The time of a head begins with its first bytes, that of the first with the opening of the
-/// connection, and each read waits for what is left of it, and no longer than a client may be silent. A read that follows an
+/// What an administrator sends. The time of a command begins with its first bytes, that of the first with the opening of the
+/// connection. Each read waits for what is left of it, and no longer than the administrator may be silent. The first read behind an
 /// answer waits for the time of an idle connection.
 #[derive(Drop)]
 pub struct TimedReader<S, C> {
@@ -44,7 +44,7 @@ pub struct TimedReader<S, C> {
 }
 
 impl<S, C: Clock> TimedReader<S, C> {
-    /// A stream whose first head begins now.
+    /// A stream whose first command begins now.
     pub fn start(stream: S, clock: C, waits: Waits, answered: Answered) -> io::Result<Self>
     where
         S: Drop,
@@ -105,7 +105,7 @@ impl<S, C: Clock> TimedReader<S, C> {
         Ok(())
     }
 
-    // Begins the time of a head, whose first bytes came.
+    // Begins the time of a command, whose first bytes came.
     fn begin(&mut self) -> io::Result<()> {
         if self.is_idle {
             self.limit = TimeLimit::start(&self.clock, self.waits.timeout)?;
@@ -136,7 +136,7 @@ impl<S: Read + OpenStream, C: Clock> Read for TimedReader<S, C> {
     }
 }
 
-/// What a client gets. An answer may stand still for a time, and has another in all, which begins with the first
+/// What an administrator gets. An answer may stand still for a time, and has another in all, which begins with the first
 /// write after a read. So a write waits for a second at most, and is made again while none of its bytes went.
 #[derive(Drop)]
 pub struct TimedWriter<S, C> {
@@ -188,7 +188,7 @@ impl<S, C: Clock> TimedWriter<S, C> {
         Ok(left.min(still).min(Duration::from_secs(CALL_SECONDS)))
     }
 
-    // Begins the times of an answer, where the client was read since the last one.
+    // Begins the times of an answer, where something was read since the last one.
     fn begin(&mut self) {
         if !self.answered.is_set.swap(true, Ordering::SeqCst) {
             self.limit = None;

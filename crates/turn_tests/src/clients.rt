@@ -1,3 +1,4 @@
+use eventloop::Wakes;
 use httpedge::{Asks, Busy};
 use mapdefs::Items;
 use mapmachine::{Answer, Mime};
@@ -146,6 +147,14 @@ impl Asks for Echo {
             Err(_) => Err(Busy),
         }
     }
+}
+
+/// What nobody has to be woken by.
+#[derive(Drop)]
+pub struct NoWaker;
+
+impl Wakes for NoWaker {
+    fn wake(&self) {}
 }
 
 /// The times of the tests, in milliseconds, which all differ.

@@ -1,7 +1,7 @@
 //! Workers that serve connections in memory.
 
-use crate::clients::{Client, TIMEOUTS};
-use eventloop::{Crew, Ending, Poller, Wakes, Worker, start_worker, turn_away};
+use crate::clients::{Client, NoWaker, TIMEOUTS};
+use eventloop::{Crew, Ending, Poller, Worker, start_worker, turn_away};
 use httpedge::{Asks, Busy};
 use mapdefs::Items;
 use mapmachine::{Answer, Mime};
@@ -44,13 +44,6 @@ impl<R: Wait + Drop> Asks for Noting<R> {
 #[derive(Drop)]
 struct Idle {
     rt: HostRuntime,
-}
-
-#[derive(Drop)]
-struct NoWaker;
-
-impl Wakes for NoWaker {
-    fn wake(&self) {}
 }
 
 impl Poller<Client> for Idle {

@@ -1,10 +1,10 @@
 //! What is logged of connections in memory.
 
-use crate::clients::{Client, Echo};
+use crate::clients::{Client, Echo, NoWaker};
 use accesslog::{
     Cause, EndsEarly, LINES, LogQueue, LoggedTransport, Record, command_line, end_line,
 };
-use eventloop::{Crew, Ending, Poller, Wakes, Worker, start_worker};
+use eventloop::{Crew, Ending, Poller, Worker, start_worker};
 use std::alloc::{AllocError, Global};
 use std::rt::Clock;
 use std::str;
@@ -119,13 +119,6 @@ fn lines_without_a_place_are_dropped_and_counted(rt: HostRuntime) -> Result<(), 
 #[derive(Drop)]
 struct Passing {
     rt: HostRuntime,
-}
-
-#[derive(Drop)]
-struct NoWaker;
-
-impl Wakes for NoWaker {
-    fn wake(&self) {}
 }
 
 impl<R> Poller<LoggedTransport<Client, R>> for Passing {

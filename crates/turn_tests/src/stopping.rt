@@ -1,8 +1,8 @@
 //! A worker that stops while an answer goes out.
 
-use crate::clients::{Echo, TIMEOUTS};
+use crate::clients::{Echo, NoWaker, TIMEOUTS};
 use accesslog::{Cause, EndsEarly};
-use eventloop::{Crew, Ending, Poller, Wakes, Worker, start_worker};
+use eventloop::{Crew, Ending, Poller, Worker, start_worker};
 use std::alloc::Global;
 use std::rt::Clock;
 use std::sync::{Arc, Mutex, Wait};
@@ -74,13 +74,6 @@ impl<R: Wait + Drop> EndsEarly for Reluctant<R> {
 #[derive(Drop)]
 struct Nudging {
     rt: HostRuntime,
-}
-
-#[derive(Drop)]
-struct NoWaker;
-
-impl Wakes for NoWaker {
-    fn wake(&self) {}
 }
 
 impl<R: Wait + Drop> Poller<Reluctant<R>> for Nudging {
