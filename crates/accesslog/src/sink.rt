@@ -12,7 +12,7 @@ use streams::{PutFailed, Sink};
 
 // The line that is being written, and where it goes.
 #[derive(Drop)]
-struct Noted<R> {
+struct LineLog<R> {
     alloc: Global,
     connection: u64,
     line: Vec<u8>,
@@ -23,7 +23,7 @@ struct Noted<R> {
 #[derive(Drop)]
 pub struct LoggedSink<O, R> {
     inner: O,
-    noted: Option<Noted<R>>,
+    noted: Option<LineLog<R>>,
 }
 
 impl<O, R> LoggedSink<O, R> {
@@ -32,7 +32,7 @@ impl<O, R> LoggedSink<O, R> {
         ensures { result.inner ≡ inner }
     {
         let noted = match queue {
-            Some(queue) => Some(Noted {
+            Some(queue) => Some(LineLog {
                 alloc,
                 connection,
                 line: Vec::new(alloc),
@@ -55,7 +55,7 @@ impl<O, R> LoggedSink<O, R> {
 }
 
 // Notes bytes that were taken, and puts each line that ends in them.
-fn note<R: Clock + Wait + Copy>(noted: &mut Noted<R>, bytes: &[u8]) {
+fn note<R: Clock + Wait + Copy>(noted: &mut LineLog<R>, bytes: &[u8]) {
     for byte in bytes {
         let _ = noted.line.push(*byte);
         if *byte == b'\n' {

@@ -20,7 +20,7 @@ pub trait EndsEarly {
 
 // Where what is noted of a connection goes.
 #[derive(Drop)]
-struct Noted<R> {
+struct AnswerLog<R> {
     alloc: Global,
     record: Record,
     queue: LogQueue<R>,
@@ -31,7 +31,7 @@ struct Noted<R> {
 #[derive(Drop)]
 pub struct LoggedTransport<T, R> {
     inner: T,
-    noted: Option<Noted<R>>,
+    noted: Option<AnswerLog<R>>,
 }
 
 impl<T, R> LoggedTransport<T, R> {
@@ -40,7 +40,7 @@ impl<T, R> LoggedTransport<T, R> {
         ensures { result.inner ≡ inner }
     {
         let noted = match queue {
-            Some(queue) => Some(Noted {
+            Some(queue) => Some(AnswerLog {
                 alloc,
                 record: Record::new(alloc, connection),
                 queue,
@@ -89,7 +89,7 @@ impl<T: Transport, R: Clock + Wait + Copy> Transport for LoggedTransport<T, R> {
 }
 
 // Notes what a read gave.
-fn note_read<R: Clock + Wait + Copy>(noted: &mut Noted<R>, room: &[u8], outcome: ReadOutcome) {
+fn note_read<R: Clock + Wait + Copy>(noted: &mut AnswerLog<R>, room: &[u8], outcome: ReadOutcome) {
     if let ReadOutcome::Bytes(count) = outcome {
         let bytes = room.get(..count).unwrap_or(room);
         noted.record.came(bytes, noted.queue.now());
@@ -98,7 +98,7 @@ fn note_read<R: Clock + Wait + Copy>(noted: &mut Noted<R>, room: &[u8], outcome:
 
 // Notes what a write took, and puts the line on an answer that went out whole.
 fn note_write<R: Clock + Wait + Copy>(
-    noted: &mut Noted<R>,
+    noted: &mut AnswerLog<R>,
     parts: (&[u8], &[u8]),
     outcome: WriteOutcome,
 ) {

@@ -9,9 +9,9 @@ use Rattle.std.specs.Io.KnownBytes.{Consumes}
 use Rattle.std.specs.List.{list_any}
 use Rattle.batches.specs.Command.{is_line_end}
 use Rattle.batches.proofs.Writing.{cut-after, cut-before}
-use Rattle.administration.specs.Commands.{Submit, front_command, line_of}
+use Rattle.administration.specs.Commands.{Submit, first_command, line_of}
 use Rattle.administration.specs.Reading.{HasEnded, IsCommandOf, IsLineOf}
-use Rattle.administration.specs.declared.line.Line.TheVariants as line
+use Rattle.administration.specs.declared.line.ClientLine.TheVariants as line
 
 -- an LF stands among the first bytes of a line that is no longer than the limit
 ends-early : (text more : List ℕ) → list_any is_line_end text ≡ false → length text < 33 → list_any is_line_end (take 33 (text ++ 10 ∷ more)) ≡ true
@@ -22,13 +22,13 @@ ends-early text more none short = go (32 - length text) (omega (arith, short))
 
 -- a line is read up to its LF
 pub line-ends : (text : List ℕ) → list_any is_line_end text ≡ false → length text < 33 → IsLineOf (text ++ 10 ∷ []) (line_of text)
-unfolding front_command
+unfolding first_command
 line-ends text none short more =
     rw (append_assoc text (10 ∷ []) more, ends-early text more none short, cut-before is_line_end text 10 more none refl, cut-after is_line_end text 10 more none refl) refl
 
 -- 33 bytes without an LF are malformed
 pub line-is-long : (text : List ℕ) → list_any is_line_end text ≡ false → length text ≡ 33 → IsLineOf text line.Malformed
-unfolding front_command
+unfolding first_command
 line-is-long text none long more =
     let first : take 33 (text ++ more) ≡ text = rw (← long) (take-append_seam text more) in
     let rest : drop 33 (text ++ more) ≡ more = rw (← long) (drop-append_seam text more) in
@@ -36,8 +36,8 @@ line-is-long text none long more =
     rw (first, none, enough, rest) refl
 
 -- fewer without an LF are no command yet
-pub line-is-short : (text : List ℕ) → list_any is_line_end text ≡ false → length text < 33 → front_command text ≡ None
-unfolding front_command
+pub line-is-short : (text : List ℕ) → list_any is_line_end text ≡ false → length text < 33 → first_command text ≡ None
+unfolding first_command
 line-is-short text none short =
     let all : take 33 text ≡ text = take_all 33 text (omega (arith, short)) in
     let less : nat_le 33 (length text) ≡ false = grind (arith, nat_tests, short) in
@@ -50,7 +50,7 @@ batch-ends text bytes count is long more =
     rw (append_assoc text bytes more, is (bytes ++ more), ← long, enough, take-append_seam bytes more, drop-append_seam bytes more) refl
 
 -- with fewer bytes it isn't whole
-pub batch-is-short : (text bytes : List ℕ) (count : ℕ) → IsLineOf text (line.Batch count) → length bytes < count → front_command (text ++ bytes) ≡ None
+pub batch-is-short : (text bytes : List ℕ) (count : ℕ) → IsLineOf text (line.Batch count) → length bytes < count → first_command (text ++ bytes) ≡ None
 batch-is-short text bytes count is short =
     let less : nat_lt (length bytes) count ≡ true = grind (arith, nat_tests, short) in
     rw (is bytes, less) refl

@@ -14,7 +14,7 @@ use Rattle.administration.specs.Reading.{IsCommandOf, IsHeldOf}
 use Rattle.administration.specs.Serving.{HasDone}
 use Rattle.administration.specs.declared.done.Done.{Done}
 use Rattle.administration.specs.declared.done.Done.TheVariants as done
-use Rattle.administration.specs.declared.reading.Asked.TheVariants as asked
+use Rattle.administration.specs.declared.reading.ReadCommand.TheVariants as asked
 use Rattle.administration.proofs.Steps.{HasCome, all-done}
 
 -- what was submitted was done

@@ -10,7 +10,7 @@ use Rattle.streams.specs.Sent.{IsSent, IsCutSomewhere}
 use Rattle.streams.proofs.Sending.{nothing-sent, sent-sent}
 use Rattle.batches.specs.Batch.{State}
 use Rattle.mapshare.specs.Admin.{Batches}
-use Rattle.administration.specs.Commands.{Command, Submit, Publish, Malformed, front_command}
+use Rattle.administration.specs.Commands.{Command, Submit, Publish, Malformed, first_command}
 use Rattle.administration.specs.Reading.{HasEnded, IsCommandOf}
 use Rattle.administration.specs.Serving.{AreDone, HasDone, HasDoneAll, IsServed, IsStopped, done_line, ends, is_malformed}
 use Rattle.administration.specs.declared.done.Done.{Done}
@@ -102,7 +102,7 @@ module _ {O : Type 0} (opening : State) (held : O → Option (List ℕ)) (taken 
         }
 
     -- the client ended, or the reader failed
-    pub came-to-end : (after : Option (List ℕ)) (failed : Bool) (piece : List ℕ) → HasEnded left after failed piece → front_command piece ≡ None →
+    pub came-to-end : (after : Option (List ℕ)) (failed : Bool) (piece : List ℕ) → HasEnded left after failed piece → first_command piece ≡ None →
         (commands : List Command) × (lines rest : List ℕ) × HasDoneAll opening start after commands old lines rest now × IsSent held taken first lines current × IsServed commands rest after failed
     came-to-end after failed piece ended none = (come.commands, come.lines, piece, all-done after piece ended.read, come.sent, inr (none, ended.end))
 

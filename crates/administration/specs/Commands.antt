@@ -4,8 +4,8 @@ use Rattle.std.specs.List.{before_first, after_first, list_any, starts_with}
 use Rattle.std.specs.Str.{bytes_eq}
 use Rattle.batches.specs.Command.{count_of, is_line_end}
 use Rattle.batches.specs.declared.fault.TheConstants.{MAX_BATCH}
-use Rattle.administration.specs.declared.line.Line.{Line}
-use Rattle.administration.specs.declared.line.Line.TheVariants as line
+use Rattle.administration.specs.declared.line.ClientLine.{ClientLine}
+use Rattle.administration.specs.declared.line.ClientLine.TheVariants as line
 use Rattle.administration.specs.declared.line.TheConstants.{LINE}
 
 -- to submit a batch of these bytes, to publish what is pending, or nothing that there is
@@ -15,27 +15,27 @@ pub data Command : Type 0 where
   Malformed : Command
 
 -- a batch has this count of bytes, and at most 4 MiB
-abbrev pub batch_line : Option ℕ → Line
+abbrev pub batch_line : Option ℕ → ClientLine
 batch_line None = line.Malformed
 batch_line (Some count) = if nat_le count MAX_BATCH then line.Batch count else line.Malformed
 
 -- what a line says
-abbrev pub line_of : List ℕ → Line
+abbrev pub line_of : List ℕ → ClientLine
 line_of text =
     if starts_with nat_eq text (codes "BATCH ") then batch_line (count_of (drop 6 text))
     else if bytes_eq text (codes "RETRY") then line.Retry
     else line.Malformed
 
 -- the command of a line that some bytes follow, and what stands after it, if that many bytes follow
-abbrev pub command_of : Line → List ℕ → Option (Command × List ℕ)
+abbrev pub command_of : ClientLine → List ℕ → Option (Command × List ℕ)
 command_of (line.Batch count) rest = if nat_lt (length rest) count then None else Some (Submit (take count rest), drop count rest)
 command_of line.Retry rest = Some (Publish, rest)
 command_of line.Malformed rest = Some (Malformed, rest)
 
 -- the command at the front of some bytes, and what stands after it, if a whole one stands there. The line of a command ends within
 -- its first 33 bytes; 33 bytes without an LF are malformed, whatever follows
-unfoldable pub front_command : List ℕ → Option (Command × List ℕ)
-front_command bytes =
+unfoldable pub first_command : List ℕ → Option (Command × List ℕ)
+first_command bytes =
     if list_any is_line_end (take LINE bytes) then command_of (line_of (before_first is_line_end bytes)) (after_first is_line_end bytes)
     else if nat_le LINE (length bytes) then Some (Malformed, drop LINE bytes)
     else None

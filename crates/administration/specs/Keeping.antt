@@ -4,7 +4,7 @@ use Rattle.std.specs.List.{list_any}
 use Rattle.streams.specs.Sent.{IsSent, IsCutSomewhere}
 use Rattle.batches.specs.Batch.{State}
 use Rattle.mapshare.specs.Admin.{Batches, IsAccepted, all_of, with_batch}
-use Rattle.administration.specs.Commands.{Command, Submit, Publish, Malformed, front_command}
+use Rattle.administration.specs.Commands.{Command, Submit, Publish, Malformed, first_command}
 use Rattle.administration.specs.Serving.{HasDoneAll, is_malformed}
 use Rattle.administration.specs.declared.done.Done.{Done}
 use Rattle.administration.specs.declared.done.Done.TheVariants as done
@@ -46,7 +46,7 @@ pub record IsFailed {O : Type 0} (opening : State) (before after : Option (List 
   pub done : HasDoneAll opening before after commands old lines bytes between
   pub well_formed : list_any is_malformed commands ≡ false
   pub command : Command
-  pub front : front_command bytes ≡ Some (command, [])
+  pub front : first_command bytes ≡ Some (command, [])
   pub then : HasFailed opening between command new
   pub middle : O
   pub sent : IsSent held taken first lines middle

@@ -7,7 +7,7 @@ use Rattle.batches.specs.Batch.{State}
 use Rattle.mapmachine.specs.declared.reply.Reply.TheVariants as reply
 use Rattle.mapshare.specs.Admin.{Batches, IsAccepted, IsRefused, all_of, with_batch}
 use Rattle.scripts.specs.Transcript.{reply_text}
-use Rattle.administration.specs.Commands.{Command, Submit, Publish, Malformed, front_command}
+use Rattle.administration.specs.Commands.{Command, Submit, Publish, Malformed, first_command}
 use Rattle.administration.specs.declared.done.Done.{Done}
 use Rattle.administration.specs.declared.done.Done.TheVariants as done
 
@@ -57,7 +57,7 @@ abbrev pub AreDone : State → List Command → Batches → List ℕ → List �
 AreDone opening [] old bytes lines rest new = (rest ≡ bytes) × (lines ≡ []) × (new ≡ old)
 AreDone opening (command ∷ commands) old bytes lines rest new =
     (what : Done) × (between : Batches) × (others after : List ℕ)
-    × (front_command bytes ≡ Some (command, after)) × (is_malformed command ≡ true → commands ≡ [])
+    × (first_command bytes ≡ Some (command, after)) × (is_malformed command ≡ true → commands ≡ [])
     × HasDone opening old command what between × AreDone opening commands between after others rest new
     × (lines ≡ done_line what ++ others)
 
@@ -70,7 +70,7 @@ pub record HasDoneAll (opening : State) (before after : Option (List ℕ)) (comm
 -- a client is served: its last command was malformed; or no whole one is left, and no byte unless the reader failed
 abbrev pub IsServed : List Command → List ℕ → Option (List ℕ) → Bool → Type 0
 IsServed commands rest left failed =
-    (list_any is_malformed commands ≡ true) ⊎ ((front_command rest ≡ None) × (IsAtEnd left ⊎ (failed ≡ true)))
+    (list_any is_malformed commands ≡ true) ⊎ ((first_command rest ≡ None) × (IsAtEnd left ⊎ (failed ≡ true)))
 
 -- the writer failed: all commands before the last are done and all of their lines went out, and none of them is malformed, since nothing
 -- is read after such a one; the last is done, too, and only a prefix of its line went out
@@ -83,7 +83,7 @@ pub record IsStopped {O : Type 0} (opening : State) (before after : Option (List
   pub well_formed : list_any is_malformed commands ≡ false
   pub command : Command
   pub what : Done
-  pub front : front_command bytes ≡ Some (command, [])
+  pub front : first_command bytes ≡ Some (command, [])
   pub then : HasDone opening between command what new
   pub middle : O
   pub sent : IsSent held taken first lines middle

@@ -3,7 +3,7 @@
 ghost use Rattle.std.specs.Prelude.{◌≡◌, ℕ, List, OnOk, IfOk, IfSome, IsErrOf, MatchResult, true};
 ghost use Rattle.streams.specs.Sent.{IsSent, IsCutSomewhere};
 ghost use Rattle.mapshare.specs.Admin.{Batches, IsAccepted, all_of, with_batch};
-ghost use Rattle.administration.specs.Commands.{Command, Submit, Publish, front_command};
+ghost use Rattle.administration.specs.Commands.{Command, Submit, Publish, first_command};
 ghost use Rattle.administration.specs.Keeping.{HasFailed, IsFailed, IsKeptSince, IsReported, done_of};
 ghost use Rattle.administration.specs.Reading.{IsHeldOf};
 ghost use Rattle.administration.specs.Serving.{HasDone, HasDoneAll, IsServed, IsStopped};
@@ -11,7 +11,7 @@ ghost use Rattle.administration.specs.declared.done.Done.{Done};
 ghost use Rattle.administration.specs.declared.keeping.AdministerFault.TheVariants as fault;
 
 use crate::done::{Done, send_line};
-use crate::reading::{Asked, read_command};
+use crate::reading::{ReadCommand, read_command};
 use journalfile::Keeps;
 use mapshare::{Admin, KeepFailed, Retried, Sharing, Submitted};
 use std::sync::Wait;
@@ -77,7 +77,7 @@ pub(crate) fn perform_kept<S: Sharing, K: Keeps, R: Wait>(
     rt: &R,
     admin: Admin<S>,
     keeper: &mut K,
-    asked: Asked,
+    asked: ReadCommand,
 ) -> (Admin<S>, Result<Done, KeepFailed>)
     requires ready { (kept : List (List ℕ)) × K.keeps keeper.old kept }
     ensures done { (command : Command) → IsHeldOf command asked → MatchResult result.1
@@ -85,12 +85,12 @@ pub(crate) fn perform_kept<S: Sharing, K: Keeps, R: Wait>(
     ensures kept { (kept : List (List ℕ)) → K.keeps keeper.old kept → OnOk result.1 (IsKeptSince K.keeps admin kept result.0 keeper.new) }
 {
     match asked {
-        Asked::Batch(held) => submit_kept(rt, admin, keeper, held),
-        Asked::Retry => {
+        ReadCommand::Batch(held) => submit_kept(rt, admin, keeper, held),
+        ReadCommand::Retry => {
             let (admin, done) = retry_kept(rt, admin);
             (admin, Ok(done))
         }
-        Asked::Malformed => (admin, Ok(Done::Malformed)),
+        ReadCommand::Malformed => (admin, Ok(Done::Malformed)),
     }
 }
 

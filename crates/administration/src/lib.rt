@@ -16,6 +16,6 @@ mod serving;
 
 pub use done::Done;
 pub use keeping::{AdministerFault, administer_kept};
-pub use line::{LINE, Line};
-pub use reading::Asked;
+pub use line::{ClientLine, LINE};
+pub use reading::ReadCommand;
 pub use serving::administer;

@@ -9,7 +9,7 @@ pub const LINE: usize = 33;
 
 /// What a line of a client says.
 #[derive(Clone, Copy)]
-pub enum Line {
+pub enum ClientLine {
     /// A batch of so many bytes follows.
     Batch(usize),
     /// What is pending is to be published.
@@ -19,17 +19,17 @@ pub enum Line {
 }
 
 // What a line says, which stands without the LF at its end.
-pub(crate) fn line_of(text: &[u8]) -> Line
+pub(crate) fn line_of(text: &[u8]) -> ClientLine
     ensures { result ≡ line_of text.now }
 {
     if text.starts_with(b"BATCH ") {
         match count_of(&text[6..]) {
-            Some(count) if count <= MAX_BATCH as u64 => Line::Batch(count as usize),
-            _ => Line::Malformed,
+            Some(count) if count <= MAX_BATCH as u64 => ClientLine::Batch(count as usize),
+            _ => ClientLine::Malformed,
         }
     } else if text == b"RETRY".as_slice() {
-        Line::Retry
+        ClientLine::Retry
     } else {
-        Line::Malformed
+        ClientLine::Malformed
     }
 }

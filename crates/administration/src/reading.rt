@@ -1,9 +1,9 @@
 ghost use Rattle.std.specs.Prelude.{◌≡◌, ◌<◌, ◌++◌, ℕ, List, [], ◌∷◌, length, IfSome, MatchOption, None};
 ghost use Rattle.std.specs.Io.KnownBytes.{Consumes};
-ghost use Rattle.administration.specs.Commands.{Command, Submit, front_command};
+ghost use Rattle.administration.specs.Commands.{Command, Submit, first_command};
 ghost use Rattle.administration.specs.Reading.{HasEnded, IsCommandOf, IsHeldOf, IsLineOf};
 
-use crate::line::{LINE, Line, line_of};
+use crate::line::{ClientLine, LINE, line_of};
 use std::alloc::Global;
 use streams::Source;
 
@@ -12,7 +12,7 @@ const PIECE: usize = 4_096;
 
 /// What a client asks for, as far as it is held.
 #[derive(Drop)]
-pub enum Asked {
+pub enum ReadCommand {
     /// To submit a batch of these bytes. There are none where memory was refused for them.
     Batch(Option<Vec<u8>>),
     /// To publish what is pending.
@@ -35,9 +35,9 @@ fn read_byte<I: Source>(reader: &mut I) -> Option<u8>
 }
 
 // Reads a line, byte by byte, so that nothing behind it is taken.
-fn read_line<I: Source>(reader: &mut I) -> Option<Line>
+fn read_line<I: Source>(reader: &mut I) -> Option<ClientLine>
     ensures { MatchOption result
-        ((bytes : List ℕ) × HasEnded (I.left reader.old) (I.left reader.new) (I.take_failed reader.new) bytes × (front_command bytes ≡ None))
+        ((bytes : List ℕ) × HasEnded (I.left reader.old) (I.left reader.new) (I.take_failed reader.new) bytes × (first_command bytes ≡ None))
         (λ line. (bytes : List ℕ) × Consumes (I.left reader.old) (I.left reader.new) bytes × IsLineOf bytes line) }
 {
     let mut text = [0; LINE];
@@ -48,7 +48,7 @@ fn read_line<I: Source>(reader: &mut I) -> Option<Line>
         }
         text[at] = byte;
     }
-    Some(Line::Malformed)
+    Some(ClientLine::Malformed)
 }
 
 // Holds a piece of a batch behind what is held, as long as there is memory.
@@ -63,7 +63,7 @@ fn hold(held: Option<Vec<u8>>, piece: &[u8]) -> Option<Vec<u8>>
 }
 
 // Reads the bytes of a batch. Those that can't be held are read all the same.
-fn read_batch<I: Source>(alloc: Global, reader: &mut I, count: usize) -> Option<Asked>
+fn read_batch<I: Source>(alloc: Global, reader: &mut I, count: usize) -> Option<ReadCommand>
     ensures { MatchOption result
         ((bytes : List ℕ) × HasEnded (I.left reader.old) (I.left reader.new) (I.take_failed reader.new) bytes × (length bytes < count))
         (λ asked. (bytes : List ℕ) × Consumes (I.left reader.old) (I.left reader.new) bytes × (length bytes ≡ count) × IsHeldOf (Submit bytes) asked) }
@@ -79,19 +79,19 @@ fn read_batch<I: Source>(alloc: Global, reader: &mut I, count: usize) -> Option<
         held = hold(held, &room[..got]);
         left -= got;
     }
-    Some(Asked::Batch(held))
+    Some(ReadCommand::Batch(held))
 }
 
 /// Reads the command that comes next, and nothing behind it. There is none where the client ends before it or within it, or the
 /// reader fails.
-pub(crate) fn read_command<I: Source>(alloc: Global, reader: &mut I) -> Option<Asked>
+pub(crate) fn read_command<I: Source>(alloc: Global, reader: &mut I) -> Option<ReadCommand>
     ensures { MatchOption result
-        ((bytes : List ℕ) × HasEnded (I.left reader.old) (I.left reader.new) (I.take_failed reader.new) bytes × (front_command bytes ≡ None))
+        ((bytes : List ℕ) × HasEnded (I.left reader.old) (I.left reader.new) (I.take_failed reader.new) bytes × (first_command bytes ≡ None))
         (λ asked. (bytes : List ℕ) × (command : Command) × Consumes (I.left reader.old) (I.left reader.new) bytes × IsCommandOf bytes command × IsHeldOf command asked) }
 {
     match read_line(reader)? {
-        Line::Batch(count) => read_batch(alloc, reader, count),
-        Line::Retry => Some(Asked::Retry),
-        Line::Malformed => Some(Asked::Malformed),
+        ClientLine::Batch(count) => read_batch(alloc, reader, count),
+        ClientLine::Retry => Some(ReadCommand::Retry),
+        ClientLine::Malformed => Some(ReadCommand::Malformed),
     }
 }

@@ -1,14 +1,14 @@
 ghost use Rattle.std.specs.Prelude.{◌≡◌, ℕ, List, OnOk, OnErr, MatchResult, true};
 ghost use Rattle.streams.specs.Sent.{IsSent, IsCutSomewhere};
 ghost use Rattle.mapshare.specs.Admin.{Batches};
-ghost use Rattle.administration.specs.Commands.{Command, front_command};
+ghost use Rattle.administration.specs.Commands.{Command, first_command};
 ghost use Rattle.administration.specs.Reading.{IsHeldOf};
 ghost use Rattle.administration.specs.Serving.{HasDone, HasDoneAll, IsServed, IsStopped};
 ghost use Rattle.administration.specs.declared.done.Done.{Done};
 
 use crate::done::{Done, send_line};
 use crate::keeping::perform_kept;
-use crate::reading::{Asked, read_command};
+use crate::reading::{ReadCommand, read_command};
 use journalfile::Nowhere;
 use mapshare::{Admin, KeepFailed, Sharing};
 use std::alloc::Global;
@@ -16,7 +16,7 @@ use std::sync::Wait;
 use streams::{PutFailed, Sink, Source};
 
 // Does what was asked for. No batch is kept, so that nothing that keeps them fails.
-fn perform<S: Sharing, R: Wait>(rt: &R, admin: Admin<S>, asked: Asked) -> (Admin<S>, Done)
+fn perform<S: Sharing, R: Wait>(rt: &R, admin: Admin<S>, asked: ReadCommand) -> (Admin<S>, Done)
     ensures { (command : Command) → IsHeldOf command asked → HasDone S.opening admin command result.1 result.0 }
 {
     let mut nowhere = Nowhere;

@@ -15,12 +15,12 @@ use Rattle.std.specs.Str.{all_ascii_digits}
 use Rattle.geom.proofs.OneText.{digits-model}
 use Rattle.geom.specs.Decimal.{with_digit}
 use Rattle.geom.specs.Natural.{number_in}
-use Rattle.batches.specs.Command.{append_of, count_of, ends_in_cr, front_command, is_line_end, is_space, line_of, reading_of, reading_within, step, with_bytes, with_command}
+use Rattle.batches.specs.Command.{append_of, count_of, ends_in_cr, first_command, is_line_end, is_space, line_of, reading_of, reading_within, step, with_bytes, with_command}
 use Rattle.batches.specs.Written.{CanBeWritten, written, written_command}
 use Rattle.batches.specs.declared.command.Command.{Command}
 use Rattle.batches.specs.declared.command.Command.TheVariants.{On, Off, Clear, Append}
-use Rattle.batches.specs.declared.command.Line.{Line}
-use Rattle.batches.specs.declared.command.Line.TheVariants.{Wants}
+use Rattle.batches.specs.declared.command.CommandLine.{CommandLine}
+use Rattle.batches.specs.declared.command.CommandLine.TheVariants.{Wants}
 use Rattle.batches.proofs.Leading.{reading-step}
 
 -- where no byte passes, the first one that does is the next
@@ -50,7 +50,7 @@ module _ (p : ℕ → Bool) (line : List ℕ) (b : ℕ) (rest : List ℕ) (none 
 
 -- the command of a line that has no LF and no CR at its end
 line-read : (line rest : List ℕ) → list_any is_line_end line ≡ false → ends_in_cr line ≡ false →
-    front_command (line ++ 10 ∷ rest) ≡ with_bytes (line_of line) rest
+    first_command (line ++ 10 ∷ rest) ≡ with_bytes (line_of line) rest
 line-read line rest none plain =
     rw (cut-there is_line_end line 10 rest none refl, cut-before is_line_end line 10 rest none refl, cut-after is_line_end line 10 rest none refl, plain) refl
 
@@ -102,15 +102,15 @@ ends-space front =
     rw (last, get_or-append_seam front 32 [] 0) refl
 
 -- a command is read back, and what stands after it
-read-back : (c : Command) (rest : List ℕ) → CanBeWritten c → front_command (written_command c ++ rest) ≡ Ok (c, rest)
+read-back : (c : Command) (rest : List ℕ) → CanBeWritten c → first_command (written_command c ++ rest) ≡ Ok (c, rest)
 read-back (On name) rest fits =
-    ap (λ (x : List ℕ). front_command (79 ∷ 78 ∷ 32 ∷ x)) (append_assoc name (10 ∷ []) rest)
+    ap (λ (x : List ℕ). first_command (79 ∷ 78 ∷ 32 ∷ x)) (append_assoc name (10 ∷ []) rest)
     ∙ line-read (79 ∷ 78 ∷ 32 ∷ name) rest fits.line (ends-plain (79 ∷ 78 ∷ 32 ∷ []) name refl fits.end)
 read-back (Off name) rest fits =
-    ap (λ (x : List ℕ). front_command (79 ∷ 70 ∷ 70 ∷ 32 ∷ x)) (append_assoc name (10 ∷ []) rest)
+    ap (λ (x : List ℕ). first_command (79 ∷ 70 ∷ 70 ∷ 32 ∷ x)) (append_assoc name (10 ∷ []) rest)
     ∙ line-read (79 ∷ 70 ∷ 70 ∷ 32 ∷ name) rest fits.line (ends-plain (79 ∷ 70 ∷ 70 ∷ 32 ∷ []) name refl fits.end)
 read-back (Clear name) rest fits =
-    ap (λ (x : List ℕ). front_command (67 ∷ 76 ∷ 69 ∷ 65 ∷ 82 ∷ 32 ∷ x)) (append_assoc name (10 ∷ []) rest)
+    ap (λ (x : List ℕ). first_command (67 ∷ 76 ∷ 69 ∷ 65 ∷ 82 ∷ 32 ∷ x)) (append_assoc name (10 ∷ []) rest)
     ∙ line-read (67 ∷ 76 ∷ 69 ∷ 65 ∷ 82 ∷ 32 ∷ name) rest fits.line (ends-plain (67 ∷ 76 ∷ 69 ∷ 65 ∷ 82 ∷ 32 ∷ []) name refl fits.end)
 read-back (Append name bytes) rest fits =
     let n = length bytes in
@@ -127,9 +127,9 @@ read-back (Append name bytes) rest fits =
     ap (λ (x : List ℕ). ends_in_cr (word ++ x)) (sym (append_assoc (decimal n) (32 ∷ []) name))
     ∙ ends-plain (word ++ (decimal n ++ 32 ∷ [])) name (ends-space (word ++ decimal n)) fits.0.end in
     let enough : nat_lt (length (bytes ++ rest)) n ≡ false = grind (arith, nat_tests, length-append bytes rest) in
-    ap front_command cut
+    ap first_command cut
     ∙ (line-read line (bytes ++ rest) none plain
-    ∙ (ap (λ (l : Option Line). with_bytes l (bytes ++ rest)) (append-read n fits.1 name)
+    ∙ (ap (λ (l : Option CommandLine). with_bytes l (bytes ++ rest)) (append-read n fits.1 name)
     ∙ rw (enough, take-append_seam bytes rest, drop-append_seam bytes rest) refl))
 
 some-byte : (c : Command) (rest : List ℕ) → 1 ≤ length (written_command c ++ rest)

@@ -3,7 +3,7 @@ ghost use Rattle.batches.specs.Batch.{IsErrorOf, IsBatchErrorOf, IsTableAt, at_i
 ghost use Rattle.batches.specs.declared.command.Command.TheVariants.{Append};
 ghost use Rattle.batches.specs.declared.fault.TheConstants.{MAX_BATCH};
 
-use crate::{BatchError, BatchFault, BatchKind, Command, CommandError, front_command};
+use crate::{BatchError, BatchFault, BatchKind, Command, CommandError, first_command};
 use csvpoints::{CsvError, Table, read};
 use layers::{ChangeError, Draft, Layers};
 use mapdefs::MAX_FEATURES;
@@ -85,7 +85,7 @@ fn apply_commands(alloc: Global, draft: &mut Draft, bytes: &[u8]) -> Result<(), 
     let mut rest = bytes;
     let mut index = 1;
     while !rest.is_empty() {
-        let (command, after) = match front_command(rest) {
+        let (command, after) = match first_command(rest) {
             Ok(read) => read,
             Err(fault) => {
                 let kind = BatchKind::Unread(fault);

@@ -1,6 +1,6 @@
 ghost use Rattle.std.specs.Prelude.{◌≡◌, ◌<◌, ◌+◌, ◌≤◌, ◌==◌, length, MatchResult, MatchOption, IfOk, IfSome, Ok, Err, Some, None};
 ghost use Rattle.std.specs.List.{position_or_len};
-ghost use Rattle.batches.specs.Command.{append_of, count_of, front_command, is_line_end, is_space, line_of, with_bytes, without_cr};
+ghost use Rattle.batches.specs.Command.{append_of, count_of, first_command, is_line_end, is_space, line_of, with_bytes, without_cr};
 
 use crate::Bytes;
 use geom::read_digits;
@@ -32,7 +32,7 @@ pub enum CommandFault {
 
 /// What a line says.
 #[derive(Drop)]
-pub enum Line<'a> {
+pub enum CommandLine<'a> {
     /// A whole command.
     Whole(Command<'a>),
     /// A table of so many bytes for a layer.
@@ -52,14 +52,14 @@ pub fn count_of(text: &[u8]) -> Option<u64>
 }
 
 // What follows APPEND: a count, a space and a name.
-fn append_of(text: &[u8]) -> Option<Line<'_>>
+fn append_of(text: &[u8]) -> Option<CommandLine<'_>>
     ensures { result ≡ append_of text.now }
 {
     let (digits, end) = text.split_at(word_len(text));
     match end {
         [] => None,
         [_, name @ ..] => match count_of(digits) {
-            Some(count) => Some(Line::Wants(count, Bytes::new(name))),
+            Some(count) => Some(CommandLine::Wants(count, Bytes::new(name))),
             None => None,
         },
     }
@@ -88,15 +88,15 @@ pub fn line_len(bytes: &[u8]) -> usize
 }
 
 // What a line says.
-fn line_of(line: &[u8]) -> Option<Line<'_>>
+fn line_of(line: &[u8]) -> Option<CommandLine<'_>>
     ensures { result ≡ line_of line.now }
 {
     if line.starts_with(b"ON ") {
-        Some(Line::Whole(Command::On(Bytes::new(&line[3..]))))
+        Some(CommandLine::Whole(Command::On(Bytes::new(&line[3..]))))
     } else if line.starts_with(b"OFF ") {
-        Some(Line::Whole(Command::Off(Bytes::new(&line[4..]))))
+        Some(CommandLine::Whole(Command::Off(Bytes::new(&line[4..]))))
     } else if line.starts_with(b"CLEAR ") {
-        Some(Line::Whole(Command::Clear(Bytes::new(&line[6..]))))
+        Some(CommandLine::Whole(Command::Clear(Bytes::new(&line[6..]))))
     } else if line.starts_with(b"APPEND ") {
         append_of(&line[7..])
     } else {
@@ -118,7 +118,7 @@ fn without_cr(line: &[u8]) -> &[u8]
 
 // The command of a line, and what stands after it.
 fn with_bytes<'a>(
-    line: Option<Line<'a>>,
+    line: Option<CommandLine<'a>>,
     rest: &'a [u8],
 ) -> Result<(Command<'a>, &'a [u8]), CommandFault>
     ensures value { MatchResult result (λ r. with_bytes line.entry rest.now ≡ Ok (r.0, r.1.now)) (λ fault. with_bytes line.entry rest.now ≡ Err fault) }
@@ -126,8 +126,8 @@ fn with_bytes<'a>(
 {
     match line {
         None => Err(CommandFault::UnknownWord),
-        Some(Line::Whole(command)) => Ok((command, rest)),
-        Some(Line::Wants(count, name)) => {
+        Some(CommandLine::Whole(command)) => Ok((command, rest)),
+        Some(CommandLine::Wants(count, name)) => {
             if (rest.len() as u64) < count {
                 return Err(CommandFault::Short);
             }
@@ -138,8 +138,8 @@ fn with_bytes<'a>(
 }
 
 /// The command at the front of some bytes, and what stands after it, or what is wrong there.
-pub fn front_command(bytes: &[u8]) -> Result<(Command<'_>, &[u8]), CommandFault>
-    ensures value { MatchResult result (λ r. front_command bytes.now ≡ Ok (r.0, r.1.now)) (λ fault. front_command bytes.now ≡ Err fault) }
+pub fn first_command(bytes: &[u8]) -> Result<(Command<'_>, &[u8]), CommandFault>
+    ensures value { MatchResult result (λ r. first_command bytes.now ≡ Ok (r.0, r.1.now)) (λ fault. first_command bytes.now ≡ Err fault) }
     ensures shrinks { IfOk result (λ r. length r.1.now < length bytes.now) }
 {
     let (line, end) = bytes.split_at(line_len(bytes));

@@ -1,6 +1,6 @@
 //! Batches: lists of commands that change the layers of a map, all of them or none.
 //!
-//! Proved: `front_command` reads the command at the front of some bytes, or says what is wrong with it.
+//! Proved: `first_command` reads the command at the front of some bytes, or says what is wrong with it.
 //! `apply_batch` gives the map after all commands of a batch, or the first fault with the number of its command
 //! (`batch`), and then the layers stay as they are. `laws::written_is_read` says that commands which are written one after the other are read as these, and
 //! `laws::empty_batch` that an empty batch leaves the map and is counted.
@@ -17,5 +17,5 @@ pub mod laws;
 
 pub use applying::{apply_batch, apply_command};
 pub use bytes::Bytes;
-pub use command::{Command, CommandFault, Line, count_of, front_command, line_len};
+pub use command::{Command, CommandFault, CommandLine, count_of, first_command, line_len};
 pub use fault::{BatchError, BatchFault, BatchKind, CommandError, MAX_BATCH};

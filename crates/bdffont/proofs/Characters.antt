@@ -2,12 +2,12 @@
 use Rattle.std.proofs.Common.{◌≡◌, ℕ, ◌+◌, Bool, true, false, List, [], ◌∷◌, ◌++◌, ℤ, refl, sym, ◌∙◌, ap, arith}
 use Rattle.std.specs.Prelude.{◌||◌}
 use Rattle.std.proofs.lemmas.List.Sums.{sum_by-cons}
-use Rattle.geom.specs.Device.{PixelPlace}
+use Rattle.geom.specs.Device.{PixelValue}
 use Rattle.mapdefs.specs.declared.font.FontFields.{FontFields}
 use Rattle.bdffont.specs.Ink.{advance_of, text_width, character_covers, has_ink_from, InkIsOfACharacter}
 
 -- ink of a first character, or of those after it
-module _ (font : FontFields) (at : PixelPlace) (i j : ℤ) where
+module _ (font : FontFields) (at : PixelValue) (i j : ℤ) where
   record InksFrom (pen : ℕ) (characters : List ℕ) : Type 0 where
     before : List ℕ
     character : ℕ

@@ -3,7 +3,7 @@ use Rattle.std.proofs.Common.{◌≡◌, ℕ, ◌+◌, true, false, List, [], �
 use Rattle.std.specs.Prelude.{◌||◌}
 use Rattle.std.specs.Str.{chars}
 use Rattle.std.proofs.lemmas.Str.{chars-nil}
-use Rattle.geom.specs.Device.{PixelPlace}
+use Rattle.geom.specs.Device.{PixelValue}
 use Rattle.mapdefs.specs.declared.font.FontFields.{FontFields}
 use Rattle.mapdefs.specs.declared.font.Glyph.{Glyph}
 use Rattle.bdffont.specs.Ink.{glyph_of, advance_of, covers, character_covers, has_ink_from}
@@ -13,7 +13,7 @@ pub no-chars : (bytes : List ℕ) → length bytes ≡ 0 → chars bytes ≡ []
 no-chars [] h = chars-nil
 no-chars (b ∷ bs) h = absurd (omega arith)
 
-module _ (font : FontFields) (at : PixelPlace) (i j : ℤ) (pen : ℕ) (characters : List ℕ) where
+module _ (font : FontFields) (at : PixelValue) (i j : ℤ) (pen : ℕ) (characters : List ℕ) where
   -- without characters there is no ink
   pub ink-end : characters ≡ [] → has_ink_from font at i j pen characters ≡ false
   unfolding has_ink_from

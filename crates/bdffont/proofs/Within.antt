@@ -20,14 +20,14 @@ use Rattle.bdffont.specs.declared.fields.Encoding.{Encoding}
 use Rattle.bdffont.specs.declared.fields.Encoding.TheVariants.{NoCharacter, Character}
 use Rattle.bdffont.specs.declared.keyword.Keyword.{Keyword}
 use Rattle.bdffont.specs.declared.keyword.Keyword.TheVariants as word
-use Rattle.bdffont.specs.declared.number.Number.{Number}
+use Rattle.bdffont.specs.declared.number.WholeNumber.{WholeNumber}
 use Rattle.bdffont.specs.declared.section.Draft.{Draft}
 use Rattle.bdffont.specs.declared.section.FontHeader.{FontHeader}
 use Rattle.bdffont.specs.declared.section.GlyphHeader.{GlyphHeader}
 use Rattle.bdffont.specs.declared.section.Section.{Section}
 use Rattle.bdffont.specs.declared.section.Section.TheVariants.{Before, InHeader, Between, InGlyph, InRows, Ended}
-use Rattle.bdffont.specs.declared.section.Rows.{Rows}
-use Rattle.bdffont.specs.declared.section.State.{State}
+use Rattle.bdffont.specs.declared.section.GlyphRows.{GlyphRows}
+use Rattle.bdffont.specs.declared.section.ReaderState.{ReaderState}
 use Rattle.bdffont.specs.Bits.{bits, is_row, row_pixels}
 use Rattle.bdffont.specs.Fields.{is_small, box_with, box_at, count_at}
 use Rattle.bdffont.specs.Keyword.{keyword_in}
@@ -49,7 +49,7 @@ record IsGoodDraft (d : Draft) (unfinished : ℕ) : Type 0 where
   each : All IsGlyphWithinLimits d.glyphs
 
 -- a glyph so far: its pixels, with those of the rows to come, fill its box
-record IsGoodRows (r : Rows) : Type 0 where
+record IsGoodRows (r : GlyphRows) : Type 0 where
   bounds : IsBoxWithinLimits r.bounds
   area : length r.pixels + r.left * r.bounds.width ≡ r.bounds.width * r.bounds.height
 
@@ -75,7 +75,7 @@ offset-good : (is_negative : Bool) (n : ℕ) → n ≤ 64 → IsWithin 64 (signe
 offset-good true n h = record { least = omega (arith, ints); most = omega (arith, ints) }
 offset-good false n h = record { least = omega (arith, ints); most = omega (arith, ints) }
 
-box-if : (w h x y : Number) (negative small : Bool) → (((is_small w && is_small h) && is_small x) && is_small y) ≡ small →
+box-if : (w h x y : WholeNumber) (negative small : Bool) → (((is_small w && is_small h) && is_small x) && is_small y) ≡ small →
     IfOk (if negative then Err Field else (if small then Ok (record { width = w.size; height = h.size; xoff = signed x.is_negative x.size; yoff = signed y.is_negative y.size }) else Err Limit)) IsBoxWithinLimits
 box-if w h x y true small e = tt
 box-if w h x y false false e = tt
@@ -90,7 +90,7 @@ box-if w h x y false true e =
       up = offset-good y.is_negative y.size (leb-true _ _ last.1);
     }
 
-box_with-good : (w h x y : Option Number) → IfOk (box_with w h x y) IsBoxWithinLimits
+box_with-good : (w h x y : Option WholeNumber) → IfOk (box_with w h x y) IsBoxWithinLimits
 box_with-good (Some w) (Some h) (Some x) (Some y) = box-if w h x y (w.is_negative || h.is_negative) (((is_small w && is_small h) && is_small x) && is_small y) refl
 box_with-good (Some w) (Some h) (Some x) None = tt
 box_with-good (Some w) (Some h) None y = tt
@@ -175,7 +175,7 @@ row-length width line row =
     let digits : length line ≡ ((width + 7) / 8) * 2 = eqb-true _ _ (and_parts (length line == ((width + 7) / 8) * 2) _ row).0 in
     omega (arith, length-take width (bits line), bits-length line)
 
-with_encoded-good : (d : Draft) (r : Rows) (e : Encoding) → IsGoodDraft d 1 → IsGoodRows r → r.left ≡ 0 → IsGoodDraft (with_encoded d r e) 0
+with_encoded-good : (d : Draft) (r : GlyphRows) (e : Encoding) → IsGoodDraft d 1 → IsGoodRows r → r.left ≡ 0 → IsGoodDraft (with_encoded d r e) 0
 with_encoded-good d r NoCharacter good rows none = record { bounds = good.bounds; count = omega (arith, good.count); most = good.most; each = good.each }
 with_encoded-good d r (Character n) good rows none =
     let glyph : Glyph = record { encoding = n; advance = r.advance; bounds = r.bounds; rows = r.pixels } in
@@ -186,7 +186,7 @@ with_encoded-good d r (Character n) good rows none =
       each = All-push IsGlyphWithinLimits d.glyphs glyph good.each (record { bounds = rows.bounds; area = omega (arith, rw none at rows.area) });
     }
 
-after_rows-good : (d : Draft) (r : Rows) (keyword : Option Keyword) → IsGoodDraft d 1 → IsGoodRows r → r.left ≡ 0 → IfOk (after_rows d r keyword) IsGood
+after_rows-good : (d : Draft) (r : GlyphRows) (keyword : Option Keyword) → IsGoodDraft d 1 → IsGoodRows r → r.left ≡ 0 → IfOk (after_rows d r keyword) IsGood
 after_rows-good d r (Some word.EndChar) good rows none = with_encoded-good d r r.encoding good rows none
 after_rows-good d r _ good rows none = tt
 
@@ -194,7 +194,7 @@ row-area : (pixels row left width area : ℕ) → pixels + left * width ≡ area
 row-area pixels row zero width area h r some = absurd (omega arith)
 row-area pixels row (suc left) width area h r some = let less : suc left - 1 ≡ left = omega arith in rw (less, r) (omega arith)
 
-in_rows-if : (d : Draft) (r : Rows) (line : List ℕ) (some row : Bool) → nat_lt 0 r.left ≡ some → is_row r.bounds.width line ≡ row → IsGoodDraft d 1 → IsGoodRows r →
+in_rows-if : (d : Draft) (r : GlyphRows) (line : List ℕ) (some row : Bool) → nat_lt 0 r.left ≡ some → is_row r.bounds.width line ≡ row → IsGoodDraft d 1 → IsGoodRows r →
     IfOk (if some
     then (if row then Ok (InRows d (record r { pixels = r.pixels ++ row_pixels r.bounds.width line; left = r.left - 1 })) else Err Row)
     else after_rows d r (keyword_in line)) IsGood
@@ -217,14 +217,14 @@ section-good (InRows d r) line good = in_rows-if d r line (nat_lt 0 r.left) (is_
 section-good (Ended f) line good = good
 
 -- states
-says-if : (s : State) (line : List ℕ) (skips opens closes : Bool) → IsGood s.section →
-    IfOk (if skips then Ok (record s { in_properties = closes }) else (if opens then Ok (record s { in_properties = true }) else and_then (section_after s.section line) (λ next. Ok (record { section = next; in_properties = false })))) (λ (t : State). IsGood t.section)
+says-if : (s : ReaderState) (line : List ℕ) (skips opens closes : Bool) → IsGood s.section →
+    IfOk (if skips then Ok (record s { in_properties = closes }) else (if opens then Ok (record s { in_properties = true }) else and_then (section_after s.section line) (λ next. Ok (record { section = next; in_properties = false })))) (λ (t : ReaderState). IsGood t.section)
 says-if s line true opens closes good = good
 says-if s line false true closes good = good
 says-if s line false false closes good =
-    follows-good IsGood (λ (t : State). IsGood t.section) (section_after s.section line) (λ next. Ok (record { section = next; in_properties = false })) (section-good s.section line good) (λ p h. h)
+    follows-good IsGood (λ (t : ReaderState). IsGood t.section) (section_after s.section line) (λ next. Ok (record { section = next; in_properties = false })) (section-good s.section line good) (λ p h. h)
 
-says-good : (s : State) (line : List ℕ) → IsGood s.section → IfOk (says s line) (λ (t : State). IsGood t.section)
+says-good : (s : ReaderState) (line : List ℕ) → IsGood s.section → IfOk (says s line) (λ (t : ReaderState). IsGood t.section)
 says-good s line good = says-if s line s.in_properties _ _ good
 
 -- files
@@ -236,15 +236,15 @@ end-good line (Between d) good = tt
 end-good line (InGlyph d g) good = tt
 end-good line (InRows d r) good = tt
 
-line-good : (line : ℕ) (r : Result State FontKind) (others : State → Result FontFields FontFault) → IfOk r (λ (t : State). IsGood t.section) → ((t : State) → IsGood t.section → IfOk (others t) IsGoodFile) → IfOk (after_line line r others) IsGoodFile
+line-good : (line : ℕ) (r : Result ReaderState FontKind) (others : ReaderState → Result FontFields FontFault) → IfOk r (λ (t : ReaderState). IsGood t.section) → ((t : ReaderState) → IsGood t.section → IfOk (others t) IsGoodFile) → IfOk (after_line line r others) IsGoodFile
 line-good line (Ok t) others h g = g t h
 line-good line (Err kind) others h g = tt
 
-reads-good : (lines : List (List ℕ)) (s : State) (line : ℕ) → IsGood s.section → IfOk (reads s line lines) IsGoodFile
+reads-good : (lines : List (List ℕ)) (s : ReaderState) (line : ℕ) → IsGood s.section → IfOk (reads s line lines) IsGoodFile
 unfolding reads
 reads-good [] s line good = end-good line s.section good
 reads-good (text ∷ texts) s line good = line-good line (says s text) _ (says-good s text good) (λ t g. reads-good texts t (line + 1) g)
 
 -- what is read of a file keeps the limits
-pub file-good : (lines : List (List ℕ)) (s : State) (f : FontFields) → s.section ≡ Before → reads s 1 lines ≡ Ok f → IsGoodFile f
+pub file-good : (lines : List (List ℕ)) (s : ReaderState) (f : FontFields) → s.section ≡ Before → reads s 1 lines ≡ Ok f → IsGoodFile f
 file-good lines s f e h = IfOk-at_ok IsGoodFile h (reads-good lines s 1 (rw e tt))

@@ -7,15 +7,15 @@ use Rattle.bdffont.specs.declared.fault.FontKind.{FontKind}
 use Rattle.bdffont.specs.declared.fault.FontKind.TheVariants.{Field, Limit}
 use Rattle.bdffont.specs.declared.fields.Encoding.{Encoding}
 use Rattle.bdffont.specs.declared.fields.Encoding.TheVariants.{NoCharacter, Character}
-use Rattle.bdffont.specs.declared.number.Number.{Number}
+use Rattle.bdffont.specs.declared.number.WholeNumber.{WholeNumber}
 use Rattle.bdffont.specs.Number.{number_at}
 
 -- a side or an offset is within its limit
-abbrev pub is_small : Number → Bool
+abbrev pub is_small : WholeNumber → Bool
 is_small n = nat_le n.size MAX_GLYPH_SIDE
 
 -- the box of a width, a height and two offsets: its sides are not negative, and all four are small
-abbrev pub box_of : Number → Number → Number → Number → Result BitmapBox FontKind
+abbrev pub box_of : WholeNumber → WholeNumber → WholeNumber → WholeNumber → Result BitmapBox FontKind
 box_of w h x y =
     if w.is_negative || h.is_negative then Err Field
     else (if ((is_small w && is_small h) && is_small x) && is_small y
@@ -23,7 +23,7 @@ box_of w h x y =
     else Err Limit)
 
 -- the box of four numbers, if all are there
-abbrev pub box_with : Option Number → Option Number → Option Number → Option Number → Result BitmapBox FontKind
+abbrev pub box_with : Option WholeNumber → Option WholeNumber → Option WholeNumber → Option WholeNumber → Result BitmapBox FontKind
 box_with (Some w) (Some h) (Some x) (Some y) = box_of w h x y
 box_with _ _ _ _ = Err Field
 
@@ -32,7 +32,7 @@ abbrev pub box_at : List ℕ → Result BitmapBox FontKind
 box_at line = box_with (number_at 1 line) (number_at 2 line) (number_at 3 line) (number_at 4 line)
 
 -- the encoding that a number is: no character has a negative one, and none has one of 2^32 or more
-abbrev pub encoding_of : Option Number → Result Encoding FontKind
+abbrev pub encoding_of : Option WholeNumber → Result Encoding FontKind
 encoding_of None = Err Field
 encoding_of (Some n) = Ok (if n.is_negative || nat_le (2 ^ 32) n.size then NoCharacter else Character n.size)
 
@@ -41,7 +41,7 @@ abbrev pub encoding_at : List ℕ → Result Encoding FontKind
 encoding_at line = encoding_of (number_at 1 line)
 
 -- the advance of two numbers, to the right and upwards: the second only has to be there
-abbrev pub advance_of : Option Number → Option Number → Result ℕ FontKind
+abbrev pub advance_of : Option WholeNumber → Option WholeNumber → Result ℕ FontKind
 advance_of (Some across) (Some up) = if not across.is_negative && nat_lt across.size 256 then Ok across.size else Err Field
 advance_of _ _ = Err Field
 
@@ -50,7 +50,7 @@ abbrev pub advance_at : List ℕ → Result ℕ FontKind
 advance_at line = advance_of (number_at 1 line) (number_at 2 line)
 
 -- the count that a number is
-abbrev pub count_of : Option Number → Result ℕ FontKind
+abbrev pub count_of : Option WholeNumber → Result ℕ FontKind
 count_of None = Err Field
 count_of (Some n) = if n.is_negative then Err Field else Ok n.size
 

@@ -11,9 +11,9 @@ use Rattle.bdffont.specs.declared.fault.FontKind.{FontKind}
 use Rattle.bdffont.specs.declared.fault.FontKind.TheVariants.{Start, Truncated}
 use Rattle.bdffont.specs.declared.section.Section.{Section}
 use Rattle.bdffont.specs.declared.section.Section.TheVariants.{Before, Ended}
-use Rattle.bdffont.specs.declared.section.State.{State}
-use Rattle.bdffont.specs.declared.step.Stop.{Stop}
-use Rattle.bdffont.specs.declared.step.Stop.TheVariants as stop
+use Rattle.bdffont.specs.declared.section.ReaderState.{ReaderState}
+use Rattle.bdffont.specs.declared.step.LineError.{LineError}
+use Rattle.bdffont.specs.declared.step.LineError.TheVariants as stop
 use Rattle.bdffont.specs.Sections.{says, start}
 
 -- a fault on a line
@@ -27,12 +27,12 @@ at_end line (Ended font) = Ok font
 at_end line _ = Err (fault_on line Truncated)
 
 -- what is read after a line: what follows from the state that the line makes, or its fault
-abbrev pub after_line : ℕ → Result State FontKind → (State → Result FontFields FontFault) → Result FontFields FontFault
+abbrev pub after_line : ℕ → Result ReaderState FontKind → (ReaderState → Result FontFields FontFault) → Result FontFields FontFault
 after_line line (Ok next) others = others next
 after_line line (Err kind) others = Err (fault_on line kind)
 
 -- what is read in lines from a state on: the font, with its glyphs in the order of the file, or the first fault
-unfoldable pub reads : State → ℕ → List (List ℕ) → Result FontFields FontFault
+unfoldable pub reads : ReaderState → ℕ → List (List ℕ) → Result FontFields FontFault
 reads s line [] = at_end line s.section
 reads s line (text ∷ texts) = after_line line (says s text) (λ next. reads next (line + 1) texts)
 
@@ -64,7 +64,7 @@ follows None e = true
 follows (Some last) e = nat_lt last e
 
 -- the error of a stop on a line
-abbrev pub error_on : ℕ → Stop → FontError
+abbrev pub error_on : ℕ → LineError → FontError
 error_on line (stop.Fault kind) = Fault (fault_on line kind)
 error_on line stop.NoMemory = NoMemory
 

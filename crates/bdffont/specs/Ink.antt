@@ -2,7 +2,7 @@
 use Rattle.std.specs.Prelude.{◌≡◌, ℕ, ◌+◌, ◌*◌, Bool, false, ◌||◌, ◌&&◌, nat_lt, if◌then◌else◌, List, [], ◌∷◌, ◌++◌, find, Option, None, Some, ℤ, pos, ◌+ℤ◌, ◌-ℤ◌, int_lt, unsigned_abs, IsTrue, ◌↔◌, slice_index_or}
 use Rattle.std.specs.List.{sum_by}
 use Rattle.std.specs.Option.{option_map_or, option_or}
-use Rattle.geom.specs.Device.{PixelPlace}
+use Rattle.geom.specs.Device.{PixelValue}
 use Rattle.mapdefs.specs.declared.font.BitmapBox.{BitmapBox}
 use Rattle.mapdefs.specs.declared.font.FontFields.{FontFields}
 use Rattle.mapdefs.specs.declared.font.Glyph.{Glyph}
@@ -51,25 +51,25 @@ inks_at glyph (Some column) (Some row) = inks glyph column row
 inks_at glyph _ _ = false
 
 -- a glyph has ink in column i and row j of the picture, in a text at a pixel, where the pen has advanced so far
-abbrev pub covers : BitmapBox → PixelPlace → ℕ → ℤ → ℤ → Glyph → Bool
+abbrev pub covers : BitmapBox → PixelValue → ℕ → ℤ → ℤ → Glyph → Bool
 covers font at pen i j glyph =
     inks_at glyph (past (left_of at.i pen glyph.bounds) i) (past (first_row (bottom_of at.j font glyph.bounds) glyph.bounds.height) j)
 
 -- so has the glyph of a character
-abbrev pub character_covers : FontFields → PixelPlace → ℕ → ℤ → ℤ → ℕ → Bool
+abbrev pub character_covers : FontFields → PixelValue → ℕ → ℤ → ℤ → ℕ → Bool
 character_covers font at pen i j character = option_map_or (covers font.bounds at pen i j) (glyph_of font.glyphs character) false
 
 -- some of these characters has ink there, the pen advancing with each
-unfoldable pub has_ink_from : FontFields → PixelPlace → ℤ → ℤ → ℕ → List ℕ → Bool
+unfoldable pub has_ink_from : FontFields → PixelValue → ℤ → ℤ → ℕ → List ℕ → Bool
 has_ink_from font at i j pen [] = false
 has_ink_from font at i j pen (c ∷ cs) = character_covers font at pen i j c || has_ink_from font at i j (pen + advance_of font.glyphs c) cs
 
 -- a text with its upper left pixel at a pixel has ink in column i and row j of the picture
-abbrev pub has_ink : FontFields → List ℕ → PixelPlace → ℤ → ℤ → Bool
+abbrev pub has_ink : FontFields → List ℕ → PixelValue → ℤ → ℤ → Bool
 has_ink font characters at i j = has_ink_from font at i j 0 characters
 
 -- a character of the text has ink there: the pen has advanced by those before it
-pub record InksCharacter (font : FontFields) (characters : List ℕ) (at : PixelPlace) (i j : ℤ) : Type 0 where
+pub record InksCharacter (font : FontFields) (characters : List ℕ) (at : PixelValue) (i j : ℤ) : Type 0 where
   pub before : List ℕ
   pub character : ℕ
   pub after : List ℕ
@@ -78,4 +78,4 @@ pub record InksCharacter (font : FontFields) (characters : List ℕ) (at : Pixel
 
 -- the law that a text has ink where one of its characters has, and only there
 abbrev pub InkIsOfACharacter : Type 0
-InkIsOfACharacter = (font : FontFields) (characters : List ℕ) (at : PixelPlace) (i j : ℤ) → IsTrue (has_ink font characters at i j) ↔ InksCharacter font characters at i j
+InkIsOfACharacter = (font : FontFields) (characters : List ℕ) (at : PixelValue) (i j : ℤ) → IsTrue (has_ink font characters at i j) ↔ InksCharacter font characters at i j

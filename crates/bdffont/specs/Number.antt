@@ -3,7 +3,7 @@ use Rattle.std.specs.Prelude.{ℕ, ◌^◌, ◌==◌, ◌&&◌, nat_lt, if◌the
 use Rattle.std.specs.Option.{option_map, option_and_then}
 use Rattle.geom.specs.Decimal as decimal
 use Rattle.geom.specs.Natural.{number_in, up_to}
-use Rattle.bdffont.specs.declared.number.Number.{Number}
+use Rattle.bdffont.specs.declared.number.WholeNumber.{WholeNumber}
 use Rattle.bdffont.specs.Words.{words}
 
 -- the size that some digits are, one at least; 2^32 is past every limit of a font, and so far a size is read
@@ -16,13 +16,13 @@ digits_of [] = []
 digits_of (b ∷ bs) = if b == 45 then bs else b ∷ bs
 
 -- a size with the sign of a word; 0 is not negative
-abbrev pub with_sign : List ℕ → ℕ → Number
+abbrev pub with_sign : List ℕ → ℕ → WholeNumber
 with_sign word size = record { is_negative = decimal.is_negative word && nat_lt 0 size; size = size }
 
 -- the number that a word is: digits, after a minus or not
-abbrev pub number_of : List ℕ → Option Number
+abbrev pub number_of : List ℕ → Option WholeNumber
 number_of word = option_map (with_sign word) (size_of (digits_of word))
 
 -- the number that the word of a line with this index is, the first word having index 0
-abbrev pub number_at : ℕ → List ℕ → Option Number
+abbrev pub number_at : ℕ → List ℕ → Option WholeNumber
 number_at index line = option_and_then number_of (slice_get (words line) index)

@@ -13,10 +13,10 @@ use Rattle.bdffont.specs.declared.section.FontHeader.{FontHeader}
 use Rattle.bdffont.specs.declared.section.GlyphHeader.{GlyphHeader}
 use Rattle.bdffont.specs.declared.section.Section.{Section}
 use Rattle.bdffont.specs.declared.section.Section.TheVariants.{Before, InHeader, Between, InGlyph, InRows, Ended}
-use Rattle.bdffont.specs.declared.section.Rows.{Rows}
-use Rattle.bdffont.specs.declared.section.State.{State}
-use Rattle.bdffont.specs.declared.step.Stop.{Stop}
-use Rattle.bdffont.specs.declared.step.Stop.TheVariants.{Fault, NoMemory}
+use Rattle.bdffont.specs.declared.section.GlyphRows.{GlyphRows}
+use Rattle.bdffont.specs.declared.section.ReaderState.{ReaderState}
+use Rattle.bdffont.specs.declared.step.LineError.{LineError}
+use Rattle.bdffont.specs.declared.step.LineError.TheVariants.{Fault, NoMemory}
 use Rattle.bdffont.specs.Bits.{is_row, row_pixels}
 use Rattle.bdffont.specs.Fields.{box_at, encoding_at, advance_at, count_at}
 use Rattle.bdffont.specs.Keyword.{keyword_in}
@@ -77,11 +77,11 @@ abbrev pub bounded : GlyphHeader → List ℕ → Result GlyphHeader FontKind
 bounded g line = and_then (box_at line) (λ b. Ok (record g { bounds = Some b }))
 
 -- before the rows of a glyph whose header has all its fields, all rows are to come
-abbrev pub rows_with : Option Encoding → Option ℕ → Option BitmapBox → Result Rows FontKind
+abbrev pub rows_with : Option Encoding → Option ℕ → Option BitmapBox → Result GlyphRows FontKind
 rows_with (Some e) (Some a) (Some b) = Ok (record { encoding = e; advance = a; bounds = b; pixels = []; left = b.height })
 rows_with _ _ _ = Err Field
 
-abbrev pub rows_of : GlyphHeader → Result Rows FontKind
+abbrev pub rows_of : GlyphHeader → Result GlyphRows FontKind
 rows_of g = rows_with g.encoding g.advance g.bounds
 
 -- a line of a glyph's header
@@ -94,21 +94,21 @@ in_glyph d g (Some word.Bitmap) line = and_then (rows_of g) (λ rows. Ok (InRows
 in_glyph d g (Some _) line = Err Field
 
 -- the font with a glyph whose rows are read; one that is no character is dropped
-abbrev pub with_encoded : Draft → Rows → Encoding → Draft
+abbrev pub with_encoded : Draft → GlyphRows → Encoding → Draft
 with_encoded d r NoCharacter = d
 with_encoded d r (Character n) =
     record d { glyphs = d.glyphs ++ record { encoding = n; advance = r.advance; bounds = r.bounds; rows = r.pixels } ∷ [] }
 
-abbrev pub with_glyph : Draft → Rows → Draft
+abbrev pub with_glyph : Draft → GlyphRows → Draft
 with_glyph d r = with_encoded d r r.encoding
 
 -- the line after the last row
-abbrev pub after_rows : Draft → Rows → Option Keyword → Result Section FontKind
+abbrev pub after_rows : Draft → GlyphRows → Option Keyword → Result Section FontKind
 after_rows d r (Some word.EndChar) = Ok (Between (with_glyph d r))
 after_rows d r _ = Err Row
 
 -- a row, while rows are to come, and then the line after the last one
-abbrev pub in_rows : Draft → Rows → List ℕ → Result Section FontKind
+abbrev pub in_rows : Draft → GlyphRows → List ℕ → Result Section FontKind
 in_rows d r line =
     if nat_lt 0 r.left
     then (if is_row r.bounds.width line
@@ -142,17 +142,17 @@ closes_properties (Some word.EndProperties) = true
 closes_properties _ = false
 
 -- the state before the first line
-abbrev pub start : State
+abbrev pub start : ReaderState
 start = record { section = Before; in_properties = false }
 
 -- what a line makes of the state: the properties are skipped, and every other line counts by its section
-abbrev pub says : State → List ℕ → Result State FontKind
+abbrev pub says : ReaderState → List ℕ → Result ReaderState FontKind
 says s line =
     if s.in_properties then Ok (record s { in_properties = not (closes_properties (keyword_in line)) })
     else (if opens_properties (keyword_in line) && has_properties s.section then Ok (record s { in_properties = true })
     else and_then (section_after s.section line) (λ next. Ok (record { section = next; in_properties = false })))
 
 -- why reading stops at a line: at the fault of the line, or where memory was refused
-abbrev pub IsStop : {X : Type 0} → Stop → Result X FontKind → Type 0
+abbrev pub IsStop : {X : Type 0} → LineError → Result X FontKind → Type 0
 IsStop (Fault kind) said = said ≡ Err kind
 IsStop NoMemory said = Unit {0}

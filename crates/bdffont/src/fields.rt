@@ -4,7 +4,7 @@ ghost use Rattle.mapdefs.specs.declared.limits.TheConstants.{MAX_GLYPH_SIDE};
 ghost use Rattle.bdffont.specs.Fields.{is_small, box_of, box_at, encoding_at, advance_at, count_at};
 
 use crate::fault::FontKind;
-use crate::number::{Number, number_at};
+use crate::number::{WholeNumber, number_at};
 use mapdefs::{BitmapBox, MAX_GLYPH_SIDE};
 
 /// The encoding of a glyph.
@@ -17,14 +17,14 @@ pub enum Encoding {
 }
 
 // Whether a side or an offset is within its limit.
-fn is_small(number: Number) -> bool
+fn is_small(number: WholeNumber) -> bool
     ensures { result ≡ is_small number }
 {
     number.size <= u64::from(MAX_GLYPH_SIDE)
 }
 
 // A number as an offset.
-fn offset_of(number: Number) -> i8
+fn offset_of(number: WholeNumber) -> i8
     requires { number.size ≤ MAX_GLYPH_SIDE }
     ensures { result ≡ signed number.is_negative number.size }
 {
@@ -33,7 +33,12 @@ fn offset_of(number: Number) -> i8
 }
 
 // The box of a width, a height and two offsets.
-fn box_of(width: Number, height: Number, xoff: Number, yoff: Number) -> Result<BitmapBox, FontKind>
+fn box_of(
+    width: WholeNumber,
+    height: WholeNumber,
+    xoff: WholeNumber,
+    yoff: WholeNumber,
+) -> Result<BitmapBox, FontKind>
     ensures { result ≡ box_of width height xoff yoff }
 {
     if width.is_negative || height.is_negative {

@@ -7,18 +7,18 @@ ghost use Rattle.bdffont.specs.File.{at_end, error_on, file_of, IsFontOf, IsErro
 use crate::fault::{FontError, FontFault, FontKind};
 use crate::glyphs::by_encoding;
 use crate::line::split_line;
-use crate::section::{Section, State};
-use crate::step::Stop;
+use crate::section::{ReaderState, Section};
+use crate::step::LineError;
 use mapdefs::{BitmapBox, Font, FontFields, Glyph, Items};
 use std::alloc::Global;
 
 // The error of a stop on a line.
-fn error_on(line: u64, stop: Stop) -> FontError
+fn error_on(line: u64, stop: LineError) -> FontError
     ensures { result ≡ error_on line stop }
 {
     match stop {
-        Stop::Fault(kind) => FontError::Fault(FontFault { line, kind }),
-        Stop::NoMemory => FontError::NoMemory,
+        LineError::Fault(kind) => FontError::Fault(FontFault { line, kind }),
+        LineError::NoMemory => FontError::NoMemory,
     }
 }
 
@@ -44,7 +44,7 @@ fn read_lines(alloc: Global, bytes: &[u8]) -> Result<FontFields, FontError>
     ensures file { IfOk result (λ file. file_of bytes.now ≡ Ok file) }
     ensures error { IfErr result (IsErrorOf (file_of bytes.now)) }
 {
-    let mut state = State::start();
+    let mut state = ReaderState::start();
     let mut rest = bytes;
     let mut line = 1;
     while let Some((text, after)) = split_line(rest) {

@@ -9,7 +9,7 @@ const MOST_READ: u128 = 1 << 32;
 
 /// A whole number: whether it is below 0, and its size, which counts up to 2^32 at most.
 #[derive(Clone, Copy)]
-pub struct Number {
+pub struct WholeNumber {
     pub is_negative: bool,
     pub size: u64,
 }
@@ -26,7 +26,7 @@ fn size_of(digits: &[u8]) -> Option<u64>
 }
 
 // The number that a word is: digits, with a minus before them or none.
-fn number_of(word: &[u8]) -> Option<Number>
+fn number_of(word: &[u8]) -> Option<WholeNumber>
     ensures { result ≡ number_of word.now }
 {
     let (has_minus, digits) = match word {
@@ -34,14 +34,14 @@ fn number_of(word: &[u8]) -> Option<Number>
         _ => (false, word),
     };
     let size = size_of(digits)?;
-    Some(Number {
+    Some(WholeNumber {
         is_negative: has_minus && size > 0,
         size,
     })
 }
 
 /// The number that the word of a line with this index is.
-pub fn number_at(line: &[u8], index: usize) -> Option<Number>
+pub fn number_at(line: &[u8], index: usize) -> Option<WholeNumber>
     ensures { result ≡ number_at index line.now }
 {
     number_of(word(line, index)?)

@@ -31,7 +31,7 @@ pub struct GlyphHeader {
 
 /// A glyph so far as its rows are read.
 #[derive(Drop)]
-pub struct Rows {
+pub struct GlyphRows {
     pub encoding: Encoding,
     pub advance: u8,
     pub bounds: BitmapBox,
@@ -53,14 +53,14 @@ pub enum Section {
     /// In the header of a glyph.
     InGlyph(Draft, GlyphHeader),
     /// In the rows of a glyph, or after the last of them.
-    InRows(Draft, Rows),
+    InRows(Draft, GlyphRows),
     /// After ENDFONT. The glyphs stand in the order of the file.
     Ended(FontFields),
 }
 
 /// Where a line stands, and whether it is one of the properties, which are skipped.
 #[derive(Drop)]
-pub struct State {
+pub struct ReaderState {
     pub section: Section,
     pub in_properties: bool,
 }

@@ -5,34 +5,34 @@ use crate::bits::{is_row, push_row};
 use crate::fault::FontKind;
 use crate::fields::{Encoding, advance_at, box_at, count_at, encoding_at};
 use crate::keyword::Keyword;
-use crate::section::{Draft, FontHeader, GlyphHeader, Rows, Section, State};
+use crate::section::{Draft, FontHeader, GlyphHeader, GlyphRows, ReaderState, Section};
 use mapdefs::{FontFields, Glyph, Items, MAX_GLYPHS};
 use std::alloc::{AllocError, Global};
 
 /// Why reading stops at a line.
 #[derive(Clone, Copy)]
-pub enum Stop {
+pub enum LineError {
     Fault(FontKind),
     NoMemory,
 }
 
-impl From<FontKind> for Stop {
-    ghost use Rattle.bdffont.specs.declared.step.Stop.TheVariants.{Fault};
+impl From<FontKind> for LineError {
+    ghost use Rattle.bdffont.specs.declared.step.LineError.TheVariants.{Fault};
 
     ghost from_gives = { λ kind stop. stop ≡ Fault kind };
 
-    fn from(kind: FontKind) -> Stop {
-        Stop::Fault(kind)
+    fn from(kind: FontKind) -> LineError {
+        LineError::Fault(kind)
     }
 }
 
-impl From<AllocError> for Stop {
-    ghost use Rattle.bdffont.specs.declared.step.Stop.TheVariants.{NoMemory};
+impl From<AllocError> for LineError {
+    ghost use Rattle.bdffont.specs.declared.step.LineError.TheVariants.{NoMemory};
 
     ghost from_gives = { λ _ stop. stop ≡ NoMemory };
 
-    fn from(_error: AllocError) -> Stop {
-        Stop::NoMemory
+    fn from(_error: AllocError) -> LineError {
+        LineError::NoMemory
     }
 }
 
@@ -136,11 +136,11 @@ fn between(draft: Draft, keyword: Option<Keyword>) -> Result<Section, FontKind>
 }
 
 // The rows of a glyph whose header has all its fields, before the first of them.
-fn rows_of(header: GlyphHeader, alloc: Global) -> Result<Rows, FontKind>
+fn rows_of(header: GlyphHeader, alloc: Global) -> Result<GlyphRows, FontKind>
     ensures { result ≡ rows_of header }
 {
     match (header.encoding, header.advance, header.bounds) {
-        (Some(encoding), Some(advance), Some(bounds)) => Ok(Rows {
+        (Some(encoding), Some(advance), Some(bounds)) => Ok(GlyphRows {
             encoding,
             advance,
             bounds,
@@ -196,7 +196,7 @@ fn in_glyph(
 }
 
 // The font with a glyph whose rows are read. One that is no character is dropped.
-fn with_glyph(draft: Draft, rows: Rows) -> Result<Draft, AllocError>
+fn with_glyph(draft: Draft, rows: GlyphRows) -> Result<Draft, AllocError>
     ensures { IfOk result (λ next. next ≡ with_glyph draft rows) }
 {
     match rows.encoding {
@@ -215,13 +215,13 @@ fn with_glyph(draft: Draft, rows: Rows) -> Result<Draft, AllocError>
 }
 
 // The section after a row, or after the ENDCHAR that follows the last one.
-fn in_rows(draft: Draft, rows: Rows, line: &[u8]) -> Result<Section, Stop>
+fn in_rows(draft: Draft, rows: GlyphRows, line: &[u8]) -> Result<Section, LineError>
     ensures section { IfOk result (λ p. in_rows draft rows line.now ≡ Ok p) }
     ensures stop { IfErr result (λ stop. IsStop stop (in_rows draft rows line.now)) }
 {
     if rows.left > 0 {
         if !is_row(line, rows.bounds.width) {
-            return Err(Stop::Fault(FontKind::Row));
+            return Err(LineError::Fault(FontKind::Row));
         }
         let mut rows = rows;
         push_row(&mut rows.pixels, line, rows.bounds.width)?;
@@ -230,13 +230,13 @@ fn in_rows(draft: Draft, rows: Rows, line: &[u8]) -> Result<Section, Stop>
     } else {
         match Keyword::at(line) {
             Some(Keyword::EndChar) => Ok(Section::Between(with_glyph(draft, rows)?)),
-            _ => Err(Stop::Fault(FontKind::Row)),
+            _ => Err(LineError::Fault(FontKind::Row)),
         }
     }
 }
 
 // The section after a line that is not one of the properties.
-fn section_after(section: Section, line: &[u8], alloc: Global) -> Result<Section, Stop>
+fn section_after(section: Section, line: &[u8], alloc: Global) -> Result<Section, LineError>
     ensures section { IfOk result (λ p. section_after section line.now ≡ Ok p) }
     ensures stop { IfErr result (λ stop. IsStop stop (section_after section line.now)) }
 {
@@ -262,37 +262,37 @@ fn has_properties(section: &Section) -> bool
     )
 }
 
-impl State {
+impl ReaderState {
     /// Before the first line.
-    pub fn start() -> State
+    pub fn start() -> ReaderState
         ensures { result ≡ start }
     {
-        State {
+        ReaderState {
             section: Section::Before,
             in_properties: false,
         }
     }
 
     /// The state after a line.
-    pub fn read_line(self, line: &[u8], alloc: Global) -> Result<State, Stop>
+    pub fn read_line(self, line: &[u8], alloc: Global) -> Result<ReaderState, LineError>
         ensures state { IfOk result (λ s. says self line.now ≡ Ok s) }
         ensures stop { IfErr result (λ stop. IsStop stop (says self line.now)) }
     {
         if self.in_properties {
             let closes = matches!(Keyword::at(line), Some(Keyword::EndProperties));
-            return Ok(State {
+            return Ok(ReaderState {
                 in_properties: !closes,
                 ..self
             });
         }
         let opens = matches!(Keyword::at(line), Some(Keyword::StartProperties));
         if opens && has_properties(&self.section) {
-            return Ok(State {
+            return Ok(ReaderState {
                 in_properties: true,
                 ..self
             });
         }
-        Ok(State {
+        Ok(ReaderState {
             section: section_after(self.section, line, alloc)?,
             in_properties: false,
         })

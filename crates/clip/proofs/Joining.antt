@@ -2,12 +2,12 @@
 use Rattle.std.proofs.Common.{◌≡◌, ℕ, ◌≤◌, Bool, true, false, if◌then◌else◌, min, max, refl, arith}
 use Rattle.std.proofs.lemmas.Bool.{leb-true}
 use Rattle.std.specs.Prelude.{nat_le}
-use Rattle.clip.specs.Class.{has_row, joined}
-use Rattle.clip.specs.declared.rows.Rows.{Rows}
+use Rattle.clip.specs.EdgeClass.{has_row, joined}
+use Rattle.clip.specs.declared.rows.RowRange.{RowRange}
 use Rattle.clip.proofs.Cases.{no-rows}
 
 -- a row that isn't one of them is one of neither group
-pub joined-neither : (a b : Rows) (j : ℕ) → has_row (joined a b) j ≡ false → (has_row a j ≡ false) × (has_row b j ≡ false)
+pub joined-neither : (a b : RowRange) (j : ℕ) → has_row (joined a b) j ≡ false → (has_row a j ≡ false) × (has_row b j ≡ false)
 joined-neither a b j = go (nat_le b.to b.from) (nat_le a.to a.from) refl refl
   where
     go : (s t : Bool) → nat_le b.to b.from ≡ s → nat_le a.to a.from ≡ t →
@@ -17,7 +17,7 @@ joined-neither a b j = go (nat_le b.to b.from) (nat_le a.to a.from) refl refl
     go false false e f h = (grind arith, grind arith)
 
 -- they end where one group ends at the latest
-pub joined-within : (a b : Rows) (h : ℕ) → a.to ≤ h → b.to ≤ h → (joined a b).to ≤ h
+pub joined-within : (a b : RowRange) (h : ℕ) → a.to ≤ h → b.to ≤ h → (joined a b).to ≤ h
 joined-within a b h p q = go (nat_le b.to b.from) (nat_le a.to a.from)
   where
     go : (s t : Bool) → (if s then a else (if t then b else record { from = min a.from b.from; to = max a.to b.to })).to ≤ h

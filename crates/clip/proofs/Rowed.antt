@@ -10,7 +10,7 @@ use Rattle.geom.specs.Device.{centre}
 use Rattle.geom.specs.Edge.{EdgeEnds, low_end, high_end}
 use Rattle.geom.proofs.Products.{same_order, same_test}
 use Rattle.geom.proofs.Quotients.{quotient_parts}
-use Rattle.clip.specs.Class.{at_least_zero, first_row, rows_of, has_row, crosses_row}
+use Rattle.clip.specs.EdgeClass.{at_least_zero, first_row, rows_of, has_row, crosses_row}
 use Rattle.clip.proofs.Sides.{crosses-ends}
 
 -- an index that is cut off at 0 and at h is at most j where it was

@@ -1,30 +1,30 @@
 ghost use Rattle.std.specs.Prelude.{◌≡◌, ◌^◌, pos, ◌-ℤ◌};
 ghost use Rattle.geom.specs.Device.{centre};
 ghost use Rattle.geom.specs.Range.{IsBelow};
-ghost use Rattle.clip.specs.Class.{class_of, IsClass, is_left_of_view, is_right_of_view, rows_of};
+ghost use Rattle.clip.specs.EdgeClass.{class_of, IsClass, is_left_of_view, is_right_of_view, rows_of};
 
-use crate::rows::{Rows, rows_of};
+use crate::rows::{RowRange, rows_of};
 use geom::{Edge, PictureSide};
 
 /// What an edge does to the pixels of a picture.
 #[derive(Clone, Copy)]
-pub enum Class {
+pub enum EdgeClass {
     /// It counts for no pixel: it crosses no row, or lies right of the view.
     Drop,
     /// It lies left of the view, and counts for each pixel of these rows.
     LeftOfView {
         /// The rows that it crosses: one at least.
-        rows: Rows,
+        rows: RowRange,
     },
     /// It counts for the pixels right of it in these rows.
     Walk {
         /// The rows that it crosses: one at least.
-        rows: Rows,
+        rows: RowRange,
     },
 }
 
 /// The class of an edge, on a picture of that width and height. It takes no memory.
-pub fn classify(edge: Edge, width: PictureSide, height: PictureSide) -> Class
+pub fn classify(edge: Edge, width: PictureSide, height: PictureSide) -> EdgeClass
     ensures class { result ≡ class_of edge width height }
     ensures cases { IsClass edge width height result }
 {
@@ -32,19 +32,19 @@ pub fn classify(edge: Edge, width: PictureSide, height: PictureSide) -> Class
 }
 
 /// The same, where the rows that the edge crosses are known.
-#[tactic(auto, unfolding(crate::specs::Class::class_of))]
-pub fn classify_in(edge: Edge, rows: Rows, width: PictureSide, height: PictureSide) -> Class
+#[tactic(auto, unfolding(crate::specs::EdgeClass::class_of))]
+pub fn classify_in(edge: Edge, rows: RowRange, width: PictureSide, height: PictureSide) -> EdgeClass
     requires { rows ≡ rows_of edge height }
     ensures class { result ≡ class_of edge width height }
     ensures cases { IsClass edge width height result }
 {
     if rows.is_empty() || is_right_of_view(edge, width) {
-        return Class::Drop;
+        return EdgeClass::Drop;
     }
     if is_left_of_view(edge) {
-        return Class::LeftOfView { rows };
+        return EdgeClass::LeftOfView { rows };
     }
-    Class::Walk { rows }
+    EdgeClass::Walk { rows }
 }
 
 // Whether both ends lie right of the pixel centres of the last column.

@@ -1,5 +1,5 @@
 ghost use Rattle.std.specs.Prelude.{◌≡◌, min};
-ghost use Rattle.clip.specs.Class.{at_least_zero};
+ghost use Rattle.clip.specs.EdgeClass.{at_least_zero};
 
 /// The index, cut to 0 below and to `end` above.
 pub fn clamped(index: i128, end: u16) -> u16

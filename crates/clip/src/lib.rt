@@ -2,7 +2,7 @@
 //!
 //! Proved: `classify` finds the rows whose pixel centres' height an edge crosses, and whether it lies
 //! right of the view, left of it or neither (`class_of`); what each of these answers means is `IsClass`.
-//! `Rows::joined` are the rows from the first one to the last one of two groups (`joined`).
+//! `RowRange::joined` are the rows from the first one to the last one of two groups (`joined`).
 //!
 //! Words: a *view* is here the picture's columns and rows. An edge *crosses a row* where it crosses the
 //! height of the row's pixel centres. An edge that lies left of the view counts for each pixel of the
@@ -13,6 +13,6 @@ mod class;
 mod index;
 mod rows;
 
-pub use class::{Class, classify, classify_in};
+pub use class::{EdgeClass, classify, classify_in};
 pub use index::clamped;
-pub use rows::{Rows, rows_of};
+pub use rows::{RowRange, rows_of};

@@ -1,5 +1,5 @@
 ghost use Rattle.std.specs.Prelude.{◌≡◌, ◌^◌, ◌≤◌, nat_le};
-ghost use Rattle.clip.specs.Class.{first_row, has_row, joined, rows_of};
+ghost use Rattle.clip.specs.EdgeClass.{first_row, has_row, joined, rows_of};
 ghost use Rattle.geom.specs.Range.{IsBelow};
 
 use crate::index::clamped;
@@ -7,14 +7,14 @@ use geom::{Edge, PictureSide};
 
 /// Some rows of a picture, counted from the top: those from one row to before another.
 #[derive(Clone, Copy)]
-pub struct Rows {
+pub struct RowRange {
     /// The first row.
     pub from: u16,
     /// The row after the last one.
     pub to: u16,
 }
 
-impl Rows {
+impl RowRange {
     /// Whether the row is one of them.
     pub fn has(self, row: u16) -> bool
         ensures { result ≡ has_row self row }
@@ -23,7 +23,7 @@ impl Rows {
     }
 
     /// The rows from the first one to the last one of both.
-    pub fn joined(self, other: Rows) -> Rows
+    pub fn joined(self, other: RowRange) -> RowRange
         ensures { result ≡ joined self other }
     {
         if other.is_empty() {
@@ -31,7 +31,7 @@ impl Rows {
         } else if self.is_empty() {
             other
         } else {
-            Rows {
+            RowRange {
                 from: self.from.min(other.from),
                 to: self.to.max(other.to),
             }
@@ -47,17 +47,17 @@ impl Rows {
 }
 
 /// The rows of a picture that an edge crosses. They may be none.
-pub fn rows_of(edge: Edge, height: PictureSide) -> Rows
+pub fn rows_of(edge: Edge, height: PictureSide) -> RowRange
     ensures { result ≡ rows_of edge height }
 {
-    Rows {
+    RowRange {
         from: first_row(edge.low_end().y(), height),
         to: first_row(edge.high_end().y(), height),
     }
 }
 
 // The first row whose pixel centres lie at that height or below it, or the picture's height.
-#[tactic(auto, unfolding(crate::specs::Class::first_row))]
+#[tactic(auto, unfolding(crate::specs::EdgeClass::first_row))]
 fn first_row(y: i64, height: PictureSide) -> u16
     requires { IsBelow (2 ^ 47) y }
     ensures { result ≡ first_row y height }

@@ -7,7 +7,7 @@ use Rattle.std.proofs.lemmas.Map.Keys.{below_from_sorted, sorted_from_strictly_i
 use Rattle.std.specs.List.{Contains, flat_map, list_any, slice_get}
 use Rattle.std.specs.List.Sorted.{IsStrictlySortedBy}
 use Rattle.compose.proofs.Painting.{colour_at-append, colour_at-none, colour_at-one}
-use Rattle.compose.specs.Paint.{Thing, colour_in, covers}
+use Rattle.compose.specs.Paint.{PaintedShape, colour_in, covers}
 use Rattle.compose.specs.Picture.{colour_at}
 use Rattle.mapdefs.specs.declared.colour.Rgb.{Rgb}
 use Rattle.mapdefs.specs.declared.feature.FeatureFields.{FeatureFields}
@@ -17,7 +17,7 @@ use Rattle.mapdefs.proofs.Containing.{first_or}
 use Rattle.compose.proofs.Finding.{here, there}
 
 -- things of which none covers the pixel leave its colour
-pub quiet : (background : Option Rgb) (things : List Thing) (i j : ℕ) → list_any (λ t. covers t i j) things ≡ false → colour_at background things i j ≡ background
+pub quiet : (background : Option Rgb) (things : List PaintedShape) (i j : ℕ) → list_any (λ t. covers t i j) things ≡ false → colour_at background things i j ≡ background
 quiet background [] i j h = colour_at-none background i j
 quiet background (t ∷ things) i j h =
     let both = or_parts (covers t i j) (list_any (λ t. covers t i j) things) h in
@@ -62,13 +62,13 @@ abbrev HasEach : (ℕ → Bool) → ℕ → ℕ → List ℕ → Type 0
 HasEach test from past found = (k : ℕ) → from ≤ k → k < past → test k ≡ true → Contains found k
 
 -- an element whose index isn't there
-skipped : (h : ℕ → List Thing) (i j from past : ℕ) (found : List ℕ) (first rest : List Thing) (background : Option Rgb) → h from ≡ first → (Contains found from → ⊥) →
+skipped : (h : ℕ → List PaintedShape) (i j from past : ℕ) (found : List ℕ) (first rest : List PaintedShape) (background : Option Rgb) → h from ≡ first → (Contains found from → ⊥) →
     AreFrom from past found → HasEach (λ k. list_any (λ t. covers t i j) (h k)) from past found → from < past →
     (AreFrom (from + 1) past found → HasEach (λ k. list_any (λ t. covers t i j) (h k)) (from + 1) past found → colour_at background (flat_map h found) i j ≡ colour_at background rest i j) →
     colour_at background (flat_map h found) i j ≡ colour_at background (first ++ rest) i j
 skipped h i j from past found first rest background begins none within each short others =
     others later left
-    ∙ sym (colour_at-append background first rest i j ∙ ap (λ (c : Option Rgb). colour_at c rest i j) (ap (λ (ts : List Thing). colour_at background ts i j) (sym begins) ∙ quiet background (h from) i j (uncovered (list_any (λ t. covers t i j) (h from)) refl)))
+    ∙ sym (colour_at-append background first rest i j ∙ ap (λ (c : Option Rgb). colour_at c rest i j) (ap (λ (ts : List PaintedShape). colour_at background ts i j) (sym begins) ∙ quiet background (h from) i j (uncovered (list_any (λ t. covers t i j) (h from)) refl)))
   where
     uncovered : (t : Bool) → list_any (λ t. covers t i j) (h from) ≡ t → t ≡ false
     uncovered true e = absurd (none (each from (omega arith) short e))
@@ -84,14 +84,14 @@ skipped h i j from past found first rest background begins none within each shor
     left k low high e = each k (omega (arith, low)) high e
 
 -- an element whose index is the first
-painted : (h : ℕ → List Thing) (i j from past : ℕ) (ys : List ℕ) (first rest : List Thing) (background : Option Rgb) → h from ≡ first → IsStrictlySortedBy nat_cmp (from ∷ ys) →
+painted : (h : ℕ → List PaintedShape) (i j from past : ℕ) (ys : List ℕ) (first rest : List PaintedShape) (background : Option Rgb) → h from ≡ first → IsStrictlySortedBy nat_cmp (from ∷ ys) →
     AreFrom from past (from ∷ ys) → HasEach (λ k. list_any (λ t. covers t i j) (h k)) from past (from ∷ ys) →
     (AreFrom (from + 1) past ys → HasEach (λ k. list_any (λ t. covers t i j) (h k)) (from + 1) past ys →
     colour_at (colour_at background first i j) (flat_map h ys) i j ≡ colour_at (colour_at background first i j) rest i j) →
     colour_at background (flat_map h (from ∷ ys)) i j ≡ colour_at background (first ++ rest) i j
 painted h i j from past ys first rest background begins rising within each others =
     colour_at-append background (h from) (flat_map h ys) i j
-    ∙ (ap (λ (ts : List Thing). colour_at (colour_at background ts i j) (flat_map h ys) i j) begins
+    ∙ (ap (λ (ts : List PaintedShape). colour_at (colour_at background ts i j) (flat_map h ys) i j) begins
     ∙ (others later left ∙ sym (colour_at-append background first rest i j)))
   where
     later : AreFrom (from + 1) past ys
@@ -104,7 +104,7 @@ painted h i j from past ys first rest background begins rising within each other
         (first_or from k ys (each k (omega (arith, low)) high e))
 
 -- from an index on: what each index gives is what the elements give
-from-on : (f : FeatureFields → List Thing) (h : ℕ → List Thing) (i j : ℕ) (xs : List FeatureFields) (from past : ℕ) (found : List ℕ) (background : Option Rgb) →
+from-on : (f : FeatureFields → List PaintedShape) (h : ℕ → List PaintedShape) (i j : ℕ) (xs : List FeatureFields) (from past : ℕ) (found : List ℕ) (background : Option Rgb) →
     past ≡ from + length xs → ((k : ℕ) (x : FeatureFields) → slice_get xs k ≡ Some x → h (from + k) ≡ f x) → IsStrictlySortedBy nat_cmp found → AreFrom from past found →
     HasEach (λ k. list_any (λ t. covers t i j) (h k)) from past found →
     colour_at background (flat_map h found) i j ≡ colour_at background (flat_map f xs) i j
@@ -131,7 +131,7 @@ from-on f h i j (x ∷ xs) from past (y ∷ ys) background e link rising within 
     (cases_eq y from)
 
 -- an element whose things cover a pixel is one of those that have some
-covered-there : (f : FeatureFields → List Thing) (features : List FeatureFields) (found : List ℕ) (i j k : ℕ) →
+covered-there : (f : FeatureFields → List PaintedShape) (features : List FeatureFields) (found : List ℕ) (i j k : ℕ) →
     ((feature : FeatureFields) → slice_get features k ≡ Some feature → list_any (λ t. covers t i j) (f feature) ≡ true → Contains found k) →
     list_any (λ t. covers t i j) (given_at f features k) ≡ true → Contains found k
 covered-there f features found i j k each h = go (slice_get features k) refl

@@ -9,8 +9,8 @@ use Rattle.std.proofs.lemmas.List.{get_or-append_right, get_or-drop, get_or-take
 use Rattle.std.proofs.lemmas.Nat.{div-add-mod', div_below, mod_below}
 use Rattle.std.proofs.Math.Nat.{mul-le-mul_right}
 use borrow.Rule.Slice.PartMut.{mid_of, post_of, put_mid}
-use Rattle.clip.specs.Class.{has_row}
-use Rattle.clip.specs.declared.rows.Rows.{Rows}
+use Rattle.clip.specs.EdgeClass.{has_row}
+use Rattle.clip.specs.declared.rows.RowRange.{RowRange}
 use Rattle.mapdefs.specs.declared.colour.Rgb.{Rgb}
 use Rattle.mapdefs.specs.declared.picture.PictureFields.{PictureFields}
 use Rattle.scanfill.proofs.Covering.{spans-test, spans-within}
@@ -129,14 +129,14 @@ part-wide a width k pixels row is within same =
     omega (arith, is, same, length-take k (drop a pixels), length-drop a pixels)
 
 -- a row above some rows, or below them, is none of them
-rows-before : (rows : Rows) (j : ℕ) → j < rows.from → has_row rows j ≡ false
+rows-before : (rows : RowRange) (j : ℕ) → j < rows.from → has_row rows j ≡ false
 rows-before rows j h = and_left (nat_le rows.from j) (nat_lt j rows.to) (lt-leb rows.from j h)
 
-rows-after : (rows : Rows) (j : ℕ) → rows.to ≤ j → has_row rows j ≡ false
+rows-after : (rows : RowRange) (j : ℕ) → rows.to ≤ j → has_row rows j ≡ false
 rows-after rows j h = and_right (nat_le rows.from j) (nat_lt j rows.to) (le-ltb j rows.to h)
 
 -- all rows of a cover are filled, and it covers no pixel of the others
-pub filled-rows : (test : ℕ → ℕ → Bool) (colour : ℕ → ℕ → Option Rgb) (width height : ℕ) (rows : Rows) (past : ℕ) (a b : List (Option Rgb)) → length a ≡ width * height → rows.to ≤ past →
+pub filled-rows : (test : ℕ → ℕ → Bool) (colour : ℕ → ℕ → Option Rgb) (width height : ℕ) (rows : RowRange) (past : ℕ) (a b : List (Option Rgb)) → length a ≡ width * height → rows.to ≤ past →
     ((i j : ℕ) → i < width → j < height → has_row rows j ≡ false → test i j ≡ false) →
     AreRowsFilled test colour width rows.from past a b → AreFilled test colour width a b
 filled-rows test colour width height rows past a b area last none filled = λ k h.
@@ -171,7 +171,7 @@ rows-more test colour from at past a b c first last p q = record {
 }
 
 -- where all rows of a cover are filled the picture is
-pub rows-all : (test : ℕ → ℕ → Bool) (colour : ℕ → ℕ → Option Rgb) (rows : Rows) (past : ℕ) (a b : PictureFields) → length a.pixels ≡ a.width * a.height → rows.to ≤ past →
+pub rows-all : (test : ℕ → ℕ → Bool) (colour : ℕ → ℕ → Option Rgb) (rows : RowRange) (past : ℕ) (a b : PictureFields) → length a.pixels ≡ a.width * a.height → rows.to ≤ past →
     ((i j : ℕ) → i < a.width → j < a.height → has_row rows j ≡ false → test i j ≡ false) → HasRowsFilled test colour rows.from past a b → IsFilled test colour a b
 rows-all test colour rows past a b area last none f = record {
   width = f.width;

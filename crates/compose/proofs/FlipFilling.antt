@@ -9,7 +9,7 @@ use Rattle.scanfill.specs.Runs.{has_column, is_in_spans}
 use Rattle.scanfill.specs.RowFlips.{has_pixel, is_pixel_flipped}
 use Rattle.scanfill.specs.declared.row_spans.RowSpan.{RowSpan}
 use Rattle.scanfill.specs.declared.span.Span.{Span}
-use Rattle.compose.specs.Paint.{Thing, covers, colour_in}
+use Rattle.compose.specs.Paint.{PaintedShape, covers, colour_in}
 use Rattle.compose.specs.Painted.{HasRowsFilled, IsFilled, IsPainted, colour_of}
 use Rattle.compose.proofs.Filling.{cond-either, some-columns}
 use Rattle.compose.proofs.Painting.{colour_at-one}
@@ -72,7 +72,7 @@ filling-last flips left colour a b none is = record {
 }
 
 -- what is filled where a thing covers the pixels of the picture is painted over with the thing
-pub painted-within : (thing : Thing) (test : ℕ → ℕ → Bool) (colour : ℕ → ℕ → Option Rgb) (a b : PictureFields) → length a.pixels ≡ a.width * a.height →
+pub painted-within : (thing : PaintedShape) (test : ℕ → ℕ → Bool) (colour : ℕ → ℕ → Option Rgb) (a b : PictureFields) → length a.pixels ≡ a.width * a.height →
     ((i j : ℕ) → i < a.width → j < a.height → covers thing i j ≡ test i j) →
     ((i j : ℕ) → colour_in thing i j ≡ colour i j) → IsFilled test colour a b → IsPainted a b (thing ∷ [])
 painted-within thing test colour a b area same shown f = record {

@@ -18,8 +18,8 @@ use Rattle.geom.specs.World.{Place}
 use Rattle.geom.proofs.Products.{le_of, mul-sub, not_le_of, product_nonneg}
 use Rattle.geom.proofs.Rings.{closing_edges}
 use Rattle.geom.proofs.Quotients.{at_most-by_product, quotient_parts}
-use Rattle.clip.specs.Class.{at_least_zero, first_row, rows_of}
-use Rattle.clip.specs.declared.rows.Rows.{Rows}
+use Rattle.clip.specs.EdgeClass.{at_least_zero, first_row, rows_of}
+use Rattle.clip.specs.declared.rows.RowRange.{RowRange}
 use Rattle.clip.proofs.Rowed.{first_row-at_most}
 use Rattle.viewport.specs.View.{ViewValue, device_point, sixteenths}
 use Rattle.scanfill.specs.RowFlips.{is_pixel_flipped, flips_by}
@@ -109,7 +109,7 @@ covered-cons e es p =
     ∙ ap (λ b. is_one_of b (is_covered es p)) (odd-one (crosses_at_or_left p e)))
 
 -- the rows that an edge crosses lie between those of its ends
-abbrev pub between : ℕ → ℕ → Rows
+abbrev pub between : ℕ → ℕ → RowRange
 between a b = record { from = min a b; to = max a b }
 
 pub rows-crossed : (p q : DevicePoint) (h : ℕ) → between (first_row p.y h) (first_row q.y h) ≡ rows_of (edge_between (p, q)) h

@@ -6,7 +6,7 @@ use Rattle.std.proofs.lemmas.Map.Keys.{sorted_from_strictly_increasing, sorted_t
 use Rattle.std.specs.List.{Contains, flat_map, slice_get}
 use Rattle.std.specs.List.Sorted.{IsStrictlyIncreasing, IsStrictlySortedBy}
 use Rattle.std.specs.Option.{option_map_or}
-use Rattle.geom.specs.Device.{PixelPlace}
+use Rattle.geom.specs.Device.{PixelValue}
 use Rattle.geom.specs.Side.{IsPictureSide}
 use Rattle.geom.specs.World.{IsExtent}
 use Rattle.mapdefs.specs.Class.{class_of}
@@ -79,7 +79,7 @@ found-all {X} {Y} f xs found rising indices nothing =
 
 -- a feature gives no candidate, or has its box in the window
 module _ (view : ViewValue) (margin : ℕ) (layer : LayerFields) (feature : FeatureFields) (extent : IsExtent view.area) (width : IsPictureSide view.width) (height : IsPictureSide view.height) where
-  by-anchor : (label : LabelFields) (o : Option PixelPlace) → shown_anchor view layer.kind feature ≡ o →
+  by-anchor : (label : LabelFields) (o : Option PixelValue) → shown_anchor view layer.kind feature ≡ o →
       (option_map_or (candidate_at label (label_text layer feature)) o [] ++ [] ≡ []) ⊎ HasBoxIn (window view margin) feature
   by-anchor label None e = inl refl
   by-anchor label (Some p) e = inr (anchors-near view margin layer.kind feature p extent width height e)

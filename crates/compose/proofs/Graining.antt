@@ -10,7 +10,7 @@ use mir.Syntax.{w64}
 use mir.Val.{of_z, to_z}
 use Rattle.geom.proofs.Products.{add-mul, is_le, mul-add, mul-comm, mul-left_comm, mul-sub, product_nonneg}
 use Rattle.geom.proofs.Quotients.{at_most-by_product, quotient-below, quotient_is, quotient_parts}
-use Rattle.geom.specs.Device.{PixelPlace, pixel_of}
+use Rattle.geom.specs.Device.{PixelValue, pixel_of}
 use Rattle.geom.specs.Range.{IsBelow}
 use Rattle.geom.specs.World.{Area, IsCoordinate, Place}
 use Rattle.scanfill.proofs.Words.{product-below, word}
@@ -131,7 +131,7 @@ around-pixel view across down place left top are narrow flat x y p has =
     let there = pixel_of (device_point view place) in
     ap (λ (i : ℤ). the-pixel i here.j) column ∙ ap (λ (j : ℤ). the-pixel there.i j) row
   where
-    the-pixel : ℤ → ℤ → PixelPlace
+    the-pixel : ℤ → ℤ → PixelValue
     the-pixel i j = record { i = i; j = j }
 
 pub coordinate-below : (z : ℤ) → IsCoordinate z → IsBelow (2 ^ 31) z

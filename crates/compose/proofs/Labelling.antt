@@ -2,11 +2,11 @@
 use Rattle.std.proofs.Common.{◌≡◌, ◌∙◌, ℕ, List, [], ◌∷◌, length, Option, None, Some, refl, sym, ap, subst}
 use Rattle.std.specs.Prelude.{◌==◌, false}
 use Rattle.std.specs.List.{flat_map, list_any}
-use Rattle.geom.specs.Device.{PixelPlace}
+use Rattle.geom.specs.Device.{PixelValue}
 use Rattle.mapdefs.specs.declared.label.LabelFields.{LabelFields}
 use Rattle.viewport.specs.View.{ViewValue}
 use Rattle.compose.specs.Anchor.{shown_anchor}
-use Rattle.compose.specs.Walk.{Met}
+use Rattle.compose.specs.Walk.{ClassifiedFeatureValue}
 use lib.IntN.{pos}
 use Rattle.labelcache.specs.Candidate.{CandidateValue}
 use Rattle.labelcache.specs.Placement.{IsPlacement, setting}
@@ -55,7 +55,7 @@ labelled scene font candidates labels a b e placed painted = record {
 }
 
 -- what may be placed of a feature whose class has a label, which has a text and an anchor in the picture
-pub candidate-is : (view : ViewValue) (font : Option FontFields) (f : FontFields) (met : Met) (label : LabelFields) (text : List ℕ) (p : PixelPlace) → Some f ≡ font → met.class.label ≡ Some label →
+pub candidate-is : (view : ViewValue) (font : Option FontFields) (f : FontFields) (met : ClassifiedFeatureValue) (label : LabelFields) (text : List ℕ) (p : PixelValue) → Some f ≡ font → met.class.label ≡ Some label →
     text ≡ label_text met.layer met.feature → (length text == 0) ≡ false → shown_anchor view met.layer.kind met.feature ≡ Some p →
     met_candidates view font met ≡ record { text = text; anchor = p; label = label } ∷ []
 candidate-is view font f met label text p has labelled written some at = rw (← has, labelled, at, ← written) (go text some)

@@ -7,7 +7,7 @@ use Rattle.labelcache.specs.Candidate.{CandidateValue}
 use Rattle.scene.specs.Scene.{SceneValue}
 use Rattle.compose.specs.Drawn.{DrawingValue, IsDrawn}
 use Rattle.compose.specs.Labels.{met_candidates}
-use Rattle.compose.specs.Walk.{Met, met_things}
+use Rattle.compose.specs.Walk.{ClassifiedFeatureValue, met_things}
 use Rattle.compose.proofs.Painting.{painted-append, painted-none}
 
 -- where nothing is met all stays
@@ -15,7 +15,7 @@ pub drawn-none : (scene : SceneValue) (a : DrawingValue) → IsDrawn scene a a [
 drawn-none scene a = record { painted = painted-none a.canvas; labelled = sym (append-nil a.labels) }
 
 -- drawing goes on
-pub drawn-append : (scene : SceneValue) (a b c : DrawingValue) (xs ys : List Met) → IsDrawn scene a b xs → IsDrawn scene b c ys → IsDrawn scene a c (xs ++ ys)
+pub drawn-append : (scene : SceneValue) (a b c : DrawingValue) (xs ys : List ClassifiedFeatureValue) → IsDrawn scene a b xs → IsDrawn scene b c ys → IsDrawn scene a c (xs ++ ys)
 drawn-append scene a b c xs ys p q =
     let things = met_things scene.view scene.map.symbols in
     let candidates = met_candidates scene.view scene.map.font in
@@ -26,13 +26,13 @@ drawn-append scene a b c xs ys p q =
     }
 
 -- a loop that draws what each element meets: one element more
-pub drawn-next : {X : Type 0} (scene : SceneValue) (f : X → List Met) (xs : List X) (i : ℕ) (x : X) (a b c : DrawingValue) → i < length xs → x ≡ get_or xs i x →
+pub drawn-next : {X : Type 0} (scene : SceneValue) (f : X → List ClassifiedFeatureValue) (xs : List X) (i : ℕ) (x : X) (a b c : DrawingValue) → i < length xs → x ≡ get_or xs i x →
     IsDrawn scene a b (flat_map f (take i xs)) → IsDrawn scene b c (f x) → IsDrawn scene a c (flat_map f (take (i + 1) xs))
 drawn-next scene f xs i x a b c h e p q =
     let here : get_or xs i x ∷ [] ≡ x ∷ [] = ap (λ y. y ∷ []) (sym e) in
     rw (take_more xs i x h, here, flat_map-append f (take i xs) (x ∷ []), append-nil (f x)) (drawn-append scene a b c (flat_map f (take i xs)) (f x) p q)
 
 -- a loop over all elements has drawn what they meet
-pub drawn-end : {X : Type 0} (scene : SceneValue) (f : X → List Met) (xs : List X) (i : ℕ) (a b : DrawingValue) → i ≡ length xs →
+pub drawn-end : {X : Type 0} (scene : SceneValue) (f : X → List ClassifiedFeatureValue) (xs : List X) (i : ℕ) (a b : DrawingValue) → i ≡ length xs →
     IsDrawn scene a b (flat_map f (take i xs)) → IsDrawn scene a b (flat_map f xs)
 drawn-end scene f xs i a b e p = rw (take_all i xs (omega arith)) at p

@@ -27,26 +27,26 @@ use Rattle.viewport.specs.View.{ViewValue, window}
 use Rattle.compose.specs.Anchor.{shown_anchor}
 use Rattle.compose.specs.Drawn.{DrawingValue, IsDrawn, IsDrawnTo, IsMentioned}
 use Rattle.compose.specs.Labels.{candidate_at, candidate_list, has_label, label_text, met_candidates}
-use Rattle.compose.specs.Paint.{Thing, chosen_things, colour_in, covers, paint_list}
+use Rattle.compose.specs.Paint.{PaintedShape, chosen_things, colour_in, covers, paint_list}
 use Rattle.compose.specs.Painted.{IsPainted, colour_of}
 use Rattle.compose.specs.Picture.{LastMentionsPaintAll, colour_at}
-use Rattle.compose.specs.Walk.{Met, given_at, met_chosen, met_feature, met_list}
+use Rattle.compose.specs.Walk.{ClassifiedFeatureValue, given_at, met_chosen, met_feature, met_list}
 use Rattle.compose.proofs.Found.{found-label-all}
 use Rattle.compose.proofs.Painting.{colour_at-append, painted-append, painted-none}
 use Rattle.compose.proofs.Walking.{of-chosen, paint-list-of-the-met}
 
 -- things give a pixel the same colour over any background, or leave it as it is
-abbrev Hides : List Thing → ℕ → ℕ → Type 0
+abbrev Hides : List PaintedShape → ℕ → ℕ → Type 0
 Hides things i j = (a b : Option Rgb) → colour_at a things i j ≡ colour_at b things i j
 
-abbrev Leaves : List Thing → ℕ → ℕ → Type 0
+abbrev Leaves : List PaintedShape → ℕ → ℕ → Type 0
 Leaves things i j = (a : Option Rgb) → colour_at a things i j ≡ a
 
-hides-or-leaves : (things : List Thing) (i j : ℕ) → Hides things i j ⊎ Leaves things i j
+hides-or-leaves : (things : List PaintedShape) (i j : ℕ) → Hides things i j ⊎ Leaves things i j
 unfolding colour_at
 hides-or-leaves things i j = go (find (λ thing. covers thing i j) (reverse things))
   where
-    go : (o : Option Thing) →
+    go : (o : Option PaintedShape) →
         ((a b : Option Rgb) → option_map_or (λ thing. colour_in thing i j) o a ≡ option_map_or (λ thing. colour_in thing i j) o b)
         ⊎ ((a : Option Rgb) → option_map_or (λ thing. colour_in thing i j) o a ≡ a)
     go None = inr (λ a. refl)
@@ -85,7 +85,7 @@ last-mentions-paint-all view scale m before index after background i j c =
     (hides-or-leaves one i j))
 
 -- what gives each pixel the same colour is painted as well
-painted-as : (a b : PictureFields) (xs ys : List Thing) → ((background : Option Rgb) (i j : ℕ) → colour_at background xs i j ≡ colour_at background ys i j) →
+painted-as : (a b : PictureFields) (xs ys : List PaintedShape) → ((background : Option Rgb) (i j : ℕ) → colour_at background xs i j ≡ colour_at background ys i j) →
     IsPainted a b xs → IsPainted a b ys
 painted-as a b xs ys same p = record {
   width = p.width;
@@ -153,7 +153,7 @@ drawn-to-last scene chosen [] a b none p =
     }
 
 -- a loop over what is found adds the candidates of each
-pub labelled-next : {X : Type 0} (f : X → List Met) (g : Met → List CandidateValue) (xs : List X) (i : ℕ) (x : X) (a b c : List CandidateValue) → i < length xs → x ≡ get_or xs i x →
+pub labelled-next : {X : Type 0} (f : X → List ClassifiedFeatureValue) (g : ClassifiedFeatureValue → List CandidateValue) (xs : List X) (i : ℕ) (x : X) (a b c : List CandidateValue) → i < length xs → x ≡ get_or xs i x →
     b ≡ a ++ flat_map g (flat_map f (take i xs)) → c ≡ b ++ flat_map g (f x) → c ≡ a ++ flat_map g (flat_map f (take (i + 1) xs))
 labelled-next f g xs i x a b c h e p q =
     let here : get_or xs i x ∷ [] ≡ x ∷ [] = ap (λ y. y ∷ []) (sym e) in
@@ -162,7 +162,7 @@ labelled-next f g xs i x a b c h e p q =
     (q ∙ ap (λ (z : List CandidateValue). z ++ flat_map g (f x)) p ∙ append_assoc a early (flat_map g (f x)))
 
 -- the index of an element in place of it
-pub labelled-at : {X : Type 0} (f : X → List Met) (g : Met → List CandidateValue) (xs : List X) (k : ℕ) (x : X) (b c : List CandidateValue) → k < length xs → x ≡ get_or xs k x →
+pub labelled-at : {X : Type 0} (f : X → List ClassifiedFeatureValue) (g : ClassifiedFeatureValue → List CandidateValue) (xs : List X) (k : ℕ) (x : X) (b c : List CandidateValue) → k < length xs → x ≡ get_or xs k x →
     c ≡ b ++ flat_map g (f x) → c ≡ b ++ flat_map g (given_at f xs k)
 labelled-at f g xs k x b c short is p = rw (slice_get-get_or xs k x short, ← is) p
 
@@ -173,7 +173,7 @@ pub hidden-layer : (scene : SceneValue) (index : ℕ) (layer : LayerFields) (lab
 hidden-layer scene index layer labels is hidden = rw (is, hidden) (sym (append-nil labels))
 
 -- nor has one of whose classes none has a label
-unlabelled-class : (view : ViewValue) (font : Option FontFields) (met : Met) → has_label met.class ≡ false → met_candidates view font met ≡ []
+unlabelled-class : (view : ViewValue) (font : Option FontFields) (met : ClassifiedFeatureValue) → has_label met.class ≡ false → met_candidates view font met ≡ []
 unlabelled-class view None met none = refl
 unlabelled-class view (Some font) met none = go met.class.label none
   where

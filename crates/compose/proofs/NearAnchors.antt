@@ -10,11 +10,11 @@ use Rattle.std.specs.Prelude.{◌&&◌, int_le, int_lt}
 use lib.IntN.{ℤ, pos, ◌+ℤ◌}
 use lib.Signed.{◌≤ℤ◌}
 use Rattle.geom.proofs.Quotients.{quotient_parts}
-use Rattle.geom.specs.Device.{PixelPlace, pixel_of}
+use Rattle.geom.specs.Device.{PixelValue, pixel_of}
 use Rattle.geom.specs.World.{Place}
 use Rattle.mapdefs.specs.Near.{HasBoxIn, LiesInBoxOf}
-use Rattle.mapdefs.specs.declared.layer.Kind.{Kind}
-use Rattle.mapdefs.specs.declared.layer.Kind.TheVariants as kind
+use Rattle.mapdefs.specs.declared.layer.Geometry.{Geometry}
+use Rattle.mapdefs.specs.declared.layer.Geometry.TheVariants as kind
 use Rattle.viewport.proofs.Windows.{window-law}
 use Rattle.viewport.specs.View.{IsNear, ViewValue, device_point, window}
 use Rattle.compose.specs.Anchor.{AnchorsAreNear, anchor_on, halfway, is_shown, middle, middle_of, shown_pixel}
@@ -77,7 +77,7 @@ vertex-lies part k place e =
       north = any-one (λ q. place.y ≤ℤ q.y) part place among (omega (arith, ints));
     }
 
-anchor-lies : (k : Kind) (part : List Place) (place : Place) → anchor_on k part ≡ Some place → LiesInBoxOf part place
+anchor-lies : (k : Geometry) (part : List Place) (place : Place) → anchor_on k part ≡ Some place → LiesInBoxOf part place
 anchor-lies kind.Point part place e = vertex-lies part 0 place e
 anchor-lies kind.Line part place e = vertex-lies part (length part / 2) place e
 anchor-lies kind.Polygon [] place e = absurd (cc)
@@ -97,7 +97,7 @@ module _ (parts : List (List Place)) (part : List Place) (among : Contains parts
   }
 
 -- a pixel in the picture is near to it, whatever the margin
-shown-near : (view : ViewValue) (margin : ℕ) (p : PixelPlace) → is_shown view p ≡ true → IsNear view margin p
+shown-near : (view : ViewValue) (margin : ℕ) (p : PixelValue) → is_shown view p ≡ true → IsNear view margin p
 shown-near view margin p h =
     let columns : Bool = int_le (pos 0) p.i && int_lt p.i (pos view.width) in
     let rows : Bool = int_le (pos 0) p.j && int_lt p.j (pos view.height) in
@@ -111,7 +111,7 @@ shown-near view margin p h =
       bottom = omega (arith, ints, sym down.1);
     }
 
-shown : (view : ViewValue) (place : Place) (p : PixelPlace) → shown_pixel view place ≡ Some p → is_shown view (pixel_of (device_point view place)) ≡ true
+shown : (view : ViewValue) (place : Place) (p : PixelValue) → shown_pixel view place ≡ Some p → is_shown view (pixel_of (device_point view place)) ≡ true
 shown view place p e = go (is_shown view (pixel_of (device_point view place))) refl
   where
     go : (b : Bool) → is_shown view (pixel_of (device_point view place)) ≡ b → b ≡ true

@@ -4,7 +4,7 @@ use Rattle.std.proofs.Math.Nat.{le-max_left, le-max_right}
 use Rattle.std.proofs.lemmas.List.Folds.{list_any-append}
 use Rattle.std.specs.List.{Contains, flat_map, list_any, slice_get}
 use Rattle.std.specs.Option.{option_map_or}
-use Rattle.compose.specs.Paint.{Thing, class_things, covers, fills, marks, parts_of, point_things, polygon_things, stamps, strokes, style_things}
+use Rattle.compose.specs.Paint.{PaintedShape, class_things, covers, fills, marks, parts_of, point_things, polygon_things, stamps, strokes, style_things}
 use lib.IntN.{pos}
 use Rattle.geom.specs.Device.{DevicePoint, pixel_centre, pixel_of}
 use Rattle.geom.specs.EvenOdd.{is_inside}
@@ -14,8 +14,8 @@ use Rattle.mapdefs.specs.Class.{admits, class_of}
 use Rattle.mapdefs.specs.declared.class.ClassFields.{ClassFields}
 use Rattle.mapdefs.specs.declared.colour.Rgb.{Rgb}
 use Rattle.mapdefs.specs.declared.feature.FeatureFields.{FeatureFields}
-use Rattle.mapdefs.specs.declared.layer.Kind.{Kind}
-use Rattle.mapdefs.specs.declared.layer.Kind.TheVariants as kind
+use Rattle.mapdefs.specs.declared.layer.Geometry.{Geometry}
+use Rattle.mapdefs.specs.declared.layer.Geometry.TheVariants as kind
 use Rattle.mapdefs.specs.declared.layer.LayerFields.{LayerFields}
 use Rattle.mapdefs.specs.declared.style.StyleFields.{StyleFields}
 use Rattle.mapdefs.specs.declared.symbol.Symbol.{Symbol}
@@ -63,8 +63,8 @@ polygon-round : (view : ViewValue) (margin : ℕ) (feature : FeatureFields) (sty
     list_any (λ t. covers t i j) (polygon_things (parts_of view feature) style) ≡ true → AreRound view margin (points_of feature)
 polygon-round view margin feature style i j wide column row h =
     let rings : List (List DevicePoint) = parts_of view feature in
-    let first : List Thing = fills rings style.colour in
-    let second : List Thing = strokes (line_of rings true style.width) style.outline in
+    let first : List PaintedShape = fills rings style.colour in
+    let second : List PaintedShape = strokes (line_of rings true style.width) style.outline in
     ⊎_elim
     (λ (e : list_any (λ t. covers t i j) first ≡ true). fill-round view margin feature.parts i j column row (fills-cover rings style.colour i j e))
     (λ (e : list_any (λ t. covers t i j) second ≡ true). line-round view margin true style.width feature.parts i j wide column row (strokes-cover (line_of rings true style.width) style.outline i j e))
@@ -100,7 +100,7 @@ points-round view margin symbols feature style i j wide high column row h =
     (point-by view margin symbols (device_point view q) style.size style.colour style.symbol i j wide high column row f)
 
 -- what a style paints of a feature of any kind
-style-round : (view : ViewValue) (margin : ℕ) (symbols : List Symbol) (k : Kind) (feature : FeatureFields) (style : StyleFields) (i j : ℕ) →
+style-round : (view : ViewValue) (margin : ℕ) (symbols : List Symbol) (k : Geometry) (feature : FeatureFields) (style : StyleFields) (i j : ℕ) →
     reach_of symbols style ≤ margin → i < view.width → j < view.height →
     list_any (λ t. covers t i j) (style_things view symbols k feature style) ≡ true → AreRound view margin (points_of feature)
 style-round view margin symbols kind.Polygon feature style i j most column row h =

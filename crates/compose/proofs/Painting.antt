@@ -11,7 +11,7 @@ use Rattle.std.specs.Prelude.{slice_get}
 use Rattle.mapdefs.specs.declared.colour.Rgb.{Rgb}
 use Rattle.mapdefs.specs.declared.picture.PictureFields.{PictureFields}
 use Rattle.viewport.specs.View.{ViewValue}
-use Rattle.compose.specs.Paint.{Thing, covers, colour_in}
+use Rattle.compose.specs.Paint.{PaintedShape, covers, colour_in}
 use Rattle.compose.specs.Painted.{IsFilled, IsPainted, colour_of}
 use Rattle.compose.specs.Picture.{colour_at}
 
@@ -31,24 +31,24 @@ unfolding colour_at
 colour_at-none background i j = refl
 
 -- one thing is seen where it covers
-pub colour_at-one : (background : Option Rgb) (thing : Thing) (i j : ℕ) → colour_at background (thing ∷ []) i j ≡ cond (covers thing i j) (colour_in thing i j) background
+pub colour_at-one : (background : Option Rgb) (thing : PaintedShape) (i j : ℕ) → colour_at background (thing ∷ []) i j ≡ cond (covers thing i j) (colour_in thing i j) background
 unfolding colour_at
-colour_at-one background thing i j = map_or-cond (λ (t : Thing). colour_in t i j) (covers thing i j) thing background
+colour_at-one background thing i j = map_or-cond (λ (t : PaintedShape). colour_in t i j) (covers thing i j) thing background
 
 -- what is painted later is painted over what was painted before
-pub colour_at-append : (background : Option Rgb) (xs ys : List Thing) (i j : ℕ) →
+pub colour_at-append : (background : Option Rgb) (xs ys : List PaintedShape) (i j : ℕ) →
     colour_at background (xs ++ ys) i j ≡ colour_at (colour_at background xs i j) ys i j
 unfolding colour_at
 colour_at-append background xs ys i j =
     rw (reverse-append xs ys, find-append (λ t. covers t i j) (reverse ys) (reverse xs))
-    (map_or-option_or (λ (t : Thing). colour_in t i j) (find (λ t. covers t i j) (reverse ys)) (find (λ t. covers t i j) (reverse xs)) background)
+    (map_or-option_or (λ (t : PaintedShape). colour_in t i j) (find (λ t. covers t i j) (reverse ys)) (find (λ t. covers t i j) (reverse xs)) background)
 
 -- a picture that stays as it is, is painted over with nothing
 pub painted-none : (a : PictureFields) → IsPainted a a []
 painted-none a = record { width = refl; height = refl; area = refl; pixels = λ at h. sym (colour_at-none (colour_of a.pixels at) (at % a.width) (at / a.width)) }
 
 -- painting goes on
-pub painted-append : (a b c : PictureFields) (xs ys : List Thing) → IsPainted a b xs → IsPainted b c ys → IsPainted a c (xs ++ ys)
+pub painted-append : (a b c : PictureFields) (xs ys : List PaintedShape) → IsPainted a b xs → IsPainted b c ys → IsPainted a c (xs ++ ys)
 painted-append a b c xs ys p q = record {
   width = q.width ∙ p.width;
   height = q.height ∙ p.height;
@@ -60,19 +60,19 @@ painted-append a b c xs ys p q = record {
 }
 
 -- a loop that paints what each element gives: one element more
-pub painted_next : {X : Type 0} (f : X → List Thing) (xs : List X) (i : ℕ) (x : X) (a b c : PictureFields) → i < length xs → x ≡ get_or xs i x →
+pub painted_next : {X : Type 0} (f : X → List PaintedShape) (xs : List X) (i : ℕ) (x : X) (a b c : PictureFields) → i < length xs → x ≡ get_or xs i x →
     IsPainted a b (flat_map f (take i xs)) → IsPainted b c (f x) → IsPainted a c (flat_map f (take (i + 1) xs))
 painted_next f xs i x a b c h e p q =
     let here : get_or xs i x ∷ [] ≡ x ∷ [] = ap (λ y. y ∷ []) (sym e) in
     rw (take_more xs i x h, here, flat_map-append f (take i xs) (x ∷ []), append-nil (f x)) (painted-append a b c (flat_map f (take i xs)) (f x) p q)
 
 -- a loop over all elements has painted what they give
-pub painted_end : {X : Type 0} (f : X → List Thing) (xs : List X) (i : ℕ) (a b : PictureFields) → i ≡ length xs →
+pub painted_end : {X : Type 0} (f : X → List PaintedShape) (xs : List X) (i : ℕ) (a b : PictureFields) → i ≡ length xs →
     IsPainted a b (flat_map f (take i xs)) → IsPainted a b (flat_map f xs)
 painted_end f xs i a b e p = rw (take_all i xs (omega arith)) at p
 
 -- the pixels of a canvas of the background that is painted over have their colours
-pub painted-pixels : (view : ViewValue) (background : Option Rgb) (things : List Thing) (b : PictureFields) →
+pub painted-pixels : (view : ViewValue) (background : Option Rgb) (things : List PaintedShape) (b : PictureFields) →
     IsPainted (record { width = view.width; height = view.height; pixels = replicate (view.width * view.height) background }) b things →
     (i j : ℕ) → i < view.width → j < view.height → slice_get b.pixels (j * view.width + i) ≡ Some (colour_at background things i j)
 painted-pixels view background things b p i j left up =
@@ -83,13 +83,13 @@ painted-pixels view background things b p i j left up =
     slice_get-get_or b.pixels (j * view.width + i) None last ∙ ap Some colour
 
 -- there are as many as its sides say
-pub painted-area : (view : ViewValue) (background : Option Rgb) (things : List Thing) (b : PictureFields) →
+pub painted-area : (view : ViewValue) (background : Option Rgb) (things : List PaintedShape) (b : PictureFields) →
     IsPainted (record { width = view.width; height = view.height; pixels = replicate (view.width * view.height) background }) b things →
     length b.pixels ≡ b.width * b.height
 painted-area view background things b p = p.area ∙ length-replicate (view.width * view.height) background ∙ rw (p.width, p.height)
 
 -- pixels that have their colours where a thing covers them, and else are as they were, are painted over with the thing
-pub painted-thing : (thing : Thing) (test : ℕ → ℕ → Bool) (colour : ℕ → ℕ → Option Rgb) (a b : PictureFields) → ((i j : ℕ) → covers thing i j ≡ test i j) →
+pub painted-thing : (thing : PaintedShape) (test : ℕ → ℕ → Bool) (colour : ℕ → ℕ → Option Rgb) (a b : PictureFields) → ((i j : ℕ) → covers thing i j ≡ test i j) →
     ((i j : ℕ) → colour_in thing i j ≡ colour i j) → IsFilled test colour a b → IsPainted a b (thing ∷ [])
 painted-thing thing test colour a b same shown f = record {
   width = f.width;
@@ -100,7 +100,7 @@ painted-thing thing test colour a b same shown f = record {
 }
 
 -- the same where the thing covers what the test says in the rows of the picture
-pub painted-rows : (thing : Thing) (test : ℕ → ℕ → Bool) (colour : ℕ → ℕ → Option Rgb) (a b : PictureFields) → length a.pixels ≡ a.width * a.height →
+pub painted-rows : (thing : PaintedShape) (test : ℕ → ℕ → Bool) (colour : ℕ → ℕ → Option Rgb) (a b : PictureFields) → length a.pixels ≡ a.width * a.height →
     ((i j : ℕ) → j < a.height → covers thing i j ≡ test i j) →
     ((i j : ℕ) → colour_in thing i j ≡ colour i j) → IsFilled test colour a b → IsPainted a b (thing ∷ [])
 painted-rows thing test colour a b area same shown f = record {

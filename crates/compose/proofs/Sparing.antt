@@ -15,7 +15,7 @@ use Rattle.mapdefs.specs.declared.symbol.Symbol.{Symbol}
 use Rattle.viewport.specs.View.{ViewValue, window}
 use Rattle.compose.specs.Near.{margin_of}
 use Rattle.compose.specs.Drawn.{DrawingValue, IsDrawn}
-use Rattle.compose.specs.Walk.{Met, given_at, met_chosen, met_feature, met_layer, met_things}
+use Rattle.compose.specs.Walk.{ClassifiedFeatureValue, given_at, met_chosen, met_feature, met_layer, met_things}
 use Rattle.labelcache.specs.Candidate.{CandidateValue}
 use Rattle.scene.specs.Scene.{SceneValue}
 use Rattle.compose.proofs.Found.{found-label-all, given-nested}
@@ -31,7 +31,7 @@ on-ok (Ok x) P Q f p = f p
 on-ok (Err e) P Q f p = tt
 
 -- what an element meets is what its index does
-pub drawn-at : {X : Type 0} (scene : SceneValue) (f : X → List Met) (xs : List X) (k : ℕ) (x : X) (a b : DrawingValue) → k < length xs → x ≡ get_or xs k x →
+pub drawn-at : {X : Type 0} (scene : SceneValue) (f : X → List ClassifiedFeatureValue) (xs : List X) (k : ℕ) (x : X) (a b : DrawingValue) → k < length xs → x ≡ get_or xs k x →
     IsDrawn scene a b (f x) → IsDrawn scene a b (given_at f xs k)
 drawn-at scene f xs k x a b short is p = rw (slice_get-get_or xs k x short, ← is) p
 

@@ -10,7 +10,7 @@ use Rattle.std.proofs.lemmas.List.Folds.{list_any-append}
 use Rattle.std.proofs.lemmas.Nat.{div_below, mod_below}
 use Rattle.std.specs.List.{flat_map, list_any}
 use lib.IntN.{ℤ, pos, ◌+ℤ◌, ◌-ℤ◌}
-use Rattle.geom.specs.Device.{DevicePoint, PixelPlace, pixel_centre, pixel_of}
+use Rattle.geom.specs.Device.{DevicePoint, PixelValue, pixel_centre, pixel_of}
 use Rattle.geom.specs.EvenOdd.{edge_between}
 use Rattle.geom.specs.World.{Area, Place}
 use Rattle.mapdefs.specs.declared.colour.Rgb.{Rgb}
@@ -293,7 +293,7 @@ already-weaker s t colour a less f = record {
     pick false t x z imp e = refl
 
 -- pixels no distance apart are one
-pub same-pixel : (p q : PixelPlace) → are_neighbours 0 p q ≡ true → p ≡ q
+pub same-pixel : (p q : PixelValue) → are_neighbours 0 p q ≡ true → p ≡ q
 same-pixel p q h = ⊎_elim
     (λ (one : are_abreast 0 p.i q.i p.j q.j ≡ true).
     let both = and_parts (are_close 0 p.i q.i) (are_close 0 p.j q.j) one in
@@ -308,13 +308,13 @@ same-pixel p q h = ⊎_elim
         let both = and_parts (int_le (a -ℤ pos 0) b) (int_le b (a +ℤ pos 0)) e in
         omega (arith, ints, le_of (a -ℤ pos 0) b both.0, le_of b (a +ℤ pos 0) both.1)
 
-    the-pixel : ℤ → ℤ → PixelPlace
+    the-pixel : ℤ → ℤ → PixelValue
     the-pixel i j = record { i = i; j = j }
 
-    pixel : (p q : PixelPlace) → p.i ≡ q.i → p.j ≡ q.j → p ≡ q
+    pixel : (p q : PixelValue) → p.i ≡ q.i → p.j ≡ q.j → p ≡ q
     pixel p q e f =
-        let first : Path PixelPlace (record { i = p.i; j = p.j }) (record { i = q.i; j = p.j }) = ap (λ z. the-pixel z p.j) e in
-        let second : Path PixelPlace (record { i = q.i; j = p.j }) (record { i = q.i; j = q.j }) = ap (λ z. the-pixel q.i z) f in
+        let first : Path PixelValue (record { i = p.i; j = p.j }) (record { i = q.i; j = p.j }) = ap (λ z. the-pixel z p.j) e in
+        let second : Path PixelValue (record { i = q.i; j = p.j }) (record { i = q.i; j = q.j }) = ap (λ z. the-pixel q.i z) f in
         first ∙ second
 
 -- a step within one pixel adds nothing to the square round it
@@ -325,7 +325,7 @@ filled-same-pixel pen a b canvas short near f =
     let same = same-pixel (pixel_of a) (pixel_of b) near in
     already-weaker (step_covers pen.width a b) (vertex_covers pen.width a) (λ i j. Some pen.colour) canvas
     (λ i j h.
-    let squares : vertex_covers pen.width b i j ≡ vertex_covers pen.width a i j = ap (λ (p : PixelPlace). covers_square (record { pixel = p; size = pen.width }) (pos i) (pos j)) (sym same) in
+    let squares : vertex_covers pen.width b i j ≡ vertex_covers pen.width a i j = ap (λ (p : PixelValue). covers_square (record { pixel = p; size = pen.width }) (pos i) (pos j)) (sym same) in
     pick (segment_covers pen.width a b i j) (vertex_covers pen.width a i j) (vertex_covers pen.width b i j) squares (short i j) h) f
   where
     pick : (s a b : Bool) → b ≡ a → (s ≡ true → (a || b) ≡ true) → (s || b) ≡ true → a ≡ true

@@ -10,7 +10,7 @@ use Rattle.compose.specs.Labels.{ArePlaced, candidate_list, ink_list, met_candid
 use Rattle.compose.specs.Paint.{paint_list}
 use Rattle.compose.specs.Painted.{IsPainted}
 use Rattle.compose.specs.Picture.{colour_at}
-use Rattle.compose.specs.Walk.{Met, met_chosen, met_things}
+use Rattle.compose.specs.Walk.{ClassifiedFeatureValue, met_chosen, met_things}
 
 -- a picture while it is drawn, and the candidates for its labels so far
 pub record DrawingValue : Type 0 where
@@ -18,12 +18,12 @@ pub record DrawingValue : Type 0 where
   pub labels : List CandidateValue
 
 -- what was met has been painted over the picture, and its candidates are added
-pub record IsDrawn (scene : SceneValue) (old new : DrawingValue) (met : List Met) : Type 0 where
+pub record IsDrawn (scene : SceneValue) (old new : DrawingValue) (met : List ClassifiedFeatureValue) : Type 0 where
   pub painted : IsPainted old.canvas new.canvas (flat_map (met_things scene.view scene.map.symbols) met)
   pub labelled : new.labels ≡ old.labels ++ flat_map (met_candidates scene.view scene.map.font) met
 
 -- the candidates of what was met are added, and the picture is as it was
-pub record IsLabelled (scene : SceneValue) (old new : DrawingValue) (met : List Met) : Type 0 where
+pub record IsLabelled (scene : SceneValue) (old new : DrawingValue) (met : List ClassifiedFeatureValue) : Type 0 where
   pub canvas : new.canvas ≡ old.canvas
   pub labelled : new.labels ≡ old.labels ++ flat_map (met_candidates scene.view scene.map.font) met
 

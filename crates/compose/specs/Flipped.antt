@@ -5,7 +5,7 @@ use Rattle.geom.specs.Edge.{EdgeEnds, crosses_at_or_left}
 use Rattle.geom.specs.EvenOdd.{edge_between, is_covered}
 use Rattle.geom.specs.Laws.{is_one_of}
 use Rattle.geom.specs.World.{Place}
-use Rattle.clip.specs.Class.{first_row}
+use Rattle.clip.specs.EdgeClass.{first_row}
 use Rattle.scanfill.specs.RowFlips.{is_pixel_flipped}
 use Rattle.viewport.specs.View.{ViewValue, device_point, sixteenths}
 use Rattle.compose.specs.declared.latitudes.Band.{Band}

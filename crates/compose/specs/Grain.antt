@@ -1,6 +1,6 @@
 -- Places that surely lie in one pixel (docs/ARCHITECTURE.md, "The way of one line").
 use Rattle.std.specs.Prelude.{◌≡◌, ℕ, ◌*◌, ◌^◌, ℤ, pos, ◌-ℤ◌, ◌*ℤ◌, ◌≤ℤ◌, true}
-use Rattle.geom.specs.Device.{PixelPlace, pixel_of}
+use Rattle.geom.specs.Device.{PixelValue, pixel_of}
 use Rattle.geom.specs.Range.{IsBelow}
 use Rattle.geom.specs.World.{Area, IsExtent, Place}
 use Rattle.viewport.specs.View.{ViewValue, device_point}
@@ -19,5 +19,5 @@ pub record AreGrains (view : ViewValue) (across down : ℤ) : Type 0 where
   pub rows : IsGrain view.height (view.area.maxy -ℤ view.area.miny) down
 
 -- all places of a box lie in one pixel
-abbrev pub AreOfPixel : ViewValue → Area → PixelPlace → Type 0
+abbrev pub AreOfPixel : ViewValue → Area → PixelValue → Type 0
 AreOfPixel view box pixel = (p : Place) → has_place box p ≡ true → pixel_of (device_point view p) ≡ pixel

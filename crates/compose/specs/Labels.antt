@@ -4,7 +4,7 @@ use Rattle.std.specs.List.{flat_map}
 use Rattle.std.specs.Option.{is_some, option_map_or}
 use Rattle.std.specs.Str.{chars, encode_utf8_all}
 use Rattle.bdffont.specs.declared.text.TheConstants.{MAX_CHARACTERS}
-use Rattle.geom.specs.Device.{PixelPlace}
+use Rattle.geom.specs.Device.{PixelValue}
 use Rattle.geom.specs.Scale.{PictureScale}
 use Rattle.geom.specs.Side.{IsPictureSide}
 use Rattle.geom.specs.World.{IsExtent}
@@ -22,9 +22,9 @@ use Rattle.mapdefs.specs.declared.layer.LayerFields.{LayerFields}
 use Rattle.mapdefs.specs.declared.map.MapFields.{MapFields}
 use Rattle.viewport.specs.View.{ViewValue, window}
 use Rattle.compose.specs.Anchor.{shown_anchor}
-use Rattle.compose.specs.Paint.{Thing, Written}
+use Rattle.compose.specs.Paint.{PaintedShape, Written}
 use Rattle.compose.specs.Paint as paint
-use Rattle.compose.specs.Walk.{Met, given_at, met_feature, met_list}
+use Rattle.compose.specs.Walk.{ClassifiedFeatureValue, given_at, met_feature, met_list}
 
 -- the first so many characters of a text
 abbrev pub first_characters : ℕ → List ℕ → List ℕ
@@ -42,17 +42,17 @@ abbrev pub label_text : LayerFields → FeatureFields → List ℕ
 label_text layer feature = first_characters MAX_CHARACTERS (feature_text layer feature)
 
 -- a text that isn't empty may be placed at an anchor
-abbrev pub candidate_at : LabelFields → List ℕ → PixelPlace → List CandidateValue
+abbrev pub candidate_at : LabelFields → List ℕ → PixelValue → List CandidateValue
 candidate_at label [] anchor = []
 candidate_at label (b ∷ bs) anchor = record { text = b ∷ bs; anchor = anchor; label = label } ∷ []
 
 -- what may be placed of a feature that is met: its text, where its class has a label and its anchor lies in the picture
-abbrev pub label_candidates : ViewValue → Met → List CandidateValue
+abbrev pub label_candidates : ViewValue → ClassifiedFeatureValue → List CandidateValue
 label_candidates view met =
     option_map_or (λ label. option_map_or (candidate_at label (label_text met.layer met.feature)) (shown_anchor view met.layer.kind met.feature) []) met.class.label []
 
 -- the same on a map, which has no labels without a font
-abbrev pub met_candidates : ViewValue → Option FontFields → Met → List CandidateValue
+abbrev pub met_candidates : ViewValue → Option FontFields → ClassifiedFeatureValue → List CandidateValue
 met_candidates view None met = []
 met_candidates view (Some font) met = label_candidates view met
 
@@ -77,25 +77,25 @@ ArePlaced view None candidates labels = labels ≡ []
 ArePlaced view (Some font) candidates labels = IsPlacement (setting (record { width = view.width; height = view.height; font = font }) candidates) labels
 
 -- outline and glyphs are painted where there is a colour
-abbrev pub outlines : Written → Option Rgb → List Thing
+abbrev pub outlines : Written → Option Rgb → List PaintedShape
 outlines w None = []
 outlines w (Some colour) = paint.Outlined w colour ∷ []
 
-abbrev pub inks : Written → Option Rgb → List Thing
+abbrev pub inks : Written → Option Rgb → List PaintedShape
 inks w None = []
 inks w (Some colour) = paint.Inked w colour ∷ []
 
 -- what is painted of a candidate whose text stands at a pixel: its outline, and then its glyphs
-abbrev pub candidate_things : FontFields → CandidateValue → PixelPlace → List Thing
+abbrev pub candidate_things : FontFields → CandidateValue → PixelValue → List PaintedShape
 candidate_things font c at =
     let w : Written = record { font = font; characters = chars c.text; at = at } in
     outlines w c.label.outline ++ inks w c.label.colour
 
 -- what is painted of a label
-abbrev pub label_things : FontFields → List CandidateValue → Placed → List Thing
+abbrev pub label_things : FontFields → List CandidateValue → Placed → List PaintedShape
 label_things font candidates label = option_map_or (λ c. candidate_things font c label.at) (slice_get candidates label.number) []
 
 -- all that is painted of labels, in the order in which they were placed
-abbrev pub ink_list : Option FontFields → List CandidateValue → List Placed → List Thing
+abbrev pub ink_list : Option FontFields → List CandidateValue → List Placed → List PaintedShape
 ink_list None candidates labels = []
 ink_list (Some font) candidates labels = flat_map (label_things font candidates) labels

@@ -14,7 +14,7 @@ use Rattle.mapdefs.specs.declared.layer.LayerFields.{LayerFields}
 use Rattle.mapdefs.specs.declared.style.StyleFields.{StyleFields}
 use Rattle.mapdefs.specs.declared.symbol.Symbol.{Symbol}
 use Rattle.viewport.specs.View.{ViewValue, window}
-use Rattle.compose.specs.Paint.{Thing, covers, feature_things}
+use Rattle.compose.specs.Paint.{PaintedShape, covers, feature_things}
 use Rattle.compose.specs.Walk.{given_at}
 use Rattle.mapdefs.specs.Near.{HasBoxIn}
 
@@ -49,7 +49,7 @@ PaintsNear = (view : ViewValue) (scale : PictureScale) (symbols : List Symbol) (
 
 -- the law: painting candidates in their order is painting all, where each whose things cover a pixel of the picture is a candidate
 abbrev pub CandidatesPaintAll : Type 0
-CandidatesPaintAll = (f : FeatureFields → List Thing) (features : List FeatureFields) (found : List ℕ) (background : Option Rgb) (i j : ℕ) →
+CandidatesPaintAll = (f : FeatureFields → List PaintedShape) (features : List FeatureFields) (found : List ℕ) (background : Option Rgb) (i j : ℕ) →
     IsStrictlyIncreasing found → All (λ k. k < length features) found →
     ((k : ℕ) (feature : FeatureFields) → slice_get features k ≡ Some feature → list_any (λ thing. covers thing i j) (f feature) ≡ true → Contains found k) →
     colour_at background (flat_map (given_at f features) found) i j ≡ colour_at background (flat_map f features) i j

@@ -2,7 +2,7 @@
 use Rattle.std.specs.Prelude.{ℕ, Bool, true, false, if◌then◌else◌, pos, List, [], ◌∷◌, ◌++◌, map, Option, None, Some, slice_get}
 use Rattle.std.specs.List.{flat_map}
 use Rattle.std.specs.Option.{option_map_or}
-use Rattle.geom.specs.Device.{DevicePoint, PixelPlace, pixel_centre, pixel_of}
+use Rattle.geom.specs.Device.{DevicePoint, PixelValue, pixel_centre, pixel_of}
 use Rattle.geom.specs.EvenOdd.{is_inside}
 use Rattle.geom.specs.Scale.{PictureScale}
 use Rattle.geom.specs.World.{Place}
@@ -13,8 +13,8 @@ use Rattle.mapdefs.specs.declared.class.ClassFields.{ClassFields}
 use Rattle.mapdefs.specs.declared.colour.Rgb.{Rgb}
 use Rattle.mapdefs.specs.declared.feature.FeatureFields.{FeatureFields}
 use Rattle.mapdefs.specs.declared.font.FontFields.{FontFields}
-use Rattle.mapdefs.specs.declared.layer.Kind.{Kind}
-use Rattle.mapdefs.specs.declared.layer.Kind.TheVariants as kind
+use Rattle.mapdefs.specs.declared.layer.Geometry.{Geometry}
+use Rattle.mapdefs.specs.declared.layer.Geometry.TheVariants as kind
 use Rattle.mapdefs.specs.declared.layer.LayerFields.{LayerFields}
 use Rattle.mapdefs.specs.declared.map.MapFields.{MapFields}
 use Rattle.mapdefs.specs.declared.style.StyleFields.{StyleFields}
@@ -30,20 +30,20 @@ use Rattle.viewport.specs.View.{ViewValue, device_point}
 pub record Written : Type 0 where
   pub font : FontFields
   pub characters : List ℕ
-  pub at : PixelPlace
+  pub at : PixelValue
 
 -- what is painted: rings that are filled with a colour, a line of a colour, a square of a colour, or a pixmap; and the
 -- outline round all glyphs of a text, or these themselves, of a colour
-pub data Thing : Type 0 where
-  Fill : List (List DevicePoint) → Rgb → Thing
-  Stroke : LineValue → Rgb → Thing
-  Mark : SquareValue → Rgb → Thing
-  Stamped : StampValue → Thing
-  Outlined : Written → Rgb → Thing
-  Inked : Written → Rgb → Thing
+pub data PaintedShape : Type 0 where
+  Fill : List (List DevicePoint) → Rgb → PaintedShape
+  Stroke : LineValue → Rgb → PaintedShape
+  Mark : SquareValue → Rgb → PaintedShape
+  Stamped : StampValue → PaintedShape
+  Outlined : Written → Rgb → PaintedShape
+  Inked : Written → Rgb → PaintedShape
 
 -- whether it covers the pixel in a column and a row: rings cover a pixel whose centre lies inside of them
-abbrev pub covers : Thing → ℕ → ℕ → Bool
+abbrev pub covers : PaintedShape → ℕ → ℕ → Bool
 covers (Fill rings colour) i j = is_inside rings (pixel_centre (pos i) (pos j))
 covers (Stroke stroke colour) i j = line.covers_pixel stroke (pos i) (pos j)
 covers (Mark square colour) i j = covers_square square (pos i) (pos j)
@@ -52,7 +52,7 @@ covers (Outlined w colour) i j = has_outline w.font w.characters w.at (pos i) (p
 covers (Inked w colour) i j = has_ink w.font w.characters w.at (pos i) (pos j)
 
 -- the colour that it gives to a pixel: a pixmap has one for each pixel that it covers, the others for all
-abbrev pub colour_in : Thing → ℕ → ℕ → Option Rgb
+abbrev pub colour_in : PaintedShape → ℕ → ℕ → Option Rgb
 colour_in (Fill rings colour) i j = Some colour
 colour_in (Stroke stroke colour) i j = Some colour
 colour_in (Mark square colour) i j = Some colour
@@ -65,32 +65,32 @@ abbrev pub parts_of : ViewValue → FeatureFields → List (List DevicePoint)
 parts_of view feature = map (map (device_point view)) feature.parts
 
 -- rings are filled, and a line or a square painted, where there is a colour
-abbrev pub fills : List (List DevicePoint) → Option Rgb → List Thing
+abbrev pub fills : List (List DevicePoint) → Option Rgb → List PaintedShape
 fills rings None = []
 fills rings (Some colour) = Fill rings colour ∷ []
 
-abbrev pub strokes : LineValue → Option Rgb → List Thing
+abbrev pub strokes : LineValue → Option Rgb → List PaintedShape
 strokes stroke None = []
 strokes stroke (Some colour) = Stroke stroke colour ∷ []
 
-abbrev pub marks : SquareValue → Option Rgb → List Thing
+abbrev pub marks : SquareValue → Option Rgb → List PaintedShape
 marks square None = []
 marks square (Some colour) = Mark square colour ∷ []
 
 -- the pixmap of a symbol round a pixel
-abbrev pub stamps : PixelPlace → Symbol → List Thing
+abbrev pub stamps : PixelValue → Symbol → List PaintedShape
 stamps pixel symbol = Stamped (record { pixmap = symbol.pixmap; pixel = pixel }) ∷ []
 
 -- what a style paints of a polygon: its rings, and then the closed line along them in the colour of the outline
-abbrev pub polygon_things : List (List DevicePoint) → StyleFields → List Thing
+abbrev pub polygon_things : List (List DevicePoint) → StyleFields → List PaintedShape
 polygon_things rings style = fills rings style.colour ++ strokes (line_of rings true style.width) style.outline
 
 -- what it paints of lines: the line along them
-abbrev pub line_things : List (List DevicePoint) → StyleFields → List Thing
+abbrev pub line_things : List (List DevicePoint) → StyleFields → List PaintedShape
 line_things parts style = strokes (line_of parts false style.width) style.colour
 
 -- what it paints of a point: the pixmap of its symbol round the point's pixel, or without a symbol a square round it
-abbrev pub point_things : ViewValue → List Symbol → StyleFields → Place → List Thing
+abbrev pub point_things : ViewValue → List Symbol → StyleFields → Place → List PaintedShape
 point_things view symbols style place =
     let pixel = pixel_of (device_point view place) in
     elim style.symbol [
@@ -99,29 +99,29 @@ point_things view symbols style place =
     ]
 
 -- what a style paints of a feature of that kind, of which the points are painted one after another
-abbrev pub style_things : ViewValue → List Symbol → Kind → FeatureFields → StyleFields → List Thing
+abbrev pub style_things : ViewValue → List Symbol → Geometry → FeatureFields → StyleFields → List PaintedShape
 style_things view symbols kind.Polygon feature style = polygon_things (parts_of view feature) style
 style_things view symbols kind.Line feature style = line_things (parts_of view feature) style
 style_things view symbols kind.Point feature style = flat_map (λ part. flat_map (point_things view symbols style) part) feature.parts
 
 -- what a class paints of it: its styles, in order
-abbrev pub class_things : ViewValue → List Symbol → Kind → FeatureFields → ClassFields → List Thing
+abbrev pub class_things : ViewValue → List Symbol → Geometry → FeatureFields → ClassFields → List PaintedShape
 class_things view symbols kind feature class = flat_map (style_things view symbols kind feature) class.styles
 
 -- what is painted of a feature at a scale: what its class paints, if it has one
-abbrev pub feature_things : ViewValue → PictureScale → List Symbol → LayerFields → FeatureFields → List Thing
+abbrev pub feature_things : ViewValue → PictureScale → List Symbol → LayerFields → FeatureFields → List PaintedShape
 feature_things view scale symbols layer feature =
     option_map_or (class_things view symbols layer.kind feature) (class_of scale layer feature) []
 
 -- what is painted of a layer: its features, in order, where it is visible at the scale
-abbrev pub layer_things : ViewValue → PictureScale → List Symbol → LayerFields → List Thing
+abbrev pub layer_things : ViewValue → PictureScale → List Symbol → LayerFields → List PaintedShape
 layer_things view scale symbols layer =
     if is_visible_layer scale layer then flat_map (feature_things view scale symbols layer) layer.features else []
 
 -- what is painted of the layer of that index in the map
-abbrev pub chosen_things : ViewValue → PictureScale → MapFields → ℕ → List Thing
+abbrev pub chosen_things : ViewValue → PictureScale → MapFields → ℕ → List PaintedShape
 chosen_things view scale m index = option_map_or (layer_things view scale m.symbols) (slice_get m.layers index) []
 
 -- all that is painted of features, from the first to the last: the chosen layers, in order
-abbrev pub paint_list : ViewValue → PictureScale → MapFields → List ℕ → List Thing
+abbrev pub paint_list : ViewValue → PictureScale → MapFields → List ℕ → List PaintedShape
 paint_list view scale m chosen = flat_map (chosen_things view scale m) chosen

@@ -2,7 +2,7 @@
 use Rattle.std.specs.Prelude.{◌≡◌, ℕ, Bool, ◌/◌, ◌%◌, ◌<◌, ◌≤◌, if◌then◌else◌, List, length, Option, None, slice_index_or}
 use Rattle.mapdefs.specs.declared.colour.Rgb.{Rgb}
 use Rattle.mapdefs.specs.declared.picture.PictureFields.{PictureFields}
-use Rattle.compose.specs.Paint.{Thing}
+use Rattle.compose.specs.Paint.{PaintedShape}
 use Rattle.compose.specs.Picture.{colour_at}
 
 -- what the pixel at an index has, row by row: a colour, or nothing
@@ -10,7 +10,7 @@ abbrev pub colour_of : List (Option Rgb) → ℕ → Option Rgb
 colour_of pixels at = slice_index_or pixels at None
 
 -- the new picture is the old one with the things painted over it, in order
-pub record IsPainted (old new : PictureFields) (things : List Thing) : Type 0 where
+pub record IsPainted (old new : PictureFields) (things : List PaintedShape) : Type 0 where
   pub width : new.width ≡ old.width
   pub height : new.height ≡ old.height
   pub area : length new.pixels ≡ length old.pixels

@@ -9,10 +9,10 @@ use Rattle.mapdefs.specs.declared.map.MapFields.{MapFields}
 use Rattle.mapdefs.specs.declared.picture.PictureFields.{PictureFields}
 use Rattle.viewport.specs.View.{ViewValue}
 use Rattle.compose.specs.Labels.{ArePlaced, candidate_list, ink_list}
-use Rattle.compose.specs.Paint.{Thing, covers, colour_in, paint_list}
+use Rattle.compose.specs.Paint.{PaintedShape, covers, colour_in, paint_list}
 
 -- the colour of a pixel: that of the last thing that covers it, else the background, which may be nothing
-unfoldable pub colour_at : Option Rgb → List Thing → ℕ → ℕ → Option Rgb
+unfoldable pub colour_at : Option Rgb → List PaintedShape → ℕ → ℕ → Option Rgb
 colour_at background things i j =
     option_map_or (λ thing. colour_in thing i j) (find (λ thing. covers thing i j) (reverse things)) background
 

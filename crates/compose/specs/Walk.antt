@@ -10,37 +10,37 @@ use Rattle.mapdefs.specs.declared.layer.LayerFields.{LayerFields}
 use Rattle.mapdefs.specs.declared.map.MapFields.{MapFields}
 use Rattle.mapdefs.specs.declared.symbol.Symbol.{Symbol}
 use Rattle.viewport.specs.View.{ViewValue}
-use Rattle.compose.specs.Paint.{Thing, class_things, paint_list}
+use Rattle.compose.specs.Paint.{PaintedShape, class_things, paint_list}
 
 -- what the element of an index gives, if there is one
 abbrev pub given_at : {X Y : Type 0} → (X → List Y) → List X → ℕ → List Y
 given_at f xs index = option_map_or f (slice_get xs index) []
 
 -- a feature that is met, with its layer and its class
-pub record Met : Type 0 where
+pub record ClassifiedFeatureValue : Type 0 where
   pub layer : LayerFields
   pub feature : FeatureFields
   pub class : ClassFields
 
 -- a feature of a layer is met if it has a class at the scale
-abbrev pub met_feature : PictureScale → LayerFields → FeatureFields → List Met
+abbrev pub met_feature : PictureScale → LayerFields → FeatureFields → List ClassifiedFeatureValue
 met_feature scale layer feature =
     option_map_or (λ (class : ClassFields). record { layer = layer; feature = feature; class = class } ∷ []) (class_of scale layer feature) []
 
 -- those of a layer, in order, where it is visible at the scale
-abbrev pub met_layer : PictureScale → LayerFields → List Met
+abbrev pub met_layer : PictureScale → LayerFields → List ClassifiedFeatureValue
 met_layer scale layer = if is_visible_layer scale layer then flat_map (met_feature scale layer) layer.features else []
 
 -- those of the layer of that index in the map
-abbrev pub met_chosen : PictureScale → MapFields → ℕ → List Met
+abbrev pub met_chosen : PictureScale → MapFields → ℕ → List ClassifiedFeatureValue
 met_chosen scale m index = option_map_or (met_layer scale) (slice_get m.layers index) []
 
 -- all, from the first to the last: those of the chosen layers, in order
-abbrev pub met_list : PictureScale → MapFields → List ℕ → List Met
+abbrev pub met_list : PictureScale → MapFields → List ℕ → List ClassifiedFeatureValue
 met_list scale m chosen = flat_map (met_chosen scale m) chosen
 
 -- what is painted of one that is met
-abbrev pub met_things : ViewValue → List Symbol → Met → List Thing
+abbrev pub met_things : ViewValue → List Symbol → ClassifiedFeatureValue → List PaintedShape
 met_things view symbols met = class_things view symbols met.layer.kind met.feature met.class
 
 -- the law that the paint list is what is painted of those that are met

@@ -2,11 +2,11 @@ ghost use Rattle.std.specs.Prelude.{◌≡◌, ◌^◌, ◌&&◌, pos, int_le, i
 ghost use Rattle.std.specs.Int.{int_max, int_min};
 ghost use Rattle.geom.specs.Range.{IsBelow};
 ghost use Rattle.labelcache.specs.Candidate.{IsAnchor};
-ghost use Rattle.mapdefs.specs.declared.layer.Kind.TheVariants as kind;
+ghost use Rattle.mapdefs.specs.declared.layer.Geometry.TheVariants as kind;
 ghost use Rattle.compose.specs.Anchor.{anchor_on, anchor_place, halfway, is_shown, shown_anchor, shown_pixel};
 
 use geom::{Coordinate, Micro, PictureSide, Pixel, World};
-use mapdefs::{FeatureFields, Kind};
+use mapdefs::{FeatureFields, Geometry};
 use scene::Scene;
 
 // The lesser of two coordinates.
@@ -59,18 +59,18 @@ fn middle_of(ring: &[World]) -> Option<World>
 
 // Where a part of a feature has its anchor: points at the first, a line at the vertex in its middle, a ring in the
 // middle of its box.
-fn anchor_on(kind: Kind, part: &[World]) -> Option<World>
+fn anchor_on(kind: Geometry, part: &[World]) -> Option<World>
     ensures { result ≡ anchor_on kind part.now }
 {
     match kind {
-        Kind::Point => part.first().copied(),
-        Kind::Line => part.get(part.len() / 2).copied(),
-        Kind::Polygon => middle_of(part),
+        Geometry::Point => part.first().copied(),
+        Geometry::Line => part.get(part.len() / 2).copied(),
+        Geometry::Polygon => middle_of(part),
     }
 }
 
 // Where a feature has its anchor: on its first part.
-fn anchor_place(kind: Kind, feature: &FeatureFields) -> Option<World>
+fn anchor_place(kind: Geometry, feature: &FeatureFields) -> Option<World>
     ensures { result ≡ anchor_place kind feature.now }
 {
     match feature.parts.as_slice().first() {
@@ -110,7 +110,7 @@ fn shown_pixel(scene: &Scene<'_>, place: World) -> Option<Pixel>
 }
 
 /// The pixel of a feature's anchor, where it has one and that lies in the scene's picture.
-pub fn shown_anchor(scene: &Scene<'_>, kind: Kind, feature: &FeatureFields) -> Option<Pixel>
+pub fn shown_anchor(scene: &Scene<'_>, kind: Geometry, feature: &FeatureFields) -> Option<Pixel>
     ensures value { result ≡ shown_anchor scene.now.view kind feature.now }
     ensures limits { IfSome result IsAnchor }
 {

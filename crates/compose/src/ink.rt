@@ -12,7 +12,7 @@ use crate::lines::paint_covers;
 use crate::rows::paint_cover;
 use geom::Pixel;
 use labelcache::{Cache, Candidate, Placed};
-use labelink::{GlyphOutline, GlyphPlace, text_glyphs};
+use labelink::{GlyphOutline, PlacedGlyph, text_glyphs};
 use mapdefs::{Font, Rgb};
 use scene::Scene;
 use std::alloc::{AllocError, Global};
@@ -24,7 +24,7 @@ struct WrittenText<'a> {
     font: &'a Font,
     text: &'a str,
     at: Pixel,
-    glyphs: Vec<GlyphPlace<'a>>,
+    glyphs: Vec<PlacedGlyph<'a>>,
 }
 
 impl<'a> Model for WrittenText<'a> {
@@ -78,7 +78,7 @@ impl<'a> WrittenText<'a> {
 // Gives the colour to the pixels that are of the outline of some glyph.
 fn paint_outlines(
     canvas: &mut Canvas,
-    glyphs: &[GlyphPlace<'_>],
+    glyphs: &[PlacedGlyph<'_>],
     colour: Rgb,
 ) -> Result<(), AllocError>
     ensures { OnOk result (IsFilled (λ i j. list_any (λ g. outlines_glyph g (pos i) (pos j)) glyphs.now) (λ i j. Some colour) canvas.old canvas.new) }

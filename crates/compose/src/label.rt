@@ -4,7 +4,7 @@ ghost use Rattle.bdffont.specs.declared.text.TheConstants.{MAX_CHARACTERS};
 ghost use Rattle.compose.specs.Labels.{feature_text, first_characters, label_text, met_candidates};
 
 use crate::anchor::shown_anchor;
-use crate::met::MetFeature;
+use crate::classified_feature::ClassifiedFeature;
 use bdffont::{MAX_CHARACTERS, split_char};
 use expressions::item_value;
 use labelcache::{Cache, Candidate};
@@ -62,7 +62,7 @@ fn label_text<'a>(layer: &LayerFields, feature: &'a FeatureFields) -> &'a str
 pub fn add_candidate<'a>(
     labels: &mut Cache<'a>,
     scene: &Scene<'_>,
-    met: &MetFeature<'a>,
+    met: &ClassifiedFeature<'a>,
 ) -> Result<(), AllocError>
     ensures { OnOk result (labels.new ≡ labels.old ++ met_candidates scene.now.view scene.now.map.font met.now) }
 {

@@ -3,8 +3,8 @@ ghost use Rattle.std.specs.List.{flat_map, list_any};
 ghost use Rattle.compose.specs.Labels.{has_label, met_candidates};
 ghost use Rattle.compose.specs.Walk.{given_at, met_chosen, met_feature};
 
+use crate::classified_feature::ClassifiedFeature;
 use crate::label::add_candidate;
-use crate::met::MetFeature;
 use labelcache::Cache;
 use mapdefs::{FeatureFields, LayerFields, Near};
 use scene::Scene;
@@ -72,7 +72,11 @@ fn add_feature<'a>(
     ensures { OnOk result (labels.new ≡ labels.old ++ flat_map (met_candidates scene.now.view scene.now.map.font) (met_feature scene.now.scale layer.now feature.now)) }
 {
     match scene.class_of(layer, feature) {
-        Some(class) => add_candidate(labels, scene, &MetFeature::new(layer, feature, class)),
+        Some(class) => add_candidate(
+            labels,
+            scene,
+            &ClassifiedFeature::new(layer, feature, class),
+        ),
         None => Ok(()),
     }
 }

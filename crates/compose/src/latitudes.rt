@@ -1,5 +1,5 @@
 ghost use Rattle.std.specs.Prelude.{◌≡◌, ◌≤◌, ◌<◌, ◌+◌, ◌^◌, ℕ, pos, IfOk, length};
-ghost use Rattle.clip.specs.Class.{first_row};
+ghost use Rattle.clip.specs.EdgeClass.{first_row};
 ghost use Rattle.geom.specs.Range.{IsBelow};
 ghost use Rattle.compose.specs.Flipped.{AreBands, IsBand, row_of};
 
@@ -135,7 +135,7 @@ fn southward(latitude: Coordinate) -> Coordinate {
 }
 
 /// The first row whose pixel centres lie at that height or below it, or the picture's height.
-#[tactic(auto, unfolding(clip::specs::Class::first_row))]
+#[tactic(auto, unfolding(clip::specs::EdgeClass::first_row))]
 pub fn first_row(y: i64, height: PictureSide) -> u16
     requires { IsBelow (2 ^ 47) y }
     ensures { result ≡ first_row y height }

@@ -6,15 +6,15 @@ ghost use Rattle.compose.specs.Picture.{IsPictureOf};
 ghost use Rattle.compose.specs.Walk.{given_at, met_chosen, met_feature, met_things};
 
 use crate::canvas::Canvas;
+use crate::classified_feature::ClassifiedFeature;
 use crate::drawing::Drawing;
 use crate::label::add_candidate;
 use crate::labelled_layer::add_layer;
 use crate::lines::paint_lines;
 use crate::margin::margin_of;
-use crate::met::MetFeature;
 use crate::points::paint_points;
 use crate::polygons::paint_polygon;
-use mapdefs::{FeatureFields, Kind, LayerFields, Map, Near, Picture, Rgb};
+use mapdefs::{FeatureFields, Geometry, LayerFields, Map, Near, Picture, Rgb};
 use scaledenom::Scale;
 use scene::Scene;
 use std::alloc::{AllocError, Global};
@@ -157,7 +157,7 @@ fn draw_feature<'a>(
     let Some(class) = scene.class_of(layer, feature) else {
         return Ok(());
     };
-    let met = MetFeature::new(layer, feature, class);
+    let met = ClassifiedFeature::new(layer, feature, class);
     paint_feature(&mut drawing.canvas, scene, &met)?;
     add_candidate(&mut drawing.labels, scene, &met)
 }
@@ -166,7 +166,7 @@ fn draw_feature<'a>(
 fn paint_feature(
     canvas: &mut Canvas,
     scene: &Scene<'_>,
-    met: &MetFeature<'_>,
+    met: &ClassifiedFeature<'_>,
 ) -> Result<(), AllocError>
     requires width { canvas.old.width ≡ scene.now.view.width }
     requires height { canvas.old.height ≡ scene.now.view.height }
@@ -175,9 +175,9 @@ fn paint_feature(
     let parts = met.feature().parts.as_slice();
     let styles = met.class().styles.as_slice();
     match met.layer().kind {
-        Kind::Polygon => paint_polygon(canvas, scene, parts, styles),
-        Kind::Line => paint_lines(canvas, scene, parts, styles),
-        Kind::Point => {
+        Geometry::Polygon => paint_polygon(canvas, scene, parts, styles),
+        Geometry::Line => paint_lines(canvas, scene, parts, styles),
+        Geometry::Point => {
             paint_points(canvas, scene, parts, styles);
             Ok(())
         }

@@ -3,7 +3,7 @@ ghost use Rattle.geom.specs.Device.{pixel_centre};
 ghost use Rattle.geom.specs.Edge.{crosses_at_or_left};
 ghost use Rattle.geom.specs.EvenOdd.{edge_between, edges, ring_edges};
 ghost use Rattle.geom.specs.Laws.{is_one_of};
-ghost use Rattle.clip.specs.Class.{first_row};
+ghost use Rattle.clip.specs.EdgeClass.{first_row};
 ghost use Rattle.scanfill.specs.RowFlips.{is_pixel_flipped};
 ghost use Rattle.viewport.specs.View.{device_point};
 ghost use Rattle.compose.specs.Chain.{AddsChain, HasChain, chain_end};
@@ -11,7 +11,7 @@ ghost use Rattle.compose.specs.Flipped.{Adds, AddsEdge, IsCorner, IsRun, StandFo
 
 use crate::chain::{Block, FEW_VERTICES, last_of};
 use crate::run::{Corner, RowFinder, Run};
-use clip::Rows;
+use clip::RowRange;
 use geom::{Edge, World};
 use mapdefs::{Part, split_block};
 use scanfill::{FlipFault, RowFlips};
@@ -203,10 +203,10 @@ fn go_on(flips: &mut RowFlips, rows: &RowFinder<'_>, run: Run, to: World) -> Res
 }
 
 // The rows that an edge crosses whose ends are of two rows.
-fn rows_between(a: u16, b: u16) -> Rows
+fn rows_between(a: u16, b: u16) -> RowRange
     ensures { result ≡ record { from = min a b; to = max a b } }
 {
-    Rows {
+    RowRange {
         from: a.min(b),
         to: a.max(b),
     }

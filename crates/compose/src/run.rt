@@ -1,7 +1,7 @@
 ghost use Rattle.std.specs.Prelude.{◌≡◌, ◌^◌, ◌&&◌, ◌≤ℤ◌, int_le};
 ghost use Rattle.geom.specs.Range.{IsBelow};
 ghost use Rattle.geom.specs.World.{IsExtent};
-ghost use Rattle.clip.specs.Class.{first_row};
+ghost use Rattle.clip.specs.EdgeClass.{first_row};
 ghost use Rattle.compose.specs.Chain.{is_left, is_right};
 ghost use Rattle.compose.specs.Flipped.{IsCorner, IsRun, row_of};
 

@@ -3,7 +3,7 @@ use Rattle.std.proofs.Common.{◌≡◌, ◌||◌, ℕ, Bool, true, false, List,
 use Rattle.std.specs.Io.KnownBytes.{Appends, Keeps}
 use Rattle.std.proofs.KnownBytes.{Appends-kept}
 use Rattle.streams.specs.Sent.{IsSent}
-use Rattle.console.specs.Streams.{WriterState, Outcome, GetsLine, IsWritten, HasFlushed, is_done, is_output_failed}
+use Rattle.console.specs.Console.{WriterState, Outcome, GetsLine, IsWritten, HasFlushed, is_done, is_output_failed}
 use Rattle.console.specs.declared.failure.Failure.TheVariants.{MapfileFault, FileFailed, WordsRefused, InputFailed, OutputFailed, ListenFailed, SocketFailed, WatchFailed, JournalFault, JournalFailed, NoMemory}
 
 -- a flush leaves it

@@ -1,5 +1,5 @@
 ghost use Rattle.std.specs.Prelude.{◌≡◌, Err};
-ghost use Rattle.console.specs.Streams.{status_of};
+ghost use Rattle.console.specs.Console.{status_of};
 
 /// Why a port can't be listened on.
 #[derive(Clone, Copy, Debug)]

@@ -1,6 +1,6 @@
 ghost use Rattle.std.specs.Prelude.{◌≡◌, OnOk, MatchResult};
 ghost use Rattle.std.specs.List.{flat_map};
-ghost use Rattle.console.specs.Streams.{IsReported, IsWritten, HasFlushed};
+ghost use Rattle.console.specs.Console.{IsReported, IsWritten, HasFlushed};
 
 use crate::failure::Failure;
 use crate::terminal::Writes;

@@ -2,7 +2,7 @@ use streams::{Sink, Source};
 
 /// A source as contracts see its state.
 pub trait Reads: Source {
-    ghost use Rattle.console.specs.Streams.{InputState};
+    ghost use Rattle.console.specs.Console.{InputState};
 
     // Its state.
     ghost state: { Self → InputState };
@@ -14,7 +14,7 @@ impl<I: Source> Reads for I {
 
 /// A sink as contracts see its state.
 pub trait Writes: Sink {
-    ghost use Rattle.console.specs.Streams.{WriterState};
+    ghost use Rattle.console.specs.Console.{WriterState};
 
     // Its state.
     ghost state: { Self → WriterState };
@@ -26,10 +26,10 @@ impl<O: Sink> Writes for O {
 
 /// The three streams of a program as contracts see them.
 pub trait Terminal {
-    ghost use Rattle.console.specs.Streams.{Streams};
+    ghost use Rattle.console.specs.Console.{ConsoleState};
 
     // Their states.
-    ghost streams: { Self → Streams };
+    ghost streams: { Self → ConsoleState };
 }
 
 /// The three streams of a program.

@@ -1,12 +1,12 @@
 use crate::shapes::{edge, sides};
-use clip::{Class, Rows, clamped, classify};
+use clip::{EdgeClass, RowRange, clamped, classify};
 use geom::MAX_PICTURE_SIDE;
 use scanfill::{EdgeWalk, Work};
 use std::alloc::{AllocError, Global};
 use test_tables::{TableFault, check_rows, numbers};
 
 // What an edge is on a picture and in which rows, worked by hand, the ends of the edge, and width and height
-// of the picture. Rows without pixels of it are given as 0 0.
+// of the picture. RowRange without pixels of it are given as 0 0.
 const CLASSES: &str = "\
 left 1 3=-48 16 -48 48|4 4
 drop 0 0=80 0 80 64|4 4
@@ -35,7 +35,7 @@ drop 0 0=32761 0 32761 32768|2048 2048
 walk 0 2047=-140737488355327 140737488355327 140737488355327 -140737488355327|2048 2047";
 
 // The class of the edge of a row.
-fn class_of(row: &str) -> Option<Class> {
+fn class_of(row: &str) -> Option<EdgeClass> {
     let (ends, size) = row.split_once('|')?;
     let (width, height) = sides(size)?;
     Some(classify(edge(numbers(ends, ' ')?), width, height))
@@ -43,9 +43,9 @@ fn class_of(row: &str) -> Option<Class> {
 
 fn class(alloc: Global, row: &str) -> Result<String, AllocError> {
     match class_of(row) {
-        Some(Class::LeftOfView { rows }) => format!(in alloc; "left {} {}", rows.from, rows.to),
-        Some(Class::Walk { rows }) => format!(in alloc; "walk {} {}", rows.from, rows.to),
-        Some(Class::Drop) => format!(in alloc; "drop 0 0"),
+        Some(EdgeClass::LeftOfView { rows }) => format!(in alloc; "left {} {}", rows.from, rows.to),
+        Some(EdgeClass::Walk { rows }) => format!(in alloc; "walk {} {}", rows.from, rows.to),
+        Some(EdgeClass::Drop) => format!(in alloc; "drop 0 0"),
         None => format!(in alloc; "malformed"),
     }
 }
@@ -64,22 +64,22 @@ const ROWS: &str = "\
 3 5=3 5 0 0
 3 5=9 6 3 5";
 
-fn rows(from: i64, to: i64) -> Rows {
-    Rows {
+fn rows(from: i64, to: i64) -> RowRange {
+    RowRange {
         from: from.clamp(0, 99) as u16,
         to: to.clamp(0, 99) as u16,
     }
 }
 
 // The two lots of a row, joined.
-fn joined_rows(row: &str) -> Option<Rows> {
+fn joined_rows(row: &str) -> Option<RowRange> {
     let [a, b, c, d] = numbers::<4>(row, ' ')?;
     Some(rows(a, b).joined(rows(c, d)))
 }
 
 fn joined(alloc: Global, row: &str) -> Result<String, AllocError> {
     match joined_rows(row) {
-        Some(Rows { from, to }) => format!(in alloc; "{from} {to}"),
+        Some(RowRange { from, to }) => format!(in alloc; "{from} {to}"),
         None => format!(in alloc; "malformed"),
     }
 }
@@ -161,7 +161,7 @@ fn walk(alloc: Global, row: &str) -> Result<String, AllocError> {
     let (ends, size) = row.split_once('|').unwrap_or(("", ""));
     if let (Some(ends), Some((width, height))) = (numbers(ends, ' '), sides(size)) {
         let edge = edge(ends);
-        if let Class::Walk { rows } = classify(edge, width, height) {
+        if let EdgeClass::Walk { rows } = classify(edge, width, height) {
             if rows.to <= MAX_PICTURE_SIDE {
                 let mut walk = EdgeWalk::start(edge, rows, &mut work);
                 add_columns(alloc, &mut walk, &mut columns)?;

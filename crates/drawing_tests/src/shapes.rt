@@ -1,5 +1,5 @@
 use geom::{Device, Edge, Micro, PictureSide, Pixel, PxBox, WorldBox};
-use scanfill::{Cover, Rows, Spans};
+use scanfill::{Cover, RowRange, Spans};
 use std::alloc::{AllocError, Global};
 use test_tables::numbers;
 
@@ -85,8 +85,8 @@ pub(crate) fn draw_spans(out: &mut String, spans: &Spans) -> Result<(), AllocErr
     Ok(())
 }
 
-// Rows as `1-3`, or `-` where there are none.
-fn draw_rows(alloc: Global, rows: Rows) -> Result<String, AllocError> {
+// RowRange as `1-3`, or `-` where there are none.
+fn draw_rows(alloc: Global, rows: RowRange) -> Result<String, AllocError> {
     if rows.from < rows.to {
         format!(in alloc; "{}-{}", rows.from, rows.to)
     } else {

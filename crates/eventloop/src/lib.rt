@@ -12,15 +12,15 @@
 //! where those that aren't being answered are closed.
 #![tactic(auto)]
 
-mod crew;
 mod ending_early;
 mod handover;
 mod poller;
 mod turning_away;
 mod worker;
+mod worker_threads;
 
-pub use crew::{Crew, CrewFault, start_worker};
 pub use handover::{Ending, Handover, WAITING};
 pub use poller::{Poller, Wakes};
 pub use turning_away::turn_away;
 pub use worker::{EVENTS, ROOM, Worker, run};
+pub use worker_threads::{WorkerStartError, WorkerThreads, start_worker};

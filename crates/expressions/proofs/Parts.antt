@@ -5,8 +5,8 @@ use Rattle.mapdefs.specs.declared.expr.Expr.TheVariants.{Not}
 use Rattle.expressions.specs.declared.logic.Joint.{Joint}
 use Rattle.expressions.specs.declared.logic.Joint.TheVariants.{Or, And}
 use Rattle.expressions.specs.Fault.{IsStop}
-use Rattle.expressions.specs.declared.fault.Stop.{Stop}
-use Rattle.expressions.specs.declared.fault.Stop.TheVariants.{Fault, NoMemory}
+use Rattle.expressions.specs.declared.fault.ReadingError.{ReadingError}
+use Rattle.expressions.specs.declared.fault.ReadingError.TheVariants.{Fault, NoMemory}
 use Rattle.expressions.specs.Reading.{Reading, after_joint, joined, more_parts, joined_by, joined_at, part_at, compare_at, closed, after_either, after_spaced}
 
 -- parts between ORs are read by those between ANDs
@@ -88,7 +88,7 @@ goes_on-more how part parts (suc n) next rest further p some e more =
     rw (e, more_parts-more how part n rest further more, less) (one-more how part parts n p (part further))
 
 -- what stops one reading stops another that fails where it does
-pub stop-by : {A B : Type 0} (f : Option A) (g : Option B) (stop : Stop) → (f ≡ None → g ≡ None) → IsStop f stop → IsStop g stop
+pub stop-by : {A B : Type 0} (f : Option A) (g : Option B) (stop : ReadingError) → (f ≡ None → g ≡ None) → IsStop f stop → IsStop g stop
 stop-by f g (Fault left) h none = h none
 stop-by f g NoMemory h none = tt
 

@@ -3,12 +3,12 @@ use Rattle.std.specs.Prelude.{◌≡◌, ℕ, List, Option, None}
 use Rattle.mapdefs.specs.declared.expr.Expr.{Expr}
 use Rattle.expressions.specs.declared.fault.ExprError.{ExprError}
 use Rattle.expressions.specs.declared.fault.ExprError.TheVariants as error
-use Rattle.expressions.specs.declared.fault.Stop.{Stop}
-use Rattle.expressions.specs.declared.fault.Stop.TheVariants as stop
+use Rattle.expressions.specs.declared.fault.ReadingError.{ReadingError}
+use Rattle.expressions.specs.declared.fault.ReadingError.TheVariants as stop
 use Rattle.expressions.specs.Grammar.{IsLogic}
 
 -- reading stops where it gives nothing, or memory was refused
-abbrev pub IsStop : {A : Type 0} → Option A → Stop → Type 0
+abbrev pub IsStop : {A : Type 0} → Option A → ReadingError → Type 0
 IsStop reading (stop.Fault left) = reading ≡ None
 IsStop reading stop.NoMemory = Unit {0}
 

@@ -25,19 +25,19 @@ pub enum ExprError {
 
 /// What stops reading within a text.
 #[derive(Clone, Copy)]
-pub enum Stop {
+pub enum ReadingError {
     /// No reading goes on where so many bytes are left.
     Fault { left: usize },
     /// Memory was refused.
     NoMemory,
 }
 
-impl From<AllocError> for Stop {
-    ghost use Rattle.expressions.specs.declared.fault.Stop.TheVariants.{NoMemory};
+impl From<AllocError> for ReadingError {
+    ghost use Rattle.expressions.specs.declared.fault.ReadingError.TheVariants.{NoMemory};
 
     ghost from_gives = { λ _ stop. stop ≡ NoMemory };
 
-    fn from(_error: AllocError) -> Stop {
-        Stop::NoMemory
+    fn from(_error: AllocError) -> ReadingError {
+        ReadingError::NoMemory
     }
 }

@@ -5,7 +5,7 @@ ghost use Rattle.expressions.specs.Fault.{IsStop, IsRefusal};
 ghost use Rattle.expressions.specs.Grammar.{IsLogic};
 ghost use Rattle.expressions.specs.Reading.{after_joint, after_spaced, joined, compare_at, closed, part_of, joined_at, part_at, logic_of};
 
-use crate::fault::{ExprError, ExprFault, Stop};
+use crate::fault::{ExprError, ExprFault, ReadingError};
 use crate::operand::operand_at;
 use crate::word::{after_either, after_spaced, after_spaces, comparison_at, left_without};
 use mapdefs::{Boxed, Expr, Items, MAX_NESTING};
@@ -63,21 +63,21 @@ fn left_or_begun(left: usize, text: &[u8], room: usize) -> usize {
 // The comparison of two operands that stands here, and what stands after it. Where there is room for a
 // NOT, one may be begun here in its place.
 #[tactic(auto, unfolding(crate::specs::Reading::compare_at))]
-fn compare_at(alloc: Global, text: &[u8], room: usize) -> Result<(Expr, &[u8]), Stop>
+fn compare_at(alloc: Global, text: &[u8], room: usize) -> Result<(Expr, &[u8]), ReadingError>
     ensures value { MatchResult result (λ r. compare_at text.now ≡ Some (r.0, r.1.now)) (IsStop (compare_at text.now)) }
     ensures shorter { IfOk result (λ r. length r.1.now < length text.now) }
 {
     let (left, after) = match operand_at(alloc, text) {
         Ok(found) => found,
-        Err(Stop::Fault { left }) => {
+        Err(ReadingError::Fault { left }) => {
             let left = left_or_begun(left, text, room);
-            return Err(Stop::Fault { left });
+            return Err(ReadingError::Fault { left });
         }
-        Err(Stop::NoMemory) => return Err(Stop::NoMemory),
+        Err(ReadingError::NoMemory) => return Err(ReadingError::NoMemory),
     };
     let Some((comparison, rest)) = comparison_at(after) else {
         let left = left_without(&COMPARISONS, after);
-        return Err(Stop::Fault { left });
+        return Err(ReadingError::Fault { left });
     };
     match operand_at(alloc, rest) {
         Ok((right, rest)) => Ok((Expr::Compare(comparison, left, right), rest)),
@@ -89,7 +89,7 @@ fn compare_at(alloc: Global, text: &[u8], room: usize) -> Result<(Expr, &[u8]), 
 }
 
 // What stands after spaces and a closing bracket.
-fn after_bracket(text: &[u8]) -> Result<&[u8], Stop>
+fn after_bracket(text: &[u8]) -> Result<&[u8], ReadingError>
     ensures value { MatchResult result (λ rest. after_spaced (codes ")") text.now ≡ Some rest.now) (IsStop (after_spaced (codes ")") text.now)) }
     ensures shorter { IfOk result (λ rest. length rest.now < length text.now) }
 {
@@ -97,13 +97,13 @@ fn after_bracket(text: &[u8]) -> Result<&[u8], Stop>
         Some(rest) => Ok(rest),
         None => {
             let left = left_without(&AFTER_PART, text);
-            Err(Stop::Fault { left })
+            Err(ReadingError::Fault { left })
         }
     }
 }
 
 // An expression in brackets, and what stands after the one that closes it.
-fn closed(expr: Expr, rest: &[u8]) -> Result<(Expr, &[u8]), Stop>
+fn closed(expr: Expr, rest: &[u8]) -> Result<(Expr, &[u8]), ReadingError>
     ensures value { MatchResult result (λ r. closed (expr, rest.now) ≡ Some (r.0, r.1.now)) (IsStop (closed (expr, rest.now))) }
     ensures shorter { IfOk result (λ r. length r.1.now < length rest.now) }
 {
@@ -118,7 +118,12 @@ fn closed(expr: Expr, rest: &[u8]) -> Result<(Expr, &[u8]), Stop>
 
 // A part between ORs or between ANDs.
 #[cycle(logic)]
-fn part_of(alloc: Global, joint: Joint, text: &[u8], room: usize) -> Result<(Expr, &[u8]), Stop>
+fn part_of(
+    alloc: Global,
+    joint: Joint,
+    text: &[u8],
+    room: usize,
+) -> Result<(Expr, &[u8]), ReadingError>
     ensures value { MatchResult result (λ r. part_of joint (part_at room) text.now ≡ Some (r.0, r.1.now)) (IsStop (part_of joint (part_at room) text.now)) }
     ensures shorter { IfOk result (λ r. length r.1.now < length text.now) }
 {
@@ -130,7 +135,12 @@ fn part_of(alloc: Global, joint: Joint, text: &[u8], room: usize) -> Result<(Exp
 
 // The parts that stand here between ORs or between ANDs, and what stands after them.
 #[cycle(logic)]
-fn joined_at(alloc: Global, joint: Joint, text: &[u8], room: usize) -> Result<(Expr, &[u8]), Stop>
+fn joined_at(
+    alloc: Global,
+    joint: Joint,
+    text: &[u8],
+    room: usize,
+) -> Result<(Expr, &[u8]), ReadingError>
     ensures value { MatchResult result (λ r. joined_at joint (part_at room) text.now ≡ Some (r.0, r.1.now)) (IsStop (joined_at joint (part_at room) text.now)) }
     ensures shorter { IfOk result (λ r. length r.1.now < length text.now) }
 {
@@ -153,14 +163,14 @@ fn joined_at(alloc: Global, joint: Joint, text: &[u8], room: usize) -> Result<(E
 // The part that stands here, with at most so many brackets and NOTs within one another, and what stands
 // after it.
 #[cycle(logic)]
-fn part_at(alloc: Global, text: &[u8], room: usize) -> Result<(Expr, &[u8]), Stop>
+fn part_at(alloc: Global, text: &[u8], room: usize) -> Result<(Expr, &[u8]), ReadingError>
     ensures value { MatchResult result (λ r. part_at room text.now ≡ Some (r.0, r.1.now)) (IsStop (part_at room text.now)) }
     ensures shorter { IfOk result (λ r. length r.1.now < length text.now) }
 {
     if let Some(rest) = after_either(b"NOT", b"!", text) {
         if room == 0 {
             let left = after_spaces(text).len();
-            return Err(Stop::Fault { left });
+            return Err(ReadingError::Fault { left });
         }
         let (part, rest) = part_at(alloc, rest, room - 1)?;
         return Ok((Expr::Not(Boxed::new(alloc, part)?), rest));
@@ -168,7 +178,7 @@ fn part_at(alloc: Global, text: &[u8], room: usize) -> Result<(Expr, &[u8]), Sto
     if let Some(rest) = after_spaced(b"(", text) {
         if room == 0 {
             let left = after_spaces(text).len();
-            return Err(Stop::Fault { left });
+            return Err(ReadingError::Fault { left });
         }
         let (expr, rest) = joined_at(alloc, Joint::Or, rest, room - 1)?;
         return closed(expr, rest);
@@ -178,11 +188,11 @@ fn part_at(alloc: Global, text: &[u8], room: usize) -> Result<(Expr, &[u8]), Sto
 
 // The tree of a text, if it is a Logic.
 #[tactic(auto, unfolding(crate::specs::Reading::logic_of))]
-fn logic_of(alloc: Global, text: &[u8]) -> Result<Expr, Stop>
+fn logic_of(alloc: Global, text: &[u8]) -> Result<Expr, ReadingError>
     ensures { MatchResult result (λ e. logic_of text.now ≡ Some e) (IsStop (logic_of text.now)) }
 {
     let [b'(', rest @ ..] = text else {
-        return Err(Stop::Fault { left: text.len() });
+        return Err(ReadingError::Fault { left: text.len() });
     };
     let (expr, rest) = joined_at(alloc, Joint::Or, rest, MAX_NESTING - 1)?;
     let (expr, rest) = closed(expr, rest)?;
@@ -190,7 +200,7 @@ fn logic_of(alloc: Global, text: &[u8]) -> Result<Expr, Stop>
         Ok(expr)
     } else {
         drop(expr);
-        Err(Stop::Fault { left: rest.len() })
+        Err(ReadingError::Fault { left: rest.len() })
     }
 }
 
@@ -206,10 +216,10 @@ pub fn read(alloc: Global, text: &[u8]) -> Result<Expr, ExprError>
 {
     match logic_of(alloc, text) {
         Ok(expr) => Ok(expr),
-        Err(Stop::Fault { left }) => {
+        Err(ReadingError::Fault { left }) => {
             let at = text.len().saturating_sub(left);
             Err(ExprError::Fault(ExprFault { at }))
         }
-        Err(Stop::NoMemory) => Err(ExprError::NoMemory),
+        Err(ReadingError::NoMemory) => Err(ExprError::NoMemory),
     }
 }

@@ -4,7 +4,7 @@ ghost use Rattle.std.specs.Str.{is_utf8};
 ghost use Rattle.expressions.specs.Fault.{IsStop};
 ghost use Rattle.expressions.specs.Reading.{begins_q, is_of_number, number_len, number_at, split_before, is_name, item_at, name_of, quoted_as, quoted_at, operand_from, operand_at};
 
-use crate::fault::Stop;
+use crate::fault::ReadingError;
 use crate::word::after_spaces;
 use geom::{Micro, NUMBER_LIMIT, NumberFault};
 use mapdefs::{Operand, Text};
@@ -103,7 +103,7 @@ fn left_after_number(text: &[u8]) -> usize {
 
 // The literal number with which the text begins, and what stands after it.
 #[tactic(auto, unfolding(crate::specs::Reading::number_at))]
-fn number_at(alloc: Global, text: &[u8]) -> Result<(Operand, &[u8]), Stop>
+fn number_at(alloc: Global, text: &[u8]) -> Result<(Operand, &[u8]), ReadingError>
     ensures value { MatchResult result (λ r. number_at text.now ≡ Some (r.0, r.1.now)) (IsStop (number_at text.now)) }
     ensures shorter { IfOk result (λ r. length r.1.now < length text.now) }
 {
@@ -112,16 +112,16 @@ fn number_at(alloc: Global, text: &[u8]) -> Result<(Operand, &[u8]), Stop>
         Ok(value) => value,
         Err(NumberFault::NotANumber) => {
             let left = left_after_number(text);
-            return Err(Stop::Fault { left });
+            return Err(ReadingError::Fault { left });
         }
-        Err(NumberFault::TooLarge) => return Err(Stop::Fault { left: text.len() }),
+        Err(NumberFault::TooLarge) => return Err(ReadingError::Fault { left: text.len() }),
     };
     match text_from(literal) {
         Some(literal) => Ok((
             Operand::Number(value, Text::from_str(alloc, literal)?),
             rest,
         )),
-        None => Err(Stop::Fault { left: text.len() }),
+        None => Err(ReadingError::Fault { left: text.len() }),
     }
 }
 
@@ -166,17 +166,17 @@ fn left_after_text(front: &[u8], text: &[u8]) -> usize {
 
 // The item whose name and bracket stand here, after its first bracket, and what stands after it.
 #[tactic(auto, unfolding(crate::specs::Reading::item_at))]
-fn item_at(alloc: Global, text: &[u8]) -> Result<(Operand, &[u8]), Stop>
+fn item_at(alloc: Global, text: &[u8]) -> Result<(Operand, &[u8]), ReadingError>
     ensures value { MatchResult result (λ r. item_at text.now ≡ Some (r.0, r.1.now)) (IsStop (item_at text.now)) }
     ensures shorter { IfOk result (λ r. length r.1.now < length text.now) }
 {
     let Some((name, rest)) = split_before(b']', text) else {
         let left = left_after_text(text, text);
-        return Err(Stop::Fault { left });
+        return Err(ReadingError::Fault { left });
     };
     match name_from(name) {
         Some(name) => Ok((Operand::Item(Text::from_str(alloc, name)?), rest)),
-        None => Err(Stop::Fault {
+        None => Err(ReadingError::Fault {
             left: left_after_text(name, text),
         }),
     }
@@ -208,29 +208,29 @@ fn quoted_as(alloc: Global, text: &str) -> Result<Operand, AllocError>
 
 // The quoted text that stands here, after its first quote, and what stands after it.
 #[tactic(auto, unfolding(crate::specs::Reading::quoted_at))]
-fn quoted_at(alloc: Global, quote: u8, text: &[u8]) -> Result<(Operand, &[u8]), Stop>
+fn quoted_at(alloc: Global, quote: u8, text: &[u8]) -> Result<(Operand, &[u8]), ReadingError>
     ensures value { MatchResult result (λ r. quoted_at quote text.now ≡ Some (r.0, r.1.now)) (IsStop (quoted_at quote text.now)) }
     ensures shorter { IfOk result (λ r. length r.1.now < length text.now) }
 {
     let Some((quoted, rest)) = split_before(quote, text) else {
         let left = left_after_text(text, text);
-        return Err(Stop::Fault { left });
+        return Err(ReadingError::Fault { left });
     };
     match text_from(quoted) {
         Some(quoted) => Ok((quoted_as(alloc, quoted)?, rest)),
-        None => Err(Stop::Fault {
+        None => Err(ReadingError::Fault {
             left: left_after_text(quoted, text),
         }),
     }
 }
 
 // The operand with which the text begins, and what stands after it.
-fn operand_from(alloc: Global, text: &[u8]) -> Result<(Operand, &[u8]), Stop>
+fn operand_from(alloc: Global, text: &[u8]) -> Result<(Operand, &[u8]), ReadingError>
     ensures value { MatchResult result (λ r. operand_from text.now ≡ Some (r.0, r.1.now)) (IsStop (operand_from text.now)) }
     ensures shorter { IfOk result (λ r. length r.1.now < length text.now) }
 {
     match text {
-        [] => Err(Stop::Fault { left: 0 }),
+        [] => Err(ReadingError::Fault { left: 0 }),
         [b'[', rest @ ..] => item_at(alloc, rest),
         [quote @ (b'"' | b'\''), rest @ ..] => quoted_at(alloc, *quote, rest),
         _ => number_at(alloc, text),
@@ -239,7 +239,7 @@ fn operand_from(alloc: Global, text: &[u8]) -> Result<(Operand, &[u8]), Stop>
 
 /// The operand after spaces, and what stands after it.
 #[tactic(auto, unfolding(crate::specs::Reading::operand_at))]
-pub fn operand_at(alloc: Global, text: &[u8]) -> Result<(Operand, &[u8]), Stop>
+pub fn operand_at(alloc: Global, text: &[u8]) -> Result<(Operand, &[u8]), ReadingError>
     ensures value { MatchResult result (λ r. operand_at text.now ≡ Some (r.0, r.1.now)) (IsStop (operand_at text.now)) }
     ensures shorter { IfOk result (λ r. length r.1.now < length text.now) }
 {

@@ -12,7 +12,7 @@ use Rattle.geom.specs.World.{IsExtent, Place}
 use Rattle.mapdefs.specs.Class.{is_visible_layer}
 use Rattle.mapdefs.specs.Near.{AreCandidates, HasBoxIn, points_of}
 use Rattle.mapdefs.specs.declared.feature.FeatureFields.{FeatureFields}
-use Rattle.mapdefs.specs.declared.layer.Kind.{Kind}
+use Rattle.mapdefs.specs.declared.layer.Geometry.{Geometry}
 use Rattle.mapdefs.specs.declared.layer.LayerFields.{LayerFields}
 use Rattle.scene.specs.Scene.{SceneValue}
 use Rattle.viewport.specs.View.{ViewValue, device_point, window}
@@ -26,7 +26,7 @@ use Rattle.featureinfo.specs.declared.side.Side.{Side}
 use Rattle.featureinfo.specs.declared.side.Side.TheVariants.{Right, Left, Bottom, Top}
 use Rattle.featureinfo.proofs.Reaching.{all-reach, nested}
 
-module _ (view : ViewValue) (k : Kind) (tolerance i j : ℕ) (feature : FeatureFields) (near : IsNear view k tolerance i j feature) where
+module _ (view : ViewValue) (k : Geometry) (tolerance i j : ℕ) (feature : FeatureFields) (near : IsNear view k tolerance i j feature) where
   -- some vertex doesn't lie beyond that side
   vertex-on : (side : Side) → Any (λ (q : Place). is_within side (limit_of (nearby_of view.width view.height tolerance i j) side) (device_point view q) ≡ true) (points_of feature)
   vertex-on side =

@@ -8,9 +8,9 @@ use Rattle.std.specs.Prelude.{int_le, int_lt}
 use lib.IntN.{ℤ, pos, negsuc, ◌+ℤ◌, ◌-ℤ◌}
 use lib.Signed.{◌≤ℤ◌}
 use Rattle.geom.proofs.Products.{is_le, is_lt, le_of, lt_of}
-use Rattle.geom.specs.Device.{DevicePoint, PixelPlace, pixel_of}
+use Rattle.geom.specs.Device.{DevicePoint, PixelValue, pixel_of}
 use Rattle.geom.specs.World.{Place}
-use Rattle.mapdefs.specs.declared.layer.Kind.TheVariants as kind
+use Rattle.mapdefs.specs.declared.layer.Geometry.TheVariants as kind
 use Rattle.strokes.specs.Line.{square_at}
 use Rattle.strokes.specs.Square.{covers_square, is_beside}
 use Rattle.viewport.specs.View.{ViewValue, device_point}
@@ -65,7 +65,7 @@ module _ (view : ViewValue) (n : Nearby) where
       let (k, part, within, is, some) = Any-from_list_any (λ (part : List Place). part_near view part n) parts h in
       let (m, place, inside, same, near) = Any-from_list_any (λ (place : Place). has_pixel n (pixel_of (device_point view place))) part some in
       let v : DevicePoint = device_point view place in
-      let p : PixelPlace = pixel_of v in
+      let p : PixelValue = pixel_of v in
       let three = and_parts (int_le (pos n.left) p.i && int_lt p.i (pos n.right) && int_le (pos n.top) p.j) (int_lt p.j (pos n.bottom)) near in
       let two = and_parts (int_le (pos n.left) p.i && int_lt p.i (pos n.right)) (int_le (pos n.top) p.j) three.0 in
       let one = and_parts (int_le (pos n.left) p.i) (int_lt p.i (pos n.right)) two.0 in

@@ -12,8 +12,8 @@ use Rattle.geom.proofs.Quotients.{quotient_parts}
 use Rattle.geom.specs.Device.{DevicePoint, pixel_centre, pixel_of}
 use Rattle.geom.specs.EvenOdd.{is_inside}
 use Rattle.geom.specs.World.{Place}
-use Rattle.mapdefs.specs.declared.layer.Kind.{Kind}
-use Rattle.mapdefs.specs.declared.layer.Kind.TheVariants as kind
+use Rattle.mapdefs.specs.declared.layer.Geometry.{Geometry}
+use Rattle.mapdefs.specs.declared.layer.Geometry.TheVariants as kind
 use Rattle.strokes.specs.Line.{covers_centre, covers_pixel, edges_of, line_of, segments_of, square_at}
 use Rattle.strokes.specs.Segment.{covers_segment}
 use Rattle.strokes.specs.Square.{covers_square, is_beside}
@@ -171,13 +171,13 @@ module _ (view : ViewValue) (parts : List (List Place)) (n : Nearby) (c r : ℕ)
       squares-reach (sym (nested (λ q. covers_square (square_at 1 (device_point view q)) (pos c) (pos r)) parts) ∙ sym (mapped (device_point view) (λ vertex. covers_square (square_at 1 vertex) (pos c) (pos r)) parts) ∙ covered) side
 
 -- whatever its kind, a feature whose plain cover has the pixel
-pub all-reach : (view : ViewValue) (k : Kind) (parts : List (List Place)) (n : Nearby) (c r : ℕ) → IsOf n c r → covers_plainly view k parts c r ≡ true →
+pub all-reach : (view : ViewValue) (k : Geometry) (parts : List (List Place)) (n : Nearby) (c r : ℕ) → IsOf n c r → covers_plainly view k parts c r ≡ true →
     (side : Side) → reaches view parts (limit_of n side) side ≡ true
 all-reach view kind.Polygon parts n c r of covered side = fill-reaches view parts n c r of covered side
 all-reach view kind.Line parts n c r of covered side = line-reaches view parts n c r of covered side
 all-reach view kind.Point parts n c r of covered side = points-reach view parts n c r of covered side
 
 -- so it isn't far
-pub not-far : (view : ViewValue) (k : Kind) (parts : List (List Place)) (n : Nearby) (c r : ℕ) → IsOf n c r → covers_plainly view k parts c r ≡ true → is_far view parts n ≡ false
+pub not-far : (view : ViewValue) (k : Geometry) (parts : List (List Place)) (n : Nearby) (c r : ℕ) → IsOf n c r → covers_plainly view k parts c r ≡ true → is_far view parts n ≡ false
 not-far view k parts n c r of covered =
     rw (all-reach view k parts n c r of covered Right, all-reach view k parts n c r of covered Left, all-reach view k parts n c r of covered Bottom, all-reach view k parts n c r of covered Top) refl

@@ -6,7 +6,7 @@ use Rattle.std.specs.Option.{option_map_or}
 use Rattle.mapdefs.specs.declared.feature.FeatureFields.{FeatureFields}
 use Rattle.mapdefs.specs.declared.layer.LayerFields.{LayerFields}
 use Rattle.mapdefs.specs.declared.map.MapFields.{MapFields}
-use Rattle.featureinfo.specs.declared.asked.LayerHits.{LayerHits}
+use Rattle.featureinfo.specs.declared.layer_hits.LayerHits.{LayerHits}
 
 -- the line of an item
 unfoldable pub item_line : List ℕ → List ℕ → List ℕ

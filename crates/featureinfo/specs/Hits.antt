@@ -6,8 +6,8 @@ use Rattle.geom.specs.EvenOdd.{is_inside}
 use Rattle.geom.specs.World.{Place}
 use Rattle.mapdefs.specs.Class.{class_of, is_visible_layer}
 use Rattle.mapdefs.specs.declared.feature.FeatureFields.{FeatureFields}
-use Rattle.mapdefs.specs.declared.layer.Kind.{Kind}
-use Rattle.mapdefs.specs.declared.layer.Kind.TheVariants as kind
+use Rattle.mapdefs.specs.declared.layer.Geometry.{Geometry}
+use Rattle.mapdefs.specs.declared.layer.Geometry.TheVariants as kind
 use Rattle.mapdefs.specs.declared.layer.LayerFields.{LayerFields}
 use Rattle.scene.specs.Scene.{SceneValue}
 use Rattle.strokes.specs.Line.{line_of, square_at}
@@ -22,13 +22,13 @@ abbrev pub points_of : ViewValue → List (List Place) → List (List DevicePoin
 points_of view parts = map (map (device_point view)) parts
 
 -- the plain cover of the parts of a feature, whatever its styles are: a polygon, a line one pixel wide, or the pixels of points
-abbrev pub covers_plainly : ViewValue → Kind → List (List Place) → ℕ → ℕ → Bool
+abbrev pub covers_plainly : ViewValue → Geometry → List (List Place) → ℕ → ℕ → Bool
 covers_plainly view kind.Polygon parts i j = is_inside (points_of view parts) (pixel_centre (pos i) (pos j))
 covers_plainly view kind.Line parts i j = line.covers_pixel (line_of (points_of view parts) false 1) (pos i) (pos j)
 covers_plainly view kind.Point parts i j = list_any (λ part. list_any (λ vertex. covers_square (square_at 1 vertex) (pos i) (pos j)) part) (points_of view parts)
 
 -- some pixel of the picture lies within so many columns and so many rows of the asked one, and in the feature's plain cover
-abbrev pub IsNear : ViewValue → Kind → ℕ → ℕ → ℕ → FeatureFields → Type 0
+abbrev pub IsNear : ViewValue → Geometry → ℕ → ℕ → ℕ → FeatureFields → Type 0
 IsNear view k tolerance i j feature = SomeNear (nearby_of view.width view.height tolerance i j) (covers_plainly view k feature.parts)
 
 -- a feature of a layer that shows is hit where it has a class, and lies near the asked pixel

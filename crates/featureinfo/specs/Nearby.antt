@@ -2,7 +2,7 @@
 use Rattle.std.specs.Prelude.{◌≡◌, ℕ, ◌+◌, ◌-◌, ◌<◌, ◌≤◌, List, min, Bool, true, ◌&&◌, ◌↔◌, pos, int_le, int_lt, nat_lt}
 use Rattle.std.specs.Int.{abs_diff}
 use Rattle.std.specs.List.{list_any}
-use Rattle.geom.specs.Device.{PixelPlace, pixel_of}
+use Rattle.geom.specs.Device.{PixelValue, pixel_of}
 use Rattle.geom.specs.World.{Place}
 use Rattle.viewport.specs.View.{ViewValue, device_point}
 use Rattle.scanfill.specs.declared.span.Span.{Span}
@@ -18,7 +18,7 @@ nearby_of width height tolerance i j = record {
 }
 
 -- a pixel is one of them
-abbrev pub has_pixel : Nearby → PixelPlace → Bool
+abbrev pub has_pixel : Nearby → PixelValue → Bool
 has_pixel n p = int_le (pos n.left) p.i && int_lt p.i (pos n.right) && int_le (pos n.top) p.j && int_lt p.j (pos n.bottom)
 
 -- a span of a row has one of the columns from one to before another

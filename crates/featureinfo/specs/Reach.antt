@@ -5,7 +5,7 @@ use Rattle.std.specs.List.{list_any}
 use Rattle.geom.specs.Device.{DevicePoint}
 use Rattle.geom.specs.World.{Area, Place}
 use Rattle.viewport.specs.View.{ViewValue, device_point}
-use Rattle.mapdefs.specs.declared.layer.Kind.{Kind}
+use Rattle.mapdefs.specs.declared.layer.Geometry.{Geometry}
 use Rattle.featureinfo.specs.Hits.{covers_plainly}
 use Rattle.featureinfo.specs.Nearby.{SomeNear}
 use Rattle.featureinfo.specs.declared.nearby.Nearby.{Nearby}
@@ -48,5 +48,5 @@ is_far view parts n =
 
 -- the law: a feature that is far covers no pixel near the asked one plainly
 abbrev pub NearIsNotFar : Type 0
-NearIsNotFar = (view : ViewValue) (k : Kind) (parts : List (List Place)) (n : Nearby) →
+NearIsNotFar = (view : ViewValue) (k : Geometry) (parts : List (List Place)) (n : Nearby) →
     SomeNear n (covers_plainly view k parts) → is_far view parts n ≡ false

@@ -10,12 +10,12 @@
 //! styles are. The *hits* of a layer are the indices of the features that were hit, in order.
 #![tactic(auto)]
 
-mod asked;
 pub mod laws;
+mod layer_hits;
 mod nearby;
 mod reach;
 mod side;
 mod text_lines;
 
-pub use asked::{Asked, LayerHits, hits, hits_in};
+pub use layer_hits::{LayerHits, PixelQuery, hits, hits_in};
 pub use text_lines::text;

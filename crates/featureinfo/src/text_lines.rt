@@ -2,7 +2,7 @@ ghost use Rattle.std.specs.Prelude.{◌≡◌, ◌++◌, IfOk, OnOk};
 ghost use Rattle.std.specs.List.{flat_map};
 ghost use Rattle.featureinfo.specs.Answer.{item_line, item_lines, feature_lines, lines_at, layer_line, layer_lines, hit_lines, first_line, answer};
 
-use crate::asked::LayerHits;
+use crate::layer_hits::LayerHits;
 use itoa::Buffer;
 use mapdefs::{FeatureFields, Items, LayerFields, Map, MapFields, Text};
 use std::alloc::{AllocError, Global};

@@ -9,7 +9,7 @@ pub record DevicePoint : Type 0 where
   pub y : ℤ
 
 -- a pixel: its column and its row, both counted from the upper left corner and below 0 outside
-pub record PixelPlace : Type 0 where
+pub record PixelValue : Type 0 where
   pub i : ℤ
   pub j : ℤ
 
@@ -19,12 +19,12 @@ pub record IsDevicePoint (p : DevicePoint) : Type 0 where
   pub down : IsBelow (2 ^ 47) p.y
 
 -- column and row have the sizes of pixels
-pub record IsPixel (p : PixelPlace) : Type 0 where
+pub record IsPixel (p : PixelValue) : Type 0 where
   pub column : IsBelow (2 ^ 44) p.i
   pub row : IsBelow (2 ^ 44) p.j
 
 -- the pixel that a device point lies in: a sixteenth of both numbers, rounded down
-abbrev pub pixel_of : DevicePoint → PixelPlace
+abbrev pub pixel_of : DevicePoint → PixelValue
 pixel_of p = record { i = int_div_euclid p.x (pos 16); j = int_div_euclid p.y (pos 16) }
 
 -- the x of the pixel centres of a column, and the y of those of a row

@@ -81,9 +81,9 @@ pub struct Pixel {
 }
 
 impl Model for Pixel {
-    ghost use Rattle.geom.specs.Device.{PixelPlace, IsPixel};
+    ghost use Rattle.geom.specs.Device.{PixelValue, IsPixel};
 
-    ghost Value = { PixelPlace };
+    ghost Value = { PixelValue };
 
     ghost view = { λ p. record { i = p.i; j = p.j } };
 

@@ -2,7 +2,7 @@ use crate::entries::side;
 use crate::fonts::font_of;
 use bdffont::is_short;
 use geom::{PictureSide, Pixel};
-use labelink::{GlyphPlace, text_glyphs};
+use labelink::{PlacedGlyph, text_glyphs};
 use mapdefs::Font;
 use scanfill::{Cover, Spans};
 use std::alloc::{AllocError, Global};
@@ -14,7 +14,7 @@ fn glyphs_of<'a>(
     font: &'a Font,
     text: &str,
     at: Pixel,
-) -> Result<Vec<GlyphPlace<'a>>, AllocError> {
+) -> Result<Vec<PlacedGlyph<'a>>, AllocError> {
     if is_short(text) {
         text_glyphs(alloc, font, text, at)
     } else {
@@ -29,7 +29,7 @@ fn pixel([i, j]: [i64; 2]) -> Pixel {
 
 // Whether a glyph covers a pixel, by its rows, or nothing where it says something else of the pixel by itself.
 fn is_covered(
-    glyph: &GlyphPlace<'_>,
+    glyph: &PlacedGlyph<'_>,
     spans: &mut Spans,
     width: PictureSide,
     i: u16,
@@ -51,7 +51,7 @@ fn is_covered(
 // The mark of a pixel: `#` where one of the glyphs covers it, `.` where none does, and `?` where one of them
 // says two things of it.
 fn mark(
-    glyphs: &[GlyphPlace<'_>],
+    glyphs: &[PlacedGlyph<'_>],
     spans: &mut Spans,
     width: PictureSide,
     i: u16,
@@ -69,7 +69,7 @@ fn mark(
 }
 
 // Draws 8 columns of 5 rows, each row with a `/` after it.
-fn draw(out: &mut String, alloc: Global, glyphs: &[GlyphPlace<'_>]) -> Result<(), AllocError> {
+fn draw(out: &mut String, alloc: Global, glyphs: &[PlacedGlyph<'_>]) -> Result<(), AllocError> {
     let width = side(8);
     let mut spans = Spans::new(alloc);
     for j in 0..5_u16 {

@@ -8,8 +8,8 @@ use crate::fonts::font_of;
 use crate::worked_labels::set;
 use geom::World;
 use mapdefs::{
-    Class, ClassFields, Feature, FeatureFields, Font, Items, Kind, Label, Layer, LayerFields, Map,
-    Part, Rgb, Rule, Shared, SharedItems, Style, StyleFields, Text,
+    Class, ClassFields, Feature, FeatureFields, Font, Geometry, Items, Label, Layer, LayerFields,
+    Map, Part, Rgb, Rule, Shared, SharedItems, Style, StyleFields, Text,
 };
 use std::alloc::{AllocError, Global};
 use test_maps::{layer_fields, map_fields, place};
@@ -189,11 +189,11 @@ fn one_item(alloc: Global) -> Result<Items<Text>, AllocError>
     Ok(items)
 }
 
-fn kind_of(letter: &str) -> Kind {
+fn kind_of(letter: &str) -> Geometry {
     match letter {
-        "g" => Kind::Polygon,
-        "l" => Kind::Line,
-        _ => Kind::Point,
+        "g" => Geometry::Polygon,
+        "l" => Geometry::Line,
+        _ => Geometry::Point,
     }
 }
 

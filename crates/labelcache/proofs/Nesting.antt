@@ -7,7 +7,7 @@ use Rattle.std.specs.Prelude.{◌⊎◌}
 use Rattle.labelcache.specs.Candidate.{square}
 use Rattle.labelcache.specs.Cells.{cell_of, child_of}
 use Rattle.labelcache.specs.declared.cells.Cell.{Cell}
-use Rattle.labelcache.specs.declared.cells.Spot.{Spot}
+use Rattle.labelcache.specs.declared.cells.GridPoint.{GridPoint}
 
 -- a side has a pixel at least
 pub side-some : (level : ℕ) → 1 ≤ 2 ^ level
@@ -38,7 +38,7 @@ halved x level =
     let less : q % 2 ^ 1 < 2 = mod-lt q (omega arith) in
     parts q (x / 2 ^ (level + 1)) (q % 2 ^ 1) (rw (shr-shr x level 1) at split) less
 
-same : (p : Spot) (level a b : ℕ) → p.column / 2 ^ level ≡ 2 * (p.column / 2 ^ (level + 1)) + a →
+same : (p : GridPoint) (level a b : ℕ) → p.column / 2 ^ level ≡ 2 * (p.column / 2 ^ (level + 1)) + a →
     p.row / 2 ^ level ≡ 2 * (p.row / 2 ^ (level + 1)) + b → child_of (cell_of (level + 1) p) a b ≡ cell_of level p
 same p level a b column row =
     let l : level ≡ level + 1 - 1 = omega arith in
@@ -52,13 +52,13 @@ IsQuarter cell whole =
     ((child_of whole 0 0 ≡ cell) ⊎ (child_of whole 1 0 ≡ cell)) ⊎ ((child_of whole 0 1 ≡ cell) ⊎ (child_of whole 1 1 ≡ cell))
 
 -- a cell of a lower level is a quarter of that of the next level
-quarters : (p : Spot) (level : ℕ) → IsQuarter (cell_of level p) (cell_of (level + 1) p)
+quarters : (p : GridPoint) (level : ℕ) → IsQuarter (cell_of level p) (cell_of (level + 1) p)
 quarters p level = ⊎_elim
     (λ r. ⊎_elim (λ q. inl (inl (same p level 0 0 q r))) (λ q. inl (inr (same p level 1 0 q r))) (halved p.column level))
     (λ r. ⊎_elim (λ q. inr (inl (same p level 0 1 q r))) (λ q. inr (inr (same p level 1 1 q r))) (halved p.column level))
     (halved p.row level)
 
-pub in-quarter : (cell : Cell) (p : Spot) → 0 < cell.level → cell ≡ cell_of cell.level p → IsQuarter (cell_of (cell.level - 1) p) cell
+pub in-quarter : (cell : Cell) (p : GridPoint) → 0 < cell.level → cell ≡ cell_of cell.level p → IsQuarter (cell_of (cell.level - 1) p) cell
 in-quarter cell p some is =
     let l : cell.level - 1 + 1 ≡ cell.level = omega (arith, some) in
     let whole : cell_of (cell.level - 1 + 1) p ≡ cell = ap (λ (k : ℕ). cell_of k p) l ∙ sym is in

@@ -10,7 +10,7 @@ use Rattle.std.specs.Ordering.{nat_cmp}
 use Rattle.std.specs.Str.{bytes_eq}
 use Rattle.std.specs.String.{string_bytes, string_cmp}
 use Rattle.std.specs.declared.string.String.{String}
-use Rattle.geom.specs.Device.{PixelPlace}
+use Rattle.geom.specs.Device.{PixelValue}
 use Rattle.labelcache.specs.Anchors.{AreKept, anchors_of, anchors_with}
 use Rattle.labelcache.specs.Candidate.{CandidateValue}
 
@@ -23,51 +23,51 @@ pub err-then : {A E : Type 0} {P Q : Type 0} (r : Result A E) → (P → Q) → 
 err-then (Ok a) h p = p
 err-then (Err e) h p = h p
 
-abbrev noted : Option (List PixelPlace) → List PixelPlace
-noted places = option_map_or (λ (ps : List PixelPlace). ps) places []
+abbrev noted : Option (List PixelValue) → List PixelValue
+noted places = option_map_or (λ (ps : List PixelValue). ps) places []
 
-abbrev more : Bool → List PixelPlace → PixelPlace → List PixelPlace
+abbrev more : Bool → List PixelValue → PixelValue → List PixelValue
 more b ps anchor = if b then ps ++ anchor ∷ [] else ps
 
 same-text : (xs ys : List ℕ) → bytes_eq xs ys ≡ true → xs ≡ ys
 same-text xs ys h = search (rules, bytes_eq-Decides, h)
 
-more-step : (b : Bool) (old new : Option (List PixelPlace)) (ps : List PixelPlace) (anchor : PixelPlace) →
+more-step : (b : Bool) (old new : Option (List PixelValue)) (ps : List PixelValue) (anchor : PixelValue) →
     new ≡ cond b (Some (ps ++ anchor ∷ [])) old → (b ≡ true → ps ≡ noted old) → noted new ≡ more b (noted old) anchor
-more-step true old new ps anchor e h = ap noted e ∙ ap (λ (xs : List PixelPlace). xs ++ anchor ∷ []) (h refl)
+more-step true old new ps anchor e h = ap noted e ∙ ap (λ (xs : List PixelValue). xs ++ anchor ∷ []) (h refl)
 more-step false old new ps anchor e h = ap noted e
 
-same-step : (b : Bool) (old new : Option (List PixelPlace)) (ps : List PixelPlace) →
+same-step : (b : Bool) (old new : Option (List PixelValue)) (ps : List PixelValue) →
     new ≡ cond b (Some ps) old → (b ≡ true → ps ≡ noted old) → noted new ≡ noted old
 same-step true old new ps e h = ap noted e ∙ h refl
 same-step false old new ps e h = ap noted e
 
 -- a text has an anchor more, and the others have what they had
-pub noted-more : {Y : Type 0} (m n : BTreeMap (String Y) (List PixelPlace)) (bs : List ℕ) (ps new : List PixelPlace) (anchor : PixelPlace) →
+pub noted-more : {Y : Type 0} (m n : BTreeMap (String Y) (List PixelValue)) (bs : List ℕ) (ps new : List PixelValue) (anchor : PixelValue) →
     UpdatesBy string_cmp (λ k. slice_cmp nat_cmp bs (string_bytes k)) m n (Some new) → new ≡ ps ++ anchor ∷ [] → ps ≡ anchors_of m bs →
     (q : List ℕ) → anchors_of n q ≡ (if bytes_eq bs q then anchors_of m q ++ anchor ∷ [] else anchors_of m q)
 noted-more m n bs ps new anchor u is e q =
     more-step (bytes_eq bs q) (get_by_text m q) (get_by_text n q) ps anchor
-    (btree_map_updates_text bs m n (Some new) u q ∙ ap (λ (v : List PixelPlace). cond (bytes_eq bs q) (Some v) (get_by_text m q)) is)
+    (btree_map_updates_text bs m n (Some new) u q ∙ ap (λ (v : List PixelValue). cond (bytes_eq bs q) (Some v) (get_by_text m q)) is)
     (λ h. rw (← same-text bs q h) e)
 
 -- what is written again changes nothing
-pub noted-same : {Y : Type 0} (m n : BTreeMap (String Y) (List PixelPlace)) (bs : List ℕ) (ps : List PixelPlace) →
+pub noted-same : {Y : Type 0} (m n : BTreeMap (String Y) (List PixelValue)) (bs : List ℕ) (ps : List PixelValue) →
     UpdatesBy string_cmp (λ k. slice_cmp nat_cmp bs (string_bytes k)) m n (Some ps) → ps ≡ anchors_of m bs →
     (q : List ℕ) → anchors_of n q ≡ anchors_of m q
 noted-same m n bs ps u e q =
     same-step (bytes_eq bs q) (get_by_text m q) (get_by_text n q) ps (btree_map_updates_text bs m n (Some ps) u q)
     (λ h. rw (← same-text bs q h) e)
 
-more-cons : (b : Bool) (p : PixelPlace) (ps : List PixelPlace) (anchor : PixelPlace) → p ∷ more b ps anchor ≡ more b (p ∷ ps) anchor
+more-cons : (b : Bool) (p : PixelValue) (ps : List PixelValue) (anchor : PixelValue) → p ∷ more b ps anchor ≡ more b (p ∷ ps) anchor
 more-cons true p ps anchor = refl
 more-cons false p ps anchor = refl
 
-with-step : (t b : Bool) (x : CandidateValue) (new old : List CandidateValue) (anchor : PixelPlace) →
+with-step : (t b : Bool) (x : CandidateValue) (new old : List CandidateValue) (anchor : PixelValue) →
     map (λ (c : CandidateValue). c.anchor) new ≡ more b (map (λ (c : CandidateValue). c.anchor) old) anchor →
     map (λ (c : CandidateValue). c.anchor) (cond t (x ∷ new) new) ≡ more b (map (λ (c : CandidateValue). c.anchor) (cond t (x ∷ old) old)) anchor
 with-step true b x new old anchor e =
-    ap (λ (ps : List PixelPlace). x.anchor ∷ ps) e ∙ more-cons b x.anchor (map (λ (c : CandidateValue). c.anchor) old) anchor
+    ap (λ (ps : List PixelValue). x.anchor ∷ ps) e ∙ more-cons b x.anchor (map (λ (c : CandidateValue). c.anchor) old) anchor
 with-step false b x new old anchor e = e
 
 with-last : (b : Bool) (c : CandidateValue) → map (λ (c : CandidateValue). c.anchor) (cond b (c ∷ []) []) ≡ more b [] c.anchor
@@ -82,7 +82,7 @@ with-more q (x ∷ placed) c =
     (filter (λ (o : CandidateValue). bytes_eq o.text q) placed) c.anchor (with-more q placed c)
 
 -- what is noted goes on with a candidate more
-pub kept-more : {Y : Type 0} (m n : BTreeMap (String Y) (List PixelPlace)) (placed : List CandidateValue) (c : CandidateValue) → AreKept m placed →
+pub kept-more : {Y : Type 0} (m n : BTreeMap (String Y) (List PixelValue)) (placed : List CandidateValue) (c : CandidateValue) → AreKept m placed →
     ((q : List ℕ) → anchors_of n q ≡ (if bytes_eq c.text q then anchors_of m q ++ c.anchor ∷ [] else anchors_of m q)) → AreKept n (placed ++ c ∷ [])
 kept-more m n placed c kept h q =
-    h q ∙ ap (λ (ps : List PixelPlace). more (bytes_eq c.text q) ps c.anchor) (kept q) ∙ sym (with-more q placed c)
+    h q ∙ ap (λ (ps : List PixelValue). more (bytes_eq c.text q) ps c.anchor) (kept q) ∙ sym (with-more q placed c)

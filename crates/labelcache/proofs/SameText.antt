@@ -8,8 +8,8 @@ use Rattle.std.proofs.lemmas.List.Folds.{Any-from_list_any, list_any-from_Any}
 use Rattle.std.proofs.lemmas.Slice.Eq.{bytes_eq-Decides}
 use Rattle.std.specs.List.{Any, filter, list_any}
 use Rattle.std.specs.Str.{bytes_eq}
-use Rattle.geom.specs.Device.{PixelPlace}
-use Rattle.labelcache.specs.Anchors.{IsNear, IsPlaceNear, anchors_with}
+use Rattle.geom.specs.Device.{PixelValue}
+use Rattle.labelcache.specs.Anchors.{IsNear, IsAnchorNear, anchors_with}
 use Rattle.labelcache.specs.Candidate.{CandidateValue, square, squared_distance}
 
 pub any-weaker : {X : Type 0} (P Q : X → Type 0) (xs : List X) → ((x : X) → P x → Q x) → Any P xs → Any Q xs
@@ -38,25 +38,25 @@ tested-near c other h = record { text = search (rules, bytes_eq-Decides, h); nea
 
 -- a candidate is near where an anchor of its text is, and the other way round
 pub near-place : (c : CandidateValue) (placed : List CandidateValue) → Any (IsNear c) placed →
-    Any (IsPlaceNear c.anchor c.label.mindistance) (anchors_with c.text placed)
+    Any (IsAnchorNear c.anchor c.label.mindistance) (anchors_with c.text placed)
 near-place c placed a =
     let test = λ (other : CandidateValue). bytes_eq other.text c.text in
     let anchor = λ (other : CandidateValue). other.anchor in
-    let p = λ (place : PixelPlace). nat_lt (squared_distance c.anchor place) (square c.label.mindistance) in
+    let p = λ (place : PixelValue). nat_lt (squared_distance c.anchor place) (square c.label.mindistance) in
     let both = list_any-from_Any (λ (other : CandidateValue). test other && p (anchor other)) placed
     (any-weaker (IsNear c) (λ other. (test other && p (anchor other)) ≡ true) placed (near-tested c) a) in
-    any-weaker (λ place. p place ≡ true) (IsPlaceNear c.anchor c.label.mindistance) (anchors_with c.text placed)
+    any-weaker (λ place. p place ≡ true) (IsAnchorNear c.anchor c.label.mindistance) (anchors_with c.text placed)
     (λ place e. search (rules, e))
     (Any-from_list_any p (anchors_with c.text placed) (any-filtered test anchor p placed ∙ both))
 
-pub place-near : (c : CandidateValue) (placed : List CandidateValue) → Any (IsPlaceNear c.anchor c.label.mindistance) (anchors_with c.text placed) →
+pub place-near : (c : CandidateValue) (placed : List CandidateValue) → Any (IsAnchorNear c.anchor c.label.mindistance) (anchors_with c.text placed) →
     Any (IsNear c) placed
 place-near c placed a =
     let test = λ (other : CandidateValue). bytes_eq other.text c.text in
     let anchor = λ (other : CandidateValue). other.anchor in
-    let p = λ (place : PixelPlace). nat_lt (squared_distance c.anchor place) (square c.label.mindistance) in
+    let p = λ (place : PixelValue). nat_lt (squared_distance c.anchor place) (square c.label.mindistance) in
     let one = list_any-from_Any p (anchors_with c.text placed)
-    (any-weaker (IsPlaceNear c.anchor c.label.mindistance) (λ place. p place ≡ true) (anchors_with c.text placed) (λ place lt. search (rules, lt)) a) in
+    (any-weaker (IsAnchorNear c.anchor c.label.mindistance) (λ place. p place ≡ true) (anchors_with c.text placed) (λ place lt. search (rules, lt)) a) in
     any-weaker (λ other. (test other && p (anchor other)) ≡ true) (IsNear c) placed (tested-near c)
     (Any-from_list_any (λ (other : CandidateValue). test other && p (anchor other)) placed (sym (any-filtered test anchor p placed) ∙ one))
 

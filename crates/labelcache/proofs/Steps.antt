@@ -7,13 +7,13 @@ use Rattle.std.proofs.lemmas.List.Quantifiers.{all_pairs_push}
 use Rattle.std.proofs.lemmas.Option.{none-some, same_Some, slice_get_within, slice_get-get_or, get_or_from_slice_get}
 use Rattle.std.proofs.Math.Seq.{get_or-append_seam}
 use Rattle.std.specs.List.{All, AllZip, slice_get}
-use Rattle.geom.specs.Device.{PixelPlace}
+use Rattle.geom.specs.Device.{PixelValue}
 use Rattle.labelcache.specs.declared.cache.Placed.{Placed}
 use Rattle.labelcache.specs.Anchors.{IsNear}
 use Rattle.labelcache.specs.Candidate.{CandidateValue, IsTriedBefore, AreWithinPriorities, priority_of, square, squared_distance}
-use Rattle.labelcache.specs.LabelBox.{places, taken_at}
+use Rattle.labelcache.specs.LabelBox.{corners, taken_at}
 use Rattle.labelcache.specs.Placement.{Setting, IsApart, IsClear, Passes, IsFirst, Stands, HasNone, IsShutOut, IsPlacement}
-use Rattle.labelcache.specs.Placing.{PlacingValue, IsFar, Fits, HasNoPlace, Adds, Tries, IsReached, IsPlacedTo}
+use Rattle.labelcache.specs.Placing.{PlacingValue, IsFar, Fits, FitsNowhere, Adds, Tries, IsReached, IsPlacedTo}
 use Rattle.labelcache.proofs.Trying.{tried-irrefl, tried-asym}
 use Rattle.labelcache.proofs.Unique.{passes-move}
 
@@ -63,7 +63,7 @@ abbrev pub AllBefore : List CandidateValue → List Placed → ℕ → Type 0
 AllBefore cs labels n = All (λ label. IsTriedBefore cs label.number n) labels
 
 -- against labels that are all tried before, to fit is to pass
-pub fits-passes : (s : Setting) (old : PlacingValue) (n : ℕ) (c : CandidateValue) (at : PixelPlace) → AllZip (IsOf s.candidates) old.labels old.candidates →
+pub fits-passes : (s : Setting) (old : PlacingValue) (n : ℕ) (c : CandidateValue) (at : PixelValue) → AllZip (IsOf s.candidates) old.labels old.candidates →
     Fits s.page old c at → Passes s old.labels n c at
 fits-passes s old n c at z f = record {
   shown = f.free.shown;
@@ -71,7 +71,7 @@ fits-passes s old n c at z f = record {
   apart = λ e k d h b. far-apart s.candidates c old.labels old.candidates z (f.far e) k d h;
 }
 
-pub passes-fits : (s : Setting) (old : PlacingValue) (n : ℕ) (c : CandidateValue) (at : PixelPlace) → AllZip (IsOf s.candidates) old.labels old.candidates →
+pub passes-fits : (s : Setting) (old : PlacingValue) (n : ℕ) (c : CandidateValue) (at : PixelValue) → AllZip (IsOf s.candidates) old.labels old.candidates →
     AllBefore s.candidates old.labels n → Passes s old.labels n c at → Fits s.page old c at
 passes-fits s old n c at z before p = record {
   free = record { shown = p.shown; clear = λ e k d h. p.clear e k d h (before k d h) };
@@ -79,7 +79,7 @@ passes-fits s old n c at z before p = record {
 }
 
 -- a label more that isn't tried before a number changes nothing for it
-pub passes-more : (s : Setting) (labels : List Placed) (l : Placed) (n : ℕ) (c : CandidateValue) (at : PixelPlace) → (IsTriedBefore s.candidates l.number n → ⊥) →
+pub passes-more : (s : Setting) (labels : List Placed) (l : Placed) (n : ℕ) (c : CandidateValue) (at : PixelValue) → (IsTriedBefore s.candidates l.number n → ⊥) →
     Passes s labels n c at → Passes s (labels ++ l ∷ []) n c at
 passes-more s labels l n c at not p = record {
   shown = p.shown;
@@ -93,7 +93,7 @@ kept labels l x i is =
     let w = slice_get_within labels i x is in
     slice_get-get_or (labels ++ l ∷ []) i x (omega (arith, length-append labels (l ∷ []))) ∙ ap Some (get_or_append_left labels (l ∷ []) x i w ∙ get_or_from_slice_get labels i x x is)
 
-pub passes-less : (s : Setting) (labels : List Placed) (l : Placed) (n : ℕ) (c : CandidateValue) (at : PixelPlace) → Passes s (labels ++ l ∷ []) n c at → Passes s labels n c at
+pub passes-less : (s : Setting) (labels : List Placed) (l : Placed) (n : ℕ) (c : CandidateValue) (at : PixelValue) → Passes s (labels ++ l ∷ []) n c at → Passes s labels n c at
 passes-less s labels l n c at p = passes-move s (labels ++ l ∷ []) labels n c at (λ i x is t. kept labels l x i is) p
 
 -- the first of which P holds is the first of which Q does
@@ -145,7 +145,7 @@ come-down s p n x t shut = record {
 
 -- a candidate that has no place
 pub step-leaves : (s : Setting) (p n : ℕ) (c : CandidateValue) (x : PlacingValue) → IsPlacedTo s p (n + 1) x → slice_get s.candidates n ≡ Some c →
-    HasNoPlace s.page x c → IsPlacedTo s p n x
+    FitsNowhere s.page x c → IsPlacedTo s p n x
 step-leaves s p n c x t is none = come-down s p n x t (λ c' is' e i at there passes.
     let same : c' ≡ c = same_Some c' c (sym is' ∙ is) in
     none i at (rw same at there) (passes-fits s x n c at t.candidates (all-before s p n x t e) (rw same at passes)))
@@ -185,7 +185,7 @@ step-adds s p n c old new t is e a = rw (a.labels, a.candidates) (record {
           record {
             candidate = st.candidate;
             is = st.is;
-            first = first-map (Passes s old.labels label.number st.candidate) (Passes s (old.labels ++ a.label ∷ []) label.number st.candidate) (places s.page.font st.candidate) label.at
+            first = first-map (Passes s old.labels label.number st.candidate) (Passes s (old.labels ++ a.label ∷ []) label.number st.candidate) (corners s.page.font st.candidate) label.at
                 (λ z. passes-more s old.labels a.label label.number st.candidate z (λ tried. tried-asym s.candidates _ _ (rw a.number at tried) first))
                 (λ z. passes-less s old.labels a.label label.number st.candidate z) st.first;
             taken = st.taken;
@@ -197,7 +197,7 @@ step-adds s p n c old new t is e a = rw (a.labels, a.candidates) (record {
           rw same (record {
             candidate = c;
             is = rw a.number is;
-            first = subst (λ m. IsFirst (Passes s (old.labels ++ a.label ∷ []) m c) (places s.page.font c) a.label.at) (sym a.number) (first-map (Fits s.page old c) (Passes s (old.labels ++ a.label ∷ []) n c) (places s.page.font c) a.label.at
+            first = subst (λ m. IsFirst (Passes s (old.labels ++ a.label ∷ []) m c) (corners s.page.font c) a.label.at) (sym a.number) (first-map (Fits s.page old c) (Passes s (old.labels ++ a.label ∷ []) n c) (corners s.page.font c) a.label.at
                 (λ z fits. passes-more s old.labels a.label n c z (λ tried. tried-irrefl s.candidates _ _ a.number tried) (fits-passes s old n c z t.candidates fits))
                 (λ z passes. passes-fits s old n c z t.candidates before (passes-less s old.labels a.label n c z passes)) a.place.first);
             taken = a.place.box;

@@ -3,10 +3,10 @@ use Rattle.std.proofs.Common.{◌≡◌, ℕ, zero, suc, ◌<◌, ◌≤◌, Lis
 use Rattle.std.proofs.lemmas.Bool.{cases_lt, cases_eq}
 use Rattle.std.proofs.lemmas.Option.{none-some, same_Some, slice_get_within, slice_get-get_or, get_or_from_slice_get}
 use Rattle.std.specs.List.{slice_get}
-use Rattle.geom.specs.Device.{PixelPlace}
+use Rattle.geom.specs.Device.{PixelValue}
 use Rattle.labelcache.specs.declared.cache.Placed.{Placed}
 use Rattle.labelcache.specs.Candidate.{CandidateValue, IsTriedBefore}
-use Rattle.labelcache.specs.LabelBox.{places, taken_at}
+use Rattle.labelcache.specs.LabelBox.{corners, taken_at}
 use Rattle.labelcache.specs.Placement.{Setting, Passes, IsFirst, HasNone, IsPlacement, HasOnePlacement}
 use Rattle.labelcache.proofs.Trying.{tried-irrefl, tried-asym, tried-cases, tried-trans}
 
@@ -31,7 +31,7 @@ first-same P Q xs x y to from f g = elim (cases_lt f.index g.index) [
 ]
 
 -- what passes against some labels passes against others, if those of them that count are among the first
-pub passes-move : (s : Setting) (a b : List Placed) (n : ℕ) (c : CandidateValue) (at : PixelPlace) →
+pub passes-move : (s : Setting) (a b : List Placed) (n : ℕ) (c : CandidateValue) (at : PixelValue) →
     ((i : ℕ) (l : Placed) → slice_get b i ≡ Some l → IsTriedBefore s.candidates l.number n → slice_get a i ≡ Some l) →
     Passes s a n c at → Passes s b n c at
 passes-move s a b n c at among p = record {
@@ -93,12 +93,12 @@ same-label s a b k x y p q there there' agree e =
     (λ (ne : i ≡ k → ⊥). absurd (tried-asym s.candidates _ _ (rw (← same) at (order-at s v k i w l pv (omega (arith, ge, ne)) isw is)) tried))
     (cases_eq i k))
     (cases_lt i k) in
-    let f' : IsFirst (Passes s b x.number st.candidate) (places s.page.font st.candidate) y.at = rw (← c, ← e) at st'.first in
-    let at : x.at ≡ y.at = first-same (Passes s a x.number st.candidate) (Passes s b x.number st.candidate) (places s.page.font st.candidate) x.at y.at
+    let f' : IsFirst (Passes s b x.number st.candidate) (corners s.page.font st.candidate) y.at = rw (← c, ← e) at st'.first in
+    let at : x.at ≡ y.at = first-same (Passes s a x.number st.candidate) (Passes s b x.number st.candidate) (corners s.page.font st.candidate) x.at y.at
     (λ z. passes-move s a b x.number st.candidate z (early a b x y p there there' e q agree))
     (λ z. passes-move s b a x.number st.candidate z (early' e))
     st.first f' in
-    let taken : x.taken ≡ y.taken = st.taken ∙ ap (λ (z : PixelPlace). taken_at s.page.font st.candidate z) at ∙ ap (λ (z : CandidateValue). taken_at s.page.font z y.at) c ∙ sym st'.taken in
+    let taken : x.taken ≡ y.taken = st.taken ∙ ap (λ (z : PixelValue). taken_at s.page.font st.candidate z) at ∙ ap (λ (z : CandidateValue). taken_at s.page.font z y.at) c ∙ sym st'.taken in
     same-parts x y e at taken
   where
     early' : x.number ≡ y.number → (i : ℕ) (l : Placed) → slice_get a i ≡ Some l → IsTriedBefore s.candidates l.number x.number → slice_get b i ≡ Some l

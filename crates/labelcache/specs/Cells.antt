@@ -4,31 +4,31 @@ use Rattle.std.specs.BTreeSet.{BTreeSet, contains}
 use Rattle.std.specs.List.{Any}
 use Rattle.std.specs.Ordering.{nat_cmp, ordering_then}
 use Rattle.std.specs.declared.cmp.Ordering.{Ordering}
-use Rattle.geom.specs.Device.{PixelPlace}
+use Rattle.geom.specs.Device.{PixelValue}
 use Rattle.labelcache.specs.Candidate.{IsAnchor, square}
 use Rattle.labelcache.specs.declared.cells.Cell.{Cell}
-use Rattle.labelcache.specs.declared.cells.Spot.{Spot}
+use Rattle.labelcache.specs.declared.cells.GridPoint.{GridPoint}
 
 -- a column or a row of an anchor, counted from 2^32 before the picture's first
 abbrev pub offset : ℤ → ℕ
 offset position = unsigned_abs (position +ℤ pos (2 ^ 32))
 
--- the spot of a place
-abbrev pub spot_of : PixelPlace → Spot
-spot_of p = record { column = offset p.i; row = offset p.j }
+-- the point of a place
+abbrev pub point_of : PixelValue → GridPoint
+point_of p = record { column = offset p.i; row = offset p.j }
 
--- the cell of a level that has a spot
-abbrev pub cell_of : ℕ → Spot → Cell
-cell_of level spot = record { level = level; column = spot.column / 2 ^ level; row = spot.row / 2 ^ level }
+-- the cell of a level that has a point
+abbrev pub cell_of : ℕ → GridPoint → Cell
+cell_of level point = record { level = level; column = point.column / 2 ^ level; row = point.row / 2 ^ level }
 
 -- a quarter of a cell
 abbrev pub child_of : Cell → ℕ → ℕ → Cell
 child_of cell right down = record { level = cell.level - 1; column = 2 * cell.column + right; row = 2 * cell.row + down }
 
 -- a column and a row are below 2^33, as those of each anchor are
-pub record IsWithin (spot : Spot) : Type 0 where
-  pub column : spot.column < 2 ^ 33
-  pub row : spot.row < 2 ^ 33
+pub record IsWithin (point : GridPoint) : Type 0 where
+  pub column : point.column < 2 ^ 33
+  pub row : point.row < 2 ^ 33
 
 -- a cell lies among such columns and rows
 pub record IsCell (cell : Cell) : Type 0 where
@@ -39,9 +39,9 @@ pub record IsCell (cell : Cell) : Type 0 where
 abbrev pub apart : ℕ → ℕ → ℕ
 apart a b = (a - b) + (b - a)
 
--- a spot is nearer to another than a distance
-abbrev pub IsSpotNear : Spot → ℕ → Spot → Type 0
-IsSpotNear a distance b = square (apart a.column b.column) + square (apart a.row b.row) < square distance
+-- a point is nearer to another than a distance
+abbrev pub IsPointNear : GridPoint → ℕ → GridPoint → Type 0
+IsPointNear a distance b = square (apart a.column b.column) + square (apart a.row b.row) < square distance
 
 -- the order of marked cells
 abbrev pub cell_cmp : ℕ × (ℕ × ℕ) → ℕ × (ℕ × ℕ) → Ordering
@@ -51,19 +51,19 @@ cell_cmp a b = ordering_then (nat_cmp a.0 b.0) (ordering_then (nat_cmp a.1.0 b.1
 abbrev pub has : BTreeSet (ℕ × (ℕ × ℕ)) → Cell → Bool
 has marked cell = contains cell_cmp marked (cell.level, (cell.column, cell.row))
 
--- the cells of all levels that have a spot are marked
-abbrev pub IsMarked : BTreeSet (ℕ × (ℕ × ℕ)) → Spot → Type 0
-IsMarked marked spot = (level : ℕ) → level ≤ 33 → IsTrue (has marked (cell_of level spot))
+-- the cells of all levels that have a point are marked
+abbrev pub IsMarked : BTreeSet (ℕ × (ℕ × ℕ)) → GridPoint → Type 0
+IsMarked marked point = (level : ℕ) → level ≤ 33 → IsTrue (has marked (cell_of level point))
 
--- the cell that has one spot alone is marked, and that spot is nearer to another than a distance
-pub record HasNearSpot (marked : BTreeSet (ℕ × (ℕ × ℕ))) (spot : Spot) (distance : ℕ) : Type 0 where
+-- the cell that has one point alone is marked, and that point is nearer to another than a distance
+pub record HasNearPoint (marked : BTreeSet (ℕ × (ℕ × ℕ))) (point : GridPoint) (distance : ℕ) : Type 0 where
   pub cell : Cell
   pub lowest : cell.level ≡ 0
   pub is : IsTrue (has marked cell)
-  pub near : IsSpotNear spot distance (record { column = cell.column; row = cell.row })
+  pub near : IsPointNear point distance (record { column = cell.column; row = cell.row })
 
--- anchors are noted: all cells that have one are marked, and of the cells of one spot no others
-pub record AreNoted (marked : BTreeSet (ℕ × (ℕ × ℕ))) (anchors : List PixelPlace) : Type 0 where
+-- anchors are noted: all cells that have one are marked, and of the cells of one point no others
+pub record AreNoted (marked : BTreeSet (ℕ × (ℕ × ℕ))) (anchors : List PixelValue) : Type 0 where
   pub sizes : All IsAnchor anchors
-  pub each : All (λ p. IsMarked marked (spot_of p)) anchors
-  pub only : (cell : Cell) → cell.level ≡ 0 → IsTrue (has marked cell) → Any (λ p. cell ≡ cell_of 0 (spot_of p)) anchors
+  pub each : All (λ p. IsMarked marked (point_of p)) anchors
+  pub only : (cell : Cell) → cell.level ≡ 0 → IsTrue (has marked cell) → Any (λ p. cell ≡ cell_of 0 (point_of p)) anchors

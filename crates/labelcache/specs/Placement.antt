@@ -1,12 +1,12 @@
 -- Which labels are placed, and where (docs/DRAWING.md, "Labels").
 use Rattle.std.specs.Prelude.{◌≡◌, ℕ, ℤ, ◌<◌, ◌≤◌, false, List, Some, slice_get, All}
 use Rattle.std.specs.List.{AllPairs}
-use Rattle.geom.specs.Device.{PixelPlace}
+use Rattle.geom.specs.Device.{PixelValue}
 use Rattle.geom.specs.PxBox.{PixelBoxValue, HasPixel, Meets, IsInside}
 use Rattle.mapdefs.specs.declared.font.FontFields.{FontFields}
 use Rattle.labelcache.specs.declared.cache.Placed.{Placed}
 use Rattle.labelcache.specs.Candidate.{CandidateValue, IsTriedBefore, square, squared_distance}
-use Rattle.labelcache.specs.LabelBox.{places, taken_at}
+use Rattle.labelcache.specs.LabelBox.{corners, taken_at}
 
 -- what labels are placed on: a picture of that width and height, and the font of its texts
 pub record PageValue : Type 0 where
@@ -33,7 +33,7 @@ IsApart candidates c label = (other : CandidateValue) → slice_get candidates l
 
 -- a candidate's text may stand at a pixel, by its label's tests against the labels that are tried before it:
 -- without PARTIALS its box lies in the picture, and without FORCE it is clear of those labels, and apart from them
-pub record Passes (s : Setting) (labels : List Placed) (n : ℕ) (c : CandidateValue) (at : PixelPlace) : Type 0 where
+pub record Passes (s : Setting) (labels : List Placed) (n : ℕ) (c : CandidateValue) (at : PixelValue) : Type 0 where
   pub shown : c.label.partials ≡ false → IsInside (taken_at s.page.font c at) s.page.width s.page.height
   pub clear : c.label.force ≡ false → All (λ label. IsTriedBefore s.candidates label.number n → IsClear (taken_at s.page.font c at) label) labels
   pub apart : c.label.force ≡ false → All (λ label. IsTriedBefore s.candidates label.number n → IsApart s.candidates c label) labels
@@ -45,16 +45,16 @@ pub record IsFirst {X : Type 0} (P : X → Type 0) (xs : List X) (x : X) : Type 
   pub holds : P x
   pub none : (i : ℕ) (y : X) → i < index → slice_get xs i ≡ Some y → P y → ⊥
 
--- a label is of a candidate, and stands at the first of its places that passes, with the box that it takes there
+-- a label is of a candidate, and stands at the first of its corners that passes, with the box that it takes there
 pub record Stands (s : Setting) (labels : List Placed) (label : Placed) : Type 0 where
   pub candidate : CandidateValue
   pub is : slice_get s.candidates label.number ≡ Some candidate
-  pub first : IsFirst (Passes s labels label.number candidate) (places s.page.font candidate) label.at
+  pub first : IsFirst (Passes s labels label.number candidate) (corners s.page.font candidate) label.at
   pub taken : label.taken ≡ taken_at s.page.font candidate label.at
 
 -- no place of a candidate passes
 abbrev pub IsShutOut : Setting → List Placed → ℕ → CandidateValue → Type 0
-IsShutOut s labels n c = (i : ℕ) (at : PixelPlace) → slice_get (places s.page.font c) i ≡ Some at → Passes s labels n c at → ⊥
+IsShutOut s labels n c = (i : ℕ) (at : PixelValue) → slice_get (corners s.page.font c) i ≡ Some at → Passes s labels n c at → ⊥
 
 -- a list of labels has none of that number
 abbrev pub HasNone : List Placed → ℕ → Type 0

@@ -1,13 +1,13 @@
 -- The labels that are placed so far, and what one candidate more makes of them: the account of the code.
 use Rattle.std.specs.Prelude.{◌≡◌, ℕ, ◌<◌, ◌≤◌, false, List, [], ◌∷◌, ◌++◌, Some, slice_get, All, ◌⊎◌}
 use Rattle.std.specs.List.{AllPairs, AllZip}
-use Rattle.geom.specs.Device.{PixelPlace}
+use Rattle.geom.specs.Device.{PixelValue}
 use Rattle.geom.specs.PxBox.{PixelBoxValue, IsInside}
 use Rattle.mapdefs.specs.declared.label.LabelFields.{LabelFields}
 use Rattle.labelcache.specs.declared.cache.Placed.{Placed}
 use Rattle.labelcache.specs.Anchors.{IsNear}
 use Rattle.labelcache.specs.Candidate.{CandidateValue, IsTriedBefore, priority_of}
-use Rattle.labelcache.specs.LabelBox.{places, taken_at}
+use Rattle.labelcache.specs.LabelBox.{corners, taken_at}
 use Rattle.labelcache.specs.Placement.{PageValue, Setting, IsClear, IsFirst, Stands, HasNone, IsShutOut}
 
 -- the labels so far, and their candidates
@@ -21,46 +21,46 @@ pub record IsFree (page : PageValue) (label : LabelFields) (labels : List Placed
   pub clear : label.force ≡ false → All (IsClear taken) labels
 
 -- a candidate's text may stand at a pixel, by its box there
-abbrev pub IsFreeAt : PageValue → List Placed → CandidateValue → PixelPlace → Type 0
+abbrev pub IsFreeAt : PageValue → List Placed → CandidateValue → PixelValue → Type 0
 IsFreeAt page labels c at = IsFree page c.label labels (taken_at page.font c at)
 
 -- the first of some pixels where it may stand, with the box there
-pub record IsFirstFree (page : PageValue) (labels : List Placed) (c : CandidateValue) (pixels : List PixelPlace) (at : PixelPlace) (taken : PixelBoxValue) : Type 0 where
+pub record IsFirstFree (page : PageValue) (labels : List Placed) (c : CandidateValue) (pixels : List PixelValue) (at : PixelValue) (taken : PixelBoxValue) : Type 0 where
   pub first : IsFirst (IsFreeAt page labels c) pixels at
   pub box : taken ≡ taken_at page.font c at
 
 -- it may stand at none of them
-abbrev pub HasNoFree : PageValue → List Placed → CandidateValue → List PixelPlace → Type 0
-HasNoFree page labels c pixels = (i : ℕ) (at : PixelPlace) → slice_get pixels i ≡ Some at → IsFreeAt page labels c at → ⊥
+abbrev pub HasNoFree : PageValue → List Placed → CandidateValue → List PixelValue → Type 0
+HasNoFree page labels c pixels = (i : ℕ) (at : PixelValue) → slice_get pixels i ≡ Some at → IsFreeAt page labels c at → ⊥
 
 -- no candidate of a label so far has the same text too near
 abbrev pub IsFar : CandidateValue → List CandidateValue → Type 0
 IsFar c others = All (λ other. IsNear c other → ⊥) others
 
 -- a candidate's text may stand at a pixel
-pub record Fits (page : PageValue) (old : PlacingValue) (c : CandidateValue) (at : PixelPlace) : Type 0 where
+pub record Fits (page : PageValue) (old : PlacingValue) (c : CandidateValue) (at : PixelValue) : Type 0 where
   pub free : IsFreeAt page old.labels c at
   pub far : c.label.force ≡ false → IsFar c old.candidates
 
--- the first of its places where it fits, with the box there; or it fits at none
-pub record IsFirstPlace (page : PageValue) (old : PlacingValue) (c : CandidateValue) (at : PixelPlace) (taken : PixelBoxValue) : Type 0 where
-  pub first : IsFirst (Fits page old c) (places page.font c) at
+-- the first of its corners where it fits, with the box there; or it fits at none
+pub record IsFirstFit (page : PageValue) (old : PlacingValue) (c : CandidateValue) (at : PixelValue) (taken : PixelBoxValue) : Type 0 where
+  pub first : IsFirst (Fits page old c) (corners page.font c) at
   pub box : taken ≡ taken_at page.font c at
 
-abbrev pub HasNoPlace : PageValue → PlacingValue → CandidateValue → Type 0
-HasNoPlace page old c = (i : ℕ) (at : PixelPlace) → slice_get (places page.font c) i ≡ Some at → Fits page old c at → ⊥
+abbrev pub FitsNowhere : PageValue → PlacingValue → CandidateValue → Type 0
+FitsNowhere page old c = (i : ℕ) (at : PixelValue) → slice_get (corners page.font c) i ≡ Some at → Fits page old c at → ⊥
 
 -- a label of the candidate is added, at its first place
 pub record Adds (page : PageValue) (n : ℕ) (c : CandidateValue) (old new : PlacingValue) : Type 0 where
   pub label : Placed
   pub number : label.number ≡ n
-  pub place : IsFirstPlace page old c label.at label.taken
+  pub place : IsFirstFit page old c label.at label.taken
   pub labels : new.labels ≡ old.labels ++ label ∷ []
   pub candidates : new.candidates ≡ old.candidates ++ c ∷ []
 
 -- or there is none, and all stays
 pub record Leaves (page : PageValue) (c : CandidateValue) (old new : PlacingValue) : Type 0 where
-  pub none : HasNoPlace page old c
+  pub none : FitsNowhere page old c
   pub same : new ≡ old
 
 abbrev pub Tries : PageValue → ℕ → CandidateValue → PlacingValue → PlacingValue → Type 0

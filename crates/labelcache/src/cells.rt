@@ -1,7 +1,7 @@
 ghost use Rattle.std.specs.Prelude.{◌≡◌, ◌⊎◌, ℕ, ◌<◌, ◌≤◌, ◌+◌, ◌^◌, IsTrue, OnOk, OnErr};
 ghost use Rattle.geom.specs.Range.{IsBelow};
 ghost use Rattle.labelcache.specs.Candidate.{IsAnchor};
-ghost use Rattle.labelcache.specs.Cells.{HasNearSpot, IsCell, IsMarked, IsSpotNear, IsWithin, apart, cell_of, child_of, has, offset, spot_of};
+ghost use Rattle.labelcache.specs.Cells.{HasNearPoint, IsCell, IsMarked, IsPointNear, IsWithin, apart, cell_of, child_of, has, offset, point_of};
 
 use crate::distance::is_within;
 use geom::Pixel;
@@ -13,7 +13,7 @@ const TOP: u8 = 33;
 
 /// A column and a row of an anchor, counted from 2^32 before the picture's first.
 #[derive(Clone, Copy)]
-pub struct Spot {
+pub struct GridPoint {
     pub column: u64,
     pub row: u64,
 }
@@ -38,27 +38,27 @@ fn offset(position: i64) -> u64
     (position + 4_294_967_296).unsigned_abs()
 }
 
-/// The spot of an anchor.
-pub fn spot_of(anchor: Pixel) -> Spot
+/// The point of an anchor.
+pub fn point_of(anchor: Pixel) -> GridPoint
     requires { IsAnchor anchor }
-    ensures value { result ≡ spot_of anchor }
+    ensures value { result ≡ point_of anchor }
     ensures within { IsWithin result }
 {
-    Spot {
+    GridPoint {
         column: offset(anchor.i()),
         row: offset(anchor.j()),
     }
 }
 
-// The cell of a level that has a spot.
-fn cell_of(level: u8, spot: Spot) -> Cell
+// The cell of a level that has a point.
+fn cell_of(level: u8, point: GridPoint) -> Cell
     requires { level ≤ 33 }
-    ensures { result ≡ cell_of level spot }
+    ensures { result ≡ cell_of level point }
 {
     Cell {
         level,
-        column: spot.column >> level,
-        row: spot.row >> level,
+        column: point.column >> level,
+        row: point.row >> level,
     }
 }
 
@@ -93,28 +93,28 @@ fn mark_cell(marked: &mut Marked, cell: Cell) -> Result<(), AllocError>
     }
 }
 
-/// Marks the cells of all levels that have a spot. Where memory is refused no further spot is marked.
+/// Marks the cells of all levels that have a point. Where memory is refused no further point is marked.
 ///
-/// The cell of the spot alone is the last.
-pub fn mark_spot(marked: &mut Marked, spot: Spot) -> Result<(), AllocError>
+/// The cell of the point alone is the last.
+pub fn mark_point(marked: &mut Marked, point: GridPoint) -> Result<(), AllocError>
     ensures grows { (q : Cell) → IsTrue (has marked.old q) → IsTrue (has marked.new q) }
-    ensures done { OnOk result (IsMarked marked.new spot) }
-    ensures only { OnOk result ((q : Cell) → q.level ≡ 0 → IsTrue (has marked.new q) → IsTrue (has marked.old q) ⊎ (q ≡ cell_of 0 spot)) }
+    ensures done { OnOk result (IsMarked marked.new point) }
+    ensures only { OnOk result ((q : Cell) → q.level ≡ 0 → IsTrue (has marked.new q) → IsTrue (has marked.old q) ⊎ (q ≡ cell_of 0 point)) }
     ensures err { OnErr result ((q : Cell) → q.level ≡ 0 → IsTrue (has marked.new q) → IsTrue (has marked.old q)) }
 {
-    mark_above(marked, spot)?;
-    mark_cell(marked, cell_of(0, spot))
+    mark_above(marked, point)?;
+    mark_cell(marked, cell_of(0, point))
 }
 
-// Marks the cells of all levels but the lowest that have a spot.
-fn mark_above(marked: &mut Marked, spot: Spot) -> Result<(), AllocError>
+// Marks the cells of all levels but the lowest that have a point.
+fn mark_above(marked: &mut Marked, point: GridPoint) -> Result<(), AllocError>
     ensures grows { (q : Cell) → IsTrue (has marked.old q) → IsTrue (has marked.new q) }
-    ensures done { OnOk result ((level : ℕ) → 0 < level → level ≤ 33 → IsTrue (has marked.new (cell_of level spot))) }
+    ensures done { OnOk result ((level : ℕ) → 0 < level → level ≤ 33 → IsTrue (has marked.new (cell_of level point))) }
     ensures only { (q : Cell) → q.level ≡ 0 → IsTrue (has marked.new q) → IsTrue (has marked.old q) }
 {
     let mut level = TOP;
     while level > 0 {
-        mark_cell(marked, cell_of(level, spot))?;
+        mark_cell(marked, cell_of(level, point))?;
         level -= 1;
     }
     Ok(())
@@ -147,17 +147,17 @@ fn gap(first: u64, side: u64, at: u64) -> u64
     }
 }
 
-// Whether a cell may have a spot that is nearer to another than a distance.
-fn may_be_near(cell: Cell, spot: Spot, distance: u16) -> bool
+// Whether a cell may have a point that is nearer to another than a distance.
+fn may_be_near(cell: Cell, point: GridPoint, distance: u16) -> bool
     requires level { cell.level ≤ 33 }
     requires cell { IsCell cell }
-    requires spot { IsWithin spot }
-    ensures complete { (p : Spot) → cell ≡ cell_of cell.level p → IsSpotNear spot distance p → IsTrue result }
-    ensures sound { cell.level ≡ 0 → IsTrue result → IsSpotNear spot distance (record { column = cell.column; row = cell.row }) }
+    requires point { IsWithin point }
+    ensures complete { (p : GridPoint) → cell ≡ cell_of cell.level p → IsPointNear point distance p → IsTrue result }
+    ensures sound { cell.level ≡ 0 → IsTrue result → IsPointNear point distance (record { column = cell.column; row = cell.row }) }
 {
     let side = side_of(cell.level);
-    let across = gap(cell.column * side, side, spot.column);
-    let down = gap(cell.row * side, side, spot.row);
+    let across = gap(cell.column * side, side, point.column);
+    let down = gap(cell.row * side, side, point.row);
     is_within(across, down, distance)
 }
 
@@ -168,43 +168,43 @@ fn has(marked: &Marked, cell: Cell) -> bool
     marked.contains(&(cell.level, (cell.column, cell.row)))
 }
 
-// Whether a cell has a marked spot that is nearer to another than a distance. Cells that are too far are passed by
+// Whether a cell has a marked point that is nearer to another than a distance. Cells that are too far are passed by
 // with all that they have.
-fn finds(marked: &Marked, cell: Cell, spot: Spot, distance: u16) -> bool
+fn finds(marked: &Marked, cell: Cell, point: GridPoint, distance: u16) -> bool
     requires level { cell.level ≤ 33 }
     requires cell { IsCell cell }
-    requires spot { IsWithin spot }
-    ensures sound { IsTrue result → HasNearSpot marked.now spot distance }
-    ensures complete { (p : Spot) → IsMarked marked.now p → cell ≡ cell_of cell.level p → IsSpotNear spot distance p → IsTrue result }
+    requires point { IsWithin point }
+    ensures sound { IsTrue result → HasNearPoint marked.now point distance }
+    ensures complete { (p : GridPoint) → IsMarked marked.now p → cell ≡ cell_of cell.level p → IsPointNear point distance p → IsTrue result }
 {
-    if !may_be_near(cell, spot, distance) || !has(marked, cell) {
+    if !may_be_near(cell, point, distance) || !has(marked, cell) {
         return false;
     }
     if cell.level == 0 {
         return true;
     }
-    if finds(marked, child_of(cell, 0, 0), spot, distance) {
+    if finds(marked, child_of(cell, 0, 0), point, distance) {
         return true;
     }
-    if finds(marked, child_of(cell, 1, 0), spot, distance) {
+    if finds(marked, child_of(cell, 1, 0), point, distance) {
         return true;
     }
-    if finds(marked, child_of(cell, 0, 1), spot, distance) {
+    if finds(marked, child_of(cell, 0, 1), point, distance) {
         return true;
     }
-    finds(marked, child_of(cell, 1, 1), spot, distance)
+    finds(marked, child_of(cell, 1, 1), point, distance)
 }
 
-/// Whether a marked spot is nearer to another than a distance.
-pub fn has_near(marked: &Marked, spot: Spot, distance: u16) -> bool
-    requires { IsWithin spot }
-    ensures sound { IsTrue result → HasNearSpot marked.now spot distance }
-    ensures complete { (p : Spot) → IsWithin p → IsMarked marked.now p → IsSpotNear spot distance p → IsTrue result }
+/// Whether a marked point is nearer to another than a distance.
+pub fn has_near(marked: &Marked, point: GridPoint, distance: u16) -> bool
+    requires { IsWithin point }
+    ensures sound { IsTrue result → HasNearPoint marked.now point distance }
+    ensures complete { (p : GridPoint) → IsWithin p → IsMarked marked.now p → IsPointNear point distance p → IsTrue result }
 {
     let all = Cell {
         level: TOP,
         column: 0,
         row: 0,
     };
-    finds(marked, all, spot, distance)
+    finds(marked, all, point, distance)
 }

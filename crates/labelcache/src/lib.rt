@@ -21,8 +21,8 @@ pub mod laws;
 mod marked;
 mod order;
 mod page;
-mod places;
 mod placing;
+mod text_anchors;
 mod trial;
 
 pub use cache::{Cache, Placed};

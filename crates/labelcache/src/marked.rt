@@ -1,9 +1,9 @@
 ghost use Rattle.std.specs.Prelude.{◌≡◌, ◌↔◌, [], ◌∷◌, ◌++◌, IsTrue, OnOk, OnErr};
 ghost use Rattle.std.specs.List.{Any};
-ghost use Rattle.labelcache.specs.Anchors.{IsPlaceNear};
+ghost use Rattle.labelcache.specs.Anchors.{IsAnchorNear};
 ghost use Rattle.labelcache.specs.Candidate.{IsAnchor};
 
-use crate::cells::{Marked, has_near, mark_spot, spot_of};
+use crate::cells::{Marked, has_near, mark_point, point_of};
 use geom::Pixel;
 use std::alloc::{AllocError, Global};
 use std::collections::BTreeSet;
@@ -19,10 +19,10 @@ pub struct MarkedAnchors {
 
 impl Model for MarkedAnchors {
     ghost use Rattle.std.specs.Prelude.{List};
-    ghost use Rattle.geom.specs.Device.{PixelPlace};
+    ghost use Rattle.geom.specs.Device.{PixelValue};
     ghost use Rattle.labelcache.specs.Cells.{AreNoted};
 
-    ghost Value = { List PixelPlace };
+    ghost Value = { List PixelValue };
 
     ghost view = { λ p. p.anchors.items };
 
@@ -47,7 +47,7 @@ impl MarkedAnchors {
         ensures err { OnErr result (self.new ≡ self.old) }
     {
         self.anchors.reserve(1)?;
-        mark_spot(&mut self.marked, spot_of(anchor))?;
+        mark_point(&mut self.marked, point_of(anchor))?;
         self.anchors.push_reserved(anchor);
         Ok(())
     }
@@ -55,8 +55,8 @@ impl MarkedAnchors {
     /// Whether one of them is nearer to an anchor than a distance.
     pub fn has_near(&self, anchor: Pixel, distance: u16) -> bool
         requires { IsAnchor anchor }
-        ensures { IsTrue result ↔ Any (IsPlaceNear anchor distance) self.now }
+        ensures { IsTrue result ↔ Any (IsAnchorNear anchor distance) self.now }
     {
-        has_near(&self.marked, spot_of(anchor), distance)
+        has_near(&self.marked, point_of(anchor), distance)
     }
 }

@@ -1,12 +1,12 @@
 ghost use Rattle.std.specs.Prelude.{◌≡◌, ◌↔◌, false, map, All, IsTrue, IfSome, IfNone, OnOk};
 ghost use Rattle.geom.specs.PxBox.{IsInside};
-ghost use Rattle.labelcache.specs.LabelBox.{place_at, positions, size_of, taken_at};
+ghost use Rattle.labelcache.specs.LabelBox.{corner_at, positions, size_of, taken_at};
 ghost use Rattle.labelcache.specs.Placement.{IsClear};
-ghost use Rattle.labelcache.specs.Placing.{HasNoFree, HasNoPlace, IsFar, IsFirstFree, IsFirstPlace, IsFree, Tries};
+ghost use Rattle.labelcache.specs.Placing.{HasNoFree, FitsNowhere, IsFar, IsFirstFree, IsFirstFit, IsFree, Tries};
 
 use crate::cache::Placed;
 use crate::candidate::Candidate;
-use crate::label_box::{AUTOMATIC, TextSize, place_at, taken_at};
+use crate::label_box::{AUTOMATIC, TextSize, corner_at, taken_at};
 use crate::page::Page;
 use crate::placing::Placing;
 use geom::{Pixel, PxBox};
@@ -15,20 +15,20 @@ use std::alloc::AllocError;
 
 /// Where a text stands, and the box that it takes there.
 #[derive(Clone, Copy)]
-pub struct Spot {
+pub struct Fit {
     pub at: Pixel,
     pub taken: PxBox,
 }
 
-// The spot of a candidate, whose text has that size, at a position.
-fn spot_at(page: &Page<'_>, candidate: &Candidate<'_>, size: TextSize, position: Position) -> Spot
+// The fit of a candidate, whose text has that size, at a position.
+fn fit_at(page: &Page<'_>, candidate: &Candidate<'_>, size: TextSize, position: Position) -> Fit
     requires { size ≡ size_of page.now.font candidate.now.text }
-    ensures at { result.at ≡ place_at candidate.now.anchor (size_of page.now.font candidate.now.text) position }
+    ensures at { result.at ≡ corner_at candidate.now.anchor (size_of page.now.font candidate.now.text) position }
     ensures taken { result.taken ≡ taken_at page.now.font candidate.now result.at }
 {
-    let at = place_at(candidate.anchor(), size, position);
+    let at = corner_at(candidate.anchor(), size, position);
     let taken = taken_at(at, size, candidate.label());
-    Spot { at, taken }
+    Fit { at, taken }
 }
 
 // Whether a box lies in the picture, or need not.
@@ -58,17 +58,17 @@ fn first_free(
     page: &Page<'_>,
     candidate: &Candidate<'_>,
     positions: &[Position],
-) -> Option<Spot>
-    ensures some { IfSome result (λ spot. IsFirstFree page.now placing.now.labels candidate.now (map (place_at candidate.now.anchor (size_of page.now.font candidate.now.text)) positions.now) spot.at spot.taken) }
-    ensures none { IfNone result (HasNoFree page.now placing.now.labels candidate.now (map (place_at candidate.now.anchor (size_of page.now.font candidate.now.text)) positions.now)) }
+) -> Option<Fit>
+    ensures some { IfSome result (λ fit. IsFirstFree page.now placing.now.labels candidate.now (map (corner_at candidate.now.anchor (size_of page.now.font candidate.now.text)) positions.now) fit.at fit.taken) }
+    ensures none { IfNone result (HasNoFree page.now placing.now.labels candidate.now (map (corner_at candidate.now.anchor (size_of page.now.font candidate.now.text)) positions.now)) }
 {
     let size = page.size_of(candidate);
     let label = candidate.label();
     for position in positions {
-        let spot = spot_at(page, candidate, size, *position);
-        let taken = spot.taken;
+        let fit = fit_at(page, candidate, size, *position);
+        let taken = fit.taken;
         if is_free(placing, page, label, taken) {
-            return Some(spot);
+            return Some(fit);
         }
     }
     None
@@ -80,9 +80,9 @@ fn first_position(
     page: &Page<'_>,
     candidate: &Candidate<'_>,
     position: Position,
-) -> Option<Spot>
-    ensures some { IfSome result (λ spot. IsFirstFree page.now placing.now.labels candidate.now (map (place_at candidate.now.anchor (size_of page.now.font candidate.now.text)) (positions position)) spot.at spot.taken) }
-    ensures none { IfNone result (HasNoFree page.now placing.now.labels candidate.now (map (place_at candidate.now.anchor (size_of page.now.font candidate.now.text)) (positions position))) }
+) -> Option<Fit>
+    ensures some { IfSome result (λ fit. IsFirstFree page.now placing.now.labels candidate.now (map (corner_at candidate.now.anchor (size_of page.now.font candidate.now.text)) (positions position)) fit.at fit.taken) }
+    ensures none { IfNone result (HasNoFree page.now placing.now.labels candidate.now (map (corner_at candidate.now.anchor (size_of page.now.font candidate.now.text)) (positions position))) }
 {
     match position {
         Position::Automatic => first_free(placing, page, candidate, &AUTOMATIC),
@@ -97,17 +97,17 @@ fn is_far(placing: &Placing<'_>, candidate: &Candidate<'_>) -> bool
     candidate.label().force || placing.is_far(candidate)
 }
 
-// The first of a candidate's places where it fits, with the box that it takes there. Its distance doesn't
+// The first of a candidate's corners where it fits, with the box that it takes there. Its distance doesn't
 // depend on the place, so it is tested once.
-fn first_place(placing: &Placing<'_>, page: &Page<'_>, candidate: &Candidate<'_>) -> Option<Spot>
-    ensures some { IfSome result (λ spot. IsFirstPlace page.now placing.now candidate.now spot.at spot.taken) }
-    ensures none { IfNone result (HasNoPlace page.now placing.now candidate.now) }
+fn first_fit(placing: &Placing<'_>, page: &Page<'_>, candidate: &Candidate<'_>) -> Option<Fit>
+    ensures some { IfSome result (λ fit. IsFirstFit page.now placing.now candidate.now fit.at fit.taken) }
+    ensures none { IfNone result (FitsNowhere page.now placing.now candidate.now) }
 {
     if !is_far(placing, candidate) {
         return None;
     }
     match first_position(placing, page, candidate, candidate.label().position) {
-        Some(spot) => Some(spot),
+        Some(fit) => Some(fit),
         None => None,
     }
 }
@@ -121,12 +121,12 @@ pub fn try_candidate<'a>(
 ) -> Result<(), AllocError>
     ensures { OnOk result (Tries page.now number candidate.now placing.old placing.new) }
 {
-    match first_place(placing, page, candidate) {
-        Some(spot) => {
+    match first_fit(placing, page, candidate) {
+        Some(fit) => {
             let label = Placed {
                 number,
-                at: spot.at,
-                taken: spot.taken,
+                at: fit.at,
+                taken: fit.taken,
             };
             placing.add(label, candidate.copy())
         }

@@ -1,13 +1,13 @@
 -- The glyphs of a text, a character at a time.
 use Rattle.std.proofs.Common.{◌≡◌, ℕ, ◌+◌, List, [], ◌∷◌, ◌++◌, None, Some, ℤ, refl, ◌∙◌, arith}
 use Rattle.std.proofs.lemmas.List.{append_assoc}
-use Rattle.geom.specs.Device.{PixelPlace}
+use Rattle.geom.specs.Device.{PixelValue}
 use Rattle.mapdefs.specs.declared.font.FontFields.{FontFields}
 use Rattle.mapdefs.specs.declared.font.Glyph.{Glyph}
 use Rattle.bdffont.specs.Ink.{bottom_of, first_row, glyph_of, left_of}
 use Rattle.labelink.specs.Ink.{GlyphValue, glyphs_from}
 
-module _ (font : FontFields) (at : PixelPlace) (pen : ℕ) (characters : List ℕ) where
+module _ (font : FontFields) (at : PixelValue) (pen : ℕ) (characters : List ℕ) where
   -- without characters there are none
   pub lay-end : characters ≡ [] → glyphs_from font at pen characters ≡ []
   lay-end e = rw e refl

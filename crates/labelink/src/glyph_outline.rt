@@ -4,8 +4,8 @@ ghost use Rattle.geom.specs.declared.side.TheConstants.{MAX_PICTURE_SIDE};
 ghost use Rattle.scanfill.specs.Runs.{AreRunsFrom};
 ghost use Rattle.labelink.specs.Ink.{covers_glyph, outlines_glyph};
 
-use crate::glyph_place::GlyphPlace;
-use clip::{Rows, clamped};
+use crate::placed_glyph::PlacedGlyph;
+use clip::{RowRange, clamped};
 use geom::PictureSide;
 use scanfill::{Cover, Reading, Span, Spans};
 use std::alloc::AllocError;
@@ -14,7 +14,7 @@ use std::marker::Model;
 /// The outline of a glyph on the picture: the pixels of which one of the eight neighbours is covered by the glyph.
 #[derive(Drop)]
 pub struct GlyphOutline<'a> {
-    glyph: GlyphPlace<'a>,
+    glyph: PlacedGlyph<'a>,
 }
 
 impl<'a> Model for GlyphOutline<'a> {
@@ -41,7 +41,7 @@ fn span_round(side: u8, at: i64, end: u16) -> Span
 
 impl<'a> GlyphOutline<'a> {
     /// The outline of that glyph.
-    pub fn of(glyph: &GlyphPlace<'a>) -> Self
+    pub fn of(glyph: &PlacedGlyph<'a>) -> Self
         ensures { result ≡ glyph.now }
     {
         GlyphOutline {
@@ -118,10 +118,10 @@ impl Cover for GlyphOutline<'_> {
         self.is_outlined(i, j)
     }
 
-    fn rows(&self, _width: PictureSide, height: PictureSide) -> Rows {
+    fn rows(&self, _width: PictureSide, height: PictureSide) -> RowRange {
         let (side, top) = self.glyph.rows_of_box();
         let rows = span_round(side, top, height.pixels());
-        Rows {
+        RowRange {
             from: rows.from,
             to: rows.to,
         }

@@ -1,6 +1,6 @@
 //! The ink of labels as covers: the glyphs of a text, each where it stands, and the outline round them.
 //!
-//! Proved: a `GlyphPlace` covers the pixels that its glyph inks, by itself and row by row (`Cover`).
+//! Proved: a `PlacedGlyph` covers the pixels that its glyph inks, by itself and row by row (`Cover`).
 //! `text_glyphs` gives those of a text, and `laws::ink_is_of_glyphs` says that the text has ink where one of
 //! them covers. An outline has the pixels of which one of the eight neighbours has ink of the text;
 //! `laws::outline_is_of_moved_texts` says that these are the ink of eight texts, each moved by a pixel. A
@@ -11,10 +11,10 @@
 #![tactic(auto)]
 
 mod glyph_outline;
-mod glyph_place;
 pub mod laws;
+mod placed_glyph;
 mod text;
 
 pub use glyph_outline::GlyphOutline;
-pub use glyph_place::GlyphPlace;
+pub use placed_glyph::PlacedGlyph;
 pub use text::text_glyphs;

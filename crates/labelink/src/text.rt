@@ -3,7 +3,7 @@ ghost use Rattle.std.specs.Str.{chars};
 ghost use Rattle.bdffont.specs.declared.text.TheConstants.{MAX_CHARACTERS};
 ghost use Rattle.labelink.specs.Ink.{glyphs_from};
 
-use crate::glyph_place::GlyphPlace;
+use crate::placed_glyph::PlacedGlyph;
 use bdffont::{corner_of, glyph_of, split_char};
 use geom::Pixel;
 use mapdefs::Font;
@@ -18,7 +18,7 @@ pub fn text_glyphs<'a>(
     font: &'a Font,
     text: &str,
     at: Pixel,
-) -> Result<Vec<GlyphPlace<'a>>, AllocError>
+) -> Result<Vec<PlacedGlyph<'a>>, AllocError>
     requires { length (chars text.now) ≤ MAX_CHARACTERS }
     ensures { IfOk result (λ glyphs. glyphs.items ≡ glyphs_from font.now at 0 (chars text.now)) }
 {
@@ -30,7 +30,7 @@ pub fn text_glyphs<'a>(
     while let Some((character, after)) = split_char(rest) {
         if let Some(glyph) = glyph_of(glyphs, character) {
             let (left, top) = corner_of(fields.bounds, at, pen, glyph.bounds);
-            placed.push(GlyphPlace::new(glyph, left, top))?;
+            placed.push(PlacedGlyph::new(glyph, left, top))?;
             pen += u32::from(glyph.advance);
         }
         rest = after;

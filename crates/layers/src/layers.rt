@@ -9,7 +9,7 @@ use crate::fault::{ChangeError, Refusal};
 use crate::grids::{SharedGrid, grids_of, share_all};
 use csvpoints::Table;
 use geom::WorldBox;
-use mapdefs::{Duplicate, Feature, Items, Kind, Map, Near, Shared};
+use mapdefs::{Duplicate, Feature, Geometry, Items, Map, Near, Shared};
 use std::alloc::{AllocError, Global};
 use std::marker::Model;
 
@@ -38,10 +38,10 @@ impl Model for Layers {
 }
 
 /// Whether the features are points.
-pub fn is_of_points(kind: Kind) -> bool
+pub fn is_of_points(kind: Geometry) -> bool
     ensures { result ≡ is_of_points kind }
 {
-    matches!(kind, Kind::Point)
+    matches!(kind, Geometry::Point)
 }
 
 impl Layers {

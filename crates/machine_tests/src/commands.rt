@@ -1,7 +1,7 @@
 use crate::maps::layers_of;
 use batches::{
     BatchError, BatchKind, CommandError, MAX_BATCH, apply_batch, apply_command, count_of,
-    front_command, line_len,
+    first_command, line_len,
 };
 use layers::{Draft, Layers};
 use std::alloc::{AllocError, Global};
@@ -29,7 +29,7 @@ fn state(alloc: Global, layers: &Layers) -> Result<String, AllocError> {
 
 // What becomes of the layers by the first command of some bytes, and how many bytes are left.
 fn after_first(alloc: Global, layers: Layers, bytes: &[u8]) -> Result<String, AllocError> {
-    let (command, rest) = match front_command(bytes) {
+    let (command, rest) = match first_command(bytes) {
         Ok(read) => read,
         Err(fault) => return format!(in alloc; "refused {}", BatchKind::Unread(fault).number()),
     };

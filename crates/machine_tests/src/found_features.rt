@@ -1,7 +1,7 @@
 ghost use Rattle.std.specs.Prelude.{◌≡◌, length};
 
 use crate::maps::map_of;
-use featureinfo::{Asked, LayerHits, hits, text};
+use featureinfo::{LayerHits, PixelQuery, hits, text};
 use geom::{Micro, PictureSide, WorldBox};
 use mapdefs::{AllFeatures, Items, Map, Near, Shared};
 use scaledenom::Scale;
@@ -74,7 +74,7 @@ fn hits_in_window(alloc: Global, map: &Map, margin: u16, count: u32) -> Result<S
     let window = view.window(margin.min(MAX_MARGIN));
     let near = InWindow { alloc, map, window };
     let scale = Scale::of(4_000_000, side);
-    let asked = Asked {
+    let asked = PixelQuery {
         column: 1,
         row: 1,
         count,

@@ -9,7 +9,7 @@ use std::alloc::{AllocError, Global};
 
 /// What the features of a layer are.
 #[derive(Clone, Copy, Debug)]
-pub enum Kind {
+pub enum Geometry {
     Point,
     Line,
     Polygon,
@@ -21,7 +21,7 @@ pub enum Kind {
 pub struct LayerFields {
     pub name: Text,
     pub title: Text,
-    pub kind: Kind,
+    pub kind: Geometry,
     /// Whether the layer is switched on.
     pub on: bool,
     /// The item that classes look at.

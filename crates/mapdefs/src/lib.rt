@@ -48,7 +48,7 @@ pub use feature::{Feature, FeatureFields};
 pub use font::{BitmapBox, Font, FontFields, Glyph};
 pub use items::Items;
 pub use label::{Label, LabelFields, Position};
-pub use layer::{Kind, Layer, LayerFields};
+pub use layer::{Geometry, Layer, LayerFields};
 pub use limited::{Limited, Limits};
 pub use limits::{
     MAX_BUFFER, MAX_CLASSES, MAX_DISTANCE, MAX_FEATURES, MAX_GLYPH_SIDE, MAX_GLYPHS, MAX_ITEMS,

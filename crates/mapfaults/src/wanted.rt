@@ -3,7 +3,7 @@ use mapwords::{Expected, OnlyWord};
 /// What is taken where a value is expected, in words.
 pub fn wanted(expected: Expected) -> &'static str {
     match expected {
-        Expected::Kind => "POINT, LINE or POLYGON",
+        Expected::Geometry => "POINT, LINE or POLYGON",
         Expected::Table =>
             "the name of a file that ends in .csv: MapServer's other sources aren't supported",
         Expected::Pixmap => "PIXMAP alone",

@@ -4,7 +4,7 @@ use Rattle.std.proofs.Math.Seq.{take-suc}
 use Rattle.std.proofs.lemmas.List.Elements.{All-cons, All-nil}
 use Rattle.std.specs.List.{All, AllZip}
 use Rattle.featureinfo.specs.Hits.{AreHitsOf}
-use Rattle.featureinfo.specs.declared.asked.LayerHits.{LayerHits}
+use Rattle.featureinfo.specs.declared.layer_hits.LayerHits.{LayerHits}
 use Rattle.mapdefs.specs.declared.map.MapFields.{MapFields}
 use Rattle.mapmachine.specs.Machine.{AreAskedHits, scene_of}
 use Rattle.wmsquery.specs.declared.request.InformationRequest.{InformationRequest}

@@ -4,7 +4,7 @@ use Rattle.std.specs.List.{AllZip}
 use Rattle.batches.specs.Batch.{State, accepted}
 use Rattle.compose.specs.Picture.{HasOnePicture}
 use Rattle.featureinfo.specs.Hits.{AreHits, HasOneHitList}
-use Rattle.featureinfo.specs.declared.asked.LayerHits.{LayerHits}
+use Rattle.featureinfo.specs.declared.layer_hits.LayerHits.{LayerHits}
 use Rattle.mapdefs.specs.declared.layer.LayerFields.{LayerFields}
 use Rattle.mapdefs.specs.declared.map.MapFields.{MapFields}
 use Rattle.operations.specs.declared.mime.Mime.TheVariants as mime

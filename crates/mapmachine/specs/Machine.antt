@@ -22,7 +22,7 @@ use Rattle.symbols.specs.Netpbm.{pam, ppm}
 use Rattle.compose.specs.Picture.{IsPictureOf}
 use Rattle.featureinfo.specs.Answer as featureinfo
 use Rattle.featureinfo.specs.Hits.{AreHitsOf}
-use Rattle.featureinfo.specs.declared.asked.LayerHits.{LayerHits}
+use Rattle.featureinfo.specs.declared.layer_hits.LayerHits.{LayerHits}
 use Rattle.mapmachine.specs.declared.reply.Answer.{Answer}
 use Rattle.mapmachine.specs.declared.reply.Event.{Event}
 use Rattle.mapmachine.specs.declared.reply.Event.TheVariants.{Query, Batch}

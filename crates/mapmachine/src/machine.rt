@@ -7,7 +7,7 @@ use crate::reply::{Answer, Event, Reply};
 use batches::{BatchError, BatchFault, BatchKind, MAX_BATCH, apply_batch};
 use capabilities::document;
 use compose::draw;
-use featureinfo::{Asked, LayerHits, hits_in, text};
+use featureinfo::{LayerHits, PixelQuery, hits_in, text};
 use geom::{PictureSide, WorldBox};
 use layers::Layers;
 use mapdefs::{Items, Map, Picture, Shared};
@@ -169,7 +169,7 @@ impl Machine {
         ensures { IfOk result (AreAskedHits self.now.map request.now layer) }
     {
         let scene = self.scene(&request.map);
-        let asked = Asked {
+        let asked = PixelQuery {
             column: request.column as u16,
             row: request.row as u16,
             count: request.count,

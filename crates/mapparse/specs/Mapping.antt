@@ -10,8 +10,8 @@ use Rattle.mapdefs.specs.declared.class.ClassFields.{ClassFields}
 use Rattle.mapdefs.specs.declared.feature.FeatureFields.{FeatureFields}
 use Rattle.mapdefs.specs.declared.label.LabelFields.{LabelFields}
 use Rattle.mapdefs.specs.declared.label.Position.TheVariants.{Centre}
-use Rattle.mapdefs.specs.declared.layer.Kind.{Kind}
-use Rattle.mapdefs.specs.declared.layer.Kind.TheVariants.{Polygon}
+use Rattle.mapdefs.specs.declared.layer.Geometry.{Geometry}
+use Rattle.mapdefs.specs.declared.layer.Geometry.TheVariants.{Polygon}
 use Rattle.mapdefs.specs.declared.layer.LayerFields.{LayerFields}
 use Rattle.mapdefs.specs.declared.map.MapFields.{MapFields}
 use Rattle.mapdefs.specs.declared.style.StyleFields.{StyleFields}
@@ -84,7 +84,7 @@ feature_of count feature = record { parts = feature.parts; text = feature.text; 
 
 -- how far from the asked pixel a feature counts where that isn't given: one with an area is hit itself, another within 3
 -- pixels
-abbrev pub tolerance_of : Kind → ℕ
+abbrev pub tolerance_of : Geometry → ℕ
 tolerance_of Polygon = 0
 tolerance_of _ = 3
 

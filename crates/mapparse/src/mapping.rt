@@ -19,7 +19,7 @@ use crate::uses::files_fault;
 use csvpoints::Table;
 use geom::{Micro, WorldBox};
 use mapdefs::{
-    Class, ClassFields, Font, Items, Kind, Label, LabelFields, Layer, LayerFields, MAX_CLASSES,
+    Class, ClassFields, Font, Geometry, Items, Label, LabelFields, Layer, LayerFields, MAX_CLASSES,
     Map, MapFields, Position, Rgb, Rule, Shared, SharedItems, Style, StyleFields, Symbol, Text,
 };
 use maptree::{
@@ -149,13 +149,13 @@ impl Build for ClassTree {
 }
 
 // How far from the asked pixel a feature counts, in pixels.
-fn tolerance_of(kind: Kind) -> u16
+fn tolerance_of(kind: Geometry) -> u16
     ensures value { result ≡ tolerance_of kind }
     ensures limit { result ≤ MAX_TOLERANCE }
 {
     match kind {
-        Kind::Polygon => 0,
-        Kind::Point | Kind::Line => 3,
+        Geometry::Polygon => 0,
+        Geometry::Point | Geometry::Line => 3,
     }
 }
 

@@ -1,4 +1,4 @@
--- Fronts that each go one batch further.
+-- Prefixes that each go one batch further.
 use Rattle.std.specs.Prelude.{MatchBool, MatchResult, OnOk, option_and_then}
 use Rattle.std.proofs.Common.{arith, length, take, drop, ◌+◌, ◌≤◌, ◌≡◌, ◌∙◌, ℕ, Bool, true, false, Some, Result, Ok, Err, List, [], ◌∷◌, ◌++◌, fold, refl, sym, ap, subst, append_assoc}
 use Rattle.std.proofs.Math.Seq.{take-append_seam, take-length}
@@ -11,79 +11,79 @@ use Rattle.batches.specs.declared.fault.BatchError.TheVariants as batch_error
 use Rattle.mapshare.specs.Admin.{Batches, IsFaultOf, all_of}
 use Rattle.sharing.specs.Sharing.{after}
 use Rattle.sharing.proofs.Accepting.{after_append}
-use Rattle.mapshare.specs.declared.edition.Edition.{Edition}
-use Rattle.mapshare.specs.declared.edition.Shape.{Shape}
-use Rattle.mapshare.specs.Edition.{applied, IsMade, shape_of}
+use Rattle.mapshare.specs.declared.replica.Replica.{Replica}
+use Rattle.mapshare.specs.declared.replica.ReplicaValue.{ReplicaValue}
+use Rattle.mapshare.specs.Replica.{applied, IsMade, shape_of}
 use Rattle.mapshare.specs.Queue.{IsChain, IsNext}
 
--- the front before begins the one after, and is shorter
-chain_goes : {S : Type 0} (opening : State) (first : List (List ℕ)) (editions : List (Edition S)) (last : List (List ℕ)) → IsChain opening first editions last →
-    (take (length first) last ≡ first) × (length first + length editions ≤ length last)
+-- the prefix before begins the one after, and is shorter
+chain_goes : {S : Type 0} (opening : State) (first : List (List ℕ)) (replicas : List (Replica S)) (last : List (List ℕ)) → IsChain opening first replicas last →
+    (take (length first) last ≡ first) × (length first + length replicas ≤ length last)
 chain_goes opening first [] last c = rw (← c) (take-length first, omega arith)
-chain_goes opening first (e ∷ editions) last c =
-    let rest = chain_goes opening e.front editions last c.2 in
+chain_goes opening first (e ∷ replicas) last c =
+    let rest = chain_goes opening e.prefix replicas last c.2 in
     let n = length first in
     let within : n ≤ length (take (n + 1) last) = omega (arith, rest.1, c.0.one_more, length-take (n + 1) last) in
-    let front : take (n + 1) last ≡ e.front = ap (λ m. take m last) (sym c.0.one_more) ∙ rest.0 in
+    let prefix : take (n + 1) last ≡ e.prefix = ap (λ m. take m last) (sym c.0.one_more) ∙ rest.0 in
     let begins : take n last ≡ take n (take (n + 1) last) =
     ap (take n) (sym (take-append-drop (n + 1) last)) ∙ take-append-le n (take (n + 1) last) (drop (n + 1) last) within in
-    (begins ∙ ap (take n) front ∙ c.0.begins, omega (arith, rest.1, c.0.one_more))
+    (begins ∙ ap (take n) prefix ∙ c.0.begins, omega (arith, rest.1, c.0.one_more))
 
--- the last front is the first and what is behind it
-pub chain_all : {S : Type 0} (opening : State) (first : List (List ℕ)) (editions : List (Edition S)) (last : List (List ℕ)) → IsChain opening first editions last →
+-- the last prefix is the first and what is behind it
+pub chain_all : {S : Type 0} (opening : State) (first : List (List ℕ)) (replicas : List (Replica S)) (last : List (List ℕ)) → IsChain opening first replicas last →
     last ≡ first ++ drop (length first) last
-chain_all opening first editions last c =
-    sym (take-append-drop (length first) last) ∙ ap (λ z. z ++ drop (length first) last) (chain_goes opening first editions last c).0
+chain_all opening first replicas last c =
+    sym (take-append-drop (length first) last) ∙ ap (λ z. z ++ drop (length first) last) (chain_goes opening first replicas last c).0
 
--- the first front begins the last
-pub chain_begins : {S : Type 0} (opening : State) (first : List (List ℕ)) (editions : List (Edition S)) (last : List (List ℕ)) → IsChain opening first editions last → IsPrefix first last
-chain_begins opening first editions last c = (drop (length first) last, sym (chain_all opening first editions last c))
+-- the first prefix begins the last
+pub chain_begins : {S : Type 0} (opening : State) (first : List (List ℕ)) (replicas : List (Replica S)) (last : List (List ℕ)) → IsChain opening first replicas last → IsPrefix first last
+chain_begins opening first replicas last c = (drop (length first) last, sym (chain_all opening first replicas last c))
 
-chain_snoc : {S : Type 0} (opening : State) (first : List (List ℕ)) (editions : List (Edition S)) (last : List (List ℕ)) (e : Edition S) → IsChain opening first editions last →
-    IsNext last e.front → IsMade opening (shape_of e) → IsChain opening first (editions ++ e ∷ []) e.front
+chain_snoc : {S : Type 0} (opening : State) (first : List (List ℕ)) (replicas : List (Replica S)) (last : List (List ℕ)) (e : Replica S) → IsChain opening first replicas last →
+    IsNext last e.prefix → IsMade opening (shape_of e) → IsChain opening first (replicas ++ e ∷ []) e.prefix
 chain_snoc opening first [] last e c next made = (rw c next, made, refl)
-chain_snoc opening first (x ∷ editions) last e c next made = (c.0, c.1, chain_snoc opening x.front editions last e c.2 next made)
+chain_snoc opening first (x ∷ replicas) last e c next made = (c.0, c.1, chain_snoc opening x.prefix replicas last e c.2 next made)
 
--- a front and one batch more
+-- a prefix and one batch more
 pub next_one : (last : List (List ℕ)) (b : List ℕ) → IsNext last (last ++ b ∷ [])
 next_one last b = record { begins = take-append_seam last (b ∷ []); one_more = length-append last (b ∷ []) }
 
--- a chain that goes on by one edition, where the queue does
-pub chain_push : {S : Type 0} (opening : State) (first : List (List ℕ)) (xs ys zs : List (Edition S)) (last next : List (List ℕ)) (e : Edition S) → IsChain opening first (xs ++ ys) last →
-    zs ≡ ys ++ e ∷ [] → IsNext last e.front → IsMade opening (shape_of e) → e.front ≡ next → IsChain opening first (xs ++ zs) next
-chain_push opening first xs ys zs last next e c same is made front =
-    subst (λ z. IsChain opening first (xs ++ z) next) (sym same) (subst (λ l. IsChain opening first l next) (append_assoc xs ys (e ∷ [])) (subst (IsChain opening first ((xs ++ ys) ++ e ∷ [])) front (chain_snoc opening first (xs ++ ys) last e c is made)))
+-- a chain that goes on by one replica, where the queue does
+pub chain_push : {S : Type 0} (opening : State) (first : List (List ℕ)) (xs ys zs : List (Replica S)) (last next : List (List ℕ)) (e : Replica S) → IsChain opening first (xs ++ ys) last →
+    zs ≡ ys ++ e ∷ [] → IsNext last e.prefix → IsMade opening (shape_of e) → e.prefix ≡ next → IsChain opening first (xs ++ zs) next
+chain_push opening first xs ys zs last next e c same is made prefix =
+    subst (λ z. IsChain opening first (xs ++ z) next) (sym same) (subst (λ l. IsChain opening first l next) (append_assoc xs ys (e ∷ [])) (subst (IsChain opening first ((xs ++ ys) ++ e ∷ [])) prefix (chain_snoc opening first (xs ++ ys) last e c is made)))
 
--- what is shown after all editions has the last front
-pub chain_front : {S : Type 0} (opening : State) (s : Shape) (editions : List (Edition S)) (last : List (List ℕ)) → IsChain opening s.batches editions last → (fold applied s editions).batches ≡ last
-chain_front opening s [] last c = c
-chain_front opening s (e ∷ editions) last c = chain_front opening (applied s e) editions last c.2
+-- what is shown after all replicas has the last prefix
+pub chain_prefix : {S : Type 0} (opening : State) (s : ReplicaValue) (replicas : List (Replica S)) (last : List (List ℕ)) → IsChain opening s.batches replicas last → (fold applied s replicas).batches ≡ last
+chain_prefix opening s [] last c = c
+chain_prefix opening s (e ∷ replicas) last c = chain_prefix opening (applied s e) replicas last c.2
 
 -- it is made by all of its batches
-pub chain_made : {S : Type 0} (opening : State) (s : Shape) (editions : List (Edition S)) (last : List (List ℕ)) → IsChain opening s.batches editions last → IsMade opening s → IsMade opening (fold applied s editions)
+pub chain_made : {S : Type 0} (opening : State) (s : ReplicaValue) (replicas : List (Replica S)) (last : List (List ℕ)) → IsChain opening s.batches replicas last → IsMade opening s → IsMade opening (fold applied s replicas)
 chain_made opening s [] last c m = m
-chain_made opening s (e ∷ editions) last c m = chain_made opening (applied s e) editions last c.2 c.1
+chain_made opening s (e ∷ replicas) last c m = chain_made opening (applied s e) replicas last c.2 c.1
 
 -- the state after one more batch that has no fault
 pub after_one : (opening m t : State) (list : List (List ℕ)) (b : List ℕ) → after accepted opening list ≡ Some m → batched b m ≡ Ok t → after accepted opening (list ++ b ∷ []) ≡ Some t
 after_one opening m t list b e f =
     after_append accepted opening list (b ∷ []) ∙ (ap (option_and_then (λ u. after accepted u (b ∷ []))) e ∙ ap (λ r. option_and_then (λ u. Some u) (result_ok r)) f)
 
--- where nothing is pending, the last front is the first
-pub idle_last : {S : Type 0} (opening : State) (first : List (List ℕ)) (editions : List (Edition S)) (last : List (List ℕ)) → IsChain opening first editions last →
+-- where nothing is pending, the last prefix is the first
+pub idle_last : {S : Type 0} (opening : State) (first : List (List ℕ)) (replicas : List (Replica S)) (last : List (List ℕ)) → IsChain opening first replicas last →
     drop (length first) last ≡ [] → last ≡ first
-idle_last opening first editions last c e = chain_all opening first editions last c ∙ (ap (λ z. first ++ z) e ∙ append-nil first)
+idle_last opening first replicas last c e = chain_all opening first replicas last c ∙ (ap (λ z. first ++ z) e ∙ append-nil first)
 
--- one more batch behind the last front is one more that is pending
-pub pending_more : {S : Type 0} (opening : State) (first : List (List ℕ)) (editions : List (Edition S)) (last : List (List ℕ)) (b : List ℕ) → IsChain opening first editions last →
+-- one more batch behind the last prefix is one more that is pending
+pub pending_more : {S : Type 0} (opening : State) (first : List (List ℕ)) (replicas : List (Replica S)) (last : List (List ℕ)) (b : List ℕ) → IsChain opening first replicas last →
     drop (length first) (last ++ b ∷ []) ≡ drop (length first) last ++ b ∷ []
-pending_more opening first editions last b c =
-    let goes = (chain_goes opening first editions last c).1 in
+pending_more opening first replicas last b c =
+    let goes = (chain_goes opening first replicas last c).1 in
     drop-append-le (length first) last (b ∷ []) (omega (arith, goes))
 
-pub last_all : {S : Type 0} (opening : State) (first : List (List ℕ)) (editions : List (Edition S)) (last : List (List ℕ)) (b : List ℕ) → IsChain opening first editions last →
+pub last_all : {S : Type 0} (opening : State) (first : List (List ℕ)) (replicas : List (Replica S)) (last : List (List ℕ)) (b : List ℕ) → IsChain opening first replicas last →
     last ++ b ∷ [] ≡ first ++ (drop (length first) last ++ b ∷ [])
-last_all opening first editions last b c = ap (λ z. z ++ b ∷ []) (chain_all opening first editions last c) ∙ append_assoc first (drop (length first) last) (b ∷ [])
+last_all opening first replicas last b c = ap (λ z. z ++ b ∷ []) (chain_all opening first replicas last c) ∙ append_assoc first (drop (length first) last) (b ∷ [])
 
 -- a fault in the state after all batches
 pub fault_of : (opening m : State) (batches : Batches) (b : List ℕ) (error : BatchError) → after accepted opening (all_of batches) ≡ Some m → IsBatchErrorOf (batched b m) error → IsFaultOf opening batches b error
@@ -98,11 +98,11 @@ pub on_true : (b : Bool) (P Q : Type 0) → b ≡ true → MatchBool b P Q → P
 on_true true P Q e m = m
 on_true false P Q e m = absurd (cc e)
 
--- nothing is pending where the last front is no longer than the first
-pub idle_when : {S : Type 0} (opening : State) (first : List (List ℕ)) (editions : List (Edition S)) (last : List (List ℕ)) → IsChain opening first editions last →
+-- nothing is pending where the last prefix is no longer than the first
+pub idle_when : {S : Type 0} (opening : State) (first : List (List ℕ)) (replicas : List (Replica S)) (last : List (List ℕ)) → IsChain opening first replicas last →
     (length last ≡ length first → drop (length first) last ≡ []) × (drop (length first) last ≡ [] → length last ≡ length first)
-idle_when opening first editions last c =
-    let goes = (chain_goes opening first editions last c).1 in (
+idle_when opening first replicas last c =
+    let goes = (chain_goes opening first replicas last c).1 in (
       (λ e. drop_all (length first) last (omega (arith, e))),
       (λ e. omega (arith, goes, ap length e, length-drop (length first) last)),
     )

@@ -6,11 +6,11 @@ use Rattle.history.proofs.Prefixes.{prefix_whole}
 use Rattle.sharing.proofs.Prefixes.{prefix_self}
 use Rattle.mapshare.specs.Reader.{ReaderValue, entered}
 
--- a front that isn't shorter than what is known, and of which the longer is one of the two, begins with it
-pub known_begins : (front known longer : List (List ℕ)) → (longer ≡ front) ⊎ (longer ≡ known) → IsPrefix front longer → IsPrefix known longer → length known ≤ length front → IsPrefix known front
-known_begins front known longer (inl e) p q le = subst (λ l. IsPrefix known l) e q
-known_begins front known longer (inr e) p q le =
-    let same : front ≡ known = prefix_whole front known (subst (λ l. IsPrefix front l) e p) le in
+-- a prefix that isn't shorter than what is known, and of which the longer is one of the two, begins with it
+pub known_begins : (prefix known longer : List (List ℕ)) → (longer ≡ prefix) ⊎ (longer ≡ known) → IsPrefix prefix longer → IsPrefix known longer → length known ≤ length prefix → IsPrefix known prefix
+known_begins prefix known longer (inl e) p q le = subst (λ l. IsPrefix known l) e q
+known_begins prefix known longer (inr e) p q le =
+    let same : prefix ≡ known = prefix_whole prefix known (subst (λ l. IsPrefix prefix l) e p) le in
     subst (λ l. IsPrefix known l) (sym same) (prefix_self known)
 
 -- a reader, by what it knows, what it has seen and whether it may enter
@@ -26,8 +26,8 @@ pub prefix_length : (xs ys : List (List ℕ)) → IsPrefix xs ys → length xs �
 prefix_length xs ys p = omega (arith, length-append xs p.0, ap length p.1)
 
 -- where a reader knows more than is shown, it knows more than it was shown
-pub behind : (seen before front known : List (List ℕ)) → IsPrefix seen before → IsPrefix before front → length front < length known → length seen < length known
-behind seen before front known p q less = omega (arith, prefix_length seen before p, prefix_length before front q, less)
+pub behind : (seen before prefix known : List (List ℕ)) → IsPrefix seen before → IsPrefix before prefix → length prefix < length known → length seen < length known
+behind seen before prefix known p q less = omega (arith, prefix_length seen before p, prefix_length before prefix q, less)
 
 -- what holds of an end, if there is one, holds of the end that there is
 pub at_some : {A : Type 0} (P : A → Type 0) (o : Option A) (x : A) → o ≡ Some x → IfSome o P → P x

@@ -1,6 +1,6 @@
 pub mod Unopened
 pub mod Admin
-pub mod Edition
+pub mod Replica
 pub mod Kept
 pub mod Queue
 pub mod Reader

@@ -5,11 +5,11 @@ ghost use Rattle.mapshare.specs.Admin.{HasRetried, HasSubmitted, IsAccepted, IsF
 ghost use Rattle.mapshare.specs.Kept.{HasKept, IsAcceptFault, IsUnkept};
 ghost use Rattle.mapshare.specs.Queue.{IsChain};
 
-use crate::edition::{Edition, Shape};
 use crate::receipt::Receipt;
+use crate::replica::{Replica, ReplicaValue};
 use crate::rule::{MapWriter, Moves, Ruled, Sharing, View};
 use crossbeam_utils::rule::Protocol;
-use history::{Front, History, MAX_HISTORY};
+use history::{History, MAX_HISTORY, Prefix};
 use journalfile::{KeepFault, Keeps, Nowhere};
 use left_right::Absorb;
 use mapmachine::{BatchError, BatchFault, Machine};
@@ -60,23 +60,23 @@ pub enum Retried<S: Sharing> {
 /// The administrator of a shared map. Contracts see it as the batches that are published and pending.
 pub struct Admin<S: Sharing>
 where
-    Edition<S>: Absorb<Edition<S>, State = Shape>,
-    Ruled<S>: Protocol<Edition<S>, View>,
+    Replica<S>: Absorb<Replica<S>, State = ReplicaValue>,
+    Ruled<S>: Protocol<Replica<S>, View>,
 {
     writer: MapWriter<S>,
     history: History<S>,
-    // The editions that are pending and weren't handed to the writer yet.
-    queue: VecDeque<Edition<S>>,
+    // The replicas that are pending and weren't handed to the writer yet.
+    queue: VecDeque<Replica<S>>,
     // The machine after all accepted batches.
     checked: Machine,
-    published: Front<S>,
-    last: Front<S>,
+    published: Prefix<S>,
+    last: Prefix<S>,
 }
 
 impl<S: Sharing> Model for Admin<S>
 where
-    Edition<S>: Absorb<Edition<S>, State = Shape>,
-    Ruled<S>: Protocol<Edition<S>, View>,
+    Replica<S>: Absorb<Replica<S>, State = ReplicaValue>,
+    Ruled<S>: Protocol<Replica<S>, View>,
 {
     ghost use Rattle.std.specs.Prelude.{◌≡◌, ◌++◌, Some, drop, length};
     ghost use Rattle.sharing.specs.Sharing.{after};
@@ -88,17 +88,17 @@ where
 
     ghost view = { λ a. record { published = a.published; pending = drop (length a.published) a.last } };
 
-    ghost invariant = { λ a. (a.writer.desk.shown.value.front ≡ a.published) × IsChain S.opening a.published (drop a.writer.behind a.writer.log.items ++ a.queue.items) a.last × (after accepted S.opening a.last ≡ Some a.checked) };
+    ghost invariant = { λ a. (a.writer.desk.shown.value.prefix ≡ a.published) × IsChain S.opening a.published (drop a.writer.behind a.writer.log.items ++ a.queue.items) a.last × (after accepted S.opening a.last ≡ Some a.checked) };
 }
 
-// Shows readers all that the writer has, which ends with the last front.
+// Shows readers all that the writer has, which ends with the last prefix.
 fn show_all<S: Sharing, R: Wait>(
     rt: &R,
     writer: MapWriter<S>,
-    last: &Front<S>,
+    last: &Prefix<S>,
 ) -> (MapWriter<S>, Result<(), AllocError>)
-    requires chain { IsChain S.opening writer.desk.shown.value.front (drop writer.behind writer.log.items) last.now }
-    ensures front { OnOk result.1 (result.0.desk.shown.value.front ≡ last.now) }
+    requires chain { IsChain S.opening writer.desk.shown.value.prefix (drop writer.behind writer.log.items) last.now }
+    ensures prefix { OnOk result.1 (result.0.desk.shown.value.prefix ≡ last.now) }
     ensures none_left { OnOk result.1 (drop result.0.behind result.0.log.items ≡ []) }
     ensures held { OnErr result.1 ((result.0.desk.shown.value ≡ writer.desk.shown.value) × (drop result.0.behind result.0.log.items ≡ drop writer.behind writer.log.items)) }
 {
@@ -107,29 +107,29 @@ fn show_all<S: Sharing, R: Wait>(
 }
 
 // Hands what waits to the writer, as long as there is memory.
-fn fill<S: Sharing>(writer: &mut MapWriter<S>, queue: &mut VecDeque<Edition<S>>) -> bool
+fn fill<S: Sharing>(writer: &mut MapWriter<S>, queue: &mut VecDeque<Replica<S>>) -> bool
     ensures desk { writer.new.desk ≡ writer.old.desk }
     ensures all { drop writer.new.behind writer.new.log.items ++ queue.new.items ≡ drop writer.old.behind writer.old.log.items ++ queue.old.items }
     ensures empty { IsTrue result → queue.new.items ≡ [] }
 {
-    while let Some(edition) = queue.pop_front() {
-        if let Err(edition) = writer.append(edition) {
-            queue.push_front_reserved(edition);
+    while let Some(replica) = queue.pop_front() {
+        if let Err(replica) = writer.append(replica) {
+            queue.push_front_reserved(replica);
             return false;
         }
     }
     true
 }
 
-// Shows readers all that waits, which ends with the last front, and says whether it did.
+// Shows readers all that waits, which ends with the last prefix, and says whether it did.
 fn show_waiting<S: Sharing, R: Wait>(
     rt: &R,
     mut writer: MapWriter<S>,
-    queue: &mut VecDeque<Edition<S>>,
-    last: &Front<S>,
+    queue: &mut VecDeque<Replica<S>>,
+    last: &Prefix<S>,
 ) -> (MapWriter<S>, bool)
-    requires chain { IsChain S.opening writer.desk.shown.value.front (drop writer.behind writer.log.items ++ queue.old.items) last.now }
-    ensures { MatchBool result.1 ((result.0.desk.shown.value.front ≡ last.now) × (drop result.0.behind result.0.log.items ++ queue.new.items ≡ [])) ((result.0.desk.shown.value.front ≡ writer.desk.shown.value.front) × (drop result.0.behind result.0.log.items ++ queue.new.items ≡ drop writer.behind writer.log.items ++ queue.old.items)) }
+    requires chain { IsChain S.opening writer.desk.shown.value.prefix (drop writer.behind writer.log.items ++ queue.old.items) last.now }
+    ensures { MatchBool result.1 ((result.0.desk.shown.value.prefix ≡ last.now) × (drop result.0.behind result.0.log.items ++ queue.new.items ≡ [])) ((result.0.desk.shown.value.prefix ≡ writer.desk.shown.value.prefix) × (drop result.0.behind result.0.log.items ++ queue.new.items ≡ drop writer.behind writer.log.items ++ queue.old.items)) }
 {
     if !fill(&mut writer, queue) {
         return (writer, false);
@@ -147,11 +147,11 @@ impl<S: Sharing> Admin<S> {
         writer: MapWriter<S>,
         history: History<S>,
         checked: Machine,
-        front: Front<S>,
+        prefix: Prefix<S>,
     ) -> Self
         requires machine { checked ≡ S.opening }
-        requires empty { front ≡ [] }
-        requires shown { writer.desk.shown.value.front ≡ [] }
+        requires empty { prefix ≡ [] }
+        requires shown { writer.desk.shown.value.prefix ≡ [] }
         requires none_left { drop writer.behind writer.log.items ≡ [] }
         ensures { result ≡ record { published = []; pending = [] } }
     {
@@ -160,8 +160,8 @@ impl<S: Sharing> Admin<S> {
             history,
             queue: VecDeque::new(alloc),
             checked,
-            published: front.copy(),
-            last: front,
+            published: prefix.copy(),
+            last: prefix,
         }
     }
 
@@ -224,17 +224,17 @@ impl<S: Sharing> Admin<S> {
             Err(KeepFault::NoMemory) => return Err(AcceptFault::NoMemory),
             Err(KeepFault::Failed) => return Err(AcceptFault::Failed),
         }
-        let mut front = self.last.copy();
-        if !front.add(&self.history, &batch) {
+        let mut prefix = self.last.copy();
+        if !prefix.add(&self.history, &batch) {
             return Err(AcceptFault::Failed);
         }
-        let edition = Edition {
+        let replica = Replica {
             machine,
-            front: front.copy(),
+            prefix: prefix.copy(),
         };
-        self.queue.push_back_reserved(edition);
+        self.queue.push_back_reserved(replica);
         self.checked = checked;
-        self.last = front;
+        self.last = prefix;
         Ok(())
     }
 

@@ -18,16 +18,16 @@
 //! thread.
 //!
 //! Words: a *receipt* stands for all that was published when it was made. What a reader *knows* was published at
-//! the least. An *entry* shows one state, whatever is published meanwhile. An *edition* is what is published, or waits to
+//! the least. An *entry* shows one state, whatever is published meanwhile. A *replica* is what is published, or waits to
 //! be: a map machine and the batches that led to it. A batch is applied once, where it is accepted.
 #![tactic(auto)]
 
 mod admin;
-mod edition;
 pub mod laws;
 mod opening;
 mod reader;
 mod receipt;
+mod replica;
 mod rule;
 mod threads;
 

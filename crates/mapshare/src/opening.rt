@@ -3,10 +3,10 @@ ghost use Rattle.mapshare.specs.Reader.{free};
 ghost use Rattle.mapshare.specs.declared.opening.TheConstants.{MAX_READERS};
 
 use crate::admin::Admin;
-use crate::edition::Edition;
 use crate::reader::Reader;
+use crate::replica::Replica;
 use crate::rule::{MapWriter, Sharing};
-use history::{Blank, Front};
+use history::{Blank, Prefix};
 use mapmachine::Machine;
 use std::alloc::{AllocError, Global};
 use std::sync::Wait;
@@ -26,31 +26,31 @@ pub enum ShareFault {
     NoMemory,
 }
 
-// An edition of the machine as it is, with no batch.
-fn edition_of<S: Sharing>(machine: &Machine, front: &Front<S>) -> Result<Edition<S>, AllocError>
-    ensures { IfOk result (λ edition. (edition.machine ≡ machine.now) × (edition.front ≡ front.now)) }
+// A replica of the machine as it is, with no batch.
+fn replica_of<S: Sharing>(machine: &Machine, prefix: &Prefix<S>) -> Result<Replica<S>, AllocError>
+    ensures { IfOk result (λ replica. (replica.machine ≡ machine.now) × (replica.prefix ≡ prefix.now)) }
 {
-    Ok(Edition {
+    Ok(Replica {
         machine: machine.copy()?,
-        front: front.copy(),
+        prefix: prefix.copy(),
     })
 }
 
-// The writer of two such editions.
+// The writer of two such replicas.
 fn writer_of<S: Sharing>(
     alloc: Global,
     machine: &Machine,
-    front: &Front<S>,
+    prefix: &Prefix<S>,
     count: usize,
 ) -> Result<MapWriter<S>, AllocError>
     requires opening { machine.now ≡ S.opening }
-    requires empty { front.now ≡ [] }
+    requires empty { prefix.now ≡ [] }
     requires count { (0 < count) × (count ≤ MAX_READERS) }
-    ensures shown { IfOk result (λ writer. writer.desk.shown.value.front ≡ []) }
+    ensures shown { IfOk result (λ writer. writer.desk.shown.value.prefix ≡ []) }
     ensures none_left { IfOk result (λ writer. drop writer.behind writer.log.items ≡ []) }
 {
-    let first = edition_of(machine, front)?;
-    let second = edition_of(machine, front)?;
+    let first = replica_of(machine, prefix)?;
+    let second = replica_of(machine, prefix)?;
     MapWriter::new(alloc, first, second, count)
 }
 
@@ -58,17 +58,17 @@ fn writer_of<S: Sharing>(
 fn readers_of<S: Sharing>(
     alloc: Global,
     writer: &MapWriter<S>,
-    front: &Front<S>,
+    prefix: &Prefix<S>,
     count: usize,
 ) -> Result<Vec<Reader<S>>, AllocError>
-    requires { front.now ≡ [] }
+    requires { prefix.now ≡ [] }
     ensures count { IfOk result (λ readers. vec_len readers ≡ count) }
     ensures known { IfOk result (λ readers. All (λ reader. reader ≡ free []) readers.items) }
 {
     let mut readers = Vec::new(alloc);
     for _ in 0..count {
         let end = writer.factory().reader()?;
-        readers.push(Reader::new(end, front.copy()))?;
+        readers.push(Reader::new(end, prefix.copy()))?;
     }
     Ok(readers)
 }
@@ -89,18 +89,18 @@ pub fn open<S: Sharing, R: Wait>(
     ensures known { IfOk result (λ r. All (λ reader. reader ≡ free []) r.1.items) }
     ensures count { IsErrOf result ShareFault.Count ↔ ((count ≡ 0) ⊎ (MAX_READERS < count)) }
 {
-    let (history, front) = blank.named::<S>();
+    let (history, prefix) = blank.named::<S>();
     if count == 0 || count > MAX_READERS {
         return Err(ShareFault::Count);
     }
     let Ok(checked) = machine.copy() else {
         return Err(ShareFault::NoMemory);
     };
-    let Ok(writer) = writer_of(alloc, machine, &front, count) else {
+    let Ok(writer) = writer_of(alloc, machine, &prefix, count) else {
         return Err(ShareFault::NoMemory);
     };
-    match readers_of(alloc, &writer, &front, count) {
-        Ok(readers) => Ok((Admin::new(alloc, writer, history, checked, front), readers)),
+    match readers_of(alloc, &writer, &prefix, count) {
+        Ok(readers) => Ok((Admin::new(alloc, writer, history, checked, prefix), readers)),
         Err(_) => {
             let _edition = writer.take(rt);
             Err(ShareFault::NoMemory)

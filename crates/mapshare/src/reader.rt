@@ -9,7 +9,7 @@ ghost use Rattle.mapshare.specs.contracts.reader.Reader.{the_row as reader_row};
 
 use crate::receipt::Receipt;
 use crate::rule::{MapReader, MapReading, Sees, Sharing};
-use history::Front;
+use history::Prefix;
 use mapmachine::Answer;
 use std::alloc::AllocError;
 use std::marker::Model;
@@ -32,9 +32,9 @@ pub struct Reader<S: Sharing> {
     // It is away while an entry has it.
     end: Option<MapReader<S>>,
     // What the last entry showed.
-    seen: Front<S>,
+    seen: Prefix<S>,
     // The longer of what was seen and of each receipt.
-    known: Front<S>,
+    known: Prefix<S>,
 }
 
 impl<S: Sharing> Model for Reader<S> {
@@ -58,13 +58,13 @@ pub struct Shown<S: Sharing> {
 impl<S: Sharing> Model for Shown<S> {
     ghost use Rattle.std.specs.Prelude.{◌≡◌, ℕ, List};
     ghost use Rattle.left_right.specs.Sides.{view as seen_by};
-    ghost use Rattle.mapshare.specs.Edition.{IsMade, shape_of};
+    ghost use Rattle.mapshare.specs.Replica.{IsMade, shape_of};
 
     ghost Value = { List (List ℕ) };
 
-    ghost view = { λ s. s.reading.part.value.front };
+    ghost view = { λ s. s.reading.part.value.prefix };
 
-    ghost invariant = { λ s. IsMade S.opening (shape_of s.reading.part.value) × ((seen_by s.reading.place).seen ≡ s.reading.part.value.front) };
+    ghost invariant = { λ s. IsMade S.opening (shape_of s.reading.part.value) × ((seen_by s.reading.place).seen ≡ s.reading.part.value.prefix) };
 }
 
 /// What gives the end of a reader back.
@@ -76,18 +76,18 @@ pub trait Ends<S: Sharing> {
     ghost shows: { Self → List (List ℕ) };
 
     /// Ends the reading. It gives the end of the reader, and what was shown.
-    fn end(self) -> (MapReader<S>, Front<S>)
+    fn end(self) -> (MapReader<S>, Prefix<S>)
         ensures seen { (seen_by result.0.place).seen ≡ shows self }
-        ensures front { result.1 ≡ shows self };
+        ensures prefix { result.1 ≡ shows self };
 }
 
 impl<S: Sharing> Ends<S> for Shown<S> {
     ghost shows = { λ shown. shown };
 
-    fn end(self) -> (MapReader<S>, Front<S>) {
+    fn end(self) -> (MapReader<S>, Prefix<S>) {
         let Self { reading } = self;
-        let front = reading.get().front.copy();
-        (reading.leave(), front)
+        let prefix = reading.get().prefix.copy();
+        (reading.leave(), prefix)
     }
 }
 
@@ -102,10 +102,10 @@ pub type Entered<'a, S> = Entry<'a, S, Shown<S>>;
 
 impl<S: Sharing> Shown<S> {
     // The batches that are shown.
-    fn front(&self) -> Front<S>
+    fn prefix(&self) -> Prefix<S>
         ensures { result ≡ self.now }
     {
-        self.reading.get().front.copy()
+        self.reading.get().prefix.copy()
     }
 
     // The sequence of the machine that is shown.
@@ -124,8 +124,8 @@ impl<S: Sharing> Shown<S> {
 }
 
 impl<S: Sharing> Reader<S> {
-    // A reader that knows no batch, by the front that has none.
-    pub(crate) fn new(end: MapReader<S>, none: Front<S>) -> Self
+    // A reader that knows no batch, by the prefix that has none.
+    pub(crate) fn new(end: MapReader<S>, none: Prefix<S>) -> Self
         requires empty { none ≡ [] }
         ensures { result ≡ free [] }
     {
@@ -143,7 +143,7 @@ impl<S: Sharing> Reader<S> {
         ensures kept { IsPrefix self.old.known self.new.known }
         ensures told { IsPrefix receipt self.new.known }
     {
-        self.known = self.known.longer(receipt.front());
+        self.known = self.known.longer(receipt.prefix());
     }
 
     /// Enters: the entry shows batches that begin with all that the reader knows, and which it knows from then on. That
@@ -162,14 +162,14 @@ impl<S: Sharing> Reader<S> {
         match end.enter_as::<Sees<S>>() {
             Ok(reading) => {
                 let shown = Shown { reading };
-                let front = shown.front();
-                if front.len() < self.known.len() {
+                let prefix = shown.prefix();
+                if prefix.len() < self.known.len() {
                     self.end = Some(shown.end().0);
                     return Err(Closed::Behind);
                 }
-                let _both = front.longer(&self.known);
-                self.seen = front.copy();
-                self.known = front;
+                let _both = prefix.longer(&self.known);
+                self.seen = prefix.copy();
+                self.known = prefix;
                 Ok(Entry { home: self, shown })
             }
             Err(end) => {

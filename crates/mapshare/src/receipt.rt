@@ -1,13 +1,13 @@
 ghost use Rattle.std.specs.Prelude.{◌≡◌, ◌+◌, length};
 
 use crate::rule::Sharing;
-use history::Front;
+use history::Prefix;
 use std::marker::Model;
 
 /// What stands for all batches that were published when it was made. Contracts see it as these batches.
 #[derive(Drop)]
 pub struct Receipt<S: Sharing> {
-    front: Front<S>,
+    prefix: Prefix<S>,
     sequence: u64,
 }
 
@@ -16,25 +16,25 @@ impl<S: Sharing> Model for Receipt<S> {
 
     ghost Value = { List (List ℕ) };
 
-    ghost view = { λ r. r.front };
+    ghost view = { λ r. r.prefix };
 
-    ghost invariant = { λ r. r.sequence ≡ S.opening.sequence + length r.front };
+    ghost invariant = { λ r. r.sequence ≡ S.opening.sequence + length r.prefix };
 }
 
 impl<S: Sharing> Receipt<S> {
-    // The receipt of a front, after which the machine has this sequence.
-    pub(crate) fn new(front: Front<S>, sequence: u64) -> Self
-        requires counted { sequence ≡ S.opening.sequence + length front }
-        ensures { result ≡ front }
+    // The receipt of a prefix, after which the machine has this sequence.
+    pub(crate) fn new(prefix: Prefix<S>, sequence: u64) -> Self
+        requires counted { sequence ≡ S.opening.sequence + length prefix }
+        ensures { result ≡ prefix }
     {
-        Receipt { front, sequence }
+        Receipt { prefix, sequence }
     }
 
     // What the receipt stands for.
-    pub(crate) fn front(&self) -> &Front<S>
+    pub(crate) fn prefix(&self) -> &Prefix<S>
         ensures { result.now ≡ self.now }
     {
-        &self.front
+        &self.prefix
     }
 
     /// The sequence after all of its batches.

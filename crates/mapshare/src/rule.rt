@@ -2,7 +2,7 @@
 
 ghost use Rattle.mapshare.specs.Seeing.{Keeps, Shows, nothing_seen};
 
-use crate::edition::Edition;
+use crate::replica::Replica;
 use crossbeam_utils::rule::{Outcome, Protocol};
 use history::Naming;
 use left_right::{reader, writer};
@@ -29,40 +29,40 @@ pub struct View {
     pub seen: [[u8; 0]; 0],
 }
 
-/// The rule: what is published is the opening state after the batches of its front, which begins with all that each
+/// The rule: what is published is the opening state after the batches of its prefix, which begins with all that each
 /// end has seen.
 pub struct Ruled<S> {
     of: PhantomData<S>,
 }
 
-impl<S: Sharing> Protocol<Edition<S>, View> for Ruled<S> {
+impl<S: Sharing> Protocol<Replica<S>, View> for Ruled<S> {
     ghost holds = { Keeps S.opening };
 
     ghost first = { nothing_seen };
 }
 
-/// A step that tells of an edition that it is made by its batches, which begin with what was seen before and are what
+/// A step that tells of a replica that it is made by its batches, which begin with what was seen before and are what
 /// is seen then.
 pub struct Sees<S> {
     of: PhantomData<S>,
 }
 
-impl<S: Sharing> Outcome<Edition<S>, View> for Sees<S> {
-    ghost then = { λ before _ edition after. Shows S.opening before edition after };
+impl<S: Sharing> Outcome<Replica<S>, View> for Sees<S> {
+    ghost then = { λ before _ replica after. Shows S.opening before replica after };
 }
 
 /// A publish, which tells nothing more than the history does.
 pub struct Moves;
 
-impl<J: Naming> Outcome<Edition<J>, View> for Moves {
+impl<J: Naming> Outcome<Replica<J>, View> for Moves {
     ghost then = { λ _ _ _ _. Unit {0} };
 }
 
 /// The administrator's end.
-pub type MapWriter<S> = writer::Writer<Edition<S>, Edition<S>, View, Ruled<S>>;
+pub type MapWriter<S> = writer::Writer<Replica<S>, Replica<S>, View, Ruled<S>>;
 
 /// A reader's end.
-pub type MapReader<S> = reader::Reader<Edition<S>, View, Ruled<S>>;
+pub type MapReader<S> = reader::Reader<Replica<S>, View, Ruled<S>>;
 
 /// A reader's end while it reads.
-pub type MapReading<S> = reader::Reading<Edition<S>, View, Ruled<S>>;
+pub type MapReading<S> = reader::Reading<Replica<S>, View, Ruled<S>>;

@@ -14,7 +14,7 @@ use Rattle.mapdefs.specs.Name.{is_same_name}
 use Rattle.geom.specs.Number.{coordinate_of}
 use Rattle.geom.specs.World.{Area}
 use Rattle.mapdefs.specs.declared.colour.Rgb.{Rgb}
-use Rattle.mapdefs.specs.declared.layer.Kind.{Kind}
+use Rattle.mapdefs.specs.declared.layer.Geometry.{Geometry}
 use Rattle.mapwords.specs.declared.colour.Component.{Component}
 use Rattle.mapwords.specs.declared.role.Block.{Block}
 use Rattle.mapwords.specs.declared.role.Block.TheVariants as block
@@ -95,7 +95,7 @@ unused-noted b = λ line own o. refl
 image-noted : (b : Block) (colour : Option Rgb) → IsNotedIn b (value.Colour ImageColour colour)
 image-noted b colour = λ line own o. refl
 
-kind-stays : (kind : Option Kind) → StaysIn block.Layer (option_map (λ k. Whole (value.Kind k)) kind)
+kind-stays : (kind : Option Geometry) → StaysIn block.Layer (option_map (λ k. Whole (value.Geometry k)) kind)
 kind-stays None = tt
 kind-stays (Some k) = λ line own o. refl
 
@@ -282,7 +282,7 @@ text-stays FeatureText b text p = rw p (λ line own o. refl)
 text-stays FeatureItems b text p = rw p (λ line own o. refl)
 
 plain-stays : (e : Expected) (b : Block) (t : TokenValue) → Suits e b → StaysIn b (plain_step e t)
-plain-stays expected.Kind b t p = rw p (kind-stays (kind_of t.text))
+plain-stays expected.Geometry b t p = rw p (kind-stays (kind_of t.text))
 plain-stays expected.Pixmap b t p = rw p (pixmap-stays (str_eq_ignore_ascii_case t.text (codes "PIXMAP")))
 plain-stays expected.Width b t p = rw p (width-stays (bounded_of 1 MAX_LINE_WIDTH t.text))
 plain-stays expected.Size b t p = rw p (size-stays (bounded_of 1 MAX_SQUARE t.text))
@@ -414,7 +414,7 @@ suited expected.West = (block.Map, refl)
 suited (expected.South x) = (block.Map, refl)
 suited (expected.East x y) = (block.Map, refl)
 suited (expected.North x y east) = (block.Map, refl)
-suited expected.Kind = (block.Layer, refl)
+suited expected.Geometry = (block.Layer, refl)
 suited expected.Table = (block.Layer, refl)
 suited (expected.Colour StyleColour) = (block.Style, refl)
 suited (expected.Green StyleColour r) = (block.Style, refl)

@@ -4,8 +4,8 @@ use Rattle.std.specs.Prelude.{ℕ, if◌then◌else◌, nat_le, ◌==◌, Option
 use Rattle.std.specs.Option.{option_map_or, option_or}
 use Rattle.std.proofs.lemmas.List.{map-append, length-map}
 use Rattle.maplex.specs.Token.{TokenValue}
-use Rattle.mapdefs.specs.declared.layer.Kind.{Kind}
-use Rattle.mapdefs.specs.declared.layer.Kind.TheVariants.{Polygon}
+use Rattle.mapdefs.specs.declared.layer.Geometry.{Geometry}
+use Rattle.mapdefs.specs.declared.layer.Geometry.TheVariants.{Polygon}
 use Rattle.mapdefs.specs.declared.limits.TheConstants.{MAX_SYMBOLS, MAX_LAYERS, MAX_CLASSES, MAX_STYLES, MAX_FEATURES}
 use Rattle.mapwords.specs.declared.role.Block.{Block}
 use Rattle.mapwords.specs.declared.role.Block.TheVariants as block
@@ -207,7 +207,7 @@ Suits (expected.North x y east) b = b ≡ block.Map
 Suits expected.Width b = b ≡ block.Style
 Suits expected.Size b = b ≡ block.Style
 Suits expected.Tolerance b = b ≡ block.Layer
-Suits expected.Kind b = b ≡ block.Layer
+Suits expected.Geometry b = b ≡ block.Layer
 Suits expected.Table b = b ≡ block.Layer
 Suits (expected.Colour StyleColour) b = b ≡ block.Style
 Suits (expected.Green StyleColour r) b = b ≡ block.Style
@@ -255,13 +255,13 @@ fits-web _ = tt
 
 fits-symbol : (k : Keyword) → Fits block.Symbol (symbol_role k)
 fits-symbol keyword.Name = refl
-fits-symbol keyword.Kind = refl
+fits-symbol keyword.GeometryType = refl
 fits-symbol keyword.Image = refl
 fits-symbol _ = tt
 
 fits-layer : (k : Keyword) → Fits block.Layer (layer_role k)
 fits-layer keyword.Name = refl
-fits-layer keyword.Kind = refl
+fits-layer keyword.GeometryType = refl
 fits-layer keyword.ClassItem = refl
 fits-layer keyword.LabelItem = refl
 fits-layer keyword.Data = refl
@@ -404,14 +404,14 @@ unless_fault None a = Ok a
 unless_fault (Some f) a = Err f
 
 module _ (earlier : List LayerTree) (t : TokenValue) (layer : LayerDraft) (with_layer : LayerTree → Drafts) where
-  taken-ends : (name : Named) (kind : Kind) (taken : Bool) (table : Option Fault) →
+  taken-ends : (name : Named) (kind : Geometry) (taken : Bool) (table : Option Fault) →
       and_then (if taken then Err (record { line = name.line; kind = DuplicateName }) else end.unless_fault table (layer_with name.text kind layer)) (λ made. Ok (with_layer made))
       ≡ unless_fault (if taken then Some (record { line = name.line; kind = DuplicateName }) else table) (with_layer (layer_with name.text kind layer))
   taken-ends name kind true table = refl
   taken-ends name kind false None = refl
   taken-ends name kind false (Some f) = refl
 
-  layer-ends : (name : Option Named) (kind : Option Kind) →
+  layer-ends : (name : Option Named) (kind : Option Geometry) →
       and_then (finished_layer name kind layer earlier t) (λ made. Ok (with_layer made))
       ≡ unless_fault (layer_end_fault name kind layer.table earlier t) (with_layer (layer_with (option_map_or (λ (n : Named). n.text) name []) (unwrap_or kind Polygon) layer))
   layer-ends (Some name) (Some kind) = taken-ends name kind (is_taken name.text earlier) (table_fault kind layer.table)

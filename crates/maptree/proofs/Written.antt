@@ -21,7 +21,7 @@ use Rattle.maplex.specs.declared.fault.Tail.{Tail}
 use Rattle.maplex.specs.declared.fault.Tail.TheVariants as tails
 use Rattle.maplex.specs.Token.{TokenValue}
 use Rattle.mapdefs.specs.declared.limits.TheConstants.{MAX_VERTICES, MAX_LINE_WIDTH, MAX_SQUARE, MAX_TOLERANCE, MAX_PRIORITY, MAX_BUFFER, MAX_DISTANCE, MAX_ITEMS}
-use Rattle.mapdefs.specs.declared.layer.Kind.TheVariants.{Point, Line, Polygon}
+use Rattle.mapdefs.specs.declared.layer.Geometry.TheVariants.{Point, Line, Polygon}
 use Rattle.mapdefs.specs.declared.label.Position.{Position}
 use Rattle.mapdefs.specs.declared.label.Position.TheVariants.{UpperLeft, UpperCentre, UpperRight, CentreLeft, Centre, CentreRight, LowerLeft, LowerCentre, LowerRight, Automatic}
 use Rattle.mapwords.specs.declared.role.ColourKeyword.TheVariants.{StyleColour, StyleOutline, LabelColour, LabelOutline}

@@ -1,13 +1,13 @@
 -- The tables of layers, and the files that a MAP uses (docs/MAPFILE.md, "Tables" and "Files").
 use Rattle.std.specs.Prelude.{List, [], ◌∷◌, ◌++◌, Option, None, Some}
-use Rattle.mapdefs.specs.declared.layer.Kind.{Kind}
-use Rattle.mapdefs.specs.declared.layer.Kind.TheVariants.{Point}
+use Rattle.mapdefs.specs.declared.layer.Geometry.{Geometry}
+use Rattle.mapdefs.specs.declared.layer.Geometry.TheVariants.{Point}
 use Rattle.mapwords.specs.declared.fault.Fault.{Fault}
 use Rattle.mapwords.specs.declared.fault.ParseKind.TheVariants.{WrongValue}
 use Rattle.maptree.specs.declared.tree.Named.{Named}
 
 -- a table has points, so that no layer of another kind may have one; the fault is at the line of the file's name
-abbrev pub table_fault : Kind → Option Named → Option Fault
+abbrev pub table_fault : Geometry → Option Named → Option Fault
 table_fault Point table = None
 table_fault kind None = None
 table_fault kind (Some table) = Some (record { line = table.line; kind = WrongValue })

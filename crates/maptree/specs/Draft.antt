@@ -120,7 +120,7 @@ with_flag Force flag d = record d { label = record d.label { force = Some flag }
 -- a value of a line is noted, in place of an earlier value of its keyword
 abbrev pub with_value : Value → ℕ → Drafts → Drafts
 with_value (value.Text keyword text) line d = with_text keyword text line d
-with_value (value.Kind kind) line d = record d { layer = record d.layer { kind = Some kind } }
+with_value (value.Geometry kind) line d = record d { layer = record d.layer { kind = Some kind } }
 with_value value.Pixmap line d = record d { symbol = record d.symbol { pixmap = true } }
 with_value (value.Width width) line d = record d { style = record d.style { width = Some width } }
 with_value (value.Size size) line d = record d { style = record d.style { size = Some size } }

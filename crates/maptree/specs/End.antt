@@ -1,7 +1,7 @@
 -- What an END does, and what is checked at it (docs/MAPFILE.md, "Blocks and words").
 use Rattle.std.specs.Prelude.{ℕ, ◌==◌, if◌then◌else◌, List, [], ◌∷◌, ◌++◌, length, Bool, true, Option, None, Some, Result, Ok, Err}
 use Rattle.maplex.specs.Token.{TokenValue}
-use Rattle.mapdefs.specs.declared.layer.Kind.{Kind}
+use Rattle.mapdefs.specs.declared.layer.Geometry.{Geometry}
 use Rattle.maptree.specs.Name.{is_taken}
 use Rattle.mapwords.specs.declared.role.Block.{Block}
 use Rattle.mapwords.specs.declared.role.Block.TheVariants as block
@@ -19,7 +19,7 @@ use Rattle.maptree.specs.Symbol.{map_fault}
 use Rattle.maptree.specs.Draft.{new_symbol, new_layer, new_class, new_style, new_label, new_feature}
 
 -- a layer with this name and this kind, and what else its draft has
-abbrev pub layer_with : List ℕ → Kind → LayerDraft → LayerTree
+abbrev pub layer_with : List ℕ → Geometry → LayerDraft → LayerTree
 layer_with name kind layer = record {
   name = name;
   kind = kind;
@@ -45,13 +45,13 @@ unless_fault None a = Ok a
 unless_fault (Some f) a = Err f
 
 -- a layer with its name and its kind, unless an earlier layer has the name, or its table can't be of the kind
-abbrev pub named_layer : Named → Kind → LayerDraft → List LayerTree → Result LayerTree Fault
+abbrev pub named_layer : Named → Geometry → LayerDraft → List LayerTree → Result LayerTree Fault
 named_layer name kind layer earlier =
     if is_taken name.text earlier then Err (record { line = name.line; kind = DuplicateName })
     else unless_fault (table_fault kind layer.table) (layer_with name.text kind layer)
 
 -- a layer has a name and a kind
-abbrev pub finished_layer : Option Named → Option Kind → LayerDraft → List LayerTree → TokenValue → Result LayerTree Fault
+abbrev pub finished_layer : Option Named → Option Geometry → LayerDraft → List LayerTree → TokenValue → Result LayerTree Fault
 finished_layer (Some name) (Some kind) layer earlier t = named_layer name kind layer earlier
 finished_layer _ _ layer earlier t = refused MissingValue t
 

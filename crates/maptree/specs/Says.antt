@@ -3,7 +3,7 @@ use Rattle.std.specs.Prelude.{ℤ, Bool, false, if◌then◌else◌, nat_le, Lis
 use Rattle.std.specs.Option.{ok_or}
 use Rattle.maplex.specs.Token.{TokenValue}
 use Rattle.mapdefs.specs.declared.limits.TheConstants.{MAX_SYMBOLS, MAX_LAYERS, MAX_CLASSES, MAX_STYLES, MAX_FEATURES, MAX_VERTICES}
-use Rattle.mapdefs.specs.declared.layer.Kind.{Kind}
+use Rattle.mapdefs.specs.declared.layer.Geometry.{Geometry}
 use Rattle.mapwords.specs.declared.role.Block.{Block}
 use Rattle.mapwords.specs.declared.role.Block.TheVariants as block
 use Rattle.mapwords.specs.declared.role.Expected.{Expected}
@@ -33,7 +33,7 @@ pub data Saying : Type 0 where
   Passes : Saying
 
 -- the END of a LAYER asks for a NAME, which none of the earlier layers has, and a TYPE, of which a table may be
-abbrev pub layer_end_fault : Option Named → Option Kind → Option Named → List LayerTree → TokenValue → Option Fault
+abbrev pub layer_end_fault : Option Named → Option Geometry → Option Named → List LayerTree → TokenValue → Option Fault
 layer_end_fault (Some name) (Some kind) table earlier t =
     if is_taken name.text earlier then Some (record { line = name.line; kind = DuplicateName }) else table_fault kind table
 layer_end_fault _ _ table earlier t = Some (fault_of MissingValue t)

@@ -3,8 +3,8 @@
 use Rattle.std.specs.Prelude.{ℕ, List, [], ◌∷◌, ◌++◌, length, map, ℤ, Bool, true, Option, None, Some, is_some, unwrap_or, option_map}
 use Rattle.std.specs.Option.{option_flatten, option_map_or, option_or}
 use Rattle.mapdefs.specs.declared.colour.Rgb.{Rgb}
-use Rattle.mapdefs.specs.declared.layer.Kind.{Kind}
-use Rattle.mapdefs.specs.declared.layer.Kind.TheVariants.{Polygon}
+use Rattle.mapdefs.specs.declared.layer.Geometry.{Geometry}
+use Rattle.mapdefs.specs.declared.layer.Geometry.TheVariants.{Polygon}
 use Rattle.mapwords.specs.declared.role.Block.{Block}
 use Rattle.mapwords.specs.declared.role.Block.TheVariants as block
 use Rattle.mapwords.specs.declared.role.TextKeyword.TheVariants.{MapName, LayerName, ClassItem, LabelItem, Template, LayerData, CsvX, CsvY, ServiceWmsTitle, ServiceOwsTitle, ServiceWmsUrl, ServiceOwsUrl, LayerWmsTitle, LayerOwsTitle, SymbolName, SymbolImage, StyleSymbol, FeatureText, FeatureItems, LabelFont}
@@ -186,8 +186,8 @@ template (value.Text Template text) line = Some text
 template _ line = None
 
 -- the kind that a TYPE gives a layer
-abbrev pub layer_kind : Value → ℕ → Option Kind
-layer_kind (value.Kind kind) line = Some kind
+abbrev pub layer_kind : Value → ℕ → Option Geometry
+layer_kind (value.Geometry kind) line = Some kind
 layer_kind _ line = None
 
 -- the least scale denominator that MINSCALEDENOM gives a layer

@@ -6,8 +6,8 @@ use Rattle.geom.specs.declared.micro.TheConstants.{NUMBER_LIMIT}
 use Rattle.geom.specs.World.{Place, Area, IsCoordinate, IsExtent}
 use Rattle.geom.specs.Written.{written}
 use Rattle.mapdefs.specs.declared.colour.Rgb.{Rgb}
-use Rattle.mapdefs.specs.declared.layer.Kind.{Kind}
-use Rattle.mapdefs.specs.declared.layer.Kind.TheVariants.{Point, Line, Polygon}
+use Rattle.mapdefs.specs.declared.layer.Geometry.{Geometry}
+use Rattle.mapdefs.specs.declared.layer.Geometry.TheVariants.{Point, Line, Polygon}
 use Rattle.mapdefs.specs.declared.limits.TheConstants.{MAX_VERTICES, MAX_LINE_WIDTH, MAX_SQUARE, MAX_TOLERANCE, MAX_PRIORITY, MAX_BUFFER, MAX_DISTANCE, MAX_ITEMS}
 use Rattle.mapdefs.specs.declared.class.Rule.TheVariants.{Always, Equals, OneOf, Logic}
 use Rattle.mapdefs.specs.declared.label.Position.{Position}
@@ -118,9 +118,9 @@ flag_text false = codes "FALSE"
 -- the keyword of a value, and its tokens
 abbrev pub written_value : Value → ℕ → List TokenValue
 written_value (value.Text keyword text) line = written_text keyword text line
-written_value (value.Kind Polygon) line = bare line (codes "TYPE") ∷ bare line (codes "POLYGON") ∷ []
-written_value (value.Kind Point) line = bare line (codes "TYPE") ∷ bare line (codes "POINT") ∷ []
-written_value (value.Kind Line) line = bare line (codes "TYPE") ∷ bare line (codes "LINE") ∷ []
+written_value (value.Geometry Polygon) line = bare line (codes "TYPE") ∷ bare line (codes "POLYGON") ∷ []
+written_value (value.Geometry Point) line = bare line (codes "TYPE") ∷ bare line (codes "POINT") ∷ []
+written_value (value.Geometry Line) line = bare line (codes "TYPE") ∷ bare line (codes "LINE") ∷ []
 written_value value.Pixmap line = bare line (codes "TYPE") ∷ bare line (codes "PIXMAP") ∷ []
 written_value (value.Width width) line = bare line (codes "WIDTH") ∷ bare line (decimal width) ∷ []
 written_value (value.Size size) line = bare line (codes "SIZE") ∷ bare line (decimal size) ∷ []
@@ -190,7 +190,7 @@ pub data IsValueIn : Block → Value → Type 0 where
   class_item : (text : List ℕ) → IsValueIn block.Layer (value.Text ClassItem text)
   label_item : (text : List ℕ) → IsValueIn block.Layer (value.Text LabelItem text)
   template : (text : List ℕ) → IsValueIn block.Layer (value.Text Template text)
-  layer_kind : (kind : Kind) → IsValueIn block.Layer (value.Kind kind)
+  layer_kind : (kind : Geometry) → IsValueIn block.Layer (value.Geometry kind)
   layer_data : (text : List ℕ) → is_table_name text ≡ true → IsValueIn block.Layer (value.Text LayerData text)
   csv_x : (text : List ℕ) → IsValueIn block.Layer (value.Text CsvX text)
   csv_y : (text : List ℕ) → IsValueIn block.Layer (value.Text CsvY text)

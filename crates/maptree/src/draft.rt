@@ -7,7 +7,7 @@ use crate::tree::{
     ClassTree, FeatureTree, FontTree, LabelTree, LayerTree, MapTree, Named, StyleTree,
 };
 use geom::Micro;
-use mapdefs::{Items, Kind, MAX_CLASSES, MAX_FEATURES, MAX_ITEMS, Rgb, Text};
+use mapdefs::{Geometry, Items, MAX_CLASSES, MAX_FEATURES, MAX_ITEMS, Rgb, Text};
 use mapwords::{
     Block, Capped, ColourKeyword, FlagKeyword, ScaleKeyword, TextKeyword, Tolerance, Value,
 };
@@ -18,7 +18,7 @@ use std::mem;
 #[derive(Drop)]
 pub struct LayerDraft {
     pub name: Option<Named>,
-    pub kind: Option<Kind>,
+    pub kind: Option<Geometry>,
     pub classitem: Option<Text>,
     pub labelitem: Option<Text>,
     pub queryable: bool,
@@ -301,7 +301,7 @@ impl Drafts {
     {
         match value {
             Value::Text(keyword, text) => self.set_text(keyword, text, line),
-            Value::Kind(kind) => self.layer.kind = Some(kind),
+            Value::Geometry(kind) => self.layer.kind = Some(kind),
             Value::Pixmap => self.symbol.pixmap = true,
             Value::Width(width) => self.style.width = Some(width),
             Value::Size(size) => self.style.size = Some(size),

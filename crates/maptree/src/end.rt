@@ -9,7 +9,7 @@ ghost use Rattle.maptree.specs.Name.{is_taken};
 use crate::draft::{Drafts, FeatureDraft, LayerDraft, SymbolDraft};
 use crate::symbol::map_fault;
 use crate::tree::{ClassTree, FeatureTree, LabelTree, LayerTree, Named, StyleTree, SymbolTree};
-use mapdefs::{Duplicate, Items, Kind};
+use mapdefs::{Duplicate, Geometry, Items};
 use maplex::Token;
 use mapwords::{Block, Fault, ParseFault, ParseKind, fault_of};
 use std::alloc::{AllocError, Global};
@@ -23,11 +23,11 @@ fn is_taken(name: &str, layers: &[LayerTree]) -> bool
 }
 
 // The fault of a table in a layer of a kind that has none.
-fn table_fault(kind: Kind, table: &Option<Named>) -> Option<Fault>
+fn table_fault(kind: Geometry, table: &Option<Named>) -> Option<Fault>
     ensures { result ≡ table_fault kind table.now }
 {
     match (kind, table) {
-        (Kind::Line | Kind::Polygon, Some(table)) => Some(Fault {
+        (Geometry::Line | Geometry::Polygon, Some(table)) => Some(Fault {
             line: table.line,
             kind: ParseKind::WrongValue,
         }),

@@ -1,7 +1,7 @@
 use crate::parts::Parts;
 use geom::Micro;
 use mapdefs::{
-    Duplicate, Items, Kind, MAX_CLASSES, MAX_FEATURES, MAX_ITEMS, MAX_LAYERS, MAX_STYLES,
+    Duplicate, Geometry, Items, MAX_CLASSES, MAX_FEATURES, MAX_ITEMS, MAX_LAYERS, MAX_STYLES,
     MAX_SYMBOLS, Position, Rgb, Text,
 };
 use mapwords::{
@@ -65,7 +65,7 @@ pub struct SymbolTree {
 #[derive(Drop)]
 pub struct LayerTree {
     pub name: Text,
-    pub kind: Kind,
+    pub kind: Geometry,
     pub classitem: Option<Text>,
     pub labelitem: Option<Text>,
     /// Whether a TEMPLATE is given.

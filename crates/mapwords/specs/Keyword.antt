@@ -5,14 +5,14 @@ use Rattle.maplex.specs.declared.token.Shape.{Shape}
 use Rattle.maplex.specs.declared.token.Shape.TheVariants.{Word}
 use Rattle.maplex.specs.Token.{TokenValue}
 use Rattle.mapwords.specs.declared.keyword.Keyword.{Keyword}
-use Rattle.mapwords.specs.declared.keyword.Keyword.TheVariants.{Map, Layer, Name, Kind, Class, Style, Color, Feature, Points, Angle, Antialias, Buffer, ClassItem, Config, Debug, Dump, Empty, Encoding, Error, Expression, Extent, Font, FontSet, Footer, Force, Group, Header, ImageColor, ImagePath, ImageType, ImageUrl, Items, Label, LabelCache, LabelItem, LabelMaxScaleDenom, LabelMinScaleDenom, Legend, Log, MaxScaleDenom, MaxSize, MaxWidth, Metadata, MinDistance, MinFeatureSize, MinScaleDenom, MinSize, MinWidth, Offset, OutlineColor, OutlineWidth, OutputFormat, Partials, Position, Priority, Processing, Projection, QueryMap, Reference, RepeatDistance, Resolution, ScaleBar, ShapePath, Size, Status, Template, Text, Title, Tolerance, ToleranceUnits, Units, Validation, Web, Width, Symbol, Image, Transparent, AnchorPoint, Data, End}
+use Rattle.mapwords.specs.declared.keyword.Keyword.TheVariants.{Map, Layer, Name, GeometryType, Class, Style, Color, Feature, Points, Angle, Antialias, Buffer, ClassItem, Config, Debug, Dump, Empty, Encoding, Error, Expression, Extent, Font, FontSet, Footer, Force, Group, Header, ImageColor, ImagePath, ImageType, ImageUrl, Items, Label, LabelCache, LabelItem, LabelMaxScaleDenom, LabelMinScaleDenom, Legend, Log, MaxScaleDenom, MaxSize, MaxWidth, Metadata, MinDistance, MinFeatureSize, MinScaleDenom, MinSize, MinWidth, Offset, OutlineColor, OutlineWidth, OutputFormat, Partials, Position, Priority, Processing, Projection, QueryMap, Reference, RepeatDistance, Resolution, ScaleBar, ShapePath, Size, Status, Template, Text, Title, Tolerance, ToleranceUnits, Units, Validation, Web, Width, Symbol, Image, Transparent, AnchorPoint, Data, End}
 
 -- how a keyword is written
 unfoldable pub spelling : Keyword → List ℕ
 spelling Map = codes "MAP"
 spelling Layer = codes "LAYER"
 spelling Name = codes "NAME"
-spelling Kind = codes "TYPE"
+spelling GeometryType = codes "TYPE"
 spelling Class = codes "CLASS"
 spelling Style = codes "STYLE"
 spelling Color = codes "COLOR"
@@ -93,7 +93,7 @@ spelling End = codes "END"
 -- all keywords
 abbrev pub keywords : List Keyword
 keywords =
-    Map ∷ Layer ∷ Name ∷ Kind ∷ Class ∷ Style ∷ Color ∷ Feature ∷ Points ∷ Angle ∷ Antialias ∷ Buffer ∷ ClassItem ∷
+    Map ∷ Layer ∷ Name ∷ GeometryType ∷ Class ∷ Style ∷ Color ∷ Feature ∷ Points ∷ Angle ∷ Antialias ∷ Buffer ∷ ClassItem ∷
     Config ∷ Debug ∷ Dump ∷ Empty ∷ Encoding ∷ Error ∷ Expression ∷ Extent ∷ Font ∷ FontSet ∷ Footer ∷ Force ∷ Group
     ∷ Header ∷ ImageColor ∷ ImagePath ∷ ImageType ∷ ImageUrl ∷ Items ∷ Label ∷ LabelCache ∷ LabelItem ∷
     LabelMaxScaleDenom ∷ LabelMinScaleDenom ∷ Legend ∷ Log ∷ MaxScaleDenom ∷ MaxSize ∷ MaxWidth ∷ Metadata ∷

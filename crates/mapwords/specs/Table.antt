@@ -61,7 +61,7 @@ web_role _ = None
 -- the keywords of SYMBOL
 abbrev pub symbol_role : Keyword → Option Role
 symbol_role keyword.Name = Some (Takes (expected.Text SymbolName))
-symbol_role keyword.Kind = Some (Takes expected.Pixmap)
+symbol_role keyword.GeometryType = Some (Takes expected.Pixmap)
 symbol_role keyword.Image = Some (Takes (expected.Text SymbolImage))
 symbol_role keyword.Transparent = Some (Takes (expected.Unused 0))
 symbol_role keyword.AnchorPoint = Some (Takes (expected.Unused 1))
@@ -71,7 +71,7 @@ symbol_role _ = None
 -- the keywords of LAYER
 abbrev pub layer_role : Keyword → Option Role
 layer_role keyword.Name = Some (Takes (expected.Text LayerName))
-layer_role keyword.Kind = Some (Takes expected.Kind)
+layer_role keyword.GeometryType = Some (Takes expected.Geometry)
 layer_role keyword.ClassItem = Some (Takes (expected.Text ClassItem))
 layer_role keyword.LabelItem = Some (Takes (expected.Text LabelItem))
 layer_role keyword.Data = Some (Takes expected.Table)
@@ -143,7 +143,7 @@ label_role keyword.Force = Some (Takes (expected.Flag Force))
 label_role keyword.Antialias = Some (Takes (expected.Unused 0))
 label_role keyword.Encoding = Some (Takes (expected.Unused 0))
 label_role keyword.Font = Some (Takes (expected.Unused 0))
-label_role keyword.Kind = Some (Takes (expected.Unused 0))
+label_role keyword.GeometryType = Some (Takes (expected.Unused 0))
 label_role keyword.MaxSize = Some (Takes (expected.Unused 0))
 label_role keyword.MinFeatureSize = Some (Takes (expected.Unused 0))
 label_role keyword.MinSize = Some (Takes (expected.Unused 0))

@@ -8,8 +8,8 @@ use Rattle.maplex.specs.declared.token.Shape.TheVariants.{Word, Text}
 use Rattle.maplex.specs.Token.{TokenValue}
 use Rattle.geom.specs.Number.{coordinate_of}
 use Rattle.mapdefs.specs.declared.colour.Rgb.{Rgb}
-use Rattle.mapdefs.specs.declared.layer.Kind.{Kind}
-use Rattle.mapdefs.specs.declared.layer.Kind.TheVariants.{Point, Line, Polygon}
+use Rattle.mapdefs.specs.declared.layer.Geometry.{Geometry}
+use Rattle.mapdefs.specs.declared.layer.Geometry.TheVariants.{Point, Line, Polygon}
 use Rattle.mapwords.specs.declared.colour.Component.{Component}
 use Rattle.mapwords.specs.declared.role.ColourKeyword.{ColourKeyword}
 use Rattle.mapwords.specs.declared.role.TextKeyword.TheVariants.{LabelFont, LayerData}
@@ -33,7 +33,7 @@ use Rattle.mapwords.specs.Count.{bounded_of, number_in}
 use Rattle.mapwords.specs.Colour.{component_of, rgb_of, hex_colour}
 
 -- the kind of a layer's features that a text is
-abbrev pub kind_of : List ℕ → Option Kind
+abbrev pub kind_of : List ℕ → Option Geometry
 kind_of text =
     if str_eq_ignore_ascii_case text (codes "POINT") then Some Point
     else if str_eq_ignore_ascii_case text (codes "LINE") then Some Line
@@ -94,7 +94,7 @@ config_step key = if is_same_name key (codes "LABELFONT") then More (expected.Te
 
 -- a token as a value of which nothing is kept but numbers, if it is such a value
 abbrev pub plain_step : Expected → TokenValue → Option ValueStep
-plain_step expected.Kind t = option_map (λ kind. Whole (value.Kind kind)) (kind_of t.text)
+plain_step expected.Geometry t = option_map (λ kind. Whole (value.Geometry kind)) (kind_of t.text)
 plain_step expected.Pixmap t = pixmap_step t.text
 plain_step expected.Width t = option_map (λ n. Whole (value.Width n)) (bounded_of 1 MAX_LINE_WIDTH t.text)
 plain_step expected.Size t = option_map (λ n. Whole (value.Size n)) (bounded_of 1 MAX_SQUARE t.text)

@@ -9,7 +9,7 @@ pub enum Keyword {
     Map,
     Layer,
     Name,
-    Kind,
+    GeometryType,
     Class,
     Style,
     Color,
@@ -94,7 +94,7 @@ const THREE: [Keyword; 4] = [Keyword::Map, Keyword::Log, Keyword::Web, Keyword::
 // The keywords whose spelling has this length.
 const FOUR: [Keyword; 7] = [
     Keyword::Name,
-    Keyword::Kind,
+    Keyword::GeometryType,
     Keyword::Dump,
     Keyword::Font,
     Keyword::Size,

@@ -99,7 +99,7 @@ pub enum Expected {
     /// A text.
     Text(TextKeyword),
     /// The kind of a layer's features.
-    Kind,
+    Geometry,
     /// The name of the file of a layer's table.
     Table,
     /// The kind of a symbol, which is PIXMAP.

@@ -67,7 +67,7 @@ fn symbol_role(keyword: Keyword) -> Option<Role>
 {
     match keyword {
         Keyword::Name => Some(Role::Takes(Expected::Text(TextKeyword::SymbolName))),
-        Keyword::Kind => Some(Role::Takes(Expected::Pixmap)),
+        Keyword::GeometryType => Some(Role::Takes(Expected::Pixmap)),
         Keyword::Image => Some(Role::Takes(Expected::Text(TextKeyword::SymbolImage))),
         Keyword::Transparent => Some(Role::Takes(Expected::Unused(0))),
         Keyword::AnchorPoint => Some(Role::Takes(Expected::Unused(1))),
@@ -82,7 +82,7 @@ fn layer_role(keyword: Keyword) -> Option<Role>
 {
     match keyword {
         Keyword::Name => Some(Role::Takes(Expected::Text(TextKeyword::LayerName))),
-        Keyword::Kind => Some(Role::Takes(Expected::Kind)),
+        Keyword::GeometryType => Some(Role::Takes(Expected::Geometry)),
         Keyword::ClassItem => Some(Role::Takes(Expected::Text(TextKeyword::ClassItem))),
         Keyword::LabelItem => Some(Role::Takes(Expected::Text(TextKeyword::LabelItem))),
         Keyword::Data => Some(Role::Takes(Expected::Table)),
@@ -166,7 +166,7 @@ fn label_role(keyword: Keyword) -> Option<Role>
         Keyword::Antialias
         | Keyword::Encoding
         | Keyword::Font
-        | Keyword::Kind
+        | Keyword::GeometryType
         | Keyword::MaxSize
         | Keyword::MinFeatureSize
         | Keyword::MinSize

@@ -17,7 +17,7 @@ use crate::role::{ColourKeyword, Expected, FlagKeyword, OnlyWord, ScaleKeyword, 
 use crate::rule::{ClassRule, RuleError};
 use crate::setting::setting_step;
 use geom::{Coordinate, Micro};
-use mapdefs::{Kind, MAX_ITEMS, Position, Rgb, Text};
+use mapdefs::{Geometry, MAX_ITEMS, Position, Rgb, Text};
 use maplex::{Shape, Token};
 use std::alloc::Global;
 
@@ -25,7 +25,7 @@ use std::alloc::Global;
 #[derive(Drop)]
 pub enum Value {
     Text(TextKeyword, Text),
-    Kind(Kind),
+    Geometry(Geometry),
     /// The kind of a symbol.
     Pixmap,
     Colour(ColourKeyword, Option<Rgb>),
@@ -66,15 +66,15 @@ pub fn is_value(token: &Token) -> bool
 }
 
 // The kind of a layer's features that the text is.
-fn kind_of(text: &str) -> Option<Kind>
+fn kind_of(text: &str) -> Option<Geometry>
     ensures { result ≡ kind_of text.now }
 {
     if text.eq_ignore_ascii_case("POINT") {
-        Some(Kind::Point)
+        Some(Geometry::Point)
     } else if text.eq_ignore_ascii_case("LINE") {
-        Some(Kind::Line)
+        Some(Geometry::Line)
     } else if text.eq_ignore_ascii_case("POLYGON") {
-        Some(Kind::Polygon)
+        Some(Geometry::Polygon)
     } else {
         None
     }
@@ -198,7 +198,7 @@ fn plain_step(expected: Expected, token: &Token) -> Option<ValueStep>
 {
     let text = token.text;
     match expected {
-        Expected::Kind => whole(kind_of(text).map(Value::Kind)),
+        Expected::Geometry => whole(kind_of(text).map(Value::Geometry)),
         Expected::Pixmap => pixmap_step(text),
         Expected::Width => whole(Bounded::read(text).map(Value::Width)),
         Expected::Size => whole(Bounded::read(text).map(Value::Size)),

@@ -5,7 +5,7 @@ ghost use Rattle.mapdefs.specs.declared.limits.TheConstants.{MAX_LAYERS};
 use compose::picture;
 use geom::{Micro, NUMBER_LIMIT, PictureSide, World, WorldBox};
 use mapdefs::{
-    AllFeatures, Class, ClassFields, Feature, FeatureFields, Items, Kind, Layer, LayerFields,
+    AllFeatures, Class, ClassFields, Feature, FeatureFields, Geometry, Items, Layer, LayerFields,
     MAX_VERTICES, Map, Part, Picture, Rgb, Rule, Shared, SharedItems, Style, StyleFields, Symbol,
     Text,
 };
@@ -182,11 +182,11 @@ fn feature(alloc: Global, text: &str) -> Result<Feature, AllocError>
     Ok(feature_of(alloc, parts))
 }
 
-fn kind_of(word: &str) -> Option<Kind> {
+fn kind_of(word: &str) -> Option<Geometry> {
     match word {
-        "polygon" => Some(Kind::Polygon),
-        "line" => Some(Kind::Line),
-        "point" => Some(Kind::Point),
+        "polygon" => Some(Geometry::Polygon),
+        "line" => Some(Geometry::Line),
+        "point" => Some(Geometry::Point),
         _ => None,
     }
 }
@@ -198,7 +198,7 @@ fn bounds_of(bounded: &str) -> Option<(Bounds, Bounds)> {
 }
 
 // The kind of a layer, the letters of its class's styles, and the bounds of both.
-fn words_of(words: &str) -> Option<(Kind, &str, Bounds, Bounds)> {
+fn words_of(words: &str) -> Option<(Geometry, &str, Bounds, Bounds)> {
     let (kind, words) = words.split_once(' ')?;
     let (letters, bounded) = words.split_once(' ')?;
     let (of_class, of_layer) = bounds_of(bounded)?;
@@ -208,7 +208,7 @@ fn words_of(words: &str) -> Option<(Kind, &str, Bounds, Bounds)> {
 // A layer of that kind, with these bounds on the scale.
 fn layer_of(
     alloc: Global,
-    kind: Kind,
+    kind: Geometry,
     bounds: Bounds,
     classes: SharedItems<Class>,
     features: SharedItems<Shared<Feature>>,

@@ -3,7 +3,7 @@ use Rattle.std.specs.Prelude.{◌≡◌, ℕ, Bool, true, false, List, ◌++◌,
 use Rattle.std.specs.Fmt.{decimal}
 use Rattle.commandline.specs.declared.subcommand.Command.{Command}
 use Rattle.commandline.specs.declared.subcommand.Command.TheVariants.{Session, Check, Run, Serve}
-use Rattle.console.specs.Streams.{Outcome, Streams, WriterState, IsReported}
+use Rattle.console.specs.Console.{Outcome, ConsoleState, WriterState, IsReported}
 use Rattle.console.specs.declared.failure.Failure.{Failure}
 use Rattle.console.specs.declared.failure.Failure.TheVariants.{OutputFailed, ListenFailed, SocketFailed, WatchFailed, NoMemory}
 use Rattle.console.specs.declared.failure.ListenCause.{ListenCause}

@@ -11,10 +11,10 @@ abbrev pub left_of : {F : Type 0} → Option (List ℕ) → (F → Option (List 
 left_of whole left None = whole
 left_of whole left (Some opened) = left opened
 
--- what a folder gives under a name, by the bytes of the files of paths: those of the name's path. `front` stands before the names of its files
+-- what a folder gives under a name, by the bytes of the files of paths: those of the name's path. `parent` stands before the names of its files
 abbrev pub gives_in : (List ℕ → Option (List ℕ)) → List ℕ → Giving
-gives_in file front name None = ⊤
-gives_in file front name (Some bytes) = IfSome (file (path_of front name)) (λ known. bytes ≡ known)
+gives_in file parent name None = ⊤
+gives_in file parent name (Some bytes) = IfSome (file (path_of parent name)) (λ known. bytes ≡ known)
 
 -- why a file can't be read, by what the system says
 abbrev pub cause_of : ErrorKind → UnreadCause

@@ -14,7 +14,7 @@ use Rattle.journalfile.specs.declared.recovery.RecoverFault.{RecoverFault}
 use Rattle.journalfile.specs.declared.recovery.RecoverFault.TheVariants as recover_fault
 use Rattle.journalfile.specs.declared.writing.Journal.{Journal}
 use Rattle.mapparse.specs.declared.files.FileBytes.{FileBytes}
-use Rattle.console.specs.Streams.{Outcome, WriterState, IsReported}
+use Rattle.console.specs.Console.{Outcome, WriterState, IsReported}
 use Rattle.console.specs.declared.failure.Failure.{Failure}
 use Rattle.console.specs.declared.failure.Failure.TheVariants as failure
 use Rattle.program.specs.declared.keeping.JournalFault.{JournalFault}

@@ -4,7 +4,7 @@ use Rattle.std.specs.Io.KnownBytes.{Keeps}
 use Rattle.commandline.specs.declared.subcommand.Command.{Command}
 use Rattle.commandline.specs.declared.subcommand.Service.{Service}
 use Rattle.commandline.specs.declared.subcommand.Command.TheVariants.{Session, Check, Run, Serve}
-use Rattle.console.specs.Streams.{Streams, WriterState, IsReported}
+use Rattle.console.specs.Console.{ConsoleState, WriterState, IsReported}
 use Rattle.console.specs.declared.failure.Failure.{Failure}
 use Rattle.batches.specs.Batch.{State}
 use Rattle.journalfile.specs.declared.writing.Journal.{Journal}
@@ -13,7 +13,7 @@ use Rattle.mapparse.specs.declared.files.FileBytes.{FileBytes}
 use Rattle.program.specs.Journals.{JournalView, IsOpened, IsUnopened, ReportsEnd, failure_of, journal_fault, map_fingerprint}
 use Rattle.program.specs.declared.keeping.JournalFault.{JournalFault}
 use Rattle.service.specs.Serving.{HasAnnounced, IsUnserved}
-use Rattle.subcommands.specs.Folder.{Giving, IsFront}
+use Rattle.subcommands.specs.Folder.{Giving, IsParent}
 use Rattle.subcommands.specs.Mapfiles.{HasReadMapfile, GivesNoMap, ReportsWarnings, ChecksTo, RunsTo}
 use Rattle.subcommands.specs.Session.{PlaysTo, opened}
 use Rattle.subcommands.specs.declared.unread.UnreadCause.{UnreadCause}
@@ -77,7 +77,7 @@ ServesMap host (Some path) fingerprint map service ending written =
     IsWithoutJournal host path fingerprint map ending written ⊎ IsJournalServed host path fingerprint map service ending written
 
 -- the warnings on the map of a mapfile were reported, where `explains` says so, and the map was served
-pub record IsMapServed {P L : Type 0} (host : HostView P L) (gives : Giving) (explains : Bool) (journal : Option (List ℕ)) (service : Service) (ending : EndingValue P L) (name : List ℕ) (before after : Option (List ℕ)) (old new : Streams) : Type 0 where
+pub record IsMapServed {P L : Type 0} (host : HostView P L) (gives : Giving) (explains : Bool) (journal : Option (List ℕ)) (service : Service) (ending : EndingValue P L) (name : List ℕ) (before after : Option (List ℕ)) (old new : ConsoleState) : Type 0 where
   pub map : MapFields
   pub mapfile : List ℕ
   pub files : List FileBytes
@@ -88,7 +88,7 @@ pub record IsMapServed {P L : Type 0} (host : HostView P L) (gives : Giving) (ex
       (record { output = old.output; later_output = new.output; errors = errors; later_errors = new.errors })
 
 -- no map was served, since the mapfile gave none
-pub record IsWithoutMap {P L : Type 0} (gives : Giving) (explains : Bool) (ending : EndingValue P L) (name : List ℕ) (before after : Option (List ℕ)) (old new : Streams) : Type 0 where
+pub record IsWithoutMap {P L : Type 0} (gives : Giving) (explains : Bool) (ending : EndingValue P L) (name : List ℕ) (before after : Option (List ℕ)) (old new : ConsoleState) : Type 0 where
   pub failure : Failure
   pub ends : ending.outcome ≡ Err failure
   pub output : Keeps old.output.held new.output.held
@@ -97,7 +97,7 @@ pub record IsWithoutMap {P L : Type 0} (gives : Giving) (explains : Bool) (endin
   pub nothing : ServesNothing ending
 
 -- what serving a mapfile comes to. `before` and `after` are what is left of the mapfile
-abbrev pub ServesTo : {P L : Type 0} → HostView P L → Giving → Bool → Option (List ℕ) → Service → EndingValue P L → List ℕ → Option (List ℕ) → Option (List ℕ) → Streams → Streams → Type 0
+abbrev pub ServesTo : {P L : Type 0} → HostView P L → Giving → Bool → Option (List ℕ) → Service → EndingValue P L → List ℕ → Option (List ℕ) → Option (List ℕ) → ConsoleState → ConsoleState → Type 0
 ServesTo host gives explains journal service ending name before after old new =
     IsWithoutMap gives explains ending name before after old new ⊎ IsMapServed host gives explains journal service ending name before after old new
 
@@ -107,15 +107,15 @@ Left = Option (List ℕ)
 
 -- what performing a command comes to, by its end. The files that a mapfile names are those of its folder; a session's are those of the
 -- current one
-abbrev pub Performs : {P L : Type 0} → HostView P L → Command → EndingValue P L → Streams → Streams → Type 0
+abbrev pub Performs : {P L : Type 0} → HostView P L → Command → EndingValue P L → ConsoleState → ConsoleState → Type 0
 Performs host Session ending old new = PlaysTo (gives_in host.file []) ending.outcome old new × ServesNothing ending
 Performs host (Check name explains) ending old new =
-    ((front : List ℕ) × IsFront name.now front × (after : Left) × (cause : UnreadCause)
-    × ChecksTo (gives_in host.file front) explains ending.outcome (record { name = name.now; cause = cause }) (host.file name.now) after old new) × ServesNothing ending
+    ((parent : List ℕ) × IsParent name.now parent × (after : Left) × (cause : UnreadCause)
+    × ChecksTo (gives_in host.file parent) explains ending.outcome (record { name = name.now; cause = cause }) (host.file name.now) after old new) × ServesNothing ending
 Performs host (Run name script explains) ending old new =
-    ((front : List ℕ) × IsFront name.now front × (after : Left) × (script_after : Left) × (cause : UnreadCause) × (script_cause : UnreadCause)
-    × RunsTo (gives_in host.file front) explains ending.outcome (record { name = name.now; cause = cause }) (record { name = script.now; cause = script_cause })
+    ((parent : List ℕ) × IsParent name.now parent × (after : Left) × (script_after : Left) × (cause : UnreadCause) × (script_cause : UnreadCause)
+    × RunsTo (gives_in host.file parent) explains ending.outcome (record { name = name.now; cause = cause }) (record { name = script.now; cause = script_cause })
     (record { mapfile_before = host.file name.now; mapfile_after = after; script_before = host.file script.now; script_after = script_after }) old new) × ServesNothing ending
 Performs host (Serve name explains service journal) ending old new =
-    (front : List ℕ) × IsFront name.now front × (after : Left)
-    × ServesTo host (gives_in host.file front) explains (option_map (λ text. text.now) journal) service ending name.now (host.file name.now) after old new
+    (parent : List ℕ) × IsParent name.now parent × (after : Left)
+    × ServesTo host (gives_in host.file parent) explains (option_map (λ text. text.now) journal) service ending name.now (host.file name.now) after old new

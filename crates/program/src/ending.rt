@@ -1,6 +1,6 @@
 ghost use Rattle.std.specs.Prelude.{◌≡◌, None, Some, Err};
 ghost use Rattle.std.specs.Process.{exit_status};
-ghost use Rattle.console.specs.Streams.{status_of};
+ghost use Rattle.console.specs.Console.{status_of};
 
 use console::Failure;
 use journalfile::Journal;

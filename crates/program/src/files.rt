@@ -2,7 +2,7 @@ ghost use Rattle.std.specs.Prelude.{◌≡◌, [], IfErr};
 ghost use Rattle.std.specs.Io.{ReadsAtMost};
 ghost use Rattle.std.specs.Io.KnownBytes.{ReadConsumes};
 ghost use Rattle.std.specs.IoError.{error_kind};
-ghost use Rattle.subcommands.specs.Folder.{IsFront};
+ghost use Rattle.subcommands.specs.Folder.{IsParent};
 ghost use Rattle.program.specs.Hosts.{cause_of, left_of, gives_in};
 
 use crate::host::Files;
@@ -11,7 +11,7 @@ use mapdefs::Items;
 use std::alloc::{AllocError, Global};
 use std::io::{self, Read};
 use streams::Flagged;
-use subcommands::{Folder, HasCause, UnreadCause, front_of, path_of};
+use subcommands::{Folder, HasCause, UnreadCause, parent_of, path_of};
 
 /// A file of a host by its path, which the first read opens.
 #[derive(Drop)]
@@ -96,35 +96,35 @@ pub struct HostFolder<'a, H> {
     host: &'a H,
     // What stands before a name that doesn't begin with a slash: nothing for the current folder, or a path
     // with its last slash.
-    front: &'a str,
+    parent: &'a str,
 }
 
 impl<'a, H: Files> HostFolder<'a, H> {
     /// The current folder.
     pub fn current(host: &'a H) -> Self
         ensures host { result.host.now ≡ host.now }
-        ensures front { result.front.now ≡ [] }
+        ensures parent { result.parent.now ≡ [] }
     {
-        HostFolder { host, front: "" }
+        HostFolder { host, parent: "" }
     }
 
     /// The folder that a file is in, by the file's path.
     pub fn of(host: &'a H, file: &'a str) -> Self
         ensures host { result.host.now ≡ host.now }
-        ensures front { IsFront file.now result.front.now }
+        ensures parent { IsParent file.now result.parent.now }
     {
         HostFolder {
             host,
-            front: front_of(file),
+            parent: parent_of(file),
         }
     }
 }
 
 impl<H: Files> Folder for HostFolder<'_, H> {
-    ghost gives = { λ folder. gives_in (H.file folder.host.now) folder.front.now };
+    ghost gives = { λ folder. gives_in (H.file folder.host.now) folder.parent.now };
 
     fn read(&self, alloc: Global, name: &str) -> Result<Option<Items<u8>>, AllocError> {
-        let path = path_of(alloc, self.front, name)?;
+        let path = path_of(alloc, self.parent, name)?;
         let mut file = Flagged::new(HostFile::new(self.host, path.as_str()));
         match read_all(alloc, &mut file) {
             Ok(bytes) => Ok(Some(Items::of(bytes))),

@@ -7,7 +7,7 @@ use journalfile::{Log, ReadError};
 use std::alloc::Global;
 use std::fs::{self, File, OpenOptions, TryLockError};
 use std::io::{self, ErrorKind, Read, Seek, SeekFrom, Write};
-use subcommands::front_of;
+use subcommands::parent_of;
 
 impl From<io::Error> for OpenFault {
     fn from(error: io::Error) -> Self {
@@ -38,9 +38,9 @@ fn open(rt: &HostRuntime, path: &str, create: bool) -> io::Result<File> {
 
 // Puts the name of a new file away, which stands in its folder.
 fn sync_folder(rt: &HostRuntime, path: &str) -> io::Result<()> {
-    let folder = match front_of(path) {
+    let folder = match parent_of(path) {
         "" => "./",
-        front => front,
+        parent => parent,
     };
     fs::open(rt, folder)?.sync_all()
 }

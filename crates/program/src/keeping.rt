@@ -2,7 +2,7 @@
 
 ghost use Rattle.std.specs.Prelude.{◌≡◌, ◌++◌, ℕ, List, [], map, codes, IfOk, IfErr, MatchOption, OnOk};
 ghost use Rattle.std.specs.Fmt.{decimal};
-ghost use Rattle.console.specs.Streams.{IsReported};
+ghost use Rattle.console.specs.Console.{IsReported};
 ghost use Rattle.journal.specs.Fingerprint.{file_message};
 ghost use Rattle.journalfile.specs.Settled.{GarblesNoRecord};
 ghost use Rattle.subcommands.specs.Mapfiles.{TouchesNeither};

@@ -1,10 +1,10 @@
 ghost use Rattle.std.specs.Prelude.{◌≡◌, ◌≢◌, ℕ, List, option_map};
 ghost use Rattle.commandline.specs.declared.subcommand.Command.TheVariants.{Session};
-ghost use Rattle.console.specs.Streams.{Leaves};
+ghost use Rattle.console.specs.Console.{Leaves};
 ghost use Rattle.program.specs.Hosts.{gives_in, left_of};
 ghost use Rattle.program.specs.Journals.{map_fingerprint};
 ghost use Rattle.program.specs.Performing.{HostView, Left, Performs, ServesMap, ServesTo};
-ghost use Rattle.subcommands.specs.Folder.{IsFront};
+ghost use Rattle.subcommands.specs.Folder.{IsParent};
 ghost use Rattle.subcommands.specs.Mapfiles.{ChecksTo, RunsTo};
 ghost use Rattle.subcommands.specs.Reports.{ReadFile};
 ghost use Rattle.subcommands.specs.declared.unread.UnreadCause.{UnreadCause};
@@ -40,8 +40,8 @@ impl<R: Runtime, H: Host> Program<'_, R, H> {
         explains: bool,
         console: &mut Console<I, O, E>,
     ) -> Result<(), Failure>
-        ensures checks { (front : List ℕ) × IsFront file.now front × (after : Left) × (cause : UnreadCause)
-            × ChecksTo (gives_in (H.Files.file self.now.host.now) front) explains result (record { name = file.now; cause = cause }) (H.Files.file self.now.host.now file.now) after
+        ensures checks { (parent : List ℕ) × IsParent file.now parent × (after : Left) × (cause : UnreadCause)
+            × ChecksTo (gives_in (H.Files.file self.now.host.now) parent) explains result (record { name = file.now; cause = cause }) (H.Files.file self.now.host.now file.now) after
             (⟦<Console<I, O, E> as Terminal>⟧.streams console.old) (⟦<Console<I, O, E> as Terminal>⟧.streams console.new) }
         ensures input { console.new.input ≡ console.old.input }
         ensures leaves { Leaves result (⟦<Console<I, O, E> as Terminal>⟧.streams console.old) (⟦<Console<I, O, E> as Terminal>⟧.streams console.new) }
@@ -63,8 +63,8 @@ impl<R: Runtime, H: Host> Program<'_, R, H> {
         explains: bool,
         console: &mut Console<I, O, E>,
     ) -> Result<(), Failure>
-        ensures runs { (front : List ℕ) × IsFront file.now front × (after : Left) × (script_after : Left) × (cause : UnreadCause) × (script_cause : UnreadCause)
-            × RunsTo (gives_in (H.Files.file self.now.host.now) front) explains result (record { name = file.now; cause = cause }) (record { name = script.now; cause = script_cause })
+        ensures runs { (parent : List ℕ) × IsParent file.now parent × (after : Left) × (script_after : Left) × (cause : UnreadCause) × (script_cause : UnreadCause)
+            × RunsTo (gives_in (H.Files.file self.now.host.now) parent) explains result (record { name = file.now; cause = cause }) (record { name = script.now; cause = script_cause })
             (record { mapfile_before = H.Files.file self.now.host.now file.now; mapfile_after = after; script_before = H.Files.file self.now.host.now script.now; script_after = script_after })
             (⟦<Console<I, O, E> as Terminal>⟧.streams console.old) (⟦<Console<I, O, E> as Terminal>⟧.streams console.new) }
         ensures input { console.new.input ≡ console.old.input }
@@ -88,8 +88,8 @@ impl<R: Runtime, H: Host> Program<'_, R, H> {
         asked: (Service, Option<&str>),
         console: &mut Console<I, O, E>,
     ) -> Ending<H::Port, H::Log>
-        ensures serves { (front : List ℕ) × IsFront file.now front × (after : Left)
-            × ServesTo (record { file = H.Files.file self.now.host.now; listens = H.listens self.now.host.now; address = H.Port.address; journal = record { gives = H.journal self.now.host.now; reliable = H.Log.reliable; content = H.Log.content; may_leave = H.Log.may_leave } }) (gives_in (H.Files.file self.now.host.now) front) explains (option_map (λ path. path.now) asked.entry.1) asked.entry.0 result file.now (H.Files.file self.now.host.now file.now) after
+        ensures serves { (parent : List ℕ) × IsParent file.now parent × (after : Left)
+            × ServesTo (record { file = H.Files.file self.now.host.now; listens = H.listens self.now.host.now; address = H.Port.address; journal = record { gives = H.journal self.now.host.now; reliable = H.Log.reliable; content = H.Log.content; may_leave = H.Log.may_leave } }) (gives_in (H.Files.file self.now.host.now) parent) explains (option_map (λ path. path.now) asked.entry.1) asked.entry.0 result file.now (H.Files.file self.now.host.now file.now) after
             (⟦<Console<I, O, E> as Terminal>⟧.streams console.old) (⟦<Console<I, O, E> as Terminal>⟧.streams console.new) }
         ensures input { console.new.input ≡ console.old.input }
         ensures leaves { Leaves result.outcome (⟦<Console<I, O, E> as Terminal>⟧.streams console.old) (⟦<Console<I, O, E> as Terminal>⟧.streams console.new) }

@@ -1,5 +1,5 @@
 ghost use Rattle.std.specs.Prelude.{◌≡◌, ℕ, List, IfErr, IfOk, IfSome, Some, None, is_some, true, false, vec_len};
-ghost use Rattle.console.specs.Streams.{LeavesOutput, is_input_failed};
+ghost use Rattle.console.specs.Console.{LeavesOutput, is_input_failed};
 ghost use Rattle.program.specs.Journals.{IsOpened, IsUnopened, map_fingerprint};
 ghost use Rattle.program.specs.Performing.{HostView, ServesMachine, ServesMap};
 ghost use Rattle.subcommands.specs.Session.{opened};

@@ -9,7 +9,7 @@ use Rattle.geom.specs.Edge.{EdgeEnds, IsDeviceEdge, low_end, high_end, rise, run
 use Rattle.geom.specs.Range.{IsBelow}
 use Rattle.geom.proofs.Products.{add-mul, sub-mul, le_of, mul-left_comm, not_le_of, is_le, same_order}
 use Rattle.geom.proofs.Quotients.{least_from}
-use Rattle.clip.specs.Class.{crosses_row}
+use Rattle.clip.specs.EdgeClass.{crosses_row}
 use Rattle.clip.proofs.Sides.{crosses-rise, right-crosses, left-crosses}
 use Rattle.scanfill.specs.Column.{column_of, reach, IsColumn}
 

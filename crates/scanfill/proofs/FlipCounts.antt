@@ -7,7 +7,7 @@ use Rattle.std.proofs.lemmas.Nat.{div-mul-add, mod-mul-add}
 use Rattle.std.specs.List.{count_by}
 use Rattle.std.specs.Prelude.{int_le, nat_le, ◌==◌}
 use lib.IntN.{ℤ, pos}
-use Rattle.clip.specs.Class.{at_least_zero, has_row}
+use Rattle.clip.specs.EdgeClass.{at_least_zero, has_row}
 use Rattle.clip.proofs.Rowed.{cut-at_most}
 use Rattle.scanfill.specs.RowFlips.{IsFlipOf, index_of, flips_by}
 

@@ -9,10 +9,10 @@ use lib.IntN.{pos, ◌-ℤ◌}
 use Rattle.geom.specs.Device.{centre, pixel_centre}
 use Rattle.geom.specs.Edge.{EdgeEnds, low_end, high_end, crosses_at_or_left, meets_at_or_left}
 use Rattle.geom.specs.EvenOdd.{edges, is_odd}
-use Rattle.clip.specs.Class.{AreRowsOf, IsClass, class_of, crosses_row, has_row, is_left_of_view, is_right_of_view, rows_of}
-use Rattle.clip.specs.declared.class.Class.{Class}
-use Rattle.clip.specs.declared.class.Class.TheVariants as class
-use Rattle.clip.specs.declared.rows.Rows.{Rows}
+use Rattle.clip.specs.EdgeClass.{AreRowsOf, IsClass, class_of, crosses_row, has_row, is_left_of_view, is_right_of_view, rows_of}
+use Rattle.clip.specs.declared.class.EdgeClass.{EdgeClass}
+use Rattle.clip.specs.declared.class.EdgeClass.TheVariants as class
+use Rattle.clip.specs.declared.rows.RowRange.{RowRange}
 use Rattle.clip.proofs.Cases.{IsClass-class_of}
 use Rattle.clip.proofs.Rowed.{rows_of-all}
 use Rattle.clip.proofs.Sides.{left-crosses, right-crosses}
@@ -21,7 +21,7 @@ use Rattle.scanfill.specs.Law.{AreRunsInside, counts_left, counts_walked, is_lef
 use Rattle.scanfill.proofs.Columns.{crosses-from}
 
 -- the rows of an edge in the view are those that it crosses
-pub row-crossed : (e : EdgeEnds) (h j : ℕ) (rows : Rows) → AreRowsOf e h rows → j < h → has_row rows j ≡ crosses_row e j
+pub row-crossed : (e : EdgeEnds) (h j : ℕ) (rows : RowRange) → AreRowsOf e h rows → j < h → has_row rows j ≡ crosses_row e j
 row-crossed e h j rows r below = rw (lt-ltb j h below) at (r.all j)
 
 -- an edge counts for no pixel of the other rows
@@ -39,7 +39,7 @@ drop-share e w h i j is column row = ⊎_elim
     is
 
 -- one left of the view counts for each pixel of its rows
-pub left-share : (e : EdgeEnds) (h i j : ℕ) (rows : Rows) → AreRowsOf e h rows → is_left_of_view e ≡ true → j < h →
+pub left-share : (e : EdgeEnds) (h i j : ℕ) (rows : RowRange) → AreRowsOf e h rows → is_left_of_view e ≡ true → j < h →
     crosses_at_or_left (pixel_centre (pos i) (pos j)) e ≡ has_row rows j
 left-share e h i j rows r left row =
     let both = and_parts (int_le (low_end e).x (centre (pos 0))) (int_le (high_end e).x (centre (pos 0))) left in
@@ -47,7 +47,7 @@ left-share e h i j rows r left row =
     ∙ sym (row-crossed e h j rows r row)
 
 -- one that is walked counts for those of its rows from its column on
-pub walk-share : (e : EdgeEnds) (h i j : ℕ) (rows : Rows) → AreRowsOf e h rows → j < h →
+pub walk-share : (e : EdgeEnds) (h i j : ℕ) (rows : RowRange) → AreRowsOf e h rows → j < h →
     crosses_at_or_left (pixel_centre (pos i) (pos j)) e ≡ (has_row rows j && int_le (column_of e j) (pos i))
 walk-share e h i j rows r row = rw (row-crossed e h j rows r row) (go (crosses_row e j) refl)
   where
@@ -59,7 +59,7 @@ walk-share e h i j rows r row = rw (row-crossed e h j rows r row) (go (crosses_r
 one : (b : Bool) → cond b 1 0 ≡ cond b 1 0 + 0
 one b = omega arith
 
-share-of : (e : EdgeEnds) (w h i j : ℕ) (c : Class) → IsClass e w h c → i < w → j < h →
+share-of : (e : EdgeEnds) (w h i j : ℕ) (c : EdgeClass) → IsClass e w h c → i < w → j < h →
     cond (crosses_at_or_left (pixel_centre (pos i) (pos j)) e) 1 0
     ≡ cond (is_left_in_row c j) 1 0 + cond (is_walked_in_row c j && int_le (column_of e j) (pos i)) 1 0
 share-of e w h i j class.Drop is column row = rw (drop-share e w h i j is column row)

@@ -7,10 +7,10 @@ use Rattle.geom.specs.Device.{centre}
 use Rattle.geom.specs.Edge.{EdgeEnds, IsDeviceEdge, rise, run}
 use Rattle.geom.specs.Range.{IsBelow}
 use Rattle.geom.proofs.Quotients.{quotient-below}
-use Rattle.clip.specs.Class.{crosses_row}
+use Rattle.clip.specs.EdgeClass.{crosses_row}
 use Rattle.clip.proofs.Sides.{crosses-rise}
 use Rattle.scanfill.specs.Column.{column_of, reach}
-use Rattle.scanfill.specs.Walk.{AreSizes, over_of, place_at, slope_of}
+use Rattle.scanfill.specs.Walk.{AreSizes, over_of, crossing_at, slope_of}
 use Rattle.scanfill.proofs.Columns.{column-below, ends-device}
 use Rattle.scanfill.proofs.Quotients.{left-below}
 
@@ -26,7 +26,7 @@ slope-below e d =
 pub sixteen-below : (z : ℤ) → IsBelow (2 ^ 48) z → IsBelow (2 ^ 52) (pos 16 *ℤ z)
 sixteen-below z h = record { above = omega (arith, ints); below = omega (arith, ints) }
 
-pub sizes-at : (e : EdgeEnds) (j : ℕ) → IsDeviceEdge e → crosses_row e j ≡ true → AreSizes (place_at e j) (slope_of e)
+pub sizes-at : (e : EdgeEnds) (j : ℕ) → IsDeviceEdge e → crosses_row e j ≡ true → AreSizes (crossing_at e j) (slope_of e)
 unfolding over_of slope_of
 sizes-at e j d h =
     let some = crosses-rise e (centre (pos j)) h in

@@ -9,18 +9,18 @@ use Rattle.geom.specs.Device.{centre}
 use Rattle.geom.specs.Edge.{EdgeEnds, low_end, rise, run}
 use Rattle.geom.proofs.Products.{add-mul, mul-left_comm, mul-sub, sub-mul}
 use Rattle.scanfill.specs.Column.{column_of, reach}
-use Rattle.scanfill.specs.Walk.{next_place, over_of, place_at, slope_of}
-use Rattle.scanfill.specs.declared.place.Place.{Place}
-use Rattle.scanfill.specs.declared.place.Slope.{Slope}
+use Rattle.scanfill.specs.Walk.{next_crossing, over_of, crossing_at, slope_of}
+use Rattle.scanfill.specs.declared.row_crossing.RowCrossing.{RowCrossing}
+use Rattle.scanfill.specs.declared.row_crossing.Slope.{Slope}
 use Rattle.scanfill.proofs.Quotients.{left-parts, quotient-fewer, quotient-same}
 
 -- the next place, by whether what is left covers the slope's rest
-pub next-fewer : (place : Place) (slope : Slope) → place.over <ℤ slope.rest →
-    next_place place slope ≡ record { column = place.column +ℤ slope.step +ℤ pos 1; over = place.over -ℤ slope.rest +ℤ slope.whole }
+pub next-fewer : (place : RowCrossing) (slope : Slope) → place.over <ℤ slope.rest →
+    next_crossing place slope ≡ record { column = place.column +ℤ slope.step +ℤ pos 1; over = place.over -ℤ slope.rest +ℤ slope.whole }
 next-fewer place slope h = let e : int_lt place.over slope.rest ≡ true = sym (omega (arith, ints)) in rw e
 
-pub next-same : (place : Place) (slope : Slope) → slope.rest ≤ℤ place.over →
-    next_place place slope ≡ record { column = place.column +ℤ slope.step; over = place.over -ℤ slope.rest }
+pub next-same : (place : RowCrossing) (slope : Slope) → slope.rest ≤ℤ place.over →
+    next_crossing place slope ≡ record { column = place.column +ℤ slope.step; over = place.over -ℤ slope.rest }
 next-same place slope h = let e : int_lt place.over slope.rest ≡ false = sym (omega (arith, ints)) in rw e
 
 -- one row further down the reach is less by the slope
@@ -33,7 +33,7 @@ reach-next e j =
     (omega (arith, ints))
 
 -- two places that have one column and one rest are one
-place-same : (a b c d : ℤ) → a ≡ c → b ≡ d → ◌≡◌ {A = Place} record { column = a; over = b } record { column = c; over = d }
+place-same : (a b c d : ℤ) → a ≡ c → b ≡ d → ◌≡◌ {A = RowCrossing} record { column = a; over = b } record { column = c; over = d }
 place-same a b c d e f = rw (e, f)
 
 -- the parts of the next place, of a reach m and the next one
@@ -57,12 +57,12 @@ rest-parts : (e : EdgeEnds) → pos 0 <ℤ rise e → let rest = pos 16 *ℤ (ru
 rest-parts e some = let parts = left-parts (run e) (rise e) some in (omega (arith, ints, parts.0), omega (arith, ints, parts.1))
 
 -- the next place is that of the next row
-pub next_place-at : (e : EdgeEnds) (j : ℕ) → pos 0 <ℤ rise e → next_place (place_at e j) (slope_of e) ≡ place_at e (j + 1)
+pub next_crossing-at : (e : EdgeEnds) (j : ℕ) → pos 0 <ℤ rise e → next_crossing (crossing_at e j) (slope_of e) ≡ crossing_at e (j + 1)
 unfolding column_of over_of slope_of
-next_place-at e j some = go (int_lt (reach e j -ℤ int_div_euclid (reach e j) (pos 16 *ℤ rise e) *ℤ (pos 16 *ℤ rise e)) (pos 16 *ℤ (run e -ℤ int_div_euclid (run e) (rise e) *ℤ rise e))) refl
+next_crossing-at e j some = go (int_lt (reach e j -ℤ int_div_euclid (reach e j) (pos 16 *ℤ rise e) *ℤ (pos 16 *ℤ rise e)) (pos 16 *ℤ (run e -ℤ int_div_euclid (run e) (rise e) *ℤ rise e))) refl
   where
     go : (t : Bool) → int_lt (reach e j -ℤ int_div_euclid (reach e j) (pos 16 *ℤ rise e) *ℤ (pos 16 *ℤ rise e)) (pos 16 *ℤ (run e -ℤ int_div_euclid (run e) (rise e) *ℤ rise e)) ≡ t →
-        next_place (place_at e j) (slope_of e) ≡ place_at e (j + 1)
+        next_crossing (crossing_at e j) (slope_of e) ≡ crossing_at e (j + 1)
     go true h =
         let m = reach e j in
         let k = pos 16 *ℤ rise e in
@@ -74,7 +74,7 @@ next_place-at e j some = go (int_lt (reach e j -ℤ int_div_euclid (reach e j) (
         let next = reach-next e j in
         let short : (m -ℤ q *ℤ k) <ℤ rest = omega (arith, ints) in
         let fewer = quotient-fewer m k s rest (reach e (j + 1)) positive parts.0 parts.1 next short in
-        next-fewer (place_at e j) (slope_of e) short
+        next-fewer (crossing_at e j) (slope_of e) short
         ∙ place-same _ _ _ _ (column-fewer q s (int_div_euclid (reach e (j + 1)) k) fewer) (over-fewer m k q s rest (reach e (j + 1)) (int_div_euclid (reach e (j + 1)) k) next fewer)
     go false h =
         let m = reach e j in
@@ -87,5 +87,5 @@ next_place-at e j some = go (int_lt (reach e j -ℤ int_div_euclid (reach e j) (
         let next = reach-next e j in
         let enough : rest ≤ℤ (m -ℤ q *ℤ k) = omega (arith, ints) in
         let same = quotient-same m k s rest (reach e (j + 1)) positive parts.0 parts.1 next enough in
-        next-same (place_at e j) (slope_of e) enough
+        next-same (crossing_at e j) (slope_of e) enough
         ∙ place-same _ _ _ _ (column-same q s (int_div_euclid (reach e (j + 1)) k) same) (over-same m k q s rest (reach e (j + 1)) (int_div_euclid (reach e (j + 1)) k) next same)

@@ -10,8 +10,8 @@ use lib.IntN.{pos}
 use Rattle.geom.specs.Device.{pixel_centre}
 use Rattle.geom.specs.Edge.{EdgeEnds}
 use Rattle.geom.specs.EvenOdd.{is_covered, is_odd}
-use Rattle.clip.specs.Class.{AreRowsOf, crosses_row, has_row}
-use Rattle.clip.specs.declared.rows.Rows.{Rows}
+use Rattle.clip.specs.EdgeClass.{AreRowsOf, crosses_row, has_row}
+use Rattle.clip.specs.declared.rows.RowRange.{RowRange}
 use Rattle.scanfill.specs.Crossing.{reaches}
 use Rattle.scanfill.specs.declared.crossing.Crossing.{Crossing}
 use Rattle.scanfill.specs.Flips.{flip_if, is_flipped}
@@ -23,7 +23,7 @@ use Rattle.scanfill.proofs.Flipping.{quiet-parity}
 use Rattle.scanfill.proofs.Readings.{runs-same}
 
 -- the rows of an edge are rows of the picture
-pub rows-within : (e : EdgeEnds) (h : ℕ) (rows : Rows) → AreRowsOf e h rows → rows.to ≤ h
+pub rows-within : (e : EdgeEnds) (h : ℕ) (rows : RowRange) → AreRowsOf e h rows → rows.to ≤ h
 rows-within e h rows r =
     let j = rows.to - 1 in
     let has : has_row rows j ≡ true =

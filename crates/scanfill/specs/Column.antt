@@ -3,7 +3,7 @@ use Rattle.std.specs.Prelude.{◌≡◌, ℕ, ◌≤◌, ◌<◌, true, ℤ, pos
 use Rattle.std.specs.Int.{int_div_euclid}
 use Rattle.geom.specs.Device.{centre, pixel_centre}
 use Rattle.geom.specs.Edge.{EdgeEnds, low_end, rise, run, crosses_at_or_left}
-use Rattle.clip.specs.Class.{crosses_row}
+use Rattle.clip.specs.EdgeClass.{crosses_row}
 
 -- the column is the least, below 0 too, whose pixel centre in row j the edge crosses at it or left of it
 pub record IsColumn (e : EdgeEnds) (j : ℕ) (column : ℤ) : Type 0 where

@@ -1,6 +1,6 @@
 -- The edges of a polygon as a sweep knows them (docs/DRAWING.md, "When a pixel belongs to a polygon").
 use Rattle.std.specs.Prelude.{◌≡◌, ℕ, ◌+◌, ◌≤◌, ◌<◌, ◌^◌, Bool, ◌&&◌, pos, int_le, List, length, slice_index_or, count_by}
-use Rattle.clip.specs.Class.{has_row}
+use Rattle.clip.specs.EdgeClass.{has_row}
 use Rattle.scanfill.specs.Column.{column_of}
 use Rattle.scanfill.specs.declared.crossing.Crossing.{Crossing}
 use Rattle.scanfill.specs.declared.crossing.Crossing.TheVariants as crossing

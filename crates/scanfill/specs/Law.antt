@@ -3,18 +3,18 @@ use Rattle.std.specs.Prelude.{◌≡◌, ℕ, ◌+◌, ◌<◌, Bool, false, ◌
 use Rattle.geom.specs.Device.{DevicePoint, pixel_centre}
 use Rattle.geom.specs.Edge.{EdgeEnds}
 use Rattle.geom.specs.EvenOdd.{edges, is_inside, is_odd}
-use Rattle.clip.specs.Class.{class_of, has_row}
-use Rattle.clip.specs.declared.class.Class.{Class}
-use Rattle.clip.specs.declared.class.Class.TheVariants as class
+use Rattle.clip.specs.EdgeClass.{class_of, has_row}
+use Rattle.clip.specs.declared.class.EdgeClass.{EdgeClass}
+use Rattle.clip.specs.declared.class.EdgeClass.TheVariants as class
 use Rattle.scanfill.specs.Column.{column_of}
 
 -- the class is that of an edge left of the view which crosses row j
-abbrev pub is_left_in_row : Class → ℕ → Bool
+abbrev pub is_left_in_row : EdgeClass → ℕ → Bool
 is_left_in_row (class.LeftOfView rows) j = has_row rows j
 is_left_in_row _ j = false
 
 -- the class is that of an edge to be walked which crosses row j
-abbrev pub is_walked_in_row : Class → ℕ → Bool
+abbrev pub is_walked_in_row : EdgeClass → ℕ → Bool
 is_walked_in_row (class.Walk rows) j = has_row rows j
 is_walked_in_row _ j = false
 

@@ -3,9 +3,9 @@ use Rattle.std.specs.Prelude.{◌≡◌, ℕ, ◌≤◌, ◌<◌, Bool, true, fa
 use Rattle.geom.specs.Device.{pixel_centre}
 use Rattle.geom.specs.Edge.{EdgeEnds, crosses_at_or_left}
 use Rattle.geom.specs.EvenOdd.{is_covered}
-use Rattle.clip.specs.Class.{class_of}
-use Rattle.clip.specs.declared.class.Class.{Class}
-use Rattle.clip.specs.declared.class.Class.TheVariants as class
+use Rattle.clip.specs.EdgeClass.{class_of}
+use Rattle.clip.specs.declared.class.EdgeClass.{EdgeClass}
+use Rattle.clip.specs.declared.class.EdgeClass.TheVariants as class
 use Rattle.scanfill.specs.Crossing.{reaches}
 use Rattle.scanfill.specs.declared.crossing.Crossing.{Crossing}
 
@@ -25,7 +25,7 @@ abbrev pub AreEmptyRows : SweepValue → ℕ → ℕ → Type 0
 AreEmptyRows sweep from past = (i j : ℕ) → i < sweep.width → from ≤ j → j < past → is_covered sweep.edges (pixel_centre (pos i) (pos j)) ≡ false
 
 -- the class is that of an edge to be walked
-abbrev pub is_walk : Class → Bool
+abbrev pub is_walk : EdgeClass → Bool
 is_walk (class.Walk rows) = true
 is_walk _ = false
 

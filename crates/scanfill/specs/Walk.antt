@@ -5,8 +5,8 @@ use Rattle.geom.specs.Edge.{EdgeEnds, IsDeviceEdge, rise, run}
 use Rattle.geom.specs.Range.{IsBelow}
 use Rattle.geom.specs.declared.side.TheConstants.{MAX_PICTURE_SIDE}
 use Rattle.scanfill.specs.Column.{CrossesRows, column_of, reach}
-use Rattle.scanfill.specs.declared.place.Place.{Place}
-use Rattle.scanfill.specs.declared.place.Slope.{Slope}
+use Rattle.scanfill.specs.declared.row_crossing.RowCrossing.{RowCrossing}
+use Rattle.scanfill.specs.declared.row_crossing.Slope.{Slope}
 
 -- a walk: the edge, the row that it has come to, and the row before which it ends
 pub record WalkValue : Type 0 where
@@ -19,8 +19,8 @@ unfoldable pub over_of : EdgeEnds → ℕ → ℤ
 over_of e j = reach e j -ℤ int_div_euclid (reach e j) (pos 16 *ℤ rise e) *ℤ (pos 16 *ℤ rise e)
 
 -- where an edge crosses row j
-abbrev pub place_at : EdgeEnds → ℕ → Place
-place_at e j = record { column = column_of e j; over = over_of e j }
+abbrev pub crossing_at : EdgeEnds → ℕ → RowCrossing
+crossing_at e j = record { column = column_of e j; over = over_of e j }
 
 -- how far it goes from row to row: whole columns, and what is left of them by their quotient
 unfoldable pub slope_of : EdgeEnds → Slope
@@ -31,14 +31,14 @@ slope_of e = record {
 }
 
 -- the place a row further down: a column more where what is left doesn't cover the slope's rest
-abbrev pub next_place : Place → Slope → Place
-next_place place slope =
+abbrev pub next_crossing : RowCrossing → Slope → RowCrossing
+next_crossing place slope =
     if int_lt place.over slope.rest
     then record { column = place.column +ℤ slope.step +ℤ pos 1; over = place.over -ℤ slope.rest +ℤ slope.whole }
     else record { column = place.column +ℤ slope.step; over = place.over -ℤ slope.rest }
 
 -- place and slope have the sizes of those of an edge between device points
-pub record AreSizes (place : Place) (slope : Slope) : Type 0 where
+pub record AreSizes (place : RowCrossing) (slope : Slope) : Type 0 where
   pub column : IsBelow (2 ^ 44) place.column
   pub over : IsBelow (2 ^ 52) place.over
   pub step : IsBelow (2 ^ 48) slope.step
@@ -46,10 +46,10 @@ pub record AreSizes (place : Place) (slope : Slope) : Type 0 where
   pub rest : IsBelow (2 ^ 52) slope.rest
 
 -- the edge crosses all rows that are left of the walk, and place and slope are those of the row that it has come to
-pub record IsWalked (edge : EdgeEnds) (row end : ℕ) (place : Place) (slope : Slope) : Type 0 where
+pub record IsWalked (edge : EdgeEnds) (row end : ℕ) (place : RowCrossing) (slope : Slope) : Type 0 where
   pub device : IsDeviceEdge edge
   pub some : row < end
   pub below : end ≤ MAX_PICTURE_SIDE
   pub crosses : CrossesRows edge row end
-  pub at : place ≡ place_at edge row
+  pub at : place ≡ crossing_at edge row
   pub goes : slope ≡ slope_of edge

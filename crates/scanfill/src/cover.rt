@@ -1,10 +1,10 @@
 ghost use Rattle.std.specs.Prelude.{◌≡◌, ℕ, ◌<◌, ◌≤◌, Bool, false, [], OnOk, OnErr};
-ghost use Rattle.clip.specs.Class.{has_row};
+ghost use Rattle.clip.specs.EdgeClass.{has_row};
 ghost use Rattle.geom.specs.declared.side.TheConstants.{MAX_PICTURE_SIDE};
 ghost use Rattle.scanfill.specs.Runs.{AreRunsFrom};
 
 use crate::span::Spans;
-use clip::Rows;
+use clip::RowRange;
 use geom::PictureSide;
 use std::alloc::AllocError;
 
@@ -20,7 +20,7 @@ pub trait Cover {
         ensures { result ≡ covered self.now i j };
 
     /// The rows of a picture of that width and height outside of which it covers no pixel.
-    fn rows(&self, width: PictureSide, height: PictureSide) -> Rows
+    fn rows(&self, width: PictureSide, height: PictureSide) -> RowRange
         ensures within { result.to ≤ height }
         ensures none { (i j : ℕ) → i < width → j < height → has_row result j ≡ false → covered self.now i j ≡ false };
 

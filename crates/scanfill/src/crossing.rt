@@ -3,7 +3,7 @@ ghost use Rattle.geom.specs.Range.{IsBelow};
 ghost use Rattle.scanfill.specs.Crossing.{IsNext, end_of, reaches, row_of};
 
 use crate::walk::EdgeWalk;
-use clip::Rows;
+use clip::RowRange;
 
 /// An edge as a sweep knows it, in the row that it has come to.
 #[derive(Drop)]
@@ -11,7 +11,7 @@ pub enum Crossing {
     /// It lies left of the view, in the rows that are left.
     Left {
         /// Those rows.
-        rows: Rows,
+        rows: RowRange,
     },
     /// It is walked.
     Walk {

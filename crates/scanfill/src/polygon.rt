@@ -1,5 +1,5 @@
 ghost use Rattle.std.specs.Prelude.{◌≡◌, ℕ, ◌<◌, ◌≤◌, ◌+◌, ◌*◌, ◌-◌, ◌^◌, false, [], ◌++◌, length, map, min, pos, All, IfOk, OnOk, OnErr, vec_items};
-ghost use Rattle.clip.specs.Class.{has_row};
+ghost use Rattle.clip.specs.EdgeClass.{has_row};
 ghost use Rattle.geom.specs.Device.{pixel_centre};
 ghost use Rattle.geom.specs.Edge.{crosses_at_or_left};
 ghost use Rattle.geom.specs.EvenOdd.{edges, is_covered, ring_edges};
@@ -14,7 +14,7 @@ use crate::span::Spans;
 use crate::sweep::Sweep;
 use crate::walk::EdgeWalk;
 use crate::work::Work;
-use clip::{Class, Rows, classify, rows_of};
+use clip::{EdgeClass, RowRange, classify, rows_of};
 use geom::{Device, Edge, PictureSide};
 use std::alloc::{AllocError, Global};
 use std::marker::Model;
@@ -86,7 +86,7 @@ impl Cover for Polygon {
         crossings % 2 == 1
     }
 
-    fn rows(&self, _width: PictureSide, height: PictureSide) -> Rows {
+    fn rows(&self, _width: PictureSide, height: PictureSide) -> RowRange {
         crossed_rows(&self.edges, height)
     }
 
@@ -103,11 +103,11 @@ impl Cover for Polygon {
 }
 
 // The rows from the first one to the last one that the edges cross.
-fn crossed_rows(edges: &[Edge], height: PictureSide) -> Rows
+fn crossed_rows(edges: &[Edge], height: PictureSide) -> RowRange
     ensures within { result.to ≤ height }
     ensures none { (i j : ℕ) → j < height → has_row result j ≡ false → is_covered edges.now (pixel_centre (pos i) (pos j)) ≡ false }
 {
-    let mut rows = Rows { from: 0, to: 0 };
+    let mut rows = RowRange { from: 0, to: 0 };
     for edge in edges {
         rows = rows.joined(rows_of(*edge, height));
     }
@@ -141,13 +141,13 @@ fn flip_edge(flips: &mut Flips, edge: Edge, j: u16, width: PictureSide)
         is_flipped flips.new i ≡ flip_if (crosses_at_or_left (pixel_centre (pos i) (pos j)) edge) (is_flipped flips.old i) }
 {
     match classify(edge, width, PictureSide::with_last(j)) {
-        Class::Drop => {}
-        Class::LeftOfView { rows } if rows.has(j) => flips.flip(0),
-        Class::Walk { rows } if rows.has(j) => {
-            let rows = Rows { from: j, to: j + 1 };
+        EdgeClass::Drop => {}
+        EdgeClass::LeftOfView { rows } if rows.has(j) => flips.flip(0),
+        EdgeClass::Walk { rows } if rows.has(j) => {
+            let rows = RowRange { from: j, to: j + 1 };
             flips.flip(EdgeWalk::start(edge, rows, &mut Work::new()).column());
         }
-        Class::LeftOfView { .. } | Class::Walk { .. } => {}
+        EdgeClass::LeftOfView { .. } | EdgeClass::Walk { .. } => {}
     }
 }
 

@@ -2,16 +2,16 @@ ghost use Rattle.std.specs.Prelude.{◌≡◌, ℕ, ◌+◌, ◌*◌, ◌≤◌,
 ghost use Rattle.geom.specs.Device.{pixel_centre};
 ghost use Rattle.geom.specs.Edge.{crosses_at_or_left};
 ghost use Rattle.geom.specs.Range.{IsBelow};
-ghost use Rattle.clip.specs.Class.{crosses_row, has_row, rows_of};
+ghost use Rattle.clip.specs.EdgeClass.{crosses_row, has_row, rows_of};
 ghost use Rattle.geom.specs.declared.side.TheConstants.{MAX_PICTURE_SIDE};
 ghost use Rattle.scanfill.specs.Column.{CrossesRows, column_of};
 ghost use Rattle.scanfill.specs.RowFlips.{AreRising, index_of, is_pixel_flipped, flips_by};
 
-use crate::place::Place;
+use crate::row_crossing::RowCrossing;
 use crate::row_spans::RowSpans;
 use crate::walk::EdgeWalk;
 use crate::work::Work;
-use clip::{Class, Rows, clamped, classify_in};
+use clip::{EdgeClass, RowRange, clamped, classify_in};
 use geom::{Edge, PictureSide};
 use std::alloc::{AllocError, Global};
 use std::marker::Model;
@@ -73,16 +73,16 @@ impl RowFlips {
 
     /// Adds the flips of an edge: one in each of the rows that it crosses, which are known. After a fault some may have
     /// been added.
-    pub fn add(&mut self, edge: Edge, rows: Rows) -> Result<(), FlipFault>
+    pub fn add(&mut self, edge: Edge, rows: RowRange) -> Result<(), FlipFault>
         requires { rows ≡ rows_of edge self.old.height }
         ensures sides { self.new ≡ record self.old { flips = self.new.flips } }
         ensures counts { OnOk result ((i j : ℕ) → i < self.old.width → j < self.old.height →
             count_by (flips_by i j) self.new.flips ≡ count_by (flips_by i j) self.old.flips + cond (crosses_at_or_left (pixel_centre (pos i) (pos j)) edge) 1 0) }
     {
         match classify_in(edge, rows, self.width, self.height) {
-            Class::Drop => Ok(()),
-            Class::LeftOfView { rows } => self.add_left(rows),
-            Class::Walk { rows } => self.add_walked(edge, rows),
+            EdgeClass::Drop => Ok(()),
+            EdgeClass::LeftOfView { rows } => self.add_left(rows),
+            EdgeClass::Walk { rows } => self.add_walked(edge, rows),
         }
     }
 
@@ -104,7 +104,7 @@ impl RowFlips {
     }
 
     // Adds a flip at the start of each of the rows.
-    fn add_left(&mut self, rows: Rows) -> Result<(), FlipFault>
+    fn add_left(&mut self, rows: RowRange) -> Result<(), FlipFault>
         requires some { rows.from < rows.to }
         requires within { rows.to ≤ self.old.height }
         ensures sides { self.new ≡ record self.old { flips = self.new.flips } }
@@ -118,7 +118,7 @@ impl RowFlips {
     }
 
     // Adds the flips of an edge that crosses the rows. In one row alone it needs no slope.
-    fn add_walked(&mut self, edge: Edge, rows: Rows) -> Result<(), FlipFault>
+    fn add_walked(&mut self, edge: Edge, rows: RowRange) -> Result<(), FlipFault>
         requires some { rows.from < rows.to }
         requires within { rows.to ≤ self.old.height }
         requires crosses { CrossesRows edge rows.from rows.to }
@@ -178,5 +178,5 @@ fn column(edge: Edge, row: u16) -> i64
     ensures range { IsBelow (2 ^ 44) result }
 {
     let _rise = edge.rise();
-    Place::of(edge, row).column
+    RowCrossing::of(edge, row).column
 }

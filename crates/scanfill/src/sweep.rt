@@ -2,7 +2,7 @@ ghost use Rattle.std.specs.Prelude.{◌≡◌, ℕ, ◌<◌, ◌≤◌, ◌+◌,
 ghost use Rattle.geom.specs.Device.{pixel_centre};
 ghost use Rattle.geom.specs.Edge.{crosses_at_or_left};
 ghost use Rattle.geom.specs.declared.side.TheConstants.{MAX_PICTURE_SIDE};
-ghost use Rattle.clip.specs.Class.{class_of};
+ghost use Rattle.clip.specs.EdgeClass.{class_of};
 ghost use Rattle.scanfill.specs.Crossing.{end_of, reaches, row_of};
 ghost use Rattle.scanfill.specs.Runs.{AreRunsFrom};
 ghost use Rattle.scanfill.specs.Sweep.{AreEmptyRows, covers_next, is_walk, walk_count};
@@ -13,7 +13,7 @@ use crate::flips::Flips;
 use crate::span::Spans;
 use crate::walk::EdgeWalk;
 use crate::work::Work;
-use clip::{Class, classify};
+use clip::{EdgeClass, classify};
 use geom::{Edge, PictureSide};
 use std::alloc::AllocError;
 use std::marker::Model;
@@ -128,9 +128,9 @@ fn push_crossing(
     ensures work { OnOk result (work.new ≡ (if is_walk (class_of edge sides.0 sides.1) then record { divisions = min (work.old.divisions + 2) (2 ^ 64 - 1) } else work.old)) }
 {
     match classify(edge, sides.0, sides.1) {
-        Class::Drop => {}
-        Class::LeftOfView { rows } => crossings.push(Crossing::Left { rows })?,
-        Class::Walk { rows } => {
+        EdgeClass::Drop => {}
+        EdgeClass::LeftOfView { rows } => crossings.push(Crossing::Left { rows })?,
+        EdgeClass::Walk { rows } => {
             let walk = EdgeWalk::start(edge, rows, work);
             crossings.push(Crossing::Walk { walk })?;
         }

@@ -3,9 +3,9 @@ ghost use Rattle.geom.specs.Range.{IsBelow};
 ghost use Rattle.geom.specs.declared.side.TheConstants.{MAX_PICTURE_SIDE};
 ghost use Rattle.scanfill.specs.Column.{CrossesRows};
 
-use crate::place::{Place, Slope};
+use crate::row_crossing::{RowCrossing, Slope};
 use crate::work::Work;
-use clip::Rows;
+use clip::RowRange;
 use geom::Edge;
 use std::marker::Model;
 
@@ -15,12 +15,12 @@ pub struct EdgeWalk {
     edge: Edge,
     row: u16,
     end: u16,
-    place: Place,
+    place: RowCrossing,
     slope: Slope,
 }
 
 impl Model for EdgeWalk {
-    ghost use Rattle.scanfill.specs.Walk.{WalkValue, IsWalked, place_at, slope_of};
+    ghost use Rattle.scanfill.specs.Walk.{WalkValue, IsWalked, crossing_at, slope_of};
 
     ghost Value = { WalkValue };
 
@@ -33,7 +33,7 @@ impl EdgeWalk {
     ghost use Rattle.scanfill.specs.Column.{IsColumn, column_of};
 
     /// A walk over the rows. Two divisions find its first column and its slope.
-    pub fn start(edge: Edge, rows: Rows, work: &mut Work) -> Self
+    pub fn start(edge: Edge, rows: RowRange, work: &mut Work) -> Self
         requires some { rows.from < rows.to }
         requires below { rows.to ≤ MAX_PICTURE_SIDE }
         requires crosses { CrossesRows edge rows.from rows.to }
@@ -45,7 +45,7 @@ impl EdgeWalk {
             edge,
             row: rows.from,
             end: rows.to,
-            place: Place::of(edge, rows.from),
+            place: RowCrossing::of(edge, rows.from),
             slope: Slope::of(edge),
         }
     }

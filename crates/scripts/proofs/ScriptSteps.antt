@@ -4,7 +4,7 @@ use Rattle.std.proofs.lemmas.Bool.Decides.{nat_tests}
 use Rattle.std.specs.Prelude.{codes, if◌then◌else◌}
 use Rattle.std.specs.List.{after_first, before_first, position_or_len, starts_with}
 use Rattle.batches.specs.Command.{count_of, is_line_end}
-use Rattle.scripts.specs.Script.{batch_of, command_of, front_command, has_line, with_command, with_event, script_within, fault_of}
+use Rattle.scripts.specs.Script.{batch_of, command_of, first_command, has_line, with_command, with_event, script_within, fault_of}
 use Rattle.mapmachine.specs.declared.reply.Event.{Event}
 use Rattle.mapmachine.specs.declared.reply.Event.TheVariants.{Query, Batch}
 
@@ -39,7 +39,7 @@ line-within line rest r e = query (starts_with nat_eq line (codes "QUERY ")) ref
     query false h = batch (starts_with nat_eq line (codes "BATCH ")) h refl
 
 -- a command takes a byte at least
-front-shrinks : (script : List ℕ) (r : Event × List ℕ) → front_command script ≡ Some r → length r.1 < length script
+front-shrinks : (script : List ℕ) (r : Event × List ℕ) → first_command script ≡ Some r → length r.1 < length script
 front-shrinks script r e = go (has_line script) refl
   where
     go : (t : Bool) → has_line script ≡ t → length r.1 < length script
@@ -51,7 +51,7 @@ front-shrinks script r e = go (has_line script) refl
 
 -- more steps change nothing
 step-same : (f g : List ℕ → Result (List Event) ℕ) (number : ℕ) (script : List ℕ) → ((rest : List ℕ) → length rest < length script → f rest ≡ g rest) →
-    (r : Option (Event × List ℕ)) → front_command script ≡ r → with_command number r f ≡ with_command number r g
+    (r : Option (Event × List ℕ)) → first_command script ≡ r → with_command number r f ≡ with_command number r g
 step-same f g number script same (Some read) e = ap (with_event read.0) (same read.1 (front-shrinks script read e))
 step-same f g number script same None e = refl
 
@@ -63,16 +63,16 @@ script_within-enough zero m number (b ∷ bs) h k = absurd (omega arith)
 script_within-enough (suc n) zero number (b ∷ bs) h k = absurd (omega arith)
 script_within-enough (suc n) (suc m) number (b ∷ bs) h k =
     step-same (script_within n (number + 1)) (script_within m (number + 1)) number (b ∷ bs)
-    (λ rest short. script_within-enough n m (number + 1) rest (omega arith) (omega arith)) (front_command (b ∷ bs)) refl
+    (λ rest short. script_within-enough n m (number + 1) rest (omega arith) (omega arith)) (first_command (b ∷ bs)) refl
 
 -- what is read is the command at the front and what is read after it
 pub script_from-step : (number : ℕ) (script : List ℕ) → 1 ≤ length script →
-    script_from number script ≡ with_command number (front_command script) (script_from (number + 1))
+    script_from number script ≡ with_command number (first_command script) (script_from (number + 1))
 unfolding script_within
 script_from-step number [] h = absurd (omega arith)
 script_from-step number (b ∷ bs) h =
     step-same (script_within (length bs) (number + 1)) (script_from (number + 1)) number (b ∷ bs)
-    (λ rest short. script_within-enough (length bs) (length rest) (number + 1) rest (omega arith) (omega arith)) (front_command (b ∷ bs)) refl
+    (λ rest short. script_within-enough (length bs) (length rest) (number + 1) rest (omega arith) (omega arith)) (first_command (b ∷ bs)) refl
 
 -- nothing is read of nothing
 pub script_from-nil : (number : ℕ) → script_from number [] ≡ Ok []
@@ -80,7 +80,7 @@ unfolding script_within
 script_from-nil number = refl
 
 -- a readable command has no fault of its own
-pub fault-readable : (number : ℕ) (script : List ℕ) (event : Event) (after : List ℕ) → 1 ≤ length script → front_command script ≡ Some (event, after) →
+pub fault-readable : (number : ℕ) (script : List ℕ) (event : Event) (after : List ℕ) → 1 ≤ length script → first_command script ≡ Some (event, after) →
     fault_of (script_from number script) ≡ fault_of (script_from (number + 1) after)
 fault-readable number script event after some front =
     ap fault_of (script_from-step number script some ∙ ap (λ o. with_command number o (script_from (number + 1))) front) ∙ later (script_from (number + 1) after)
@@ -90,12 +90,12 @@ fault-readable number script event after some front =
     later (Err n) = refl
 
 -- an unreadable command is the fault
-pub fault-unreadable : (number : ℕ) (script : List ℕ) → 1 ≤ length script → front_command script ≡ None → fault_of (script_from number script) ≡ Some number
+pub fault-unreadable : (number : ℕ) (script : List ℕ) → 1 ≤ length script → first_command script ≡ None → fault_of (script_from number script) ≡ Some number
 fault-unreadable number script some front =
     ap fault_of (script_from-step number script some ∙ ap (λ o. with_command number o (script_from (number + 1))) front)
 
 -- a readable command at the front of events is the first of them, and the others stand after it
-pub events-step : (number : ℕ) (script : List ℕ) (event : Event) (after : List ℕ) (left : List Event) → 1 ≤ length script → front_command script ≡ Some (event, after) →
+pub events-step : (number : ℕ) (script : List ℕ) (event : Event) (after : List ℕ) (left : List Event) → 1 ≤ length script → first_command script ≡ Some (event, after) →
     script_from number script ≡ Ok left → (others : List Event) × (left ≡ event ∷ others) × (script_from (number + 1) after ≡ Ok others)
 events-step number script event after left some front all =
     let step : with_event event (script_from (number + 1) after) ≡ Ok left =
@@ -108,7 +108,7 @@ events-step number script event after left some front all =
     split (Err n) e = cc
 
 -- where no command stands at the front of events, there is none
-pub events-none : (number : ℕ) (script : List ℕ) (left : List Event) → front_command script ≡ None → script_from number script ≡ Ok left → left ≡ []
+pub events-none : (number : ℕ) (script : List ℕ) (left : List Event) → first_command script ≡ None → script_from number script ≡ Ok left → left ≡ []
 unfolding script_within
 events-none number [] left front all = cc
 events-none number (b ∷ bs) left front all =

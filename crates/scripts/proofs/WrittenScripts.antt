@@ -10,27 +10,27 @@ use Rattle.mapmachine.specs.declared.reply.Event.{Event}
 use Rattle.mapmachine.specs.declared.reply.Event.TheVariants.{Query, Batch}
 use Rattle.batches.specs.Command.{is_line_end}
 use Rattle.batches.proofs.Writing.{count-digits, count-read, cut-after, cut-before, cut-there, digits-plain}
-use Rattle.scripts.specs.Script.{batch_of, command_of, front_command, with_command, with_event}
+use Rattle.scripts.specs.Script.{batch_of, command_of, first_command, with_command, with_event}
 use Rattle.scripts.specs.Written.{command_text, script_text, CanBeWritten}
 use Rattle.scripts.proofs.ScriptSteps.{script_from, script_from-step, script_from-nil}
 
 -- a line before others has its command
-front-of-line : (line rest : List ℕ) → list_any is_line_end line ≡ false → front_command (line ++ (10 ∷ rest)) ≡ command_of line rest
+front-of-line : (line rest : List ℕ) → list_any is_line_end line ≡ false → first_command (line ++ (10 ∷ rest)) ≡ command_of line rest
 front-of-line line rest none =
     rw (cut-there is_line_end line 10 rest none refl, cut-before is_line_end line 10 rest none refl, cut-after is_line_end line 10 rest none refl) refl
 
 -- a command is read back, and what stands after it
-read-back : (event : Event) (rest : List ℕ) → CanBeWritten event → front_command (command_text event ++ rest) ≡ Some (event, rest)
+read-back : (event : Event) (rest : List ℕ) → CanBeWritten event → first_command (command_text event ++ rest) ≡ Some (event, rest)
 read-back (Query text) rest can =
     let word = codes "QUERY " in
-    ap (λ (x : List ℕ). front_command (word ++ x)) (append_assoc text (10 ∷ []) rest)
+    ap (λ (x : List ℕ). first_command (word ++ x)) (append_assoc text (10 ∷ []) rest)
     ∙ front-of-line (word ++ text) rest can
 read-back (Batch bytes) rest can =
     let n = length bytes in
     let word = codes "BATCH " in
     let digits = (digits-plain (decimal n) (count-digits n can)).1 in
     let enough : nat_lt (length (bytes ++ rest)) n ≡ false = grind (arith, nat_tests, length-append bytes rest) in
-    ap (λ (x : List ℕ). front_command (word ++ x)) (append_assoc (decimal n) (10 ∷ bytes) rest)
+    ap (λ (x : List ℕ). first_command (word ++ x)) (append_assoc (decimal n) (10 ∷ bytes) rest)
     ∙ (front-of-line (word ++ decimal n) (bytes ++ rest) digits
     ∙ (ap (λ count. batch_of count (bytes ++ rest)) (count-read n can)
     ∙ rw (enough, take-append_seam bytes rest, drop-append_seam bytes rest) refl))

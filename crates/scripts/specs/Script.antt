@@ -23,8 +23,8 @@ abbrev pub has_line : List ℕ → Bool
 has_line script = nat_lt (position_or_len is_line_end script) (length script)
 
 -- the command at the front of a script, and what stands after it
-abbrev pub front_command : List ℕ → Option (Event × List ℕ)
-front_command script =
+abbrev pub first_command : List ℕ → Option (Event × List ℕ)
+first_command script =
     if has_line script then command_of (before_first is_line_end script) (after_first is_line_end script) else None
 
 -- an event before others
@@ -41,7 +41,7 @@ with_command number (Some read) others = with_event read.0 (others read.1)
 unfoldable pub script_within : ℕ → ℕ → List ℕ → Result (List Event) ℕ
 script_within n number [] = Ok []
 script_within zero number (b ∷ bs) = Err number
-script_within (suc n) number (b ∷ bs) = with_command number (front_command (b ∷ bs)) (script_within n (number + 1))
+script_within (suc n) number (b ∷ bs) = with_command number (first_command (b ∷ bs)) (script_within n (number + 1))
 
 -- the events of a script, or the number of its first unreadable command: each command takes a byte at least
 abbrev pub script_of : List ℕ → Result (List Event) ℕ

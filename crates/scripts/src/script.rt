@@ -1,5 +1,5 @@
 ghost use Rattle.std.specs.Prelude.{◌≡◌, ◌<◌, ◌≤◌, length, MatchOption, IfSome, Option, None, Some, Ok, Err};
-ghost use Rattle.scripts.specs.Script.{batch_of, command_of, front_command, script_of, fault_of};
+ghost use Rattle.scripts.specs.Script.{batch_of, command_of, first_command, script_of, fault_of};
 
 use batches::{count_of, line_len};
 use mapmachine::{Bytes, Event};
@@ -36,7 +36,7 @@ fn command_of<'a>(line: &'a [u8], rest: &'a [u8]) -> Option<(Event<'a>, &'a [u8]
 /// The command at the front of a script, and what stands after it.
 pub fn split_command(script: &[u8]) -> Option<(Event<'_>, &[u8])>
     ensures shrinks { IfSome result (λ c. length c.1.now < length script.now) }
-    ensures value { MatchOption result (front_command script.now ≡ None) (λ c. front_command script.now ≡ Some (c.0, c.1.now)) }
+    ensures value { MatchOption result (first_command script.now ≡ None) (λ c. first_command script.now ≡ Some (c.0, c.1.now)) }
 {
     let (line, end) = script.split_at(line_len(script));
     match end {

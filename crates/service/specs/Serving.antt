@@ -2,7 +2,7 @@
 use Rattle.std.specs.Prelude.{◌≡◌, ◌⊎◌, ◌++◌, ℕ, Bool, true, false, List, Option, IfSome, Ok, Err, MatchResult, codes}
 use Rattle.batches.specs.Batch.{State}
 use Rattle.commandline.specs.declared.subcommand.Service.{Service}
-use Rattle.console.specs.Streams.{Outcome, WriterState, IsWritten}
+use Rattle.console.specs.Console.{Outcome, WriterState, IsWritten}
 use Rattle.console.specs.declared.failure.Failure.{Failure}
 use Rattle.console.specs.declared.failure.Failure.TheVariants.{ListenFailed, SocketFailed, WatchFailed, JournalFailed, NoMemory}
 

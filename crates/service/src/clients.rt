@@ -9,7 +9,7 @@ use crate::serving::{Clients, IntoTransport, PortFor, Runtime};
 use accesslog::{LogQueue, LoggedTransport};
 use commandline::Service;
 use console::Failure;
-use eventloop::{Crew, Ending, Poller, Wakes, Worker, start_worker};
+use eventloop::{Ending, Poller, Wakes, Worker, WorkerThreads, start_worker};
 use mapshare::{Reader, Sharing};
 use std::sync::atomic::{AtomicBool, Ordering};
 use turns::Transport;
@@ -17,7 +17,7 @@ use turns::Transport;
 // Starts a worker for a reader.
 fn start_one<S, R, T, Q>(
     rt: &R,
-    crew: &mut Crew<LoggedTransport<T, R>, Q::Waker>,
+    crew: &mut WorkerThreads<LoggedTransport<T, R>, Q::Waker>,
     asked: (Reader<S>, Q),
     service: Service,
 ) -> Result<(), Failure>
@@ -43,7 +43,7 @@ where
 // Starts a worker for each reader, with a poller of its own.
 fn start_all<S, R, T, Q>(
     rt: &R,
-    crew: &mut Crew<LoggedTransport<T, R>, Q::Waker>,
+    crew: &mut WorkerThreads<LoggedTransport<T, R>, Q::Waker>,
     asked: (Vec<Reader<S>>, Vec<Q>),
     service: Service,
 ) -> Result<(), Failure>
@@ -77,7 +77,7 @@ pub(crate) fn queue_of<R: Runtime>(log: &Option<LogQueue<R>>) -> Option<LogQueue
 fn accept_all<R, C, T, P, W>(
     rt: &R,
     clients: (&mut Accepting<PortFor<Clients, P>>, &AtomicBool),
-    crew: &mut Crew<LoggedTransport<T, R>, W>,
+    crew: &mut WorkerThreads<LoggedTransport<T, R>, W>,
     log: &Option<LogQueue<R>>,
 ) -> Result<(), Failure>
 where
@@ -155,8 +155,10 @@ where
         service,
         log,
     } = side;
-    let Ok(mut crew) = Crew::<LoggedTransport<T, R>, Q::Waker>::new(rt.alloc(), readers.len())
-    else {
+    let Ok(mut crew) = WorkerThreads::<LoggedTransport<T, R>, Q::Waker>::new(
+        rt.alloc(),
+        readers.len(),
+    ) else {
         return Err(Failure::NoMemory);
     };
     let mut served = start_all::<S, R, T, Q>(rt, &mut crew, (readers, pollers), service);

@@ -45,4 +45,4 @@ pub use socket_poller::{PollWaker, SocketPoller};
 pub use socket_transport::SocketTransport;
 pub use sockets::{SocketConnection, SocketPort, SocketWaker};
 pub use threaded::{Kept, serve_by_threads};
-pub use timed::{Answered, TimedReader, TimedWriter};
+pub use timed::{AnswerWritten, TimedReader, TimedWriter};

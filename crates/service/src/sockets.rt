@@ -5,7 +5,7 @@ use crate::limits::{DRAIN_SECONDS, FAILURE_MILLISECONDS, Waits};
 use crate::port::{AcceptFailed, AddressFault, Port};
 use crate::serving::IntoTransport;
 use crate::socket_transport::SocketTransport;
-use crate::timed::{Answered, TimedReader, TimedWriter};
+use crate::timed::{AnswerWritten, TimedReader, TimedWriter};
 use eventloop::Wakes;
 use httpedge::EdgeFault;
 use mapdefs::Text;
@@ -157,7 +157,7 @@ impl Opens for SocketConnection {
         } = self;
         let waits = Waits::of_administration();
         stream.set_nodelay(true).ok()?;
-        let (read, written) = Answered::pair(alloc).ok()?;
+        let (read, written) = AnswerWritten::pair(alloc).ok()?;
         let reader = TimedReader::start(stream.try_clone().ok()?, rt, waits, read).ok()?;
         Some(Sides {
             reader: Flagged::new(reader.until(is_ending)),

@@ -15,16 +15,16 @@ const MAX_TRIES: u32 = 1_000;
 
 /// What the two sides of a connection share: whether an answer was written since the last read.
 #[derive(Drop)]
-pub struct Answered {
+pub struct AnswerWritten {
     is_set: Arc<AtomicBool, Global>,
 }
 
-impl Answered {
+impl AnswerWritten {
     /// Both ends of one, where nothing was written. The error is that memory was refused.
-    pub fn pair(alloc: Global) -> Result<(Answered, Answered), AllocError> {
+    pub fn pair(alloc: Global) -> Result<(AnswerWritten, AnswerWritten), AllocError> {
         let is_set = Arc::new(alloc, AtomicBool::new(false))?;
         let other = Arc::try_clone(&is_set)?;
-        Ok((Answered { is_set }, Answered { is_set: other }))
+        Ok((AnswerWritten { is_set }, AnswerWritten { is_set: other }))
     }
 }
 
@@ -36,7 +36,7 @@ pub struct TimedReader<S, C> {
     stream: S,
     clock: C,
     waits: Waits,
-    answered: Answered,
+    answered: AnswerWritten,
     limit: TimeLimit,
     is_idle: bool,
     // Where that is set it comes to its end.
@@ -45,7 +45,7 @@ pub struct TimedReader<S, C> {
 
 impl<S, C: Clock> TimedReader<S, C> {
     /// A stream whose first command begins now.
-    pub fn start(stream: S, clock: C, waits: Waits, answered: Answered) -> io::Result<Self>
+    pub fn start(stream: S, clock: C, waits: Waits, answered: AnswerWritten) -> io::Result<Self>
     where
         S: Drop,
         C: Drop,
@@ -143,7 +143,7 @@ pub struct TimedWriter<S, C> {
     stream: S,
     clock: C,
     waits: Waits,
-    answered: Answered,
+    answered: AnswerWritten,
     limit: Option<TimeLimit>,
     // The time since bytes last went.
     still: Option<TimeLimit>,
@@ -152,7 +152,7 @@ pub struct TimedWriter<S, C> {
 
 impl<S, C> TimedWriter<S, C> {
     /// A stream to which nothing is written yet.
-    pub fn new(stream: S, clock: C, waits: Waits, answered: Answered) -> Self {
+    pub fn new(stream: S, clock: C, waits: Waits, answered: AnswerWritten) -> Self {
         TimedWriter {
             stream,
             clock,

@@ -1,5 +1,5 @@
 use crate::map_replies::map_of;
-use mapdefs::{Items, Kind, Layer, Text};
+use mapdefs::{Geometry, Items, Layer, Text};
 use mapmachine::{BatchError, MAX_BATCH, Machine};
 use std::alloc::{AllocError, Global};
 use test_maps::layer_fields;
@@ -8,7 +8,7 @@ use test_tables::{TableFault, check_rows};
 // The machine of a map with a layer of points `p`, which has none yet, as after so many batches.
 fn machine(alloc: Global, sequence: u64) -> Result<Machine, AllocError> {
     let mut fields = layer_fields(alloc, Text::from_str(alloc, "p")?);
-    fields.kind = Kind::Point;
+    fields.kind = Geometry::Point;
     fields.csv_x = Text::from_str(alloc, "x")?;
     fields.csv_y = Text::from_str(alloc, "y")?;
     let mut layers = Items::new(alloc);

@@ -1,6 +1,6 @@
 use crate::texts::columns;
 use std::alloc::{AllocError, Global};
-use subcommands::{front_of, path_of, split_session};
+use subcommands::{parent_of, path_of, split_session};
 use test_tables::{TableFault, check_all, check_rows};
 
 // Sessions, their mapfiles and their scripts, with `~` for a line feed.
@@ -29,20 +29,20 @@ fn sessions_part_at_their_first_such_line(rt: HostRuntime) -> Result<(), TableFa
 }
 
 // What stands before the names of files, and their paths.
-const FRONTS: &str = "\
+const PARENTS: &str = "\
 =m.map
 maps/=maps/m.map
 /=/m.map
 ../a/b.c/=../a/b.c/m.map
 é/=é/ü.map";
 
-fn front(alloc: Global, path: &str) -> Result<String, AllocError> {
-    String::from_str(alloc, front_of(path))
+fn parent(alloc: Global, path: &str) -> Result<String, AllocError> {
+    String::from_str(alloc, parent_of(path))
 }
 
 #[test]
 fn a_file_is_in_the_folder_before_its_name(rt: HostRuntime) -> Result<(), TableFault> {
-    check_rows(rt.alloc(), FRONTS, '=', 5, front)
+    check_rows(rt.alloc(), PARENTS, '=', 5, parent)
 }
 
 // The paths of names, what stands before the names of a folder's files, and the names.
@@ -53,8 +53,8 @@ a.ppm=|a.ppm
 /maps/../a.ppm=/maps/|../a.ppm";
 
 fn path(alloc: Global, row: &str) -> Result<String, AllocError> {
-    let (front, name) = row.split_once('|').unwrap_or(("", ""));
-    String::from_str(alloc, path_of(alloc, front, name)?.as_str())
+    let (parent, name) = row.split_once('|').unwrap_or(("", ""));
+    String::from_str(alloc, path_of(alloc, parent, name)?.as_str())
 }
 
 #[test]

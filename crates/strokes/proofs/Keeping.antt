@@ -11,7 +11,7 @@ use mir.Val.{to_z, of_z}
 use Rattle.geom.specs.Range.{IsBelow}
 use Rattle.geom.proofs.Products.{le_of, mul-neg, product_nonneg, sub-mul, same_order, same_test}
 use Rattle.geom.proofs.Quotients.{at_most-by_product, least_from, quotient_parts}
-use Rattle.clip.specs.Class.{at_least_zero}
+use Rattle.clip.specs.EdgeClass.{at_least_zero}
 use Rattle.clip.proofs.Rowed.{cut-at_most}
 use Rattle.scanfill.specs.declared.span.Span.{Span}
 use Rattle.scanfill.specs.Runs.{has_column}

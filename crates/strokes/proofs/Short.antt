@@ -8,7 +8,7 @@ use lib.IntN.{ℤ, pos, ◌+ℤ◌, ◌-ℤ◌}
 use lib.Signed.{◌<ℤ◌, ◌≤ℤ◌}
 use Rattle.geom.proofs.Products.{is_le, le_of}
 use Rattle.geom.proofs.Quotients.{quotient_parts}
-use Rattle.geom.specs.Device.{DevicePoint, PixelPlace, centre, pixel_centre, pixel_of}
+use Rattle.geom.specs.Device.{DevicePoint, PixelValue, centre, pixel_centre, pixel_of}
 use Rattle.geom.specs.Edge.{EdgeEnds}
 use Rattle.strokes.specs.Line.{square_at}
 use Rattle.strokes.specs.Segment.{covers_segment}
@@ -118,10 +118,10 @@ short-odd k a b i j near covered = ⊎_elim
     w : ℕ
     w = 2 * k + 1
 
-    p : PixelPlace
+    p : PixelValue
     p = pixel_of a
 
-    q : PixelPlace
+    q : PixelValue
     q = pixel_of b
 
     by : IsAmong k p.i q.i i × IsAmong k p.j q.j j

@@ -1,6 +1,6 @@
 -- Short segments of a line, which its squares cover (docs/DRAWING.md, "When a pixel belongs to a line").
 use Rattle.std.specs.Prelude.{◌≡◌, ℕ, ◌%◌, ◌<◌, Bool, true, not, ◌&&◌, ◌||◌, ℤ, pos, ◌+ℤ◌, ◌-ℤ◌, int_le, List, filter}
-use Rattle.geom.specs.Device.{DevicePoint, PixelPlace, pixel_centre, pixel_of}
+use Rattle.geom.specs.Device.{DevicePoint, PixelValue, pixel_centre, pixel_of}
 use Rattle.strokes.specs.Line.{LineValue, covers_pixel, line_of, square_at}
 use Rattle.strokes.specs.Segment.{SegmentValue, covers_segment}
 use Rattle.strokes.specs.Square.{covers_square}
@@ -22,7 +22,7 @@ abbrev pub are_abreast : ℕ → ℤ → ℤ → ℤ → ℤ → Bool
 are_abreast n a b c d = are_close 0 a b && are_close n c d
 
 -- two pixels lie in one column or in one row, and are at most so many apart
-abbrev pub are_neighbours : ℕ → PixelPlace → PixelPlace → Bool
+abbrev pub are_neighbours : ℕ → PixelValue → PixelValue → Bool
 are_neighbours n p q = are_abreast n p.i q.i p.j q.j || are_abreast n p.j q.j p.i q.i
 
 -- the law: a segment of an odd width between points of such pixels, at most the width apart, covers nothing but what the squares round its ends cover

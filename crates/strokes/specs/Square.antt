@@ -1,11 +1,11 @@
 -- The square of a size round a pixel (docs/DRAWING.md, "When a pixel belongs to a line").
 use Rattle.std.specs.Prelude.{ℕ, ◌≤◌, ◌-◌, ◌/◌, Bool, ◌&&◌, ℤ, pos, ◌+ℤ◌, ◌-ℤ◌, int_le}
-use Rattle.geom.specs.Device.{PixelPlace}
+use Rattle.geom.specs.Device.{PixelValue}
 use Rattle.mapdefs.specs.declared.limits.TheConstants.{MAX_SQUARE}
 
 -- a square: its pixel, and its size
 pub record SquareValue : Type 0 where
-  pub pixel : PixelPlace
+  pub pixel : PixelValue
   pub size : ℕ
 
 -- a column or row lies from floor((size - 1) / 2) before another to floor(size / 2) after it, both included

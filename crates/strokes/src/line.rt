@@ -1,6 +1,6 @@
 ghost use Rattle.std.specs.Prelude.{◌≡◌, ℕ, ◌<◌, ◌≤◌, ◌||◌, false, [], ◌++◌, length, map, pos, IfOk, OnOk, vec_items};
 ghost use Rattle.std.specs.List.{list_any};
-ghost use Rattle.clip.specs.Class.{has_row};
+ghost use Rattle.clip.specs.EdgeClass.{has_row};
 ghost use Rattle.geom.specs.declared.side.TheConstants.{MAX_PICTURE_SIDE};
 ghost use Rattle.mapdefs.specs.declared.limits.TheConstants.{MAX_LINE_WIDTH};
 ghost use Rattle.scanfill.specs.Runs.{AreRunsFrom};
@@ -11,7 +11,7 @@ ghost use Rattle.strokes.specs.Square.{covers_square};
 use crate::marks::Marks;
 use crate::segment::Segment;
 use crate::square::Square;
-use clip::Rows;
+use clip::RowRange;
 use geom::{Device, Edge, PictureSide};
 use scanfill::{Cover, Spans};
 use std::alloc::{AllocError, Global};
@@ -76,7 +76,7 @@ impl Cover for Line {
         is_on_some(&self.segments, i, j) || is_on_some(&self.squares, i, j)
     }
 
-    fn rows(&self, width: PictureSide, height: PictureSide) -> Rows {
+    fn rows(&self, width: PictureSide, height: PictureSide) -> RowRange {
         let segments = rows_of_all(&self.segments, width, height);
         segments.joined(rows_of_all(&self.squares, width, height))
     }
@@ -118,11 +118,11 @@ fn is_on_some<C: Cover>(covers: &[C], i: u16, j: u16) -> bool
 }
 
 // The rows outside of which none of them covers a pixel.
-fn rows_of_all<C: Cover>(covers: &[C], width: PictureSide, height: PictureSide) -> Rows
+fn rows_of_all<C: Cover>(covers: &[C], width: PictureSide, height: PictureSide) -> RowRange
     ensures within { result.to ≤ height }
     ensures none { (i j : ℕ) → i < width → j < height → has_row result j ≡ false → list_any (λ c. C.covered c i j) covers.now ≡ false }
 {
-    let mut rows = Rows { from: 0, to: 0 };
+    let mut rows = RowRange { from: 0, to: 0 };
     for cover in covers {
         rows = rows.joined(cover.rows(width, height));
     }

@@ -1,5 +1,5 @@
 pub mod Explaining
-pub mod Fronts
+pub mod Parents
 pub mod Lines
 pub mod Parting
 pub mod Serving

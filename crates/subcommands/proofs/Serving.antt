@@ -2,18 +2,18 @@
 use Rattle.std.proofs.Common.{◌≡◌, ◌||◌, ◌⊎◌, inr, refl, ℕ, true, false, Bool, List, Option, Ok, Err}
 use Rattle.std.specs.Io.KnownBytes.{Keeps}
 use Rattle.std.proofs.KnownBytes.{Keeps-refl}
-use Rattle.console.specs.Streams.{Outcome, Streams, WriterState}
+use Rattle.console.specs.Console.{Outcome, ConsoleState, WriterState}
 use Rattle.console.specs.declared.failure.Failure.{Failure}
 use Rattle.console.specs.declared.failure.Failure.TheVariants.{MapfileFault, FileFailed, WordsRefused, InputFailed, OutputFailed, ListenFailed, SocketFailed, WatchFailed, JournalFault, JournalFailed, NoMemory}
 use Rattle.mapdefs.specs.declared.map.MapFields.{MapFields}
 use Rattle.batches.specs.Batch.{State}
 use Rattle.subcommands.specs.Folder.{Giving, ComesTo}
-use Rattle.subcommands.specs.Mapfiles.{ChecksTo, HasReadFile, HasReadMap, IsUnread, IsUnreported, IsWarned, Readings, ReportsScript, ReportsWarnings, RunsTo, SumsUp, is_file_failed}
+use Rattle.subcommands.specs.Mapfiles.{ChecksTo, HasReadFile, HasReadMap, IsUnread, IsUnreported, IsWarned, Readings, ReportsScript, ReportsWarnings, RunsTo, WritesSummary, is_file_failed}
 use Rattle.subcommands.specs.Reports.{ReadFile}
 use Rattle.subcommands.specs.Session.{HasRead, Ends, EndsOn, PlaysTo, opened}
 
 -- what playing a script comes to, by the outcome
-pub served : (gives : Giving) (outcome : Outcome) (old new : Streams) (mapfile script : List ℕ) (map : MapFields) →
+pub served : (gives : Giving) (outcome : Outcome) (old new : ConsoleState) (mapfile script : List ℕ) (map : MapFields) →
     HasRead old.input.left new.input.left mapfile script → ComesTo gives mapfile (Ok map) → EndsOn map outcome script old.output.held new.output.held →
     Keeps old.errors.held new.errors.held → PlaysTo gives outcome old new
 served gives (Ok done) old new mapfile script map read is_map ends kept =
@@ -36,7 +36,7 @@ pub unreported : (errors : WriterState) → IsUnreported errors errors
 unreported errors = record { held = Keeps-refl errors.held; failed = refl; flushed = refl }
 
 -- what a script that was read after its mapfile comes to, by the outcome
-pub ran : (gives : Giving) (explains : Bool) (outcome : Outcome) (mapfile script : ReadFile) (files : Readings) (old new : Streams) (map : MapFields) (bytes : List ℕ) →
+pub ran : (gives : Giving) (explains : Bool) (outcome : Outcome) (mapfile script : ReadFile) (files : Readings) (old new : ConsoleState) (map : MapFields) (bytes : List ℕ) →
     HasReadMap gives files.mapfile_before files.mapfile_after map → HasReadFile files.script_before files.script_after bytes → EndsOn map outcome bytes old.output.held new.output.held →
     ReportsWarnings explains mapfile.name map old.errors new.errors → RunsTo gives explains outcome mapfile script files old new
 ran gives explains (Ok done) mapfile script files old new map bytes read read_script ends warnings =
@@ -56,7 +56,7 @@ ran gives explains (Err NoMemory) mapfile script files old new map bytes read re
     (ends, inr (record { map = map; read = read; warned = record { errors = new.errors; warnings = warnings }; unread = Keeps-refl new.errors.held }))
 
 -- what a script that was not read after its mapfile comes to
-pub unscripted : (gives : Giving) (explains : Bool) (failure : Failure) (mapfile script : ReadFile) (files : Readings) (old new : Streams) (map : MapFields) →
+pub unscripted : (gives : Giving) (explains : Bool) (failure : Failure) (mapfile script : ReadFile) (files : Readings) (old new : ConsoleState) (map : MapFields) →
     HasReadMap gives files.mapfile_before files.mapfile_after map → (warned : IsWarned explains mapfile.name map old.errors) → IsUnread explains failure script warned.errors new.errors →
     Keeps old.output.held new.output.held → RunsTo gives explains (Err failure) mapfile script files old new
 unscripted gives explains FileFailed mapfile script files old new map read warned unread kept =
@@ -78,8 +78,8 @@ pub unwarned : (name : List ℕ) (map : MapFields) (old new : WriterState) → I
 unwarned name map old new kept = record { reported = inr kept; unasked = λ e. kept }
 
 -- what a map whose line was not written comes to
-pub unsummed : (gives : Giving) (explains : Bool) (failure : Failure) (file : ReadFile) (before after : Option (List ℕ)) (old new : Streams) (map : MapFields) →
-    HasReadMap gives before after map → SumsUp (Err failure) map old.output.held new.output.held → IsUnreported old.errors new.errors → ChecksTo gives explains (Err failure) file before after old new
+pub unsummed : (gives : Giving) (explains : Bool) (failure : Failure) (file : ReadFile) (before after : Option (List ℕ)) (old new : ConsoleState) (map : MapFields) →
+    HasReadMap gives before after map → WritesSummary (Err failure) map old.output.held new.output.held → IsUnreported old.errors new.errors → ChecksTo gives explains (Err failure) file before after old new
 unsummed gives explains OutputFailed file before after old new map read sums kept =
     record { map = map; read = read; sums = sums; warnings = unwarned file.name map old.errors new.errors kept }
 unsummed gives explains MapfileFault file before after old new map read sums kept = absurd sums

@@ -6,21 +6,21 @@ use Rattle.mapparse.specs.declared.files.FileBytes.{FileBytes}
 use Rattle.mapparse.specs.Files.{with_file}
 use Rattle.mapparse.specs.Parsed.{wanted, parsed}
 
--- a path is a front and the name of a file: the name has no slash, and the front is empty or ends in one
-pub record IsFront (path front : List ℕ) : Type 0 where
+-- a path is a parent and the name of a file: the name has no slash, and the parent is empty or ends in one
+pub record IsParent (path parent : List ℕ) : Type 0 where
   pub name : List ℕ
-  pub parts : path ≡ front ++ name
+  pub parts : path ≡ parent ++ name
   pub plain : All (λ b. b ≢ 47) name
-  pub slash : (front ≡ []) ⊎ ((folder : List ℕ) × (front ≡ folder ++ codes "/"))
+  pub slash : (parent ≡ []) ⊎ ((folder : List ℕ) × (parent ≡ folder ++ codes "/"))
 
--- what stands before a name in its path: the front of the folder's files, but nothing before a name that begins with a slash
-abbrev pub front_before : List ℕ → List ℕ → List ℕ
-front_before front [] = front
-front_before front (b ∷ bs) = if b == 47 then [] else front
+-- what stands before a name in its path: the parent of the folder's files, but nothing before a name that begins with a slash
+abbrev pub parent_before : List ℕ → List ℕ → List ℕ
+parent_before parent [] = parent
+parent_before parent (b ∷ bs) = if b == 47 then [] else parent
 
--- the path of a name in a folder whose files have that front
+-- the path of a name in a folder whose files have that parent
 abbrev pub path_of : List ℕ → List ℕ → List ℕ
-path_of front name = front_before front name ++ name
+path_of parent name = parent_before parent name ++ name
 
 -- what a folder gives under a name: bytes, or none
 abbrev pub Giving : Type 1

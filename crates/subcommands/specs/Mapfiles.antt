@@ -2,7 +2,7 @@
 use Rattle.std.specs.Prelude.{◌≡◌, ◌||◌, Bool, true, false, ℕ, List, ◌++◌, Option, None, Some, Result, Ok, Err, ◌⊎◌, codes}
 use Rattle.std.specs.Fmt.{decimal}
 use Rattle.std.specs.Io.KnownBytes.{Keeps, Appends, Consumes, IsAtEnd}
-use Rattle.console.specs.Streams.{Outcome, Streams, InputState, WriterState, IsReported, is_input_failed, is_output_failed}
+use Rattle.console.specs.Console.{Outcome, ConsoleState, InputState, WriterState, IsReported, is_input_failed, is_output_failed}
 use Rattle.console.specs.declared.failure.Failure.{Failure}
 use Rattle.console.specs.declared.failure.Failure.TheVariants.{MapfileFault, FileFailed, OutputFailed, NoMemory}
 use Rattle.mapdefs.specs.declared.map.MapFields.{MapFields}
@@ -89,22 +89,22 @@ pub record ReportsWarnings (explains : Bool) (name : List ℕ) (map : MapFields)
 
 -- what the output got of the line of a map, by the outcome: all of it; or exactly its first so many bytes, or all of them
 -- where the flush failed
-abbrev pub SumsUp : Outcome → MapFields → Option (List ℕ) → Option (List ℕ) → Type 0
-SumsUp (Ok done) map before after = Appends before after (summary_line map)
-SumsUp (Err OutputFailed) map before after =
+abbrev pub WritesSummary : Outcome → MapFields → Option (List ℕ) → Option (List ℕ) → Type 0
+WritesSummary (Ok done) map before after = Appends before after (summary_line map)
+WritesSummary (Err OutputFailed) map before after =
     ((written : ℕ) × HasPartlySummed map before after written) ⊎ Appends before after (summary_line map)
-SumsUp (Err _) map before after = ⊥
+WritesSummary (Err _) map before after = ⊥
 
 -- a mapfile describes a map, whose line was written with this outcome, and then the warnings on it reported
-pub record IsChecked (gives : Giving) (explains : Bool) (outcome : Outcome) (name : List ℕ) (before after : Option (List ℕ)) (old new : Streams) : Type 0 where
+pub record IsChecked (gives : Giving) (explains : Bool) (outcome : Outcome) (name : List ℕ) (before after : Option (List ℕ)) (old new : ConsoleState) : Type 0 where
   pub map : MapFields
   pub read : HasReadMap gives before after map
-  pub sums : SumsUp outcome map old.output.held new.output.held
+  pub sums : WritesSummary outcome map old.output.held new.output.held
   pub warnings : ReportsWarnings explains name map old.errors new.errors
 
 -- what checking a mapfile makes of the streams by its outcome. `before` and `after` are what is left of the mapfile; `explains` says
 -- whether a fault is reported in words, too, and the warnings on a map whose whole line was written
-abbrev pub ChecksTo : Giving → Bool → Outcome → ReadFile → Option (List ℕ) → Option (List ℕ) → Streams → Streams → Type 0
+abbrev pub ChecksTo : Giving → Bool → Outcome → ReadFile → Option (List ℕ) → Option (List ℕ) → ConsoleState → ConsoleState → Type 0
 ChecksTo gives explains (Ok done) file before after old new = IsChecked gives explains (Ok done) file.name before after old new
 ChecksTo gives explains (Err OutputFailed) file before after old new = IsChecked gives false (Err OutputFailed) file.name before after old new
 ChecksTo gives explains (Err failure) file before after old new =
@@ -118,7 +118,7 @@ pub record Readings : Type 0 where
   pub script_after : Option (List ℕ)
 
 -- a mapfile describes a map, the warnings on it were reported, and a script was played on it with this outcome
-pub record IsRun (gives : Giving) (explains : Bool) (outcome : Outcome) (name : List ℕ) (files : Readings) (old new : Streams) : Type 0 where
+pub record IsRun (gives : Giving) (explains : Bool) (outcome : Outcome) (name : List ℕ) (files : Readings) (old new : ConsoleState) : Type 0 where
   pub map : MapFields
   pub read : HasReadMap gives files.mapfile_before files.mapfile_after map
   pub script : List ℕ
@@ -140,7 +140,7 @@ pub record IsWithoutScript (gives : Giving) (explains : Bool) (failure : Failure
   pub unread : IsUnread explains failure script warned.errors new
 
 -- what running a script makes of the streams by its outcome, with the mapfile and the script as they are reported
-abbrev pub RunsTo : Giving → Bool → Outcome → ReadFile → ReadFile → Readings → Streams → Streams → Type 0
+abbrev pub RunsTo : Giving → Bool → Outcome → ReadFile → ReadFile → Readings → ConsoleState → ConsoleState → Type 0
 RunsTo gives explains (Ok done) mapfile script files old new = IsRun gives explains (Ok done) mapfile.name files old new
 RunsTo gives explains (Err OutputFailed) mapfile script files old new = IsRun gives explains (Err OutputFailed) mapfile.name files old new
 RunsTo gives explains (Err failure) mapfile script files old new =

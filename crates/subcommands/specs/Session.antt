@@ -1,7 +1,7 @@
 -- A session, from the bytes of the input to what its writers get (docs/SERVICE.md, "Sessions").
 use Rattle.std.specs.Prelude.{ℕ, List, Option, Ok, Err, ◌⊎◌}
 use Rattle.std.specs.Io.KnownBytes.{Keeps, Consumes, IsAtEnd}
-use Rattle.console.specs.Streams.{Outcome, Streams, WriterState, IsReported}
+use Rattle.console.specs.Console.{Outcome, ConsoleState, WriterState, IsReported}
 use Rattle.console.specs.declared.failure.Failure.{Failure}
 use Rattle.console.specs.declared.failure.Failure.TheVariants.{MapfileFault, InputFailed, OutputFailed, NoMemory}
 use Rattle.mapdefs.specs.declared.map.MapFields.{MapFields}
@@ -21,7 +21,7 @@ pub record HasRead (before after : Option (List ℕ)) (mapfile script : List ℕ
   pub parts : AreParts session mapfile script
 
 -- neither writer got anything
-pub record IsSilent (old new : Streams) : Type 0 where
+pub record IsSilent (old new : ConsoleState) : Type 0 where
   pub output : Keeps old.output.held new.output.held
   pub errors : Keeps old.errors.held new.errors.held
 
@@ -43,7 +43,7 @@ EndsOn map (Err NoMemory) script before after = Keeps before after
 EndsOn map outcome script before after = (state : State) × Ends outcome (opened map) script state before after
 
 -- the mapfile describes a map, and playing the script on it had this outcome
-pub record IsServed (gives : Giving) (outcome : Outcome) (old new : Streams) : Type 0 where
+pub record IsServed (gives : Giving) (outcome : Outcome) (old new : ConsoleState) : Type 0 where
   pub mapfile : List ℕ
   pub script : List ℕ
   pub read : HasRead old.input.left new.input.left mapfile script
@@ -66,7 +66,7 @@ IsWithoutMap gives NoMemory mapfile old new = Keeps old.held new.held
 IsWithoutMap gives _ mapfile old new = ⊥
 
 -- the mapfile of a session has a fault, which was reported to the errors alone
-pub record IsFaulty (gives : Giving) (old new : Streams) : Type 0 where
+pub record IsFaulty (gives : Giving) (old new : ConsoleState) : Type 0 where
   pub mapfile : List ℕ
   pub script : List ℕ
   pub read : HasRead old.input.left new.input.left mapfile script
@@ -74,7 +74,7 @@ pub record IsFaulty (gives : Giving) (old new : Streams) : Type 0 where
   pub reported : HasReportedFault gives mapfile old.errors new.errors
 
 -- what playing a session makes of the streams by its outcome
-abbrev pub PlaysTo : Giving → Outcome → Streams → Streams → Type 0
+abbrev pub PlaysTo : Giving → Outcome → ConsoleState → ConsoleState → Type 0
 PlaysTo gives (Ok done) old new = IsServed gives (Ok done) old new
 PlaysTo gives (Err MapfileFault) old new = IsFaulty gives old new
 PlaysTo gives (Err InputFailed) old new = IsSilent old new

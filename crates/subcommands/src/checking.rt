@@ -1,12 +1,12 @@
 ghost use Rattle.std.specs.Prelude.{◌≡◌};
-ghost use Rattle.console.specs.Streams.{Leaves, LeavesOutput};
-ghost use Rattle.subcommands.specs.Mapfiles.{ChecksTo, LeavesFile, SumsUp};
+ghost use Rattle.console.specs.Console.{Leaves, LeavesOutput};
+ghost use Rattle.subcommands.specs.Mapfiles.{ChecksTo, LeavesFile, WritesSummary};
 ghost use Rattle.subcommands.specs.Reports.{ReadFile};
 
 use crate::folder::Folder;
 use crate::job::Job;
 use crate::reading::{read_explained, report_warnings};
-use crate::summing::summary;
+use crate::summary::summary;
 use crate::unread::HasCause;
 use console::{Console, Failure, Reads, Terminal, Writes, flush};
 use mapdefs::Map;
@@ -14,8 +14,8 @@ use std::alloc::Global;
 use streams::{Sink, Source};
 
 /// Writes the line of a map, and flushes it.
-pub fn sum_up<O: Sink>(map: &Map, output: &mut O) -> Result<(), Failure>
-    ensures sums { SumsUp result map.now (O.held output.old) (O.held output.new) }
+pub fn write_summary<O: Sink>(map: &Map, output: &mut O) -> Result<(), Failure>
+    ensures sums { WritesSummary result map.now (O.held output.old) (O.held output.new) }
     ensures leaves { LeavesOutput result (⟦<O as Writes>⟧.state output.old) (⟦<O as Writes>⟧.state output.new) }
 {
     match summary(map, output) {
@@ -40,7 +40,7 @@ pub fn check<F: Folder, I: Source + HasCause, J: Source, O: Sink, E: Sink>(
     ensures leaves { Leaves result (⟦<Console<J, O, E> as Terminal>⟧.streams console.old) (⟦<Console<J, O, E> as Terminal>⟧.streams console.new) }
 {
     let read = read_explained(alloc, job, &mut console.errors)?;
-    sum_up(&read.map, &mut console.output)?;
+    write_summary(&read.map, &mut console.output)?;
     report_warnings(alloc, job, &read.map, &mut console.errors);
     Ok(())
 }

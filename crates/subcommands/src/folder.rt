@@ -1,6 +1,6 @@
 ghost use Rattle.std.specs.Prelude.{◌≡◌, ℕ, List, [], ◌∷◌, ◌++◌, IfOk, OnOk};
 ghost use Rattle.mapparse.specs.Uses.{uses_of};
-ghost use Rattle.subcommands.specs.Folder.{FilesOf, IsFront, front_before, path_of};
+ghost use Rattle.subcommands.specs.Folder.{FilesOf, IsParent, parent_before, path_of};
 
 use mapdefs::{Items, Text};
 use mapparse::{Files, Mapfile};
@@ -20,8 +20,8 @@ pub trait Folder {
 
 /// What stands before the name of a file in its path: all up to the last slash, or nothing where there is
 /// none.
-pub fn front_of(path: &str) -> &str
-    ensures { IsFront path.now result.now }
+pub fn parent_of(path: &str) -> &str
+    ensures { IsParent path.now result.now }
 {
     match path.rfind('/') {
         Some(slash) => path.split_at(slash + 1).0,
@@ -30,19 +30,19 @@ pub fn front_of(path: &str) -> &str
 }
 
 // What stands before a name in its path.
-fn front_before<'a>(front: &'a str, name: &str) -> &'a str
-    ensures { result.now ≡ front_before front.now name.now }
+fn parent_before<'a>(parent: &'a str, name: &str) -> &'a str
+    ensures { result.now ≡ parent_before parent.now name.now }
 {
-    if name.starts_with('/') { "" } else { front }
+    if name.starts_with('/') { "" } else { parent }
 }
 
 /// The path of a name in a folder, by what stands before the names of the folder's files: a name that begins
 /// with a slash is a path. The error is that memory was refused.
-pub fn path_of(alloc: Global, front: &str, name: &str) -> Result<Text, AllocError>
-    ensures { IfOk result (λ path. path ≡ path_of front.now name.now) }
+pub fn path_of(alloc: Global, parent: &str, name: &str) -> Result<Text, AllocError>
+    ensures { IfOk result (λ path. path ≡ path_of parent.now name.now) }
 {
-    let front = front_before(front, name);
-    Ok(Text::of(format!(in alloc; "{front}{name}")?))
+    let parent = parent_before(parent, name);
+    Ok(Text::of(format!(in alloc; "{parent}{name}")?))
 }
 
 // Reads a file, and adds it if it can be read.

@@ -18,7 +18,7 @@ mod playing;
 mod reading;
 mod reports;
 mod running;
-mod summing;
+mod summary;
 mod unread;
 
 pub use checking::check;
@@ -29,5 +29,5 @@ pub use playing::session;
 pub use reading::{ReadMap, read_map};
 pub use running::run;
 pub use scripts::play_script;
-pub use summing::summary;
+pub use summary::summary;
 pub use unread::{HasCause, UnreadCause};

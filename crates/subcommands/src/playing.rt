@@ -1,5 +1,5 @@
 ghost use Rattle.std.specs.Prelude.{◌≡◌, IfOk, IfErr, OnOk, Ok, Err, false};
-ghost use Rattle.console.specs.Streams.{Leaves, LeavesOutput, is_input_failed};
+ghost use Rattle.console.specs.Console.{Leaves, LeavesOutput, is_input_failed};
 ghost use Rattle.subcommands.specs.Folder.{ComesTo};
 ghost use Rattle.subcommands.specs.Mapfiles.{TouchesNeither};
 ghost use Rattle.subcommands.specs.Session.{Ends, EndsOn, IsWithoutMap, PlaysTo};

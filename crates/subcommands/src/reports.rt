@@ -1,5 +1,5 @@
 ghost use Rattle.std.specs.Prelude.{◌≡◌, ◌++◌, codes};
-ghost use Rattle.console.specs.Streams.{IsReported};
+ghost use Rattle.console.specs.Console.{IsReported};
 ghost use Rattle.subcommands.specs.Mapfiles.{explained_fault};
 ghost use Rattle.subcommands.specs.Reports.{ReadFile, cause_words, file_fault, mapfile_fault};
 

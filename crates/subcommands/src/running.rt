@@ -1,5 +1,5 @@
 ghost use Rattle.std.specs.Prelude.{◌≡◌, IfErr};
-ghost use Rattle.console.specs.Streams.{Leaves};
+ghost use Rattle.console.specs.Console.{Leaves};
 ghost use Rattle.console.specs.declared.failure.Failure.TheVariants.{FileFailed, MapfileFault};
 ghost use Rattle.subcommands.specs.Mapfiles.{LeavesFiles, ReportsUnread, RunsTo};
 ghost use Rattle.subcommands.specs.Reports.{ReadFile};

@@ -10,7 +10,7 @@ use Rattle.std.specs.Prelude.{int_le, int_lt, slice_get}
 use Rattle.std.specs.Option.{option_and_then}
 use lib.IntN.{ℤ, pos, negsuc, ◌+ℤ◌, ◌-ℤ◌}
 use lib.Signed.{◌≤ℤ◌, ◌<ℤ◌}
-use Rattle.clip.specs.Class.{at_least_zero}
+use Rattle.clip.specs.EdgeClass.{at_least_zero}
 use Rattle.mapdefs.specs.declared.colour.Rgb.{Rgb}
 use Rattle.scanfill.specs.declared.span.Span.{Span}
 use Rattle.symbols.specs.Stamp.{StampValue, covers_pixel, is_coloured, pixel_at, pixel_from, position_on, skipped}

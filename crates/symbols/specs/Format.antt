@@ -11,7 +11,7 @@ use Rattle.mapdefs.specs.declared.symbol.PixmapFields.{PixmapFields}
 use Rattle.symbols.specs.declared.fault.PixFault.{PixFault}
 use Rattle.symbols.specs.declared.fault.PixFault.TheVariants.{Magic, Header, Short, Limit, NoMemory}
 use Rattle.symbols.specs.declared.header.HeaderFields.{HeaderFields}
-use Rattle.symbols.specs.declared.header.Number.{Number}
+use Rattle.symbols.specs.declared.header.HeaderNumber.{HeaderNumber}
 
 -- white space: a space, TAB, LF, VT, FF or CR
 abbrev pub is_space : ℕ → Bool
@@ -36,7 +36,7 @@ unfoldable pub capped : ℕ → ℕ
 capped = up_to 1000
 
 -- the number after the white space and comments from an index on, and the index after its digits
-abbrev pub number_at : List ℕ → ℕ → Option Number
+abbrev pub number_at : List ℕ → ℕ → Option HeaderNumber
 number_at bytes at =
     let start = at + blanks_len false (drop at bytes) in
     let digits = prefix_len is_ascii_digit (drop start bytes) in
@@ -46,9 +46,9 @@ number_at bytes at =
 abbrev pub header_of : List ℕ → Option HeaderFields
 header_of bytes =
     if has_space_at bytes 2
-    then option_and_then (λ (width : Number).
-    option_and_then (λ (height : Number).
-    option_and_then (λ (greatest : Number).
+    then option_and_then (λ (width : HeaderNumber).
+    option_and_then (λ (height : HeaderNumber).
+    option_and_then (λ (greatest : HeaderNumber).
     if greatest.value == 255 && nat_lt 0 width.value && nat_lt 0 height.value && has_space_at bytes greatest.end
     then Some (record { width = width.value; height = height.value; start = greatest.end + 1 })
     else None) (number_at bytes height.end)) (number_at bytes width.end)) (number_at bytes 2)

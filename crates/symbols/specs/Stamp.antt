@@ -1,15 +1,15 @@
 -- The pixels of a pixmap that is stamped on the picture (docs/DRAWING.md, "When a pixel belongs to a symbol").
 use Rattle.std.specs.Prelude.{ℕ, ◌+◌, ◌-◌, ◌*◌, ◌/◌, ◌==◌, ◌&&◌, not, Bool, false, if◌then◌else◌, nat_le, ℤ, pos, ◌-ℤ◌, int_le, int_lt, List, Option, None, Some, slice_get}
 use Rattle.std.specs.Option.{option_and_then}
-use Rattle.clip.specs.Class.{at_least_zero}
-use Rattle.geom.specs.Device.{PixelPlace}
+use Rattle.clip.specs.EdgeClass.{at_least_zero}
+use Rattle.geom.specs.Device.{PixelValue}
 use Rattle.mapdefs.specs.declared.colour.Rgb.{Rgb}
 use Rattle.mapdefs.specs.declared.symbol.PixmapFields.{PixmapFields}
 
 -- a stamp: a pixmap, and the pixel that it is stamped at
 pub record StampValue : Type 0 where
   pub pixmap : PixmapFields
-  pub pixel : PixelPlace
+  pub pixel : PixelValue
 
 -- where a column or row of the picture lies on a side of a pixmap that is stamped round another, if it does
 abbrev pub position_on : ℕ → ℤ → ℤ → Option ℕ

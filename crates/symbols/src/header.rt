@@ -8,7 +8,7 @@ use geom::read_digits;
 
 /// A number of a header.
 #[derive(Clone, Copy)]
-pub struct Number {
+pub struct HeaderNumber {
     /// The number, or 1,000 where it is greater.
     pub value: u16,
     /// The index after its digits.
@@ -67,7 +67,7 @@ fn is_space(byte: u8) -> bool
 }
 
 // The number after the blanks from an index on, if one stands there.
-fn number_at(bytes: &[u8], at: usize) -> Option<Number>
+fn number_at(bytes: &[u8], at: usize) -> Option<HeaderNumber>
     requires { at ≤ length bytes.now }
     ensures value { result ≡ number_at bytes.now at }
     ensures end { IfSome result (λ number. number.end ≤ length bytes.now) }
@@ -78,7 +78,7 @@ fn number_at(bytes: &[u8], at: usize) -> Option<Number>
     if digits == 0 {
         return None;
     }
-    Some(Number {
+    Some(HeaderNumber {
         value: value_of(&rest[..digits]),
         end: bytes.len() - rest.len() + digits,
     })

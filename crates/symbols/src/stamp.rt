@@ -1,11 +1,11 @@
 ghost use Rattle.std.specs.Prelude.{◌≡◌, ℕ, ◌<◌, ◌≤◌, ◌^◌, ◌&&◌, ◌+◌, ◌-◌, [], true, false, pos, ◌-ℤ◌, ◌/◌, None, Some, length, min, slice_get, OnOk};
-ghost use Rattle.clip.specs.Class.{has_row};
+ghost use Rattle.clip.specs.EdgeClass.{has_row};
 ghost use Rattle.geom.specs.Range.{IsBelow};
 ghost use Rattle.geom.specs.declared.side.TheConstants.{MAX_PICTURE_SIDE};
 ghost use Rattle.scanfill.specs.Runs.{AreRunsFrom};
 ghost use Rattle.symbols.specs.Stamp.{covers_pixel, is_transparent, pixel_at, pixel_from, position_on, skipped};
 
-use clip::{Rows, clamped};
+use clip::{RowRange, clamped};
 use geom::{PictureSide, Pixel};
 use mapdefs::{Pixmap, Rgb};
 use scanfill::{Cover, Reading, Span, Spans};
@@ -138,13 +138,13 @@ impl Cover for Stamp<'_> {
         }
     }
 
-    fn rows(&self, width: PictureSide, height: PictureSide) -> Rows {
+    fn rows(&self, width: PictureSide, height: PictureSide) -> RowRange {
         let columns = self.columns(width.pixels());
         if columns.from >= columns.to {
-            return Rows { from: 0, to: 0 };
+            return RowRange { from: 0, to: 0 };
         }
         let rows = span_on(self.pixmap.get().height, self.pixel.j(), height.pixels());
-        Rows {
+        RowRange {
             from: rows.from,
             to: rows.to,
         }

@@ -3,10 +3,10 @@
 #![tactic(auto)]
 
 ghost use Rattle.std.specs.Prelude.{◌≡◌, [], ◌∷◌, None, true, false, pos, IfOk};
-ghost use Rattle.mapdefs.specs.declared.layer.Kind.TheVariants as kind;
+ghost use Rattle.mapdefs.specs.declared.layer.Geometry.TheVariants as kind;
 
 use geom::{Coordinate, Micro, World, WorldBox};
-use mapdefs::{Feature, Items, Kind, Layer, LayerFields, MapFields, Shared, SharedItems, Text};
+use mapdefs::{Feature, Geometry, Items, Layer, LayerFields, MapFields, Shared, SharedItems, Text};
 use std::alloc::{AllocError, Global};
 
 // A text without characters.
@@ -39,7 +39,7 @@ pub fn layer_fields(alloc: Global, name: Text) -> LayerFields
     LayerFields {
         name,
         title: no_text(alloc),
-        kind: Kind::Polygon,
+        kind: Geometry::Polygon,
         on: true,
         classitem: None,
         labelitem: None,

@@ -1,7 +1,7 @@
 //! Workers that serve connections in memory.
 
 use crate::clients::{Client, NoWaker, TIMEOUTS};
-use eventloop::{Crew, Ending, Poller, Worker, start_worker, turn_away};
+use eventloop::{Ending, Poller, Worker, WorkerThreads, start_worker, turn_away};
 use httpedge::{Asks, Busy};
 use mapdefs::Items;
 use mapmachine::{Answer, Mime};
@@ -69,9 +69,9 @@ impl Poller<Client> for Idle {
 fn crew_of_three<R: AllocGlobal + Clock + Wait + Threads + Send + Copy + Drop + 'static>(
     rt: &R,
     system: &HostRuntime,
-) -> Result<(Crew<Client, NoWaker>, Vec<Asked>), Fail> {
+) -> Result<(WorkerThreads<Client, NoWaker>, Vec<Asked>), Fail> {
     let alloc = rt.alloc();
-    let mut crew = Crew::new(alloc, 3)?;
+    let mut crew = WorkerThreads::new(alloc, 3)?;
     let mut all = Vec::new(alloc);
     for _ in 0..3 {
         let asked = Arc::new(alloc, Mutex::new(String::new(alloc)))?;

@@ -4,7 +4,7 @@ use crate::clients::{Client, Echo, NoWaker};
 use accesslog::{
     Cause, EndsEarly, LINES, LogQueue, LoggedTransport, Record, command_line, end_line,
 };
-use eventloop::{Crew, Ending, Poller, Worker, start_worker};
+use eventloop::{Ending, Poller, Worker, WorkerThreads, start_worker};
 use std::alloc::{AllocError, Global};
 use std::rt::Clock;
 use std::str;
@@ -170,7 +170,7 @@ fn logged_of<R: AllocGlobal + Clock + Wait + Threads + Send + Copy + Drop + 'sta
     let Some(queue) = LogQueue::new(rt, alloc) else {
         return Ok(text);
     };
-    let mut crew = Crew::new(alloc, 1)?;
+    let mut crew = WorkerThreads::new(alloc, 1)?;
     let asks = Echo { alloc, dots: 5 };
     let worker = Worker::new(alloc, asks, Passing { rt: *system }, (1, timeouts))?;
     start_worker(rt, alloc, &mut crew, worker)?;

@@ -2,7 +2,7 @@
 
 use crate::clients::{Echo, NoWaker, TIMEOUTS};
 use accesslog::{Cause, EndsEarly};
-use eventloop::{Crew, Ending, Poller, Worker, start_worker};
+use eventloop::{Ending, Poller, Worker, WorkerThreads, start_worker};
 use std::alloc::Global;
 use std::rt::Clock;
 use std::sync::{Arc, Mutex, Wait};
@@ -124,7 +124,7 @@ fn taken_of<R: AllocGlobal + Clock + Wait + Threads + Send + Copy + Drop + 'stat
         calls: 0,
         taken: Arc::try_clone(&taken)?,
     };
-    let mut crew = Crew::new(alloc, 1)?;
+    let mut crew = WorkerThreads::new(alloc, 1)?;
     let asks = Echo { alloc, dots: 3 };
     let worker = Worker::new(alloc, asks, Nudging { rt: *system }, (1, TIMEOUTS))?;
     start_worker(rt, alloc, &mut crew, worker)?;

@@ -1,7 +1,7 @@
 -- From the world to the picture (docs/DRAWING.md, "From the world to the picture").
 use Rattle.std.specs.Prelude.{ℕ, ◌+◌, ◌*◌, ◌≤◌, ℤ, pos, neg_ℤ, ◌+ℤ◌, ◌-ℤ◌, ◌*ℤ◌, ◌<ℤ◌, ◌≤ℤ◌, unsigned_abs}
 use Rattle.std.specs.Int.{div_ceil, int_div_euclid}
-use Rattle.geom.specs.Device.{DevicePoint, PixelPlace, pixel_of}
+use Rattle.geom.specs.Device.{DevicePoint, PixelValue, pixel_of}
 use Rattle.geom.specs.Side.{IsPictureSide}
 use Rattle.geom.specs.World.{Place, Area, HasPlace, IsExtent}
 
@@ -57,7 +57,7 @@ window view margin =
     }
 
 -- the pixel lies in the picture, or at most so many columns left or right of it and so many rows above or below
-pub record IsNear (view : ViewValue) (margin : ℕ) (pixel : PixelPlace) : Type 0 where
+pub record IsNear (view : ViewValue) (margin : ℕ) (pixel : PixelValue) : Type 0 where
   pub left : neg_ℤ (pos margin) ≤ℤ pixel.i
   pub right : pixel.i <ℤ pos (view.width + margin)
   pub top : neg_ℤ (pos margin) ≤ℤ pixel.j

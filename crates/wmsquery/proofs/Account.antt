@@ -12,9 +12,9 @@ use Rattle.wmsquery.specs.declared.fault.Code.{Code}
 use Rattle.wmsquery.specs.declared.fault.Parameter.{Parameter}
 use Rattle.wmsquery.specs.declared.fault.Parameter.TheVariants as parameter
 use Rattle.wmsquery.specs.declared.fault.WmsFault.{WmsFault}
-use Rattle.wmsquery.specs.declared.information.Spot.{Spot}
-use Rattle.wmsquery.specs.declared.picture.Frame.{Frame}
-use Rattle.wmsquery.specs.declared.picture.Look.{Look}
+use Rattle.wmsquery.specs.declared.information.QueriedPixel.{QueriedPixel}
+use Rattle.wmsquery.specs.declared.picture.Viewport.{Viewport}
+use Rattle.wmsquery.specs.declared.picture.Output.{Output}
 use Rattle.wmsquery.specs.declared.request.Format.{Format}
 use Rattle.wmsquery.specs.declared.request.InformationRequest.{InformationRequest}
 use Rattle.wmsquery.specs.declared.request.MapRequest.{MapRequest}
@@ -24,7 +24,7 @@ use Rattle.wmsquery.specs.Meaning.{HasValues, HasInformation, IsRequestOf, IsMea
 use Rattle.wmsquery.specs.Order.{first_fault, order, map_order, information_order}
 use Rattle.wmsquery.specs.Pairs.{Texts, given}
 use Rattle.wmsquery.specs.Query.{operation_in, layer_names, area_in, format_in, background_in, asked_in, column_in, row_in, refusal, looked_at}
-use Rattle.wmsquery.specs.Reading.{IsErrorOf, checked, operation_read, layers_read, frame_read, look_read, map_read, asked_read, spot_read, information_read, own_read, request_read}
+use Rattle.wmsquery.specs.Reading.{IsErrorOf, checked, operation_read, layers_read, viewport_read, output_read, map_read, asked_read, pixel_read, information_read, own_read, request_read}
 use Rattle.wmsquery.specs.Values.{and_then, service_of, version_of, layers_of, styles_of, system_of, area_of, side_of, format_of, transparent_of, background_of, background_for, info_format_of, feature_count_of, pixel_of, sequence_of}
 use Rattle.wmsquery.proofs.FirstFault.{checked-last, checked-then, or_later, stretches, stretch-then}
 use Rattle.wmsquery.proofs.Steps.{steps, unchecked, same-value, same-fault}
@@ -37,18 +37,18 @@ front = parameter.Service ∷ parameter.Request ∷ []
 abbrev layers_order : List Parameter
 layers_order = parameter.Version ∷ parameter.Layers ∷ parameter.Styles ∷ []
 
-abbrev frame_order : List Parameter
-frame_order = parameter.Crs ∷ parameter.Bbox ∷ parameter.Width ∷ parameter.Height ∷ []
+abbrev viewport_order : List Parameter
+viewport_order = parameter.Crs ∷ parameter.Bbox ∷ parameter.Width ∷ parameter.Height ∷ []
 
-abbrev look_order : List Parameter
-look_order = parameter.Format ∷ parameter.Transparent ∷ parameter.Bgcolor ∷ []
+abbrev output_order : List Parameter
+output_order = parameter.Format ∷ parameter.Transparent ∷ parameter.Bgcolor ∷ []
 
 -- and those that GetFeatureInfo has behind them
 abbrev asked_order : List Parameter
 asked_order = parameter.QueryLayers ∷ parameter.InfoFormat ∷ []
 
-abbrev spot_order : List Parameter
-spot_order = parameter.FeatureCount ∷ parameter.Column ∷ parameter.Row ∷ []
+abbrev pixel_order : List Parameter
+pixel_order = parameter.FeatureCount ∷ parameter.Column ∷ parameter.Row ∷ []
 
 module _ (map : MapFields) (sequence : ℕ) (t : Texts) where
   -- ---- faults
@@ -68,16 +68,16 @@ module _ (map : MapFields) (sequence : ℕ) (t : Texts) where
       checked-then refused parameter.Styles [] (styles_of o (length (layer_names t)) (t parameter.Styles)) _
       (ap (λ r. result_err (and_then r (λ q. styles_of q (length (layer_names t)) (t parameter.Styles)))) is) (λ _ _. refl)))
 
-  frame-fault : result_err (frame_read t) ≡ first_fault refused frame_order
-  frame-fault =
+  viewport-fault : result_err (viewport_read t) ≡ first_fault refused viewport_order
+  viewport-fault =
       checked-then refused parameter.Crs (parameter.Bbox ∷ parameter.Width ∷ parameter.Height ∷ []) (system_of (given t parameter.Crs)) _ refl (λ crs is.
       checked-then refused parameter.Bbox (parameter.Width ∷ parameter.Height ∷ []) (area_of crs (given t parameter.Bbox)) _
       (ap (λ s. result_err (and_then s (λ system. area_of system (given t parameter.Bbox)))) is) (λ _ _.
       checked-then refused parameter.Width (parameter.Height ∷ []) (side_of (given t parameter.Width)) _ refl (λ _ _.
       checked-then refused parameter.Height [] (side_of (given t parameter.Height)) _ refl (λ _ _. refl))))
 
-  look-fault : (o : Operation) → operation_in t ≡ Ok o → result_err (look_read o t) ≡ first_fault refused look_order
-  look-fault o is =
+  output-fault : (o : Operation) → operation_in t ≡ Ok o → result_err (output_read o t) ≡ first_fault refused output_order
+  output-fault o is =
       checked-then refused parameter.Format (parameter.Transparent ∷ parameter.Bgcolor ∷ []) (format_of o (given t parameter.Format)) _
       (ap (λ r. result_err (and_then r (λ q. format_of q (given t parameter.Format)))) is) (λ _ _.
       checked-then refused parameter.Transparent (parameter.Bgcolor ∷ []) (transparent_of (given t parameter.Transparent)) _ refl (λ _ _.
@@ -85,18 +85,18 @@ module _ (map : MapFields) (sequence : ℕ) (t : Texts) where
 
   map-fault : (o : Operation) → operation_in t ≡ Ok o → result_err (map_read map o t) ≡ first_fault refused map_order
   map-fault o is =
-      stretch-then refused layers_order (frame_order ++ look_order) (layers_read map o t) _ (layers-fault o is) (λ _ _.
-      stretch-then refused frame_order look_order (frame_read t) _ frame-fault (λ _ _.
-      stretch-then refused look_order [] (look_read o t) _ (look-fault o is) (λ _ _. refl)))
+      stretch-then refused layers_order (viewport_order ++ output_order) (layers_read map o t) _ (layers-fault o is) (λ _ _.
+      stretch-then refused viewport_order output_order (viewport_read t) _ viewport-fault (λ _ _.
+      stretch-then refused output_order [] (output_read o t) _ (output-fault o is) (λ _ _. refl)))
 
   asked-fault : result_err (asked_read map t) ≡ first_fault refused asked_order
   asked-fault =
       checked-then refused parameter.QueryLayers (parameter.InfoFormat ∷ []) (asked_in map t) _ refl (λ _ _.
       checked-then refused parameter.InfoFormat [] (info_format_of (given t parameter.InfoFormat)) _ refl (λ _ _. refl))
 
-  spot-fault : (width height : ℕ) → side_of (given t parameter.Width) ≡ Ok width → side_of (given t parameter.Height) ≡ Ok height →
-      result_err (spot_read width height t) ≡ first_fault refused spot_order
-  spot-fault width height is_width is_height =
+  queried-fault : (width height : ℕ) → side_of (given t parameter.Width) ≡ Ok width → side_of (given t parameter.Height) ≡ Ok height →
+      result_err (pixel_read width height t) ≡ first_fault refused pixel_order
+  queried-fault width height is_width is_height =
       checked-then refused parameter.FeatureCount (parameter.Column ∷ parameter.Row ∷ []) (feature_count_of (given t parameter.FeatureCount)) _ refl (λ _ _.
       checked-then refused parameter.Column (parameter.Row ∷ []) (pixel_of width (given t parameter.Column)) _
       (ap (λ s. result_err (and_then s (λ side. pixel_of side (given t parameter.Column)))) is_width) (λ _ _.
@@ -112,55 +112,55 @@ module _ (map : MapFields) (sequence : ℕ) (t : Texts) where
       let styles = steps (checked parameter.Styles (styles_of o (length (layer_names t)) (t parameter.Styles))) _ chosen layers.rest in
       unchecked parameter.Layers _ chosen (layers.is ∙ styles.rest)
 
-  record HasFrame (frame : Frame) : Type 0 where
-    pub area : area_in t ≡ Ok frame.area
-    pub width : side_of (given t parameter.Width) ≡ Ok frame.width
-    pub height : side_of (given t parameter.Height) ≡ Ok frame.height
+  record HasViewport (viewport : Viewport) : Type 0 where
+    pub area : area_in t ≡ Ok viewport.area
+    pub width : side_of (given t parameter.Width) ≡ Ok viewport.width
+    pub height : side_of (given t parameter.Height) ≡ Ok viewport.height
 
-  frame-value : (frame : Frame) → frame_read t ≡ Ok frame → HasFrame frame
-  frame-value frame e =
-      let crs = steps (checked parameter.Crs (system_of (given t parameter.Crs))) _ frame e in
-      let area = steps (checked parameter.Bbox (area_of crs.first (given t parameter.Bbox))) _ frame crs.rest in
-      let width = steps (checked parameter.Width (side_of (given t parameter.Width))) _ frame area.rest in
-      let height = steps (checked parameter.Height (side_of (given t parameter.Height))) _ frame width.rest in
-      let same = same-value (record { area = area.first; width = width.first; height = height.first }) frame height.rest in
+  viewport-value : (viewport : Viewport) → viewport_read t ≡ Ok viewport → HasViewport viewport
+  viewport-value viewport e =
+      let crs = steps (checked parameter.Crs (system_of (given t parameter.Crs))) _ viewport e in
+      let area = steps (checked parameter.Bbox (area_of crs.first (given t parameter.Bbox))) _ viewport crs.rest in
+      let width = steps (checked parameter.Width (side_of (given t parameter.Width))) _ viewport area.rest in
+      let height = steps (checked parameter.Height (side_of (given t parameter.Height))) _ viewport width.rest in
+      let same = same-value (record { area = area.first; width = width.first; height = height.first }) viewport height.rest in
       record {
         area = ap (λ s. and_then s (λ system. area_of system (given t parameter.Bbox))) (unchecked parameter.Crs _ crs.first crs.is)
-            ∙ unchecked parameter.Bbox _ area.first area.is ∙ ap (λ (f : Frame). Ok f.area) same;
-        width = unchecked parameter.Width _ width.first width.is ∙ ap (λ (f : Frame). Ok f.width) same;
-        height = unchecked parameter.Height _ height.first height.is ∙ ap (λ (f : Frame). Ok f.height) same;
+            ∙ unchecked parameter.Bbox _ area.first area.is ∙ ap (λ (f : Viewport). Ok f.area) same;
+        width = unchecked parameter.Width _ width.first width.is ∙ ap (λ (f : Viewport). Ok f.width) same;
+        height = unchecked parameter.Height _ height.first height.is ∙ ap (λ (f : Viewport). Ok f.height) same;
       }
 
-  record HasLook (look : Look) : Type 0 where
-    pub format : format_in t ≡ Ok look.format
-    pub background : background_in t ≡ Ok look.background
+  record HasOutput (output : Output) : Type 0 where
+    pub format : format_in t ≡ Ok output.format
+    pub background : background_in t ≡ Ok output.background
 
   background-is : (f : Format) (b : Bool) (c : Rgb) → format_in t ≡ Ok f → transparent_of (given t parameter.Transparent) ≡ Ok b →
       background_of (given t parameter.Bgcolor) ≡ Ok c → background_in t ≡ Ok (background_for f b c)
   background-is f b c is_format is_transparent is_colour = rw (is_format, is_transparent, is_colour) refl
 
-  look-value : (o : Operation) → operation_in t ≡ Ok o → (look : Look) → look_read o t ≡ Ok look → HasLook look
-  look-value o is look e =
-      let format = steps (checked parameter.Format (format_of o (given t parameter.Format))) _ look e in
-      let transparent = steps (checked parameter.Transparent (transparent_of (given t parameter.Transparent))) _ look format.rest in
-      let colour = steps (checked parameter.Bgcolor (background_of (given t parameter.Bgcolor))) _ look transparent.rest in
+  output-value : (o : Operation) → operation_in t ≡ Ok o → (output : Output) → output_read o t ≡ Ok output → HasOutput output
+  output-value o is output e =
+      let format = steps (checked parameter.Format (format_of o (given t parameter.Format))) _ output e in
+      let transparent = steps (checked parameter.Transparent (transparent_of (given t parameter.Transparent))) _ output format.rest in
+      let colour = steps (checked parameter.Bgcolor (background_of (given t parameter.Bgcolor))) _ output transparent.rest in
       let f = ap (λ r. and_then r (λ q. format_of q (given t parameter.Format))) is ∙ unchecked parameter.Format _ format.first format.is in
       let b = unchecked parameter.Transparent _ transparent.first transparent.is in
       let c = unchecked parameter.Bgcolor _ colour.first colour.is in
-      let same = same-value _ look colour.rest in
+      let same = same-value _ output colour.rest in
       record {
-        format = f ∙ ap (λ (l : Look). Ok l.format) same;
-        background = background-is _ _ _ f b c ∙ ap (λ (l : Look). Ok l.background) same;
+        format = f ∙ ap (λ (l : Output). Ok l.format) same;
+        background = background-is _ _ _ f b c ∙ ap (λ (l : Output). Ok l.background) same;
       }
 
   map-value : (o : Operation) → operation_in t ≡ Ok o → (r : MapRequest) → map_read map o t ≡ Ok r → HasValues map t r
   map-value o is r e =
       let chosen = steps (layers_read map o t) _ r e in
-      let frame = steps (frame_read t) _ r chosen.rest in
-      let look = steps (look_read o t) _ r frame.rest in
-      let same = same-value _ r look.rest in
-      let f = frame-value frame.first frame.is in
-      let l = look-value o is look.first look.is in
+      let viewport = steps (viewport_read t) _ r chosen.rest in
+      let output = steps (output_read o t) _ r viewport.rest in
+      let same = same-value _ r output.rest in
+      let f = viewport-value viewport.first viewport.is in
+      let l = output-value o is output.first output.is in
       record {
         chosen = layers-value o chosen.first chosen.is ∙ ap (λ (q : MapRequest). Ok q.chosen) same;
         area = f.area ∙ ap (λ (q : MapRequest). Ok q.area) same;
@@ -176,24 +176,24 @@ module _ (map : MapFields) (sequence : ℕ) (t : Texts) where
       let format = steps (checked parameter.InfoFormat (info_format_of (given t parameter.InfoFormat))) _ asked layers.rest in
       unchecked parameter.QueryLayers _ asked (layers.is ∙ format.rest)
 
-  record HasSpot (spot : Spot) : Type 0 where
-    pub count : feature_count_of (given t parameter.FeatureCount) ≡ Ok spot.count
-    pub column : column_in t ≡ Ok spot.column
-    pub row : row_in t ≡ Ok spot.row
+  record HasPixel (queried : QueriedPixel) : Type 0 where
+    pub count : feature_count_of (given t parameter.FeatureCount) ≡ Ok queried.count
+    pub column : column_in t ≡ Ok queried.column
+    pub row : row_in t ≡ Ok queried.row
 
-  spot-value : (width height : ℕ) → side_of (given t parameter.Width) ≡ Ok width → side_of (given t parameter.Height) ≡ Ok height →
-      (spot : Spot) → spot_read width height t ≡ Ok spot → HasSpot spot
-  spot-value width height is_width is_height spot e =
-      let count = steps (checked parameter.FeatureCount (feature_count_of (given t parameter.FeatureCount))) _ spot e in
-      let column = steps (checked parameter.Column (pixel_of width (given t parameter.Column))) _ spot count.rest in
-      let row = steps (checked parameter.Row (pixel_of height (given t parameter.Row))) _ spot column.rest in
-      let same = same-value (record { count = count.first; column = column.first; row = row.first }) spot row.rest in
+  queried-value : (width height : ℕ) → side_of (given t parameter.Width) ≡ Ok width → side_of (given t parameter.Height) ≡ Ok height →
+      (queried : QueriedPixel) → pixel_read width height t ≡ Ok queried → HasPixel queried
+  queried-value width height is_width is_height queried e =
+      let count = steps (checked parameter.FeatureCount (feature_count_of (given t parameter.FeatureCount))) _ queried e in
+      let column = steps (checked parameter.Column (pixel_of width (given t parameter.Column))) _ queried count.rest in
+      let row = steps (checked parameter.Row (pixel_of height (given t parameter.Row))) _ queried column.rest in
+      let same = same-value (record { count = count.first; column = column.first; row = row.first }) queried row.rest in
       record {
-        count = unchecked parameter.FeatureCount _ count.first count.is ∙ ap (λ (s : Spot). Ok s.count) same;
+        count = unchecked parameter.FeatureCount _ count.first count.is ∙ ap (λ (s : QueriedPixel). Ok s.count) same;
         column = ap (λ s. and_then s (λ side. pixel_of side (given t parameter.Column))) is_width
-            ∙ unchecked parameter.Column _ column.first column.is ∙ ap (λ (s : Spot). Ok s.column) same;
+            ∙ unchecked parameter.Column _ column.first column.is ∙ ap (λ (s : QueriedPixel). Ok s.column) same;
         row = ap (λ s. and_then s (λ side. pixel_of side (given t parameter.Row))) is_height
-            ∙ unchecked parameter.Row _ row.first row.is ∙ ap (λ (s : Spot). Ok s.row) same;
+            ∙ unchecked parameter.Row _ row.first row.is ∙ ap (λ (s : QueriedPixel). Ok s.row) same;
       }
 
   information-value : operation_in t ≡ Ok operation.Information → (r : InformationRequest) → information_read map t ≡ Ok r → HasInformation map t r
@@ -201,9 +201,9 @@ module _ (map : MapFields) (sequence : ℕ) (t : Texts) where
       let picture = steps (map_read map operation.Information t) _ r e in
       let values = map-value operation.Information is picture.first picture.is in
       let asked = steps (asked_read map t) _ r picture.rest in
-      let spot = steps (spot_read picture.first.width picture.first.height t) _ r asked.rest in
-      let same = same-value _ r spot.rest in
-      let s = spot-value _ _ values.width values.height spot.first spot.is in
+      let queried = steps (pixel_read picture.first.width picture.first.height t) _ r asked.rest in
+      let same = same-value _ r queried.rest in
+      let s = queried-value _ _ values.width values.height queried.first queried.is in
       record {
         map = subst (λ (q : InformationRequest). HasValues map t q.map) same values;
         asked = asked-value asked.first asked.is ∙ ap (λ (q : InformationRequest). Ok q.asked) same;
@@ -216,8 +216,8 @@ module _ (map : MapFields) (sequence : ℕ) (t : Texts) where
   information-fault is =
       stretch-then refused map_order information_order (map_read map operation.Information t) _ (map-fault operation.Information is) (λ picture e.
       let values = map-value operation.Information is picture e in
-      stretch-then refused asked_order spot_order (asked_read map t) _ asked-fault (λ _ _.
-      stretch-then refused spot_order [] (spot_read picture.width picture.height t) _ (spot-fault _ _ values.width values.height) (λ _ _. refl)))
+      stretch-then refused asked_order pixel_order (asked_read map t) _ asked-fault (λ _ _.
+      stretch-then refused pixel_order [] (pixel_read picture.width picture.height t) _ (queried-fault _ _ values.width values.height) (λ _ _. refl)))
 
   -- ---- the whole
 

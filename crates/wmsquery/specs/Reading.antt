@@ -9,9 +9,9 @@ use Rattle.wmsquery.specs.declared.fault.Code.{Code}
 use Rattle.wmsquery.specs.declared.fault.Parameter.{Parameter}
 use Rattle.wmsquery.specs.declared.fault.Parameter.TheVariants as parameter
 use Rattle.wmsquery.specs.declared.fault.WmsFault.{WmsFault}
-use Rattle.wmsquery.specs.declared.picture.Frame.{Frame}
-use Rattle.wmsquery.specs.declared.picture.Look.{Look}
-use Rattle.wmsquery.specs.declared.information.Spot.{Spot}
+use Rattle.wmsquery.specs.declared.picture.Viewport.{Viewport}
+use Rattle.wmsquery.specs.declared.picture.Output.{Output}
+use Rattle.wmsquery.specs.declared.information.QueriedPixel.{QueriedPixel}
 use Rattle.wmsquery.specs.declared.request.InformationRequest.{InformationRequest}
 use Rattle.wmsquery.specs.declared.request.MapRequest.{MapRequest}
 use Rattle.wmsquery.specs.declared.request.Request.{Request}
@@ -45,8 +45,8 @@ layers_read map o t =
     Ok chosen)))
 
 -- the area and the sides
-abbrev pub frame_read : Texts → Result Frame WmsFault
-frame_read t =
+abbrev pub viewport_read : Texts → Result Viewport WmsFault
+viewport_read t =
     and_then (checked parameter.Crs (system_of (given t parameter.Crs))) (λ crs.
     and_then (checked parameter.Bbox (area_of crs (given t parameter.Bbox))) (λ area.
     and_then (checked parameter.Width (side_of (given t parameter.Width))) (λ width.
@@ -54,8 +54,8 @@ frame_read t =
     Ok (record { area = area; width = width; height = height })))))
 
 -- the format and the background
-abbrev pub look_read : Operation → Texts → Result Look WmsFault
-look_read o t =
+abbrev pub output_read : Operation → Texts → Result Output WmsFault
+output_read o t =
     and_then (checked parameter.Format (format_of o (given t parameter.Format))) (λ format.
     and_then (checked parameter.Transparent (transparent_of (given t parameter.Transparent))) (λ transparent.
     and_then (checked parameter.Bgcolor (background_of (given t parameter.Bgcolor))) (λ colour.
@@ -65,9 +65,9 @@ look_read o t =
 abbrev pub map_read : MapFields → Operation → Texts → Result MapRequest WmsFault
 map_read map o t =
     and_then (layers_read map o t) (λ chosen.
-    and_then (frame_read t) (λ frame.
-    and_then (look_read o t) (λ look.
-    Ok (record { chosen = chosen; area = frame.area; width = frame.width; height = frame.height; format = look.format; background = look.background }))))
+    and_then (viewport_read t) (λ viewport.
+    and_then (output_read o t) (λ output.
+    Ok (record { chosen = chosen; area = viewport.area; width = viewport.width; height = viewport.height; format = output.format; background = output.background }))))
 
 -- the layers that are asked for features
 abbrev pub asked_read : MapFields → Texts → Result (List ℕ) WmsFault
@@ -77,8 +77,8 @@ asked_read map t =
     Ok asked))
 
 -- where features are looked for in a picture of these sides, and how many
-abbrev pub spot_read : ℕ → ℕ → Texts → Result Spot WmsFault
-spot_read width height t =
+abbrev pub pixel_read : ℕ → ℕ → Texts → Result QueriedPixel WmsFault
+pixel_read width height t =
     and_then (checked parameter.FeatureCount (feature_count_of (given t parameter.FeatureCount))) (λ count.
     and_then (checked parameter.Column (pixel_of width (given t parameter.Column))) (λ column.
     and_then (checked parameter.Row (pixel_of height (given t parameter.Row))) (λ row.
@@ -89,8 +89,8 @@ abbrev pub information_read : MapFields → Texts → Result InformationRequest 
 information_read map t =
     and_then (map_read map operation.Information t) (λ picture.
     and_then (asked_read map t) (λ asked.
-    and_then (spot_read picture.width picture.height t) (λ spot.
-    Ok (record { map = picture; asked = asked; count = spot.count; column = spot.column; row = spot.row }))))
+    and_then (pixel_read picture.width picture.height t) (λ queried.
+    Ok (record { map = picture; asked = asked; count = queried.count; column = queried.column; row = queried.row }))))
 
 -- the request of an operation
 abbrev pub own_read : MapFields → ℕ → Texts → Operation → Result Request WmsFault

@@ -2,7 +2,7 @@ ghost use Rattle.std.specs.Prelude.{◌≡◌, ◌≤◌, ◌<◌, All, Ok, leng
 ghost use Rattle.mapdefs.specs.declared.limits.TheConstants.{MAX_FEATURES};
 ghost use Rattle.wmsquery.specs.Slots.{kept};
 ghost use Rattle.wmsquery.specs.Query.{layer_names};
-ghost use Rattle.wmsquery.specs.Reading.{IsErrorOf, asked_read, spot_read, information_read};
+ghost use Rattle.wmsquery.specs.Reading.{IsErrorOf, asked_read, pixel_read, information_read};
 ghost use Rattle.wmsquery.specs.Within.{IsInformationWithin};
 
 use crate::error::QueryError;
@@ -19,7 +19,7 @@ use std::alloc::Global;
 
 /// The pixel near which features are looked for, and how many of a layer are told at most.
 #[derive(Clone, Copy)]
-pub struct Spot {
+pub struct QueriedPixel {
     pub count: u32,
     pub column: u32,
     pub row: u32,
@@ -46,16 +46,16 @@ fn read_asked(
 }
 
 // The pixel in a picture of these sides, and the count of features.
-fn read_spot(
+fn read_pixel(
     width: PictureSide,
     height: PictureSide,
     texts: &ParameterTexts,
-) -> Result<Spot, WmsFault>
-    ensures value { result ≡ spot_read width height (kept texts.now) }
-    ensures some { IfOk result (λ spot. 1 ≤ spot.count) }
-    ensures most { IfOk result (λ spot. spot.count ≤ MAX_FEATURES) }
-    ensures column { IfOk result (λ spot. spot.column < width) }
-    ensures row { IfOk result (λ spot. spot.row < height) }
+) -> Result<QueriedPixel, WmsFault>
+    ensures value { result ≡ pixel_read width height (kept texts.now) }
+    ensures some { IfOk result (λ queried. 1 ≤ queried.count) }
+    ensures most { IfOk result (λ queried. queried.count ≤ MAX_FEATURES) }
+    ensures column { IfOk result (λ queried. queried.column < width) }
+    ensures row { IfOk result (λ queried. queried.row < height) }
 {
     let count = feature_count(texts.given(Parameter::FeatureCount));
     let count = checked(Parameter::FeatureCount, count)?;
@@ -63,7 +63,7 @@ fn read_spot(
     let column = checked(Parameter::Column, column)?;
     let row = pixel(height, texts.given(Parameter::Row));
     let row = checked(Parameter::Row, row)?;
-    Ok(Spot { count, column, row })
+    Ok(QueriedPixel { count, column, row })
 }
 
 /// The feature information that is asked for. `names` are those of LAYERS.
@@ -81,12 +81,12 @@ pub fn read_information(
 {
     let picture = read_map(alloc, Operation::Information, texts, names, map)?;
     let asked = read_asked(alloc, texts, names, map)?;
-    let spot = read_spot(picture.width, picture.height, texts)?;
+    let queried = read_pixel(picture.width, picture.height, texts)?;
     Ok(InformationRequest {
         map: picture,
         asked,
-        count: spot.count,
-        column: spot.column,
-        row: spot.row,
+        count: queried.count,
+        column: queried.column,
+        row: queried.row,
     })
 }

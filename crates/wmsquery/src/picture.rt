@@ -2,7 +2,7 @@ ghost use Rattle.std.specs.Prelude.{◌≡◌, ◌<◌, All, Ok, length, map as 
 ghost use Rattle.geom.specs.World.{IsExtent};
 ghost use Rattle.wmsquery.specs.Slots.{kept};
 ghost use Rattle.wmsquery.specs.Query.{layer_names};
-ghost use Rattle.wmsquery.specs.Reading.{IsErrorOf, layers_read, frame_read, look_read, map_read};
+ghost use Rattle.wmsquery.specs.Reading.{IsErrorOf, layers_read, viewport_read, output_read, map_read};
 ghost use Rattle.wmsquery.specs.Within.{IsMapWithin};
 
 use crate::error::QueryError;
@@ -18,7 +18,7 @@ use std::alloc::Global;
 
 /// Which part of the world a picture shows, and by how many pixels.
 #[derive(Clone, Copy)]
-pub struct Frame {
+pub struct Viewport {
     pub area: WorldBox,
     pub width: PictureSide,
     pub height: PictureSide,
@@ -26,7 +26,7 @@ pub struct Frame {
 
 /// The format of a picture, and what it has where nothing is painted.
 #[derive(Clone, Copy)]
-pub struct Look {
+pub struct Output {
     pub format: Format,
     pub background: Option<Rgb>,
 }
@@ -54,15 +54,15 @@ fn read_layers(
 }
 
 // The area and the sides of a picture.
-fn read_frame(texts: &ParameterTexts) -> Result<Frame, WmsFault>
-    ensures value { result ≡ frame_read (kept texts.now) }
-    ensures extent { IfOk result (λ frame. IsExtent frame.area) }
+fn read_viewport(texts: &ParameterTexts) -> Result<Viewport, WmsFault>
+    ensures value { result ≡ viewport_read (kept texts.now) }
+    ensures extent { IfOk result (λ viewport. IsExtent viewport.area) }
 {
     let crs = checked(Parameter::Crs, system(texts.given(Parameter::Crs)))?;
     let area = checked(Parameter::Bbox, area(crs, texts.given(Parameter::Bbox)))?;
     let width = checked(Parameter::Width, side(texts.given(Parameter::Width)))?;
     let height = checked(Parameter::Height, side(texts.given(Parameter::Height)))?;
-    Ok(Frame {
+    Ok(Viewport {
         area,
         width,
         height,
@@ -70,8 +70,8 @@ fn read_frame(texts: &ParameterTexts) -> Result<Frame, WmsFault>
 }
 
 // The format and the background of a picture.
-fn read_look(operation: Operation, texts: &ParameterTexts) -> Result<Look, WmsFault>
-    ensures { result ≡ look_read operation (kept texts.now) }
+fn read_output(operation: Operation, texts: &ParameterTexts) -> Result<Output, WmsFault>
+    ensures { result ≡ output_read operation (kept texts.now) }
 {
     let format = format(operation, texts.given(Parameter::Format));
     let format = checked(Parameter::Format, format)?;
@@ -79,7 +79,7 @@ fn read_look(operation: Operation, texts: &ParameterTexts) -> Result<Look, WmsFa
     let transparent = checked(Parameter::Transparent, transparent)?;
     let colour = background(texts.given(Parameter::Bgcolor));
     let colour = checked(Parameter::Bgcolor, colour)?;
-    Ok(Look {
+    Ok(Output {
         format,
         background: background_for(format, transparent, colour),
     })
@@ -100,14 +100,14 @@ pub fn read_map(
     ensures within { IfOk result (IsMapWithin (length map.now.layers)) }
 {
     let chosen = read_layers(alloc, operation, texts, names, map)?;
-    let frame = read_frame(texts)?;
-    let look = read_look(operation, texts)?;
+    let viewport = read_viewport(texts)?;
+    let output = read_output(operation, texts)?;
     Ok(MapRequest {
         chosen,
-        area: frame.area,
-        width: frame.width,
-        height: frame.height,
-        format: look.format,
-        background: look.background,
+        area: viewport.area,
+        width: viewport.width,
+        height: viewport.height,
+        format: output.format,
+        background: output.background,
     })
 }

@@ -17,4 +17,4 @@ mod working;
 
 pub use connection::{Connection, NothingLeft, Opens, Sides, serve_connection, serve_one};
 pub use gate::{Gate, OpenGate};
-pub use working::{Start, Streams, work};
+pub use working::{StartError, Streams, work};

@@ -14,7 +14,7 @@ use thiserror::Error;
 /// The workers could not be started: there was nobody to be asked, or a thread or memory for them was refused.
 #[derive(Clone, Copy, Debug, Error)]
 #[error("the workers can't be started")]
-pub struct Start;
+pub struct StartError;
 
 /// Where connections come from.
 pub trait Streams<C> {
@@ -152,7 +152,7 @@ pub fn work<R, A, C, T, G>(
     members: Vec<A>,
     streams: &mut T,
     gate: &Arc<G, Global>,
-) -> Result<(), Start>
+) -> Result<(), StartError>
 where
     R: Wait + Threads + Send + Copy + Drop + 'static,
     A: Asks + Send + Drop + 'static,
@@ -163,10 +163,10 @@ where
     ensures refused { OnErr result (streams.new ≡ streams.old) }
 {
     if members.is_empty() {
-        return Err(Start);
+        return Err(StartError);
     }
     let Ok(mut workers) = Workers::new(alloc, members.len()) else {
-        return Err(Start);
+        return Err(StartError);
     };
     let started = start_all(rt, &mut workers, members, gate);
     if started.is_ok() {
@@ -175,6 +175,6 @@ where
     workers.end(rt);
     match started {
         Ok(()) => Ok(()),
-        Err(_) => Err(Start),
+        Err(_) => Err(StartError),
     }
 }

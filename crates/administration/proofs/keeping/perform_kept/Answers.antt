@@ -3,7 +3,7 @@ use Rattle.administration.specs.Commands.{Command}
 use Rattle.administration.specs.Keeping.{HasFailed}
 use Rattle.administration.specs.Reading.{IsHeldOf}
 use Rattle.administration.specs.Serving.{HasDone}
-use Rattle.administration.specs.declared.reading.Asked.TheVariants as asked
+use Rattle.administration.specs.declared.reading.ReadCommand.TheVariants as asked
 use Rattle.administration.proofs.KeptBatches.{held_batch, same_kept}
 use Rattle.administration.proofs.keeping.perform_kept.Goals as goal
 

@@ -2,7 +2,7 @@ use Rattle.std.proofs.Common.{◌++◌}
 use Rattle.std.proofs.KnownBytes.{Consumes-trans}
 use Rattle.administration.specs.Commands.{Submit}
 use Rattle.administration.specs.Reading.{IsLineOf}
-use Rattle.administration.specs.declared.line.Line.TheVariants as line
+use Rattle.administration.specs.declared.line.ClientLine.TheVariants as line
 use Rattle.administration.proofs.Commands.{batch-ends, batch-is-short, ended-after, match-so}
 use Rattle.administration.proofs.reading.read_command.Goals as goal
 

@@ -1,5 +1,5 @@
 use Rattle.std.proofs.Common.{◌≡◌}
-use Rattle.mapdefs.specs.declared.layer.Kind.TheVariants as kind
+use Rattle.mapdefs.specs.declared.layer.Geometry.TheVariants as kind
 use Rattle.compose.proofs.paint.paint_feature.Goals as goal
 
 pub returns-in-Polygon : goal.returns-in-Polygon

@@ -5,7 +5,7 @@ use Rattle.geom.specs.Device.{DevicePoint, pixel_centre}
 use Rattle.geom.specs.Edge.{crosses_at_or_left}
 use Rattle.geom.specs.EvenOdd.{edge_between}
 use Rattle.geom.specs.Laws.{is_one_of}
-use Rattle.clip.specs.Class.{first_row}
+use Rattle.clip.specs.EdgeClass.{first_row}
 use Rattle.scanfill.specs.RowFlips.{is_pixel_flipped}
 use Rattle.compose.proofs.Flipping.{added, between, one-false, row-missed, rows-crossed}
 use Rattle.compose.proofs.ring_flips.add_edge.Goals as goal

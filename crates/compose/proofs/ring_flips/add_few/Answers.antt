@@ -1,7 +1,7 @@
 use Rattle.std.proofs.Common.{◌≡◌, ◌∙◌, ◌+◌, List, [], drop, map, refl, sym, ap, arith, rules}
 use Rattle.std.proofs.Math.ListN.{drop_of_length-le}
 use Rattle.geom.specs.World.{Place}
-use Rattle.clip.specs.Class.{first_row}
+use Rattle.clip.specs.EdgeClass.{first_row}
 use Rattle.scanfill.specs.RowFlips.{RowFlipsValue}
 use Rattle.viewport.specs.View.{ViewValue, device_point}
 use Rattle.compose.specs.Chain.{chain_edges, chain_end}

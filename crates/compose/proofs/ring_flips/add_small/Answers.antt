@@ -1,6 +1,6 @@
 use Rattle.std.proofs.Common.{◌≡◌, ◌∙◌, ◌∷◌, sym, ap, arith}
 use Rattle.std.proofs.lemmas.Result.{on_ok_weaker}
-use Rattle.clip.specs.Class.{first_row}
+use Rattle.clip.specs.EdgeClass.{first_row}
 use Rattle.scanfill.specs.RowFlips.{RowFlipsValue}
 use Rattle.viewport.specs.View.{device_point}
 use Rattle.compose.specs.Flipped.{AddsEdge}

@@ -13,7 +13,7 @@ loop-level-preserved c =
       most = omega (arith, c.loop-level.invariant.most);
       grows = λ q h. c.mark_cell.ensures.grows q (c.loop-level.invariant.grows q h);
       done = λ k above most. ⊎_elim
-          (λ (lt : level < k). c.mark_cell.ensures.grows (cell_of k c.args.spot) (c.loop-level.invariant.done k lt most))
+          (λ (lt : level < k). c.mark_cell.ensures.grows (cell_of k c.args.point) (c.loop-level.invariant.done k lt most))
           (λ (le : k ≤ level).
           let e : k ≡ level = omega (arith, above, le, some) in
           rw e (rw cell at c.in_ok-mark_cell.ensures.done))

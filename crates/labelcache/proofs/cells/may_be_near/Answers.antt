@@ -14,4 +14,4 @@ returns-clause-complete c = λ p is near.
     let across = c.gap-across.ensures.least p.column (rw (side, column) (cell-from p.column level)) (rw (side, column) (cell-to p.column level)) in
     let down = c.gap-down.ensures.least p.row (rw (side, row) (cell-from p.row level)) (rw (side, row) (cell-to p.row level)) in
     c.is_within.ensures.1
-    (nearer c.gap-across.result c.gap-down.result (apart c.args.spot.column p.column) (apart c.args.spot.row p.row) (square c.args.distance) across down near)
+    (nearer c.gap-across.result c.gap-down.result (apart c.args.point.column p.column) (apart c.args.point.row p.row) (square c.args.distance) across down near)

@@ -3,8 +3,8 @@ use Rattle.std.proofs.lemmas.List.{take_all}
 use Rattle.std.proofs.lemmas.List.Sums.{count_by_more_no}
 use lib.IntN.{pos}
 use Rattle.std.specs.List.{count_by}
-use Rattle.clip.specs.Class.{has_row, joined, rows_of}
-use Rattle.clip.specs.declared.rows.Rows.{Rows}
+use Rattle.clip.specs.EdgeClass.{has_row, joined, rows_of}
+use Rattle.clip.specs.declared.rows.RowRange.{RowRange}
 use Rattle.clip.proofs.Joining.{joined-neither, joined-within}
 use Rattle.clip.proofs.Rowed.{first_row-most}
 use Rattle.geom.specs.Device.{pixel_centre}
@@ -23,7 +23,7 @@ loop-edge-preserved c =
       within = rw both (joined-within l.rows (rows_of e h) h l.invariant.within (first_row-most (high_end e).y h));
       none = λ i j below out.
           let p = crosses_at_or_left (pixel_centre (pos i) (pos j)) in
-          let neither = joined-neither l.rows (rows_of e h) j (sym (ap (λ (rows : Rows). has_row rows j) both) ∙ out) in
+          let neither = joined-neither l.rows (rows_of e h) j (sym (ap (λ (rows : RowRange). has_row rows j) both) ∙ out) in
           count_by_more_no p c.args.edges.now l.edge-index e c.loop-edge-test.true (ap p (sym c.edge-item.is) ∙ row-missed e h i j below neither.1)
           ∙ l.invariant.none i j below neither.0;
     }

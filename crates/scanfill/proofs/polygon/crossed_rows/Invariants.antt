@@ -1,7 +1,7 @@
 use Rattle.std.proofs.Common.{◌≡◌, ℕ, ◌<◌, ◌≤◌, false, take}
 use lib.IntN.{pos}
 use Rattle.std.specs.List.{count_by}
-use Rattle.clip.specs.Class.{has_row}
+use Rattle.clip.specs.EdgeClass.{has_row}
 use Rattle.geom.specs.Device.{pixel_centre}
 use Rattle.geom.specs.Edge.{crosses_at_or_left}
 use Rattle.scanfill.proofs.polygon.crossed_rows.Given as goal

@@ -2,7 +2,7 @@ use Rattle.std.proofs.Common.{◌≡◌, ◌∙◌, ◌^◌, ◌<◌, true, sym,
 use Rattle.std.proofs.lemmas.Int.{ints}
 use lib.IntN.{pos}
 use Rattle.geom.proofs.Products.{is_le}
-use Rattle.clip.specs.Class.{crosses_row}
+use Rattle.clip.specs.EdgeClass.{crosses_row}
 use Rattle.scanfill.specs.Column.{column_of}
 use Rattle.scanfill.specs.Walk.{WalkValue}
 use Rattle.scanfill.proofs.Shares.{drop-share, left-share, row-crossed, walk-share}

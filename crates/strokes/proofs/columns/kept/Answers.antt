@@ -3,7 +3,7 @@ use Rattle.std.proofs.lemmas.Int.{ints}
 use Rattle.std.specs.Int.{int_div_euclid}
 use lib.IntN.{pos, neg_ℤ, ◌+ℤ◌}
 use lib.Signed.{◌<ℤ◌}
-use Rattle.clip.specs.Class.{at_least_zero}
+use Rattle.clip.specs.EdgeClass.{at_least_zero}
 use Rattle.scanfill.proofs.Words.{wide, word}
 use Rattle.strokes.proofs.Keeping.{kept-from, kept-to, next-wide, opposite-wide, opposite-word}
 use Rattle.scanfill.specs.Runs.{has_column}

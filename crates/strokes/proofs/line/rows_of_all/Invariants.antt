@@ -1,6 +1,6 @@
 use Rattle.std.proofs.Common.{◌≡◌, ℕ, ◌<◌, ◌≤◌, false, take}
 use Rattle.std.specs.List.{list_any}
-use Rattle.clip.specs.Class.{has_row}
+use Rattle.clip.specs.EdgeClass.{has_row}
 use Rattle.strokes.proofs.line.rows_of_all.Given as goal
 
 abbrev pub invariant-loop-cover : goal.invariant-loop-cover

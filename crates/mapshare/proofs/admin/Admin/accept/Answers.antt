@@ -2,7 +2,7 @@ use Rattle.std.proofs.Common.{ℕ, List, ◌≡◌, ◌∙◌, ◌++◌, ◌∷�
 use Rattle.sharing.specs.Sharing.{after}
 use Rattle.batches.specs.Batch.{accepted}
 use Rattle.mapshare.specs.Admin.{Batches, IsAccepted, all_of, with_batch}
-use Rattle.mapshare.specs.declared.edition.Edition.{Edition}
+use Rattle.mapshare.specs.declared.replica.Replica.{Replica}
 use Rattle.mapshare.specs.Queue.{IsNext}
 use Rattle.mapshare.proofs.Chains.{chain_push, last_all, next_one, on_true, pending_more}
 use Rattle.mapshare.proofs.admin.Admin.accept.Goals as goal
@@ -13,14 +13,14 @@ invariant_of-self-3 g c =
     let opening = g.S.Sharing.opening in
     let b = c.args.batch.items in
     let waiting = drop a.writer.behind a.writer.log.items ++ a.queue.items in
-    let edition : Edition g.row.S.Denot = record { machine = c.in-Ok-copy.machine; front = c.copy-2.result } in
-    let added : c.add.new.self ≡ a.last ++ b ∷ [] = on_true c.add.result _ _ c.if-not-add.false c.add.ensures.adds ∙ ap (λ z. z ++ b ∷ []) c.copy-front.ensures in
+    let replica : Replica g.row.S.Denot = record { machine = c.in-Ok-copy.machine; prefix = c.copy-2.result } in
+    let added : c.add.new.self ≡ a.last ++ b ∷ [] = on_true c.add.result _ _ c.if-not-add.false c.add.ensures.adds ∙ ap (λ z. z ++ b ∷ []) c.copy-prefix.ensures in
     let all : after accepted opening c.add.new.self ≡ Some c.in-Ok.checked =
     ap (after accepted opening) (added ∙ last_all opening a.published waiting a.last b c.self.invariant.1) ∙ c.in-Ok.ensures.accepted in
     let made = ap (after accepted opening) c.copy-2.ensures ∙ all ∙ ap Some (sym c.in-Ok-copy.ensures) in (
       c.self.invariant.0,
-      chain_push opening a.published (drop a.writer.behind a.writer.log.items) a.queue.items c.push_back_reserved.new.self.items a.last c.add.new.self edition
-          c.self.invariant.1 (c.push_back_reserved.ensures.items ∙ ap (λ z. z ++ edition ∷ []) c.reserve.ensures.items) (subst (IsNext a.last) (sym (c.copy-2.ensures ∙ added)) (next_one a.last b)) made c.copy-2.ensures,
+      chain_push opening a.published (drop a.writer.behind a.writer.log.items) a.queue.items c.push_back_reserved.new.self.items a.last c.add.new.self replica
+          c.self.invariant.1 (c.push_back_reserved.ensures.items ∙ ap (λ z. z ++ replica ∷ []) c.reserve.ensures.items) (subst (IsNext a.last) (sym (c.copy-2.ensures ∙ added)) (next_one a.last b)) made c.copy-2.ensures,
       all,
     )
 
@@ -30,7 +30,7 @@ returns-clause-accepted g c =
     let opening = g.S.Sharing.opening in
     let b = c.args.batch.items in
     let waiting = drop a.writer.behind a.writer.log.items ++ a.queue.items in
-    let added : c.add.new.self ≡ a.last ++ b ∷ [] = on_true c.add.result _ _ c.if-not-add.false c.add.ensures.adds ∙ ap (λ z. z ++ b ∷ []) c.copy-front.ensures in
+    let added : c.add.new.self ≡ a.last ++ b ∷ [] = on_true c.add.result _ _ c.if-not-add.false c.add.ensures.adds ∙ ap (λ z. z ++ b ∷ []) c.copy-prefix.ensures in
     let more : drop (length a.published) c.add.new.self ≡ drop (length a.published) a.last ++ b ∷ [] =
     ap (drop (length a.published)) added ∙ pending_more opening a.published waiting a.last b c.self.invariant.1 in
     let old : Batches = record { published = a.published; pending = drop (length a.published) a.last } in

@@ -13,34 +13,34 @@ enter_as-requires g c x = sees g.S.Sharing.opening _ _ x
 pub returns-then-len : goal.returns-then-len
 returns-then-len g c =
     let a = c.self.inside in
-    let front = c.front-front.result in
+    let prefix = c.prefix-prefix.result in
     let was : a.end ≡ Some c.in-Some.end = cc c.in-Some.ensures.value in
     let before : IsPrefix a.seen (view c.in-Some.end.place).seen = at_some _ a.end c.in-Some.end was c.self.invariant in
-    let begins : IsPrefix (view c.in-Some.end.place).seen front = subst (IsPrefix (view c.in-Some.end.place).seen) (sym c.front-front.ensures) c.in-Ok.ensures.1.1 in
-    let less : length front < length a.known = omega (arith, c.if-len.true, c.len.ensures, c.len-in-Ok.ensures) in (
+    let begins : IsPrefix (view c.in-Some.end.place).seen prefix = subst (IsPrefix (view c.in-Some.end.place).seen) (sym c.prefix-prefix.ensures) c.in-Ok.ensures.1.1 in
+    let less : length prefix < length a.known = omega (arith, c.if-len.true, c.len.ensures, c.len-in-Ok.ensures) in (
       (refl, (λ w. tt), ap (of_reader a.known a.seen) (sym (ap is_some was)) ∙ c.self.view_is),
       record {
         closed = tt;
         same_reference = tt;
         known = tt;
         knows = tt;
-        behind = λ e. rw (← c.self.view_is) (behind a.seen (view c.in-Some.end.place).seen front a.known before begins less);
+        behind = λ e. rw (← c.self.view_is) (behind a.seen (view c.in-Some.end.place).seen prefix a.known before begins less);
       },
     )
 
 pub returns-else-len : goal.returns-else-len
 returns-else-len g c =
-    let front = c.front-front.result in
+    let prefix = c.prefix-prefix.result in
     let known = c.self.inside.known in
     let away : is_some c.take.new.self ≡ false = ap is_some c.take.ensures.after in
-    let least : length known ≤ length front = omega (arith, c.if-len.false, c.len.ensures, c.len-in-Ok.ensures) in
-    let begins : IsPrefix known front = known_begins front known c.longer-both.result c.longer-both.ensures.one c.longer-both.ensures.this c.longer-both.ensures.that least in (
+    let least : length known ≤ length prefix = omega (arith, c.if-len.false, c.len.ensures, c.len-in-Ok.ensures) in
+    let begins : IsPrefix known prefix = known_begins prefix known c.longer-both.result c.longer-both.ensures.one c.longer-both.ensures.this c.longer-both.ensures.that least in (
       (refl, (λ w. refl), tt),
       record {
         closed = tt;
         same_reference = refl;
-        known = rw (← c.self.view_is) (subst (λ l. IsPrefix known l) c.front-front.ensures begins);
-        knows = rw away (away_entered front c.copy.result _ c.copy.ensures c.front-front.ensures);
+        known = rw (← c.self.view_is) (subst (λ l. IsPrefix known l) c.prefix-prefix.ensures begins);
+        knows = rw away (away_entered prefix c.copy.result _ c.copy.ensures c.prefix-prefix.ensures);
         behind = λ e. absurd (cc e);
       },
     )

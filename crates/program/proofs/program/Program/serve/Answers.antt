@@ -4,8 +4,8 @@ use Rattle.program.proofs.program.Program.serve.Goals as goal
 
 pub returns-in-Ok-clause-serves : goal.returns-in-Ok-clause-serves
 returns-in-Ok-clause-serves g c = (
-  c.of-folder.result.front.now,
-  c.of-folder.ensures.front,
+  c.of-folder.result.parent.now,
+  c.of-folder.ensures.parent,
   _,
   inr (record {
     map = c.in-Ok.read.map;
@@ -20,8 +20,8 @@ returns-in-Ok-clause-serves g c = (
 
 pub returns-clause-serves : goal.returns-clause-serves
 returns-clause-serves g c = (
-  c.of-folder.result.front.now,
-  c.of-folder.ensures.front,
+  c.of-folder.result.parent.now,
+  c.of-folder.ensures.parent,
   _,
   inl (record {
     failure = c.in-Err.failure;

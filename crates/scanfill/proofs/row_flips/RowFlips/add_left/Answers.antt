@@ -4,7 +4,7 @@ use Rattle.std.specs.List.{count_by}
 use Rattle.std.specs.Prelude.{int_le}
 use lib.IntN.{pos}
 use Rattle.geom.proofs.Products.{is_le}
-use Rattle.clip.specs.Class.{has_row}
+use Rattle.clip.specs.EdgeClass.{has_row}
 use Rattle.scanfill.specs.RowFlips.{RowFlipsValue, flips_by}
 use Rattle.scanfill.proofs.FlipCounts.{left-more}
 use Rattle.scanfill.proofs.row_flips.RowFlips.add_left.Goals as goal

@@ -1,6 +1,6 @@
 use Rattle.std.proofs.Common.{◌≡◌, ℕ, ◌+◌, ◌<◌, cond}
 use Rattle.std.specs.List.{count_by}
-use Rattle.clip.specs.Class.{has_row}
+use Rattle.clip.specs.EdgeClass.{has_row}
 use Rattle.scanfill.specs.RowFlips.{flips_by}
 use Rattle.scanfill.proofs.row_flips.RowFlips.add_left.Given as goal
 

@@ -3,7 +3,7 @@ use Rattle.std.proofs.lemmas.Result.{on_ok_weaker}
 use Rattle.std.specs.List.{count_by}
 use Rattle.std.specs.Prelude.{int_le}
 use lib.IntN.{pos}
-use Rattle.clip.specs.Class.{has_row}
+use Rattle.clip.specs.EdgeClass.{has_row}
 use Rattle.scanfill.specs.Column.{column_of}
 use Rattle.scanfill.specs.RowFlips.{RowFlipsValue, flips_by}
 use Rattle.scanfill.specs.Walk.{WalkValue}

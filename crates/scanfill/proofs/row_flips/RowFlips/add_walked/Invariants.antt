@@ -2,7 +2,7 @@ use Rattle.std.proofs.Common.{◌≡◌, ℕ, ◌+◌, ◌<◌, ◌&&◌, cond}
 use Rattle.std.specs.List.{count_by}
 use Rattle.std.specs.Prelude.{int_le}
 use lib.IntN.{pos}
-use Rattle.clip.specs.Class.{has_row}
+use Rattle.clip.specs.EdgeClass.{has_row}
 use Rattle.scanfill.specs.Column.{column_of}
 use Rattle.scanfill.specs.RowFlips.{flips_by}
 use Rattle.scanfill.proofs.row_flips.RowFlips.add_walked.Given as goal

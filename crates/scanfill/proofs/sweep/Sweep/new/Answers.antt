@@ -5,7 +5,7 @@ use Rattle.std.specs.List.{count_by}
 use lib.IntN.{pos}
 use Rattle.geom.specs.Device.{pixel_centre}
 use Rattle.geom.specs.Edge.{EdgeEnds, crosses_at_or_left}
-use Rattle.clip.specs.Class.{class_of}
+use Rattle.clip.specs.EdgeClass.{class_of}
 use Rattle.scanfill.specs.Crossing.{reaches}
 use Rattle.scanfill.specs.Sweep.{is_walk, walk_count}
 use Rattle.scanfill.specs.declared.crossing.Crossing.{Crossing}

@@ -3,8 +3,8 @@ use Rattle.clip.proofs.Sides.{crosses-rise}
 use Rattle.geom.specs.Device.{centre}
 use lib.IntN.{pos}
 use Rattle.scanfill.proofs.Sizes.{sizes-at}
-use Rattle.scanfill.proofs.Steps.{next_place-at}
-use Rattle.scanfill.specs.Walk.{WalkValue, next_place, place_at}
+use Rattle.scanfill.proofs.Steps.{next_crossing-at}
+use Rattle.scanfill.specs.Walk.{WalkValue, next_crossing, crossing_at}
 use Rattle.scanfill.proofs.walk.EdgeWalk.next_row.Goals as goal
 
 pub next-self-inside-requires : goal.next-self-inside-requires
@@ -23,6 +23,6 @@ invariant_of-self c =
       some = omega (arith, c.requires, ap (λ (v : WalkValue). v.row) c.self.view_is, ap (λ (v : WalkValue). v.end) c.self.view_is);
       below = i.below;
       crosses = record { each = λ j from past. i.crosses.each j (omega arith) past };
-      at = c.next-self-inside.ensures ∙ (ap (λ p. next_place p w.slope) i.at ∙ (ap (λ s. next_place (place_at w.edge w.row) s) i.goes ∙ next_place-at w.edge w.row some));
+      at = c.next-self-inside.ensures ∙ (ap (λ p. next_crossing p w.slope) i.at ∙ (ap (λ s. next_crossing (crossing_at w.edge w.row) s) i.goes ∙ next_crossing-at w.edge w.row some));
       goes = i.goes;
     }

@@ -1,7 +1,0 @@
-use Rattle.std.proofs.Common.{take}
-use Rattle.featureinfo.specs.Hits.{IsHitAt}
-use Rattle.featureinfo.proofs.Firsts.{SoFar}
-use Rattle.featureinfo.proofs.asked.first_hits.Given as goal
-
-abbrev pub invariant-loop-index : goal.invariant-loop-index
-invariant-loop-index l = SoFar (IsHitAt l.scene l.layer l.asked.column l.asked.row) l.asked.count (take l.index-index l.found) l.hits.items

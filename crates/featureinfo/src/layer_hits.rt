@@ -1,0 +1,214 @@
+ghost use Rattle.std.specs.Prelude.{◌≡◌, ◌↔◌, ◌<◌, ◌≤◌, All, IfOk, IsTrue, length, true};
+ghost use Rattle.std.specs.List.Sorted.{IsStrictlyIncreasing};
+ghost use Rattle.geom.specs.declared.side.TheConstants.{MAX_PICTURE_SIDE};
+ghost use Rattle.mapdefs.specs.Class.{is_visible_layer};
+ghost use Rattle.mapdefs.specs.declared.layer.Geometry.TheVariants.{Line as LineKind, Polygon as PolygonKind};
+ghost use Rattle.featureinfo.specs.Hits.{AreFirstAmong, AreHitsOf, IsClassedNear, IsHitAt, covers_plainly};
+ghost use Rattle.featureinfo.specs.Nearby.{SomeNear, part_near, points_near};
+
+use crate::nearby::Nearby;
+use crate::reach::is_far;
+use geom::World;
+use mapdefs::{FeatureFields, Geometry, Items, LayerFields, Map, Near, Part, Shared};
+use scaledenom::Scale;
+use scanfill::Polygon;
+use scene::Scene;
+use std::alloc::{AllocError, Global};
+use strokes::Line;
+use viewport::{Projection, View};
+
+/// What is asked of the layers of a picture: a pixel, and how many features of a layer at most.
+#[derive(Clone, Copy)]
+pub struct PixelQuery {
+    /// The column of the pixel, counted from 0.
+    pub column: u16,
+    /// The row of the pixel, counted from 0.
+    pub row: u16,
+    pub count: u32,
+}
+
+/// The hits of a layer.
+#[derive(Drop)]
+pub struct LayerHits {
+    /// The index of the layer in the map.
+    pub layer: usize,
+    /// The indices of the features that were hit, in order. The hits of a layer that is asked several times share
+    /// them.
+    pub features: Shared<Items<u32>>,
+}
+
+// Whether some point of a part has its pixel among those.
+fn part_near(projection: &Projection, part: &[World], nearby: Nearby) -> bool
+    ensures { result ≡ part_near projection.now part.now nearby }
+{
+    part.iter()
+        .any(|place| nearby.has(projection.pixel(*place)))
+}
+
+// Whether some point of the parts has its pixel among those.
+fn points_near(projection: &Projection, parts: &[Part], nearby: Nearby) -> bool
+    ensures { result ≡ points_near projection.now parts.now nearby }
+{
+    parts
+        .iter()
+        .any(|part| part_near(projection, part.as_slice(), nearby))
+}
+
+// Whether the plain cover of a polygon has one of the pixels. It is asked by its rows.
+fn polygon_near(
+    alloc: Global,
+    scene: &Scene<'_>,
+    parts: &[Part],
+    nearby: Nearby,
+) -> Result<bool, AllocError>
+    requires some { nearby.left < nearby.right }
+    requires width { nearby.right ≤ scene.now.view.width }
+    requires height { nearby.bottom ≤ MAX_PICTURE_SIDE }
+    ensures { IfOk result (λ hit. IsTrue hit ↔ SomeNear nearby (covers_plainly scene.now.view PolygonKind parts.now)) }
+{
+    let rings = scene.points_of(alloc, parts)?;
+    let polygon = Polygon::new(alloc, &rings)?;
+    nearby.meets_cover(alloc, &polygon, scene.projection().width())
+}
+
+// Whether the plain cover of a line has one of the pixels.
+fn line_near(
+    alloc: Global,
+    scene: &Scene<'_>,
+    parts: &[Part],
+    nearby: Nearby,
+) -> Result<bool, AllocError>
+    requires some { nearby.left < nearby.right }
+    requires width { nearby.right ≤ scene.now.view.width }
+    requires height { nearby.bottom ≤ MAX_PICTURE_SIDE }
+    ensures { IfOk result (λ hit. IsTrue hit ↔ SomeNear nearby (covers_plainly scene.now.view LineKind parts.now)) }
+{
+    let lines = scene.points_of(alloc, parts)?;
+    let line = Line::new(alloc, &lines, false, 1)?;
+    nearby.meets_cover(alloc, &line, scene.projection().width())
+}
+
+// Whether the plain cover of a feature has one of the pixels.
+fn covers_near(
+    alloc: Global,
+    scene: &Scene<'_>,
+    kind: Geometry,
+    parts: &[Part],
+    nearby: Nearby,
+) -> Result<bool, AllocError>
+    requires some { nearby.left < nearby.right }
+    requires width { nearby.right ≤ scene.now.view.width }
+    requires height { nearby.bottom ≤ MAX_PICTURE_SIDE }
+    ensures { IfOk result (λ hit. IsTrue hit ↔ SomeNear nearby (covers_plainly scene.now.view kind parts.now)) }
+{
+    match kind {
+        Geometry::Polygon => polygon_near(alloc, scene, parts, nearby),
+        Geometry::Line => line_near(alloc, scene, parts, nearby),
+        Geometry::Point => Ok(points_near(scene.projection(), parts, nearby)),
+    }
+}
+
+// Whether a feature of the layer has a class and lies near the pixels. One that is far is neither looked up nor drawn.
+fn is_classed_near(
+    alloc: Global,
+    scene: &Scene<'_>,
+    layer: &LayerFields,
+    feature: &FeatureFields,
+    nearby: Nearby,
+) -> Result<bool, AllocError>
+    requires some { nearby.left < nearby.right }
+    requires width { nearby.right ≤ scene.now.view.width }
+    requires height { nearby.bottom ≤ MAX_PICTURE_SIDE }
+    ensures { IfOk result (λ hit. IsTrue hit ↔ IsClassedNear scene.now layer.now nearby feature.now) }
+{
+    let parts = feature.parts.as_slice();
+    if is_far(scene.projection(), parts, nearby) {
+        return Ok(false);
+    }
+    if scene.class_of(layer, feature).is_none() {
+        return Ok(false);
+    }
+    covers_near(alloc, scene, layer.kind, parts, nearby)
+}
+
+// The first so many of the candidates that are hit.
+fn first_hits(
+    alloc: Global,
+    scene: &Scene<'_>,
+    layer: &LayerFields,
+    found: &[u32],
+    asked: PixelQuery,
+) -> Result<Items<u32>, AllocError>
+    requires shows { is_visible_layer scene.now.scale layer.now ≡ true }
+    requires indices { All (λ k. k < length layer.now.features) found.now }
+    requires rising { IsStrictlyIncreasing found.now }
+    requires column { asked.column < scene.now.view.width }
+    requires row { asked.row < scene.now.view.height }
+    ensures { IfOk result (AreFirstAmong (IsHitAt scene.now layer.now asked.column asked.row) asked.count found.now) }
+{
+    let projection = scene.projection();
+    let sides = (projection.width(), projection.height());
+    let nearby = Nearby::of(sides, asked.column, asked.row, layer.tolerance);
+    let features = layer.features.as_slice();
+    let mut hits = Vec::new(alloc);
+    for index in found {
+        if hits.len() >= asked.count as usize {
+            return Ok(Items::of(hits));
+        }
+        let feature = features[*index as usize].get().get();
+        if is_classed_near(alloc, scene, layer, feature, nearby)? {
+            hits.push(*index)?;
+        }
+    }
+    Ok(Items::of(hits))
+}
+
+/// The first features of a layer that are seen near a pixel of a scene's picture, by their indices: those of a layer
+/// that shows at the scale which have a class, and whose plain cover has a pixel of the picture within the layer's
+/// tolerance of both the column and the row.
+///
+/// The features that may be seen are those that `near` finds in the view and a pixel more than the tolerance round
+/// it. The hits are the same whatever else it finds.
+///
+/// It takes memory for what `near` finds, for the hits, and for one feature at a time. `AllocError` comes only where that
+/// is refused.
+pub fn hits_in<N: Near>(
+    alloc: Global,
+    scene: &Scene<'_>,
+    near: &N,
+    layer: usize,
+    asked: PixelQuery,
+) -> Result<Items<u32>, AllocError>
+    requires near { N.map_of near.now ≡ scene.now.map }
+    requires layer { layer < length scene.now.map.layers }
+    requires column { asked.column < scene.now.view.width }
+    requires row { asked.row < scene.now.view.height }
+    ensures { IfOk result (AreHitsOf scene.now layer asked.column asked.row asked.count) }
+{
+    let fields = scene.layer(layer);
+    if !scene.shows(fields) {
+        return Ok(Items::new(alloc));
+    }
+    let margin = u16::from(fields.tolerance) + 1;
+    let found = near.candidates(layer, scene.window(margin))?;
+    first_hits(alloc, scene, fields, &found, asked)
+}
+
+/// What `hits_in` gives in the scene of a map in a view, at a scale.
+pub fn hits<N: Near>(
+    alloc: Global,
+    map: &Map,
+    near: &N,
+    view: View,
+    scale: Scale,
+    layer: usize,
+    asked: PixelQuery,
+) -> Result<Items<u32>, AllocError>
+    requires near { N.map_of near.now ≡ map.now }
+    requires layer { layer < length map.now.layers }
+    requires column { asked.column < view.width }
+    requires row { asked.row < view.height }
+    ensures { IfOk result (AreHitsOf (record { map = map.now; view = view; scale = scale }) layer asked.column asked.row asked.count) }
+{
+    hits_in(alloc, &Scene::new(map, view, scale), near, layer, asked)
+}

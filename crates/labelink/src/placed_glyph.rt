@@ -1,0 +1,154 @@
+ghost use Rattle.std.specs.Prelude.{◌≡◌, ℕ, ◌<◌, ◌≤◌, ◌^◌, [], false, pos, ◌+ℤ◌, ◌<ℤ◌, ◌≤ℤ◌, OnOk};
+ghost use Rattle.geom.specs.Range.{IsBelow};
+ghost use Rattle.geom.specs.declared.side.TheConstants.{MAX_PICTURE_SIDE};
+ghost use Rattle.scanfill.specs.Runs.{AreRunsFrom};
+ghost use Rattle.labelink.specs.Ink.{covers_glyph};
+
+use bdffont::inks_at;
+use clip::{RowRange, clamped};
+use geom::PictureSide;
+use mapdefs::Glyph;
+use scanfill::{Cover, Reading, Span, Spans};
+use std::alloc::AllocError;
+use std::marker::Model;
+
+/// A glyph on the picture.
+#[derive(Drop)]
+pub struct PlacedGlyph<'a> {
+    glyph: &'a Glyph,
+    left: i64,
+    top: i64,
+}
+
+impl<'a> Model for PlacedGlyph<'a> {
+    ghost use Rattle.labelink.specs.Ink.{GlyphValue, IsPlacedGlyph};
+
+    ghost Value = { GlyphValue };
+
+    ghost view = { λ g. record { glyph = g.glyph.now; left = g.left; top = g.top } };
+
+    ghost invariant = { λ g. IsPlacedGlyph (record { glyph = g.glyph.now; left = g.left; top = g.top }) };
+}
+
+impl<'a> PlacedGlyph<'a> {
+    /// The glyph with its leftmost column and its first row.
+    pub fn new(glyph: &'a Glyph, left: i64, top: i64) -> Self
+        requires left { IsBelow (2 ^ 47) left }
+        requires top { IsBelow (2 ^ 47) top }
+        ensures { result ≡ record { glyph = glyph.now; left = left; top = top } }
+    {
+        PlacedGlyph { glyph, left, top }
+    }
+
+    /// The same glyph at the same place again.
+    pub fn copy(&self) -> Self
+        ensures { result ≡ self.now }
+    {
+        PlacedGlyph {
+            glyph: self.glyph,
+            left: self.left,
+            top: self.top,
+        }
+    }
+
+    /// How many columns its box has, and the leftmost of them.
+    pub fn columns_of_box(&self) -> (u8, i64)
+        ensures side { result.0 ≡ self.now.glyph.bounds.width }
+        ensures left { result.1 ≡ self.now.left }
+        ensures limits { IsBelow (2 ^ 47) result.1 }
+    {
+        (self.glyph.bounds.width, self.left)
+    }
+
+    /// How many rows its box has, and the first of them.
+    pub fn rows_of_box(&self) -> (u8, i64)
+        ensures side { result.0 ≡ self.now.glyph.bounds.height }
+        ensures top { result.1 ≡ self.now.top }
+        ensures limits { IsBelow (2 ^ 47) result.1 }
+    {
+        (self.glyph.bounds.height, self.top)
+    }
+
+    /// Whether it covers the pixel in a column and a row, in the picture or off it.
+    pub fn inks(&self, i: i64, j: i64) -> bool
+        ensures { result ≡ covers_glyph self.now i j }
+    {
+        inks_at(self.glyph, (self.left, self.top), i, j)
+    }
+
+    /// Whether it covers the pixel in a column and a row.
+    pub fn is_inked(&self, i: u16, j: u16) -> bool
+        ensures { result ≡ covers_glyph self.now (pos i) (pos j) }
+    {
+        self.inks(i64::from(i), i64::from(j))
+    }
+}
+
+// The columns, or the rows, of so many, that lie on a side of a glyph.
+fn span_on(side: u8, at: i64, end: u16) -> Span
+    requires { IsBelow (2 ^ 47) at }
+    ensures rising { result.from ≤ result.to }
+    ensures within { result.to ≤ end }
+    ensures before { (i : ℕ) → i < result.from → pos i <ℤ at }
+    ensures after { (i : ℕ) → result.to ≤ i → i < end → (at +ℤ pos side) ≤ℤ pos i }
+{
+    Span {
+        from: clamped(i128::from(at), end),
+        to: clamped(i128::from(at + i64::from(side)), end),
+    }
+}
+
+impl Cover for PlacedGlyph<'_> {
+    ghost covered = { λ g i j. covers_glyph g (pos i) (pos j) };
+
+    fn covers(&self, i: u16, j: u16) -> bool {
+        self.is_inked(i, j)
+    }
+
+    fn rows(&self, _width: PictureSide, height: PictureSide) -> RowRange {
+        let rows = span_on(self.glyph.bounds.height, self.top, height.pixels());
+        RowRange {
+            from: rows.from,
+            to: rows.to,
+        }
+    }
+
+    fn row(&self, j: u16, width: PictureSide, out: &mut Spans) -> Result<(), AllocError> {
+        out.clear();
+        match self.read_row(j, width, out) {
+            Ok(()) => Ok(()),
+            Err(error) => {
+                out.clear();
+                Err(error)
+            }
+        }
+    }
+}
+
+impl PlacedGlyph<'_> {
+    // Adds to the empty `out` the runs of a row.
+    fn read_row(&self, j: u16, width: PictureSide, out: &mut Spans) -> Result<(), AllocError>
+        requires row { j < MAX_PICTURE_SIDE }
+        requires empty { out.old ≡ [] }
+        ensures { OnOk result (AreRunsFrom (λ i. covers_glyph self.now (pos i) (pos j)) 0 width out.new) }
+    {
+        let end = width.pixels();
+        let span = self.columns(end);
+        let mut reading = Reading::Outside.go_on(0, span.from, false, out)?;
+        for column in span.from..span.to {
+            reading = reading.go_on(column, column + 1, self.is_inked(column, j), out)?;
+        }
+        let reading = reading.go_on(span.to, end, false, out)?;
+        reading.finish(end, out)
+    }
+
+    // The columns, of so many, that the glyph's box lies in.
+    fn columns(&self, end: u16) -> Span
+        ensures rising { result.from ≤ result.to }
+        ensures within { result.to ≤ end }
+        ensures before { (i j : ℕ) → i < result.from → covers_glyph self.now (pos i) (pos j) ≡ false }
+        ensures after { (i j : ℕ) → result.to ≤ i → i < end → covers_glyph self.now (pos i) (pos j) ≡ false }
+    {
+        span_on(self.glyph.bounds.width, self.left, end)
+    }
+}
