@@ -1,4 +1,4 @@
--- How a connection comes on by a piece: nothing is decided, or a head that goes on, or one that ends it.
+-- The course of a connection after a piece: nothing is decided, or a head that goes on, or one that ends it.
 use Rattle.std.proofs.Common.{◌≡◌, ◌∙◌, ◌<◌, ◌≤◌, ◌+◌, ◌-◌, ℕ, suc, List, [], ◌++◌, Bool, true, false, not, ◌&&◌, ◌||◌, ◌==◌, Option, None, Some, if◌then◌else◌, inl, inr, length, take, drop, refl, sym, ap, subst, arith, append_assoc, take-append-drop}
 use Rattle.std.proofs.lemmas.Bool.{ne_eqb}
 use Rattle.std.proofs.lemmas.Bool.Decides.{leb_tells}
@@ -13,11 +13,11 @@ use Rattle.httpedge.specs.declared.decision.Decision.{Decision}
 use Rattle.httpedge.proofs.Heads.{nothing-headless}
 use Rattle.httpedge.proofs.Serving.{come-more, come-next, come-last, come-broken}
 
--- a connection from which nothing came is open
+-- a connection to which nothing came is open
 pub nothing-open : LeavesOpen []
 nothing-open = (nothing-headless, omega arith)
 
--- what came of an open one is less than a head may have
+-- the bytes that came to an open one are fewer than a head may have
 pub open-short : (p : Progress) → IsOpen p → length (came_of p) < 16384
 open-short (Open came) opened = opened.1
 open-short (Decided closes decided query) opened = absurd opened
@@ -41,7 +41,7 @@ more-came answers n k read said piece first now (Open came) (Open bytes) taken o
 more-came answers n k read said piece first now (Open came) (Decided closes decided query) taken opened feeds step come = absurd (cc)
 more-came answers n k read said piece first now (Decided closes decided query) q taken opened feeds step come = absurd opened
 
--- what was taken decides
+-- the bytes that were taken decide
 pub record IsDecided (came part : List ℕ) (d : Decision) (q : Progress) : Type 0 where
   pub closes : Bool
   pub is : q ≡ Decided closes d (query_of q)
@@ -79,14 +79,14 @@ is-last done below =
       | inr h ↦ ne_eqb (done + 1) REQUESTS (λ e. absurd (omega (arith, e, h.1))) ∙ sym (ne_eqb (REQUESTS - (done + 1)) 0 (λ e. absurd (omega (arith, e, h.1))))
     ]
 
--- a decision stands that ends the connection, or doesn't
+-- there is a decision that ends the connection, or one that doesn't
 closing-is : (course : Course) (closes : Bool) (d : Decision) → course.progress ≡ Decided closes d (query_of course.progress) → is_closing course ≡ (closes || (course.done + 1 == REQUESTS))
 closing-is course closes d is = ap (ends_by (course.done + 1 == REQUESTS)) is
 
 going-is : (course : Course) (closes : Bool) (d : Decision) → course.progress ≡ Decided closes d (query_of course.progress) → goes_on course ≡ not (closes || (course.done + 1 == REQUESTS))
 going-is course closes d is = ap (λ q. is_decided q && not (ends_by (course.done + 1 == REQUESTS) q)) is
 
--- so many reads less are wanted
+-- so many fewer reads are needed
 pub less-missing : (old new : Course) → came_of new.progress ≡ [] → requests_left new < requests_left old → IsReading old → missing new < missing old
 less-missing old new nothing less reading =
     let short : length (came_of old.progress) < 16384 = open-short old.progress reading.opened in
@@ -149,12 +149,12 @@ broken-came answers n read said rest reply first now last old fed taken d readin
     let closed : is_closing fed ≡ (decided.closes || (k == 0)) = closing-is fed decided.closes d decided.is ∙ ap (λ (b : Bool). decided.closes || b) (is-last fed.done (omega (arith, below, same))) in
     come-broken answers n k read (came_of old.progress) (take taken rest) said reply first now last decided.closes (is_closing fed) (decision_meaning d (query_of fed.progress)) c decided.decides closed replies
 
--- what was read of a piece, and what is left of it, is the piece
+-- the bytes that were read of a piece, and those left of it, are the piece
 pub piece-parts : (came front rest piece more : List ℕ) (taken : ℕ) → front ++ rest ≡ piece → ((came ++ front) ++ take taken rest) ++ (drop taken rest ++ more) ≡ (came ++ piece) ++ more
 piece-parts came front rest piece more taken all =
     sym (append_assoc ((came ++ front) ++ take taken rest) (drop taken rest) more)
     ∙ ap (λ l. l ++ more) (append_assoc (came ++ front) (take taken rest) (drop taken rest) ∙ ap (λ l. (came ++ front) ++ l) (take-append-drop taken rest) ∙ append_assoc came front rest ∙ ap (λ l. came ++ l) all)
 
--- the front of a piece grows
+-- the prefix of a piece grows
 pub front-grows : (front rest piece : List ℕ) (taken : ℕ) → front ++ rest ≡ piece → (front ++ take taken rest) ++ drop taken rest ≡ piece
 front-grows front rest piece taken all = append_assoc front (take taken rest) (drop taken rest) ∙ ap (λ l. front ++ l) (take-append-drop taken rest) ∙ all

@@ -25,7 +25,7 @@ pub record IsWhole (bytes : List ℕ) (head : RequestHead) : Type 0 where
   pub has : HasHead bytes head
   pub none : has.rest ≡ []
 
--- the bytes that the parser answers are a head
+-- the bytes that the parser returns as a head are one
 pub parsed-whole : (bytes : List ℕ) (fields : List HeaderSpan) (r : RequestSpans) (head : RequestHead) → IsRequestAt bytes fields r head → length fields ≤ 64 → length bytes ≤ 16384 → r.len ≤ length bytes →
     IsWhole (take r.len bytes) head
 parsed-whole bytes fields r head found room limit len =
@@ -51,7 +51,7 @@ unfolding head-more
 always-by bytes head whole none is-last true e = λ more. inl (head, head-more bytes more head whole.has, rw (none, e) refl)
 always-by bytes head whole none is-last false e = λ more. inl (head, head-more bytes more head whole.has, rw (none, e) (ap (λ l. Further (head_meaning head) (l ++ more)) (sym whole.none)))
 
--- a head that announces no body decides what it asks for
+-- a head that announces no body decides what it requests
 pub head-decides : (bytes : List ℕ) (head : RequestHead) → IsWhole bytes head → announces_body head ≡ false → Decides bytes (closes head) (head_meaning head)
 head-decides bytes head whole none = record {
   turns = λ is-last. always-by bytes head whole none is-last (closes head || is-last) refl;
@@ -65,7 +65,7 @@ body-decides bytes head whole some = record {
   whole = whole-alone bytes head whole;
 }
 
--- no shorter front than a head has one
+-- no shorter prefix than a head has one
 pub head-shortest : (bytes : List ℕ) (len : ℕ) (head : RequestHead) → IsWhole (take len bytes) head → (n : ℕ) → n ≤ length bytes → HasNoHead (take n bytes) → n ≤ len
 head-shortest bytes len head whole n bound none =
     elim (leb_tells n len) [
@@ -89,7 +89,7 @@ never-judged bytes query start end none always = record {
   };
 }
 
--- what the fields that stand there tell, the fields of the head tell
+-- a test for some field gives the same for the parsed fields as for the fields of the head
 told : (p : List ℕ × List ℕ → Bool) (bytes : List ℕ) (fields front : List HeaderSpan) (r : RequestSpans) (head : RequestHead) → IsRequestAt bytes fields r head → front ≡ take r.headers fields →
     list_any p (map (header_bytes bytes) front) ≡ list_any p (map name_and_value head.fields)
 told p bytes fields front r head found is = ap (λ l. list_any p (map (header_bytes bytes) l)) is ∙ ap (list_any p) found.fields

@@ -37,19 +37,19 @@ end-replied answers n (Open came) q d is-last now last text opened ends some rep
     ((Last (decision_meaning d (query_of q)), turn, r), inr (Last (decision_meaning d (query_of q)), turn, r))
 end-replied answers n (Decided closes decided query) q d is-last now last text opened ends some reply = absurd opened
 
--- what holds whatever follows the bytes that were read holds of the stream
+-- a property that holds whatever follows the bytes read holds of the stream
 pub whatever-follows : (a b : Option (List ℕ)) (bytes : List ℕ) (P : List ℕ → Type 0) → Consumes a b bytes → ((more : List ℕ) → P (bytes ++ more)) → IfSome a P
 whatever-follows None b bytes P read all = tt
 whatever-follows (Some x) None bytes P read all = absurd read
 whatever-follows (Some x) (Some y) bytes P read all = subst P (sym read) (all y)
 
--- what was said so far was begun, whatever follows
+-- the text sent so far was begun, whatever follows
 pub come-begun : {A : Type 0} (answers : A → List ℕ → Said → A → Type 0) (n k : ℕ) (read came said : List ℕ) (first now : A) → HasCome answers n read first said k came now →
     (more : List ℕ) → IsBegun answers n (read ++ more) first said now
 come-begun answers n k read came said first now come more =
     subst (λ (l : List ℕ). IsBegun answers n (read ++ more) first l now) (append-nil said) (come.begun more [] now (begun-nothing answers k (came ++ more) now))
 
--- what was said so far, and what answers the end, is all
+-- the text sent so far, and the answer to the end, are all
 pub come-ended : {A : Type 0} (P : ℕ → List ℕ → A → List ℕ → A → Type 0) (n k : ℕ) (read came said text : List ℕ) (first now last : A) →
     ((more other : List ℕ) (end : A) → P k (came ++ more) now other end → P n (read ++ more) first (said ++ other) end) → P k came now text last → P n read first (said ++ text) last
 come-ended P n k read came said text first now last leads ends =
@@ -59,7 +59,7 @@ pub opened-leaves : (p : Progress) → IsOpen p → LeavesOpen (came_of p)
 opened-leaves (Open came) opened = opened
 opened-leaves (Decided closes decided query) opened = absurd opened
 
--- the reader failed: what was said so far went out
+-- the reader failed: the text sent so far was written
 pub read-stopped : {A S : Type 0} (answers : A → List ℕ → Said → A → Type 0) (held : S → Option (List ℕ)) (taken : S → ℕ) (a b : Option (List ℕ)) (read came text : List ℕ) (k : ℕ) (old new : A) (x y : S) (written : ℕ) →
     Consumes a b read → HasCome answers REQUESTS read old text k came new → IsSent held taken x text y → written ≡ length text →
     IfSome a (λ stream. HasStopped (Read written) answers held taken stream old new x y)
@@ -75,7 +75,7 @@ piece-stopped answers held taken a b read text old new x y written consumed begu
     whatever-follows a b read (λ stream. HasBroken answers held taken stream old new x written y) consumed
     (λ more. record { text = text; begun = begun more; cut = cut-at held taken x y text written count cut })
 
--- or in that to the end
+-- or in the answer to the end
 pub end-stopped : {A S : Type 0} (answers : A → List ℕ → Said → A → Type 0) (held : S → Option (List ℕ)) (taken : S → ℕ) (a b : Option (List ℕ)) (read text : List ℕ) (old new : A) (x y : S) (written : ℕ) →
     Consumes a b read → IsAtEnd b → IsBegun answers REQUESTS read old text new → IsCutSomewhere held taken x text y → taken y ≡ taken x + written →
     IfSome a (λ stream. HasStopped (Write written) answers held taken stream old new x y)
@@ -83,7 +83,7 @@ end-stopped answers held taken a b read text old new x y written consumed end be
     Consumes-whole a b read (λ stream. HasBroken answers held taken stream old new x written y) consumed end
     (record { text = text; begun = begun; cut = cut-at held taken x y text written count cut })
 
--- a head ended the connection: all went out
+-- a head ended the connection: all was sent
 pub piece-exchanged : {A S : Type 0} (answers : A → List ℕ → Said → A → Type 0) (held : S → Option (List ℕ)) (taken : S → ℕ) (a b : Option (List ℕ)) (read text : List ℕ) (old new : A) (x y : S) →
     Consumes a b read → ((more : List ℕ) → IsExchange answers REQUESTS (read ++ more) old text new) → IsSent held taken x text y →
     IfSome a (λ stream. HasExchanged answers held taken stream old new x y)

@@ -44,7 +44,7 @@ exchange-is-one (suc n) stream old a b c d (t, p, q) (u, r, s) =
     let same = turn-is-one (n == 0) stream t u p r in
     follows-is-one (IsExchange says_next n) (exchange-is-one n) u old a b c d (subst (λ (w : Turn). Follows says_next (IsExchange says_next n) w old a c) same q) s
 
--- what was begun of a turn is a front of what answers it
+-- a begun answer to a turn is a prefix of its answer
 front-follows : (part next : List ℕ → List Said → List ℕ → List Said → Type 0) →
     ((stream : List ℕ) (old : List Said) (a b : List ℕ) (c d : List Said) → part stream old a c → next stream old b d → (more : List ℕ) × (b ≡ a ++ more)) →
     (turn : Turn) (old : List Said) (a b : List ℕ) (c d : List Said) → Follows says_next part turn old a c → Follows says_next next turn old b d → (more : List ℕ) × (b ≡ a ++ more)

@@ -42,7 +42,7 @@ pub blank-headless : (bytes : List ℕ) → list_all is_newline bytes ≡ true �
 blank-headless bytes blank head has =
     let e : false ≡ true = sym (head-not-blank head has.rest) ∙ ap (list_all is_newline) (sym has.reads.1) ∙ blank in cc
 
--- a head that isn't longer than the front of a stream is that of the front
+-- a head that isn't longer than the prefix of a stream is the head of the prefix
 pub head-front : (a b : List ℕ) (head : RequestHead) → HasHead (a ++ b) head → length (print_request head) ≤ length a → HasHead a head
 head-front a b head has short =
     let p = print_request head in
@@ -54,7 +54,7 @@ head-front a b head has short =
       fields = has.fields;
     }
 
--- the head of the front of a stream is that of the stream
+-- the head of a prefix of a stream is the head of the stream
 unfoldable pub head-more : (a b : List ℕ) (head : RequestHead) → HasHead a head → HasHead (a ++ b) head
 head-more a b head has = record {
   rest = has.rest ++ b;

@@ -1,4 +1,4 @@
--- What is to be sent of a response, in two parts of which the first bytes went out.
+-- The bytes of a response that are to be sent, in two parts of which the first bytes were sent.
 use Rattle.std.proofs.Common.{◌≡◌, ◌∙◌, ◌≤◌, ◌+◌, ◌-◌, ℕ, List, [], ◌++◌, inl, inr, length, drop, sym, ap, arith, length-append, length-drop, min, append_assoc, Bool, codes}
 use Rattle.httpedge.specs.Outgoing.{answer_head}
 use Rattle.httpedge.specs.Response.{body_text, head_end}
@@ -7,7 +7,7 @@ use Rattle.std.proofs.lemmas.List.{drop-append-le, drop-drop, drop_all}
 use Rattle.std.proofs.Math.Seq.{drop-append-add}
 use Rattle.std.proofs.Math.Nat.{min-eq_left, min-eq_right}
 
--- of the first part at most what it has went out, and the rest of the second
+-- at most the bytes of the first part were sent of it, and the rest of the second
 pub parts-written : (a b : List ℕ) (g h n m : ℕ) → g ≤ length a → m ≡ min n (length a - g) → drop (g + m) a ++ drop (h + (n - m)) b ≡ drop n (drop g a ++ drop h b)
 parts-written a b g h n m fits is =
     elim (leb_tells n (length a - g)) [
@@ -22,7 +22,7 @@ parts-written a b g h n m fits is =
           rw written (sym (drop-drop (n - m) h b) ∙ sym (drop-append-add (drop g a) (drop h b) (n - m)) ∙ ap (λ k. drop k (drop g a ++ drop h b)) (sym all))
     ]
 
--- so many bytes of the second part went out
+-- so many bytes of the second part were sent
 pub second-written : (a b : List ℕ) (g h n m : ℕ) → g ≤ length a → h ≤ length b → n ≤ length (drop g a ++ drop h b) → m ≡ min n (length a - g) → h + (n - m) ≤ length b
 second-written a b g h n m fits holds few is =
     elim (leb_tells n (length a - g)) [

@@ -55,14 +55,14 @@ any-at p f [] i d inside passes = absurd (omega arith)
 any-at p f (x ∷ xs) zero d inside passes = rw passes refl
 any-at p f (x ∷ xs) (suc i) d inside passes = rw (any-at p f xs i d (omega arith) passes) (or-true (p (f x)))
 
--- a field that stands at a place passes
+-- a field at a position passes
 pub field-at : (p : List ℕ × List ℕ → Bool) (bytes : List ℕ) (fields : List HeaderSpan) (i : ℕ) (d : HeaderSpan) (name value : List ℕ) (answer : Bool) → i < length fields →
     name ≡ span_bytes bytes (get_or fields i d).name → value ≡ span_bytes bytes (get_or fields i d).value → answer ≡ p (name, value) → answer ≡ true →
     list_any p (map (header_bytes bytes) fields) ≡ true
 field-at p bytes fields i d name value answer inside n v is passes =
     any-at p (header_bytes bytes) fields i d inside (rw (← n, ← v) (sym is ∙ passes))
 
--- the test for equal texts, from what it tells
+-- an answer that is true for equal texts alone is their comparison
 pub same-text : (answer : Bool) (a b : List ℕ) → (IsTrue answer ↔ (a ≡ b)) → answer ≡ bytes_eq a b
 same-text answer a b tells = grind (arith, bytes_eq-Decides)
 

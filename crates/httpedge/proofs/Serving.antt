@@ -1,4 +1,4 @@
--- What a loop needs that answers one decision after the other: a decision that goes on, and one that ends.
+-- Lemmas for a loop that answers one decision after the other: a decision that goes on, and one that ends.
 use Rattle.std.proofs.Common.{append_assoc, append-nil, ◌≡◌, ℕ, zero, suc, List, [], ◌++◌, Bool, true, false, ◌||◌, ◌==◌, inl, inr, refl, sym, subst}
 use Rattle.httpedge.specs.Exchange.{Said, IsReply, IsExchange, IsBegun}
 use Rattle.httpedge.specs.Meaning.{Meaning}
@@ -42,7 +42,7 @@ unfolding IsBegun
 begun-nothing answers zero more now = (refl, refl)
 begun-nothing answers (suc n) more now = inl (refl, refl)
 
--- the same of reads that are wanted
+-- the same of reads that are needed
 pub want-further : (n : ℕ) (bytes more : List ℕ) (meaning : Meaning) → Decides bytes false meaning → (n == 0) ≡ false → Wants n more → Wants (suc n) (bytes ++ more)
 unfolding Wants
 want-further n bytes more meaning decides some wants =
@@ -58,7 +58,7 @@ leads-more : {A : Type 0} (P : ℕ → List ℕ → A → List ℕ → A → Typ
 leads-more P n k read came part said first now leads more text last others =
     rw (append_assoc read part more) (leads (part ++ more) text last (rw (← append_assoc came part more) others))
 
--- bytes were taken that decide and go on, and their answer went out
+-- bytes were taken that decide and go on, and their answer was sent
 leads-next : {A : Type 0} (P : ℕ → List ℕ → A → List ℕ → A → Type 0) (n k : ℕ) (read came part said reply : List ℕ) (first now between : A) →
     Leads P n read first said (suc k) came now →
     ((more text : List ℕ) (last : A) → P k more between text last → P (suc k) ((came ++ part) ++ more) now (reply ++ text) last) → Leads P n (read ++ part) first (said ++ reply) k [] between
@@ -66,14 +66,14 @@ leads-next P n k read came part said reply first now between leads step more tex
     let whole = leads (part ++ more) (reply ++ text) last (rw (← append_assoc came part more) (step more text last others)) in
     rw (append_assoc read part more, append_assoc said reply text) whole
 
--- a way and then another
+-- one step and then another
 leads-then : {A : Type 0} (P : ℕ → List ℕ → A → List ℕ → A → Type 0) (n k j : ℕ) (read came piece new said text : List ℕ) (first now between : A) →
     Leads P n read first said k came now → Leads P k (came ++ piece) now text j new between → Leads P n (read ++ piece) first (said ++ text) j new between
 leads-then P n k j read came piece new said text first now between leads more-leads more t last others =
     let whole = leads (piece ++ more) (text ++ t) last (rw (← append_assoc came piece more) (more-leads more t last others)) in
     rw (append_assoc read piece more, append_assoc said text t) whole
 
--- a way and then all that is said
+-- one step and then all the text
 pub leads-all : {A : Type 0} (P : ℕ → List ℕ → A → List ℕ → A → Type 0) (n k : ℕ) (read came piece said text : List ℕ) (first now last : A) →
     Leads P n read first said k came now → ((more : List ℕ) → P k ((came ++ piece) ++ more) now text last) → (more : List ℕ) → P n ((read ++ piece) ++ more) first (said ++ text) last
 leads-all P n k read came piece said text first now last leads all more =

@@ -1,4 +1,4 @@
--- How a session goes on: by bytes, by the end of its stream, and by bytes that went out.
+-- How a session goes on: by bytes, by the end of its stream, and by bytes that were sent.
 use Rattle.std.proofs.Common.{◌≡◌, ◌∙◌, ◌≤◌, ◌+◌, ◌-◌, ℕ, suc, List, [], ◌∷◌, ◌++◌, Bool, true, false, not, ◌&&◌, ◌==◌, None, Some, Ok, Err, if◌then◌else◌, inl, inr, length, take, refl, sym, ap, subst, arith, append-nil}
 use Rattle.std.proofs.lemmas.Bool.{ne_eqb}
 use Rattle.std.proofs.lemmas.Bool.Decides.{leb_tells}
@@ -19,7 +19,7 @@ use Rattle.httpedge.proofs.Courses.{next-came, last-came, more-came}
 use Rattle.httpedge.proofs.Serving.{come-first}
 use Rattle.httpedge.proofs.Ending.{end-nothing, end-replied, come-ended, come-begun}
 
--- where further bytes are wanted, heads are read and nothing is to be sent
+-- where a session takes further bytes, heads are read and nothing is to be sent
 pub wants-reads : (s : Stage) (out : List ℕ) → (is_reading s && (length out == 0)) ≡ true → (s ≡ Reading) × (out ≡ [])
 wants-reads Reading [] e = (refl, refl)
 wants-reads Reading (x ∷ out) e = absurd (let f : (length (x ∷ out) == 0) ≡ false = ne_eqb (length (x ∷ out)) 0 (λ z. absurd (omega (arith, z))) in cc)
@@ -40,7 +40,7 @@ feeds-bound : (p q : Progress) (piece : List ℕ) (taken : ℕ) → IsOpen p →
 feeds-bound (Open came) q piece taken opened feeds = feeds.bound
 feeds-bound (Decided closes decided query) q piece taken opened feeds = absurd opened
 
--- what a connection says to a decision, and what becomes of it
+-- the response of a connection to a decision, and its course after that
 pub record HasReplied {A : Type 0} (answers : A → List ℕ → Said → A → Type 0) (piece : List ℕ) (taken : ℕ) (old fed new : Course) (now : A) (reply : List ℕ) (between : A) (on : Bool) : Type 0 where
   pub decision : Decision
   pub reading : IsReading old
@@ -59,7 +59,7 @@ replied-on answers piece taken old fed new now between reply on r goes_further r
     let (reading, further, less) = next-came answers REQUESTS read said piece reply first now between old fed new taken r.decision on r.reading r.feeds r.done r.step r.replies r.goes goes_further r.next come in
     (reading, further)
 
--- a connection is to be read on after a head that goes on
+-- a connection needs a further read after a head that goes on
 pub reading-next : {A : Type 0} (answers : A → List ℕ → Said → A → Type 0) (piece : List ℕ) (taken : ℕ) (old fed new : Course) (now between : A) (reply : List ℕ) (on : Bool) →
     HasReplied answers piece taken old fed new now reply between on → on ≡ true → IsReading new
 reading-next answers piece taken old fed new now between reply on r goes_further =
@@ -74,7 +74,7 @@ reading-more piece taken old fed reading feeds done step =
     (come-first says_as_listed (requests_left old) (came_of old.progress) []) in
     record { count = rw done reading.count; opened = opened }
 
--- what came while heads were read and nothing was to be sent
+-- the bytes that came while heads were read and nothing was to be sent
 reading-came : {A : Type 0} (answers : A → List ℕ → Said → A → Type 0) (s : SessionState) (old : Course) (out : List ℕ) (stage : Stage) (v : ◌≡◌ {A = SessionState} (record { course = old; outgoing = out; stage = stage }) s) →
     wants s ≡ true → (read written : List ℕ) (first now : A) → HasResponded answers read first written s now → (stage ≡ Reading) × (out ≡ []) × HasCome answers REQUESTS read first written (requests_left old) (came_of old.progress) now
 reading-came answers s old out stage v wanted read written first now responded =
@@ -85,7 +85,7 @@ reading-came answers s old out stage v wanted read written first now responded =
     let all : written ++ out ≡ written = ap (λ l. written ++ l) quiet ∙ append-nil written in
     (reads, quiet, subst (λ (l : List ℕ). HasCome answers REQUESTS read first l (requests_left old) (came_of old.progress) now) all open_still)
 
--- what is said of a session after a head that goes on
+-- what holds of a session after a head that goes on
 pub responded-on : {A : Type 0} (answers : A → List ℕ → Said → A → Type 0) (s : SessionState) (old : Course) (out : List ℕ) (stage : Stage) (v : ◌≡◌ {A = SessionState} (record { course = old; outgoing = out; stage = stage }) s) →
     wants s ≡ true → (piece : List ℕ) (taken : ℕ) (fed new : Course) (now between : A) (reply : List ℕ) (on : Bool) → HasReplied answers piece taken old fed new now reply between on → on ≡ true →
     (read written : List ℕ) (first : A) → HasResponded answers read first written s now → HasRespondedAt stage answers (read ++ take taken piece) first (written ++ reply) new between
@@ -118,7 +118,7 @@ responded-more answers s old out stage v wanted piece taken fed now reading feed
     subst (λ (t : Stage). HasRespondedAt t answers (read ++ take taken piece) first (written ++ out) fed now) (sym reads)
     (subst (λ (l : List ℕ). HasCome answers REQUESTS (read ++ l) first (written ++ out) (requests_left fed) (came_of fed.progress) now) (sym all) counted)
 
--- what was queries of whoever is asked
+-- the queries that the answerer got
 reply-queries : {A : Type 0} (answers : A → List ℕ → Said → A → Type 0) (closing : Bool) (meaning : Meaning) (old : A) (text : List ℕ) (new : A) → IsReply answers closing meaning old text new →
     (queries : List QueryOutcome) × HasAsked answers old queries new × ((later : List QueryOutcome) → IsReply says_as_listed closing meaning (queries ++ later) text later)
 reply-queries answers closing Nothing old text new (e, same) = ([], inl (refl, same), λ later. (e, refl))
@@ -144,7 +144,7 @@ replied-queries answers piece taken old fed new now between reply on r =
       },
     )
 
--- something is said to each decision
+-- each decision has a response
 reply-some : {A : Type 0} (answers : A → List ℕ → Said → A → Type 0) (closing : Bool) (d : Decision) (query : List ℕ) (old : A) (text : List ℕ) (new : A) → IsReply answers closing (decision_meaning d query) old text new → text ≡ [] → ⊥
 unfolding body_text refusal_lines busy_lines
 reply-some answers closing decision.Ask query old text new (Ok answer, _, e) nothing = absurd (cc)
@@ -153,14 +153,14 @@ reply-some answers closing (decision.Refused BadRequest) query old text new (e, 
 reply-some answers closing (decision.Refused NotFound) query old text new (e, _) nothing = absurd (cc)
 reply-some answers closing (decision.Refused MethodNotAllowed) query old text new (e, _) nothing = absurd (cc)
 
--- so nothing further is wanted then
+-- so the session takes no further bytes then
 pub replied-some : {A : Type 0} (answers : A → List ℕ → Said → A → Type 0) (piece : List ℕ) (taken : ℕ) (old fed new : Course) (now between : A) (reply : List ℕ) (on : Bool) → HasReplied answers piece taken old fed new now reply between on →
     (stage : Stage) → (is_reading stage && (length reply == 0)) ≡ true → ⊥
 replied-some answers piece taken old fed new now between reply on r stage wanted =
     let (reads, quiet) = wants-reads stage reply wanted in
     reply-some answers (is_closing fed) r.decision (query_of fed.progress) now reply between r.replies quiet
 
--- what is said to the end of a stream
+-- the response at the end of a stream
 pub end-said : {A : Type 0} (answers : A → List ℕ → Said → A → Type 0) (old : Course) (q : Progress) (d : Decision) (now : A) → IsReading old → Ends old.progress q → step_of q ≡ Some d →
     IsExchange answers (requests_left old) (came_of old.progress) now (refusal_text BadRequest true) now
 end-said answers old q d now reading ends step =
@@ -185,7 +185,7 @@ end-silent answers old q now reading ends step =
     let left : requests_left old ≡ suc (REQUESTS - (old.done + 1)) = omega (arith, reading.count) in
     subst (λ (m : ℕ). IsExchange answers m (came_of old.progress) now [] now) (sym left) (end-nothing answers (REQUESTS - (old.done + 1)) old.progress q now reading.opened ends step)
 
--- what is said of a session whose stream ended
+-- what holds of a session whose stream ended
 pub responded-ended : (s : SessionState) (old : Course) (out : List ℕ) (stage : Stage) (v : ◌≡◌ {A = SessionState} (record { course = old; outgoing = out; stage = stage }) s) → wants s ≡ true →
     (text : List ℕ) → ((later : List QueryOutcome) → IsExchange says_as_listed (requests_left old) (came_of old.progress) later text later) →
     (read written : List ℕ) (queries : List QueryOutcome) → HasRespondedWith read queries written s → (later : List QueryOutcome) → IsExchange says_as_listed REQUESTS read (queries ++ later) (written ++ text) later
@@ -193,7 +193,7 @@ responded-ended s old out stage v wanted text ends read written queries responde
     let (reads, quiet, come) = reading-came says_as_listed s old out stage v wanted read written (queries ++ later) later (responded later) in
     come-ended (IsExchange says_as_listed) REQUESTS (requests_left old) read (came_of old.progress) written text (queries ++ later) later later come.answered (ends later)
 
--- a session reads heads where further bytes are wanted
+-- a session reads heads where it takes further bytes
 pub wanted-reading : (s : SessionState) (old : Course) (out : List ℕ) (stage : Stage) (v : ◌≡◌ {A = SessionState} (record { course = old; outgoing = out; stage = stage }) s) → wants s ≡ true → ReadsOn stage old → IsReading old
 wanted-reading s old out stage v wanted reads =
     let w : (is_reading stage && (length out == 0)) ≡ true = ap wants v ∙ wanted in

@@ -1,4 +1,4 @@
--- What is taken of a piece: all of it, or up to the end of the head that it completes.
+-- The bytes that are taken of a piece: all of it, or up to the end of the head that it completes.
 use Rattle.std.proofs.Common.{length-drop, append-nil, eqb-true, suc, [], ◌∷◌, ◌==◌, ◌≡◌, ◌∙◌, inr, true, false, Bool, Option, None, Some, ℕ, ◌+◌, ◌-◌, ◌<◌, ◌≤◌, List, ◌++◌, length, take, drop, min, refl, sym, ap, subst, arith, length-append, length-take, take-append-drop}
 use Rattle.std.proofs.lemmas.List.{take_all, take-take, take-append-le, drop-append-le, length-take-le}
 use Rattle.std.proofs.Math.Seq.{take-append-add, take-append_seam}
@@ -23,7 +23,7 @@ range-front bytes n start end ordered within bound =
     let rest : length (drop start (take n bytes)) ≡ n - start = omega (arith, length-drop start (take n bytes), long) in
     sym (ap (λ l. take (end - start) (drop start l)) (sym all) ∙ ap (take (end - start)) at ∙ take-append-le (end - start) (drop start (take n bytes)) (drop n bytes) (omega (arith, rest, within)))
 
--- the first bytes that are judged are the old ones and the front of the piece
+-- the first bytes that are judged are the old ones and a prefix of the piece
 cut : (old piece front all : List ℕ) (count len : ℕ) → front ≡ take count piece → count ≤ length piece → all ≡ old ++ front → length old ≤ len → len ≤ length all → take len all ≡ old ++ take (len - length old) piece
 cut old piece front all count len is bound e from to =
     let n : len ≡ length old + (len - length old) = omega arith in
@@ -31,7 +31,7 @@ cut old piece front all count len is bound e from to =
     let short : len - length old ≤ count = omega (arith, size, ap length is, length-take count piece, to) in
     rw (e, is) (ap (λ m. take m (old ++ take count piece)) n ∙ take-append-add old (take count piece) (len - length old) ∙ ap (λ l. old ++ l) (take-take (len - length old) count piece short))
 
--- no shorter front decides than the bytes that have no head
+-- no prefix decides that is shorter than the bytes that have no head
 pub from-old : (old front all : List ℕ) (judged : Judged) (meaning : Meaning) → HasNoHead old → all ≡ old ++ front → IsDecision all judged meaning → length old ≤ judged.len
 from-old old front all judged meaning none e decision =
     let size : length all ≡ length old + length front = ap length e ∙ length-append old front in
@@ -41,7 +41,7 @@ pub old-first : (old front all : List ℕ) (judged : Judged) (d : Option Decisio
 old-first old front all judged None none e judges = omega (arith, judges.2, ap length e, length-append old front)
 old-first old front all judged (Some decided) none e judges = from-old old front all judged _ none e judges
 
--- what the front of the piece decides
+-- what the prefix of the piece decides
 pub taken : (old piece front all new : List ℕ) (count : ℕ) (judged : Judged) (d : Option Decision) → length old < 16384 → count ≡ min (length piece) (16384 - length old) → front ≡ take count piece →
     all ≡ old ++ front → new ≡ take judged.len all → HasNoHead old → IsWithin judged.len judged.query → IsJudgedAs all judged d → Takes old piece (judged.len - length old) (progress_by d judged.closes (span_bytes new judged.query) new)
 taken old piece front all new count judged None room is part e kept none within judges =
@@ -65,7 +65,7 @@ taken old piece front all new count judged (Some decided) room is part e kept no
       cut = λ short. refl;
     }
 
--- what stays open is all that came
+-- where nothing is decided, all bytes that came are kept
 pub open-all : (all : List ℕ) (judged : Judged) (d : Option Decision) → IsJudgedAs all judged d → d ≡ None → take judged.len all ≡ all
 open-all all judged None judges e = take_all judged.len all (omega (arith, judges.2))
 open-all all judged (Some decided) judges e = absurd (cc)

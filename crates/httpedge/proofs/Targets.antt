@@ -1,4 +1,4 @@
--- The path and the query of a target that stands among some bytes.
+-- The path and the query of a target that lies within some bytes.
 use Rattle.std.proofs.Common.{◌≡◌, ℕ, ◌+◌, ◌-◌, ◌≤◌, inl, inr, List, Bool, if◌then◌else◌, length, take, drop, min, refl, sym, arith, length-take, length-drop}
 use Rattle.std.specs.List.{slice_range, before_first, after_first, position_or_len}
 use Rattle.std.proofs.lemmas.Bool.Decides.{leb_tells}
@@ -7,7 +7,7 @@ use Rattle.std.proofs.Math.ListN.{drop_of_length-le}
 use Rattle.httpedge.specs.Meaning.{Refused, Asks, is_question_mark, is_served, target_meaning}
 use Rattle.httpedge.specs.declared.refusal.Refusal.TheVariants.{NotFound}
 
--- what stands after so many bytes of a range and one more, or nothing
+-- the range after so many bytes of a range and one more, or the empty one
 range-after : (bytes : List ℕ) (start end n from : ℕ) → start ≤ end → end ≤ length bytes → from ≡ min (start + n + 1) end →
     drop (n + 1) (slice_range bytes start end) ≡ slice_range bytes from end
 range-after bytes start end n from ordered within e =
@@ -23,7 +23,7 @@ range-after bytes start end n from ordered within e =
           rw (none) (drop_of_length-le (slice_range bytes start end) short)
     ]
 
--- where the query of a target stands
+-- the position of the query of a target
 pub query-at : (bytes : List ℕ) (start end from : ℕ) (text : List ℕ) (n : ℕ) → start ≤ end → end ≤ length bytes → text ≡ slice_range bytes start end →
     n ≡ position_or_len is_question_mark text → from ≡ min (start + n + 1) end → slice_range bytes from end ≡ after_first is_question_mark (slice_range bytes start end)
 query-at bytes start end from text n ordered within is count e =

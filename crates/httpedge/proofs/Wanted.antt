@@ -1,4 +1,4 @@
--- Reads that are wanted.
+-- Reads that are needed.
 use Rattle.std.proofs.Common.{◌≡◌, ◌∙◌, ℕ, ◌<◌, ◌≤◌, zero, suc, inl, inr, Bool, true, false, ◌||◌, ◌==◌, if◌then◌else◌, List, [], ◌∷◌, ◌++◌, length, Option, None, Some, refl, sym, ap, subst, arith, length-append, append-nil}
 use Rattle.std.specs.List.{All, FoldsTo, concat}
 use Rattle.std.proofs.lemmas.List.Elements.{All-nil, All-append}
@@ -20,7 +20,7 @@ use Rattle.httpedge.specs.declared.conn.TheConstants.{REQUESTS}
 use Rattle.httpedge.specs.declared.refusal.Refusal.TheVariants.{BadRequest}
 use Rattle.httpedge.proofs.Heads.{head-front, head-more, nothing-headless}
 
--- each front of what leaves a stream open does so
+-- each prefix of bytes that leave a stream open does so
 fronts-leave-open : (front more : List ℕ) → LeavesOpen (front ++ more) → LeavesOpen front
 fronts-leave-open front more leaves =
     ((λ head has. leaves.0 head (head-more front more head has)), omega (arith, leaves.1, length-append front more))
@@ -33,7 +33,7 @@ no-further (byte ∷ bytes) after meaning e = cc
 turn-by : Bool → Bool → Meaning → List ℕ → Turn
 turn-by announces ends meaning rest = if announces then Last (Refused BadRequest) else (if ends then Last meaning else Further meaning rest)
 
--- what a further turn says, it says whatever follows
+-- a further turn has its meaning whatever follows
 further-by : (announces ends : Bool) (meaning asked : Meaning) (rest after : List ℕ) → Further meaning after ≡ turn-by announces ends asked rest →
     (after ≡ rest) × ((other : List ℕ) → Further meaning other ≡ turn-by announces ends asked other)
 unfolding turn-by
@@ -41,7 +41,7 @@ further-by true ends meaning asked rest after e = absurd (cc)
 further-by false true meaning asked rest after e = absurd (cc)
 further-by false false meaning asked rest after e = let m : meaning ≡ asked = cc in (cc, λ other. ap (λ x. Further x other) m)
 
--- where a read is wanted after some bytes, one was after each front of them
+-- where a read is needed after some bytes, one was needed after each prefix of them
 pub fronts-want : (n : ℕ) (front more : List ℕ) → Wants n (front ++ more) → Wants n front
 unfolding Wants turn-by
 fronts-want zero front more wants = wants
@@ -72,7 +72,7 @@ none-wanted = record {
   wants = inl (nothing-headless, omega arith);
 }
 
--- where the connection is to be read on, a read is wanted
+-- where the connection needs a further read, a read is needed
 pub wants-now : {A : Type 0} (answers : A → List ℕ → Said → A → Type 0) (n k : ℕ) (read said came : List ℕ) (first now : A) → HasCome answers n read first said k came now → 0 < k → LeavesOpen came → Wants n read
 unfolding Wants
 wants-now answers n zero read said came first now come some leaves = absurd (omega (arith, some))
@@ -80,7 +80,7 @@ wants-now answers n (suc k) read said came first now come some leaves =
     let all : came ++ [] ≡ came = append-nil came in
     subst (Wants n) (append-nil read) (come.wanted [] (inl (subst LeavesOpen (sym all) leaves)))
 
--- one piece that is some
+-- one piece that isn't empty
 one-some : (piece : List ℕ) → 0 < length piece → All (λ p. 0 < length p) (piece ∷ [])
 one-some piece some zero d k = some
 one-some piece some (suc n) d k = absurd (omega (arith, k))
@@ -95,7 +95,7 @@ wanted-more pieces piece before some wants = record {
   wants = subst (Wants REQUESTS) (sym (concat-one pieces piece)) wants;
 }
 
--- a reader was read so far, by reads that were all wanted
+-- a reader was read so far, by reads that were all needed
 pub record HasGoneOn {R : Type 0} (left : R → Option (List ℕ)) (took : R → Option (List ℕ) → R → Type 0) (pieces : List (List ℕ)) (old new : R) : Type 0 where
   pub wanted : WantsMore pieces
   pub reads : FoldsTo (λ reader piece next. took reader (Some piece) next) old pieces new
@@ -118,7 +118,7 @@ gone-further {R} left took pieces piece old middle new before once bytes some wa
   bytes = subst (Consumes (left old) (left new)) (sym (concat-one pieces piece)) (Consumes-trans (left old) (left middle) (left new) (concat pieces) piece before.bytes bytes);
 }
 
--- the read after wanted ones was wanted
+-- the read after needed ones was needed
 pub read-last : {R : Type 0} (left : R → Option (List ℕ)) (took : R → Option (List ℕ) → R → Type 0) (pieces : List (List ℕ)) (piece : List ℕ) (old middle new : R) →
     HasGoneOn left took pieces old middle → took middle (Some piece) new → Consumes (left middle) (left new) piece → ReadsToPiece left took old new
 read-last left took pieces piece old middle new before once bytes = (

@@ -11,12 +11,13 @@ use Rattle.httpedge.specs.declared.decision.Decision.TheVariants as decision
 use Rattle.httpedge.specs.declared.received.Received.{Received}
 use Rattle.httpedge.specs.declared.refusal.Refusal.TheVariants.{BadRequest}
 
--- these bytes came and nothing is decided; or a decision stands: whether it closes, what it is, and the query
+-- these bytes came and nothing is decided; or there is a decision: whether it closes the connection, what it is, and the
+-- query
 pub data Progress : Type 0 where
   Open : List ℕ → Progress
   Decided : Bool → Decision → List ℕ → Progress
 
--- what was received, as progress
+-- the received bytes as progress
 abbrev pub progress_by : Option Decision → Bool → List ℕ → List ℕ → Progress
 progress_by None closes query bytes = Open bytes
 progress_by (Some decided) closes query bytes = Decided closes decided query
@@ -24,7 +25,7 @@ progress_by (Some decided) closes query bytes = Decided closes decided query
 abbrev pub progress : Received → Progress
 progress received = progress_by received.decision received.closes (span_bytes received.bytes.items received.query) received.bytes.items
 
--- a decision stands
+-- there is a decision
 abbrev pub is_decided : Progress → Bool
 is_decided (Open came) = false
 is_decided (Decided closes decided query) = true
@@ -39,7 +40,7 @@ abbrev pub query_of : Progress → List ℕ
 query_of (Open came) = []
 query_of (Decided closes decided query) = query
 
--- bytes begin with no head, and a head has room for more than them
+-- the bytes begin with no head, and are fewer than a head may have
 abbrev pub LeavesOpen : List ℕ → Type 0
 LeavesOpen came = HasNoHead came × (length came < 16384)
 
@@ -54,23 +55,24 @@ pub record Takes (came piece : List ℕ) (taken : ℕ) (new : Progress) : Type 0
   pub bound : taken ≤ length piece
   pub cut : taken < length piece → is_decided new ≡ true
 
--- a further piece came. With a decision standing nothing is taken
+-- a further piece came. Where there is a decision, nothing of it is taken
 abbrev pub Feeds : Progress → List ℕ → ℕ → Progress → Type 0
 Feeds (Open came) piece taken new = Takes came piece taken new
 Feeds (Decided closes decided query) piece taken new = (taken ≡ 0) × (new ≡ Decided closes decided query)
 
--- how far the end of a stream brings a connection: bytes without a head are refused; where nothing came nothing is decided
+-- the progress of a connection at the end of its stream: bytes without a head are refused; where nothing came nothing is
+-- decided
 abbrev pub ended : Progress → Progress
 ended (Open []) = Open []
 ended (Open (byte ∷ bytes)) = Decided true (decision.Refused BadRequest) []
 ended (Decided closes decided query) = Decided closes decided query
 
--- the stream ended: what came is all that is left of it, and means this; what was decided stays
+-- the stream ended: the bytes that came are the last, and they mean this; a decision that was there stays
 abbrev pub Ends : Progress → Progress → Type 0
 Ends (Open came) new = ((is_last : Bool) → IsTurn is_last came (Last (meaning_of (step_of new) (query_of new)))) × (new ≡ ended (Open came))
 Ends (Decided closes decided query) new = new ≡ Decided closes decided query
 
--- how many heads were forgotten, and how far the next has come
+-- how many heads were forgotten, and the progress of the next one
 pub record Course : Type 0 where
   pub done : ℕ
   pub progress : Progress
@@ -80,14 +82,14 @@ abbrev pub ends_by : Bool → Progress → Bool
 ends_by is_last (Open came) = false
 ends_by is_last (Decided closes decided query) = closes || is_last
 
--- a decision stands that ends the connection
+-- there is a decision that ends the connection
 abbrev pub is_closing : Course → Bool
 is_closing course = ends_by (course.done + 1 == REQUESTS) course.progress
 
--- a decision stands that doesn't
+-- there is a decision that doesn't end the connection
 abbrev pub goes_on : Course → Bool
 goes_on course = is_decided course.progress && not (is_closing course)
 
--- its head is forgotten
+-- the head of the decision is forgotten
 abbrev pub forgotten : Course → Course
 forgotten course = record { done = course.done + 1; progress = Open [] }

@@ -1,4 +1,4 @@
--- What a stream asks for (docs/WMS.md, "HTTP").
+-- What a stream requests (docs/WMS.md, "HTTP").
 use Rattle.std.specs.Prelude.{ℕ, List, Bool, Option, None, Some, ◌||◌, ◌==◌, if◌then◌else◌, codes}
 use Rattle.std.specs.List.{before_first, after_first}
 use Rattle.std.specs.Str.{bytes_eq}
@@ -8,13 +8,13 @@ use Rattle.httpedge.specs.declared.decision.Decision.TheVariants as decision
 use Rattle.httpedge.specs.declared.refusal.Refusal.{Refusal}
 use Rattle.httpedge.specs.declared.refusal.Refusal.TheVariants.{NotFound, MethodNotAllowed}
 
--- nothing, a refusal, or a query that is asked
+-- nothing, a refusal, or a query for the answerer
 pub data Meaning : Type 0 where
   Nothing : Meaning
   Refused : Refusal → Meaning
   Asks : List ℕ → Meaning
 
--- what ends the path of a target
+-- the byte that ends the path of a target
 abbrev pub is_question_mark : ℕ → Bool
 is_question_mark byte = byte == 63
 
@@ -22,7 +22,7 @@ is_question_mark byte = byte == 63
 abbrev pub is_served : List ℕ → Bool
 is_served path = bytes_eq path (codes "/") || bytes_eq path (codes "/wms")
 
--- the path of a target goes up to the first question mark, and the query stands after it
+-- the path of a target goes up to the first question mark, and the query is after it
 unfoldable pub target_meaning : List ℕ → Meaning
 target_meaning target =
     if is_served (before_first is_question_mark target) then Asks (after_first is_question_mark target) else Refused NotFound
@@ -31,16 +31,16 @@ target_meaning target =
 abbrev pub request_meaning : List ℕ → List ℕ → Meaning
 request_meaning method target = if bytes_eq method (codes "GET") then target_meaning target else Refused MethodNotAllowed
 
--- what a head asks for
+-- what a head requests
 abbrev pub head_meaning : RequestHead → Meaning
 head_meaning head = request_meaning head.method head.target
 
--- what a decision means, where this is the query of the target
+-- the meaning of a decision, with the query of its target
 abbrev pub decision_meaning : Decision → List ℕ → Meaning
 decision_meaning decision.Ask query = Asks query
 decision_meaning (decision.Refused refusal) query = Refused refusal
 
--- what a decision means, if there is one
+-- the meaning of a decision, if there is one
 abbrev pub meaning_of : Option Decision → List ℕ → Meaning
 meaning_of None query = Nothing
 meaning_of (Some decided) query = decision_meaning decided query

@@ -10,19 +10,19 @@ use Rattle.httpedge.specs.declared.conn.TheConstants.{REQUESTS}
 use Rattle.httpedge.specs.declared.edge.EdgeFault.{EdgeFault}
 use Rattle.httpedge.specs.declared.edge.EdgeFault.TheVariants.{Read, Write}
 
--- a further read is wanted by a connection that has so many requests left: the bytes that came are heads that don't end it, and then
--- bytes that begin with no head and are less than a head may have
+-- a connection that has so many requests left needs a further read: the bytes that came are heads that don't end it, and then bytes
+-- that begin with no head and are fewer than a head may have
 unfoldable pub Wants : ℕ → List ℕ → Type 0
 Wants zero came = ⊥
 Wants (suc n) came = LeavesOpen came ⊎ ((meaning : Meaning) × (after : List ℕ) × IsTurn (n == 0) came (Further meaning after) × Wants n after)
 
--- each piece has a byte at least, and after all of them together a further read is wanted
+-- each piece has a byte at least, and after all of them together a further read is needed
 pub record WantsMore (pieces : List (List ℕ)) : Type 0 where
   pub some : All (λ piece. 0 < length piece) pieces
   pub wants : Wants REQUESTS (concat pieces)
 
--- a reader was read up to a last read that was wanted, and no further. `left` tells what a reader has left, where that
--- is known; `took` relates a reader, what one read gave, if it didn't fail, and the reader after it
+-- a reader was read up to a last read that was needed, and no further. `left` is what a reader has left, where that is known; `took`
+-- relates a reader, what one read gave, if it didn't fail, and the reader after it
 pub record ReadsTo {R : Type 0} (left : R → Option (List ℕ)) (took : R → Option (List ℕ) → R → Type 0) (last : Option (List ℕ)) (old new : R) : Type 0 where
   pub earlier : List (List ℕ)
   pub before : R
@@ -40,6 +40,6 @@ abbrev pub ReadsToFault : {R : Type 0} → EdgeFault → (R → Option (List ℕ
 ReadsToFault (Read written) left took old new = ReadsTo left took None old new
 ReadsToFault (Write written) left took old new = ReadsToPiece left took old new
 
--- the law that where a read is wanted, each read before it was
+-- the law that where a read is needed, each read before it was needed
 abbrev pub FrontsWant : Type 0
 FrontsWant = (front more : List ℕ) → Wants REQUESTS (front ++ more) → Wants REQUESTS front

@@ -1,4 +1,4 @@
--- What is kept of the bytes that came (RFC 9112; docs/WMS.md, "HTTP").
+-- The bytes that came and are kept (RFC 9112; docs/WMS.md, "HTTP").
 use Rattle.std.specs.Prelude.{◌≡◌, ◌≤◌, ◌<◌, ◌*◌, ℕ, length, Bool, true, false, ◌==◌, ◌||◌, None}
 use Rattle.std.specs.Prelude.{vec_capacity}
 use Rattle.std.specs.List.{list_all}
@@ -14,8 +14,8 @@ is_line_feed byte = byte == 10
 abbrev pub is_newline : ℕ → Bool
 is_newline byte = (byte == 13) || (byte == 10)
 
--- there is room for a head, and the query lies within the bytes; where nothing is decided, text is noted, the bytes have no head and
--- aren't all that may have one, and so many of these very bytes were parsed that all of them are at most twice as many
+-- there is room for a head, and the query lies within the bytes. Where nothing is decided, text is noted, and the bytes have no head
+-- and are fewer than a head may have. So many of these bytes were parsed that all of them are at most twice as many
 pub record IsReceived (received : Received) : Type 0 where
   pub room : 16384 ≤ vec_capacity received.bytes
   pub limit : length received.bytes.items ≤ 16384

@@ -8,7 +8,7 @@ use Rattle.httpedge.specs.declared.refusal.Refusal.TheVariants.{BadRequest, NotF
 use Rattle.httpedge.specs.declared.outcome.Outcome.{Outcome}
 use Rattle.httpedge.specs.declared.outcome.Outcome.TheVariants.{Answered, Refused, Busy}
 
--- the end of a head, with the line that no further response comes where it is the last
+-- the end of a head; the last response of a connection has the line that no further one comes
 unfoldable pub head_end : Bool → List ℕ
 head_end true = codes "Connection: close\r\n\r\n"
 head_end false = codes "\r\n"
@@ -19,7 +19,7 @@ refusal_lines BadRequest = codes "HTTP/1.1 400 Bad Request\r\nContent-Length: 0\
 refusal_lines NotFound = codes "HTTP/1.1 404 Not Found\r\nContent-Length: 0\r\n"
 refusal_lines MethodNotAllowed = codes "HTTP/1.1 405 Method Not Allowed\r\nAllow: GET\r\nContent-Length: 0\r\n"
 
--- the lines where a query can't be answered now
+-- the lines of the response that the server is busy
 unfoldable pub busy_lines : List ℕ
 busy_lines = codes "HTTP/1.1 503 Service Unavailable\r\nContent-Length: 0\r\n"
 
@@ -45,7 +45,7 @@ response (Answered answer) closing = answer_text answer closing
 response (Refused refusal) closing = refusal_text refusal closing
 response Busy closing = busy_text closing
 
--- the number of a refusal's status
+-- the status number of a refusal
 abbrev pub status_of : Refusal → ℕ
 status_of BadRequest = 400
 status_of NotFound = 404

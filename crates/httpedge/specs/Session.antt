@@ -1,4 +1,4 @@
--- What a session has sent of what answers the bytes that it was fed (docs/WMS.md, "HTTP").
+-- The part of its answers that a session has sent, by the bytes that it was fed (docs/WMS.md, "HTTP").
 use Rattle.std.specs.Prelude.{◌≡◌, ◌⊎◌, ℕ, List, [], ◌∷◌, ◌++◌, length, Bool, true, false, not, ◌&&◌, ◌==◌}
 use Rattle.httpedge.specs.Connection.{Course, Open}
 use Rattle.httpedge.specs.Exchange.{Said, IsExchange}
@@ -7,7 +7,7 @@ use Rattle.httpedge.specs.declared.conn.TheConstants.{REQUESTS}
 use Rattle.httpedge.specs.declared.stage.Stage.{Stage}
 use Rattle.httpedge.specs.declared.stage.Stage.TheVariants.{Reading, Closed, Ended}
 
--- how far its heads have come, the bytes that are to be sent, and whether heads are read
+-- the progress of its heads, the bytes that are to be sent, and whether heads are read
 pub record SessionState : Type 0 where
   pub course : Course
   pub outgoing : List ℕ
@@ -23,7 +23,7 @@ is_reading Ended = false
 abbrev pub owes_nothing : SessionState → Bool
 owes_nothing state = length state.outgoing == 0
 
--- further bytes are wanted: nothing is to be sent, and heads are read
+-- the session takes further bytes: nothing is to be sent, and heads are read
 abbrev pub wants : SessionState → Bool
 wants state = is_reading state.stage && owes_nothing state
 
@@ -43,29 +43,29 @@ HasRespondedAt Reading answers read first said course now = HasCome answers REQU
 HasRespondedAt Closed answers read first said course now = (more : List ℕ) → IsExchange answers REQUESTS (read ++ more) first said now
 HasRespondedAt Ended answers read first said course now = IsExchange answers REQUESTS read first said now
 
--- the bytes `read` were taken, and `written` went out: with what is to be sent that is what answers them
+-- the bytes `read` were taken, and `written` was sent: `written` and the bytes that are to be sent answer them
 abbrev pub HasResponded : {A : Type 0} → (A → List ℕ → Said → A → Type 0) → List ℕ → A → List ℕ → SessionState → A → Type 0
 HasResponded answers read first written state now = HasRespondedAt state.stage answers read first (written ++ state.outgoing) state.course now
 
--- a query, and what was said to it
+-- a query and its outcome
 pub record QueryOutcome : Type 0 where
   pub query : List ℕ
   pub said : Said
 
--- whoever is asked has a list of queries with what to say to them, and says the next of it
+-- an answerer has a list of queries with their outcomes, and gives the next of them
 abbrev pub says_as_listed : List QueryOutcome → List ℕ → Said → List QueryOutcome → Type 0
 says_as_listed old query said new = old ≡ record { query = query; said = said } ∷ new
 
--- the bytes `read` were taken, these queries of theirs were asked, and `written` went out: with what is to be sent that is what answers them.
--- Whoever is asked may answer others in between
+-- the bytes `read` were taken, these queries of theirs were answered, and `written` was sent: `written` and the bytes that are to be sent answer
+-- them. The answerer may answer other queries in between
 abbrev pub HasRespondedWith : List ℕ → List QueryOutcome → List ℕ → SessionState → Type 0
 HasRespondedWith read queries written state = (later : List QueryOutcome) → HasResponded says_as_listed read (queries ++ later) written state later
 
--- nobody was asked, or one query was
+-- the answerer wasn't called, or was called once
 abbrev pub HasAsked : {A : Type 0} → (A → List ℕ → Said → A → Type 0) → A → List QueryOutcome → A → Type 0
 HasAsked answers old queries new =
     ((queries ≡ []) × (new ≡ old)) ⊎ ((one : QueryOutcome) × (queries ≡ one ∷ []) × answers old one.query one.said new)
 
--- a session from which nothing came
+-- a session to which nothing came
 abbrev pub new_session : SessionState
 new_session = record { course = record { done = 0; progress = Open [] }; outgoing = []; stage = Reading }

@@ -1,4 +1,4 @@
--- What the rest of a stream asks for first, and what follows it (docs/WMS.md, "HTTP").
+-- What the rest of a stream requests first, and what follows it (docs/WMS.md, "HTTP").
 use Rattle.std.specs.Prelude.{◌≡◌, ◌⊎◌, ℕ, List, [], ◌∷◌, ◌++◌, Bool, true, false, ◌||◌, if◌then◌else◌}
 use Rattle.httparse.specs.Grammar.{RequestHead}
 use Rattle.httpedge.specs.Fields.{announces_body, closes}
@@ -28,7 +28,7 @@ IsTurn is_last rest turn =
     ((head : RequestHead) × (has : HasHead rest head) × (turn ≡ head_turn is_last head has.rest))
     ⊎ (HasNoHead rest × (turn ≡ headless_turn rest))
 
--- some bytes decide a turn, whatever follows them. What follows is left to the turns after it
+-- some bytes decide a turn, whatever follows them. The bytes after them belong to the turns after it
 abbrev pub AlwaysTurns : Bool → List ℕ → Bool → Meaning → Type 0
 AlwaysTurns is_last bytes true meaning = (more : List ℕ) → IsTurn is_last (bytes ++ more) (Last meaning)
 AlwaysTurns is_last bytes false meaning = (more : List ℕ) → IsTurn is_last (bytes ++ more) (Further meaning more)

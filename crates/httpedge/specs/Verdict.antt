@@ -1,4 +1,5 @@
--- What a verdict on some bytes says of the stream that they begin (RFC 9112; docs/WMS.md, "HTTP").
+-- What a verdict on some bytes means for the stream that they begin (RFC 9112; docs/WMS.md,
+-- "HTTP").
 use Rattle.std.specs.Prelude.{◌≡◌, ◌<◌, ◌≤◌, ℕ, List, [], length, take, Bool, ◌||◌, Option, None, Some}
 use Rattle.httparse.specs.Grammar.{RequestHead}
 use Rattle.httparse.specs.Spans.{span_bytes, IsWithin}
@@ -13,7 +14,7 @@ pub record Decides (bytes : List ℕ) (closes : Bool) (meaning : Meaning) : Type
   pub turns : (is_last : Bool) → AlwaysTurns is_last bytes (closes || is_last) meaning
   pub whole : (head : RequestHead) (has : HasHead bytes head) → has.rest ≡ []
 
--- the first bytes decide, and no shorter front has a head
+-- the first bytes decide, and no shorter prefix has a head
 pub record IsDecision (bytes : List ℕ) (judged : Judged) (meaning : Meaning) : Type 0 where
   pub len : judged.len ≤ length bytes
   pub decides : Decides (take judged.len bytes) judged.closes meaning
@@ -24,7 +25,7 @@ abbrev pub IsJudgedAs : List ℕ → Judged → Option Decision → Type 0
 IsJudgedAs bytes judged None = HasNoHead bytes × (length bytes < 16384) × (judged.len ≡ length bytes)
 IsJudgedAs bytes judged (Some decision) = IsDecision bytes judged (decision_meaning decision (span_bytes bytes judged.query))
 
--- so is the verdict, and the query lies in what decides
+-- the verdict is correct, and the query lies within the bytes that decide
 pub record IsJudged (bytes : List ℕ) (judged : Judged) : Type 0 where
   pub query : IsWithin judged.len judged.query
   pub verdict : IsJudgedAs bytes judged judged.decision

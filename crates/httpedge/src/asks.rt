@@ -11,9 +11,10 @@ use thiserror::Error;
 #[error("the server is busy")]
 pub struct Busy;
 
-/// Who is asked queries.
+/// An answerer: something that answers queries.
 pub trait Asks {
-    // What may be said to a query: the asked one before, the query, what is said, and the asked one after.
+    // The outcomes that a query may have: the answerer before, the query, the outcome, and the answerer
+    // after.
     ghost answers: { Self → List ℕ → Result Answer Busy → Self → Type 0 };
 
     /// The answer to a query.

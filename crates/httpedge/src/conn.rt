@@ -14,7 +14,7 @@ pub const REQUESTS: u32 = 1_000;
 pub struct Fed {
     /// How many bytes of the piece were taken.
     pub taken: usize,
-    /// What is decided. Where nothing is, further bytes are to be read.
+    /// The decision. Where there is none, further bytes are to be read.
     pub step: Option<Decision>,
 }
 
@@ -39,7 +39,7 @@ impl Model for Conn {
 }
 
 impl Conn {
-    /// A connection from which nothing came. It takes the memory for a head, and no more later.
+    /// A connection to which nothing came. It takes the memory for a head, and no more later.
     pub fn new(alloc: Global) -> Result<Self, AllocError>
         ensures { IfOk result (λ conn. conn ≡ record { done = 0; progress = Open [] }) }
     {
@@ -49,7 +49,7 @@ impl Conn {
         })
     }
 
-    /// Takes bytes of a piece: all, or those up to a decision. Once something is decided it says so again.
+    /// Takes bytes of a piece: all, or those up to a decision. Once there is a decision, each call gives it again.
     pub fn feed(&mut self, piece: &[u8]) -> Fed
         ensures feeds { Feeds self.old.progress piece.now result.taken self.new.progress }
         ensures done { self.new.done ≡ self.old.done }
@@ -62,7 +62,8 @@ impl Conn {
         }
     }
 
-    /// Takes the end of the stream. Where nothing came, nothing is decided; once something is decided it says so again.
+    /// Takes the end of the stream. Where nothing came, nothing is decided. Once there is a decision, each call gives
+    /// it again.
     pub fn end(&mut self) -> Option<Decision>
         ensures ends { Ends self.old.progress self.new.progress }
         ensures done { self.new.done ≡ self.old.done }
@@ -80,14 +81,14 @@ impl Conn {
         self.received.query.of(&self.received.bytes)
     }
 
-    /// Whether a decision stands that ends the connection.
+    /// Whether there is a decision that ends the connection.
     pub fn closing(&self) -> bool
         ensures { result ≡ is_closing self.now }
     {
         self.received.decision.is_some() && (self.received.closes || self.done + 1 == REQUESTS)
     }
 
-    /// Forgets the head of a decision that doesn't end the connection, and says whether there was one.
+    /// Forgets the head of a decision that doesn't end the connection, and returns whether there was one.
     pub fn next(&mut self) -> bool
         ensures was { result ≡ goes_on self.old }
         ensures forgets { self.new ≡ (if goes_on self.old then forgotten self.old else self.old) }

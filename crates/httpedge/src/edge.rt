@@ -22,7 +22,7 @@ const PIECE: usize = 4_096;
 /// Why an exchange was given up.
 #[derive(Clone, Copy, Debug, PartialEq, Eq, Error)]
 pub enum EdgeFault {
-    /// The reader failed. All answers before went out.
+    /// The reader failed. All answers before were sent.
     #[error("the reader failed after {written} bytes were written")]
     Read {
         /// How many bytes the answers before have in all.
@@ -36,7 +36,7 @@ pub enum EdgeFault {
     },
 }
 
-// What is said to a query.
+// The outcome of a query.
 fn ask<A: Asks>(asks: &mut A, query: &[u8]) -> Outcome
     ensures { (said : Result Answer Busy) × A.answers asks.old query.now said asks.new × ((closing : Bool) → response result closing ≡ said_text said closing) }
 {
@@ -46,7 +46,7 @@ fn ask<A: Asks>(asks: &mut A, query: &[u8]) -> Outcome
     }
 }
 
-/// What is written where that is decided.
+/// The response to a decision.
 pub(crate) fn outcome<A: Asks>(conn: &Conn, decision: Decision, asks: &mut A) -> Outcome
     requires decided { step_of conn.now.progress ≡ Some decision }
     ensures { (closing : Bool) → IsReply A.answers closing (decision_meaning decision (query_of conn.now.progress)) asks.old (response result closing) asks.new }
@@ -57,7 +57,7 @@ pub(crate) fn outcome<A: Asks>(conn: &Conn, decision: Decision, asks: &mut A) ->
     }
 }
 
-// Answers what is decided, and says whether the connection goes on. Then the head is forgotten.
+// Answers a decision, and returns whether the connection goes on. Then the head is forgotten.
 fn answer<W: Sink, A: Asks>(
     conn: &mut Conn,
     decision: Decision,
@@ -79,7 +79,7 @@ fn answer<W: Sink, A: Asks>(
     Ok(goes_on)
 }
 
-// Answers the heads that end in a piece, one after the other, and says whether the connection goes on.
+// Answers the heads that end in a piece, one after the other, and returns whether the connection goes on.
 fn answer_piece<W: Sink, A: Asks>(
     conn: &mut Conn,
     piece: &[u8],
@@ -134,12 +134,12 @@ fn answer_end<W: Sink, A: Asks>(
 /// Answers a stream: reads, and answers each head as soon as it is whole, up to the end or to a head that ends the
 /// connection. The connection is new.
 ///
-/// After a fault of the reader all answers to what was read have gone out, `written` bytes in all; where the writer
-/// fails, exactly the first `written` bytes of the answers went out.
+/// After a fault of the reader all answers to the bytes read were sent, `written` bytes in all; where the writer
+/// fails, exactly the first `written` bytes of the answers were sent.
 ///
-/// It reads only while no whole head stands unanswered and none has ended the connection (`reads`): at most
-/// 16,384,000 times (`most`), since each read but the last gives a byte, and there are 1,000 heads at most. It takes
-/// no memory but in whoever is asked.
+/// It reads only while no whole head is unanswered and none has ended the connection (`reads`). It reads at most
+/// 16,384,000 times (`most`), since each read but the last gives a byte, and there are 1,000 heads at most. Only the
+/// answerer takes memory.
 pub fn exchange<R: Source, W: Sink, A: Asks>(
     conn: &mut Conn,
     reader: &mut R,

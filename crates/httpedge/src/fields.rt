@@ -1,4 +1,4 @@
-//! What the fields of a head say of its connection.
+//! What the fields of a head mean for its connection.
 
 ghost use Rattle.std.specs.Prelude.{◌≡◌, ℕ, ◌≤◌, length, reverse, map, All, codes};
 ghost use Rattle.std.specs.List.{list_any, position_or_len};
@@ -8,7 +8,7 @@ ghost use Rattle.httpedge.specs.Fields.{is_alike, is_comma, is_close, parts, say
 
 use httparse::spans::HeaderSpan;
 
-// Whether two texts are the same, where the case of letters doesn't count.
+// Whether two texts are equal but for the case of letters.
 fn is_alike(a: &[u8], b: &[u8]) -> bool
     ensures { result ≡ is_alike a.now b.now }
 {
@@ -46,7 +46,7 @@ fn is_close(part: &[u8]) -> bool
     is_alike(trim_end(trim_start(part)), b"close")
 }
 
-// How many bytes stand before the first comma.
+// How many bytes are before the first comma.
 fn part_len(value: &[u8]) -> usize
     ensures value { result ≡ position_or_len is_comma value.now }
     ensures bound { result ≤ length value.now }
@@ -86,7 +86,7 @@ fn says_body(name: &[u8], value: &[u8]) -> bool
         || (is_alike(name, b"content-length") && value != b"0".as_slice())
 }
 
-/// Whether a field that stands there says `close`.
+/// Whether one of these fields of the bytes says `close`.
 pub fn has_closing(bytes: &[u8], fields: &[HeaderSpan]) -> bool
     requires within { All (IsHeaderWithin (length bytes.now)) fields.now }
     ensures { result ≡ list_any says_close (map (header_bytes bytes.now) fields.now) }
@@ -99,7 +99,7 @@ pub fn has_closing(bytes: &[u8], fields: &[HeaderSpan]) -> bool
     false
 }
 
-/// Whether a field that stands there announces a body.
+/// Whether one of these fields of the bytes announces a body.
 pub fn has_body(bytes: &[u8], fields: &[HeaderSpan]) -> bool
     requires within { All (IsHeaderWithin (length bytes.now)) fields.now }
     ensures { result ≡ list_any says_body (map (header_bytes bytes.now) fields.now) }

@@ -14,13 +14,13 @@ pub fn one_turn()
     ensures { TurnIsOne }
 {}
 
-/// A stream and outcomes are answered by one text.
+/// A stream and the outcomes of its queries are answered by one text.
 pub fn one_exchange()
     ensures { ExchangeIsOne }
 {}
 
-/// Up to 999 whole heads, none of which closes or announces a body, are answered one after the other by what is
-/// written for each alone, byte for byte.
+/// Up to 999 whole heads, none of which closes or announces a body, are answered one after the other by the bytes that
+/// each gets alone.
 pub fn answered_alone()
     ensures { HeadsAreAnsweredAlone }
 {}
@@ -30,24 +30,24 @@ pub fn heads_in_turn()
     ensures { HeadsAnswerInTurn }
 {}
 
-/// What was begun is a front of the text.
+/// A text that was begun is a prefix of the whole text.
 pub fn begun_is_front()
     ensures { BegunIsFront }
 {}
 
-/// Bytes that decide and go on are answered, and then what follows them.
+/// Bytes that decide and go on are answered, and then the bytes after them.
 pub fn steps_answer()
     ensures { StepsAnswer }
 {}
 
-/// Where a read is wanted, each read before it was.
+/// Where a read is needed, each read before it was needed.
 pub fn fronts_want()
     ensures { FrontsWant }
 {}
 
-/// What a session has sent, at any moment and however its stream was cut. One that is new has sent nothing. Where it is
-/// done, what it sent answers the bytes that it took; where a head closed it, whatever follows them. While it reads, what
-/// it sent and is to send begins what answers them, whatever follows.
+/// What a session has sent, at any moment and however its stream was cut. A new session has sent nothing. A session that
+/// is done has sent the answer to the bytes that it took; where a head closed it, whatever follows them. While a session
+/// reads, what it sent and is to send is a prefix of every answer to them, whatever follows.
 pub fn session_answers()
     ensures starts { HasRespondedWith [] [] [] new_session }
     ensures done { (s : SessionState) (read written : List ℕ) (queries : List QueryOutcome) → is_done s ≡ true → HasRespondedWith read queries written s

@@ -6,8 +6,8 @@ use mapmachine::Answer;
 pub enum Outcome {
     /// The answer to its query.
     Answered(Answer),
-    /// That its request is refused.
+    /// The refusal of its request.
     Refused(Refusal),
-    /// That its query can't be answered now.
+    /// The server is busy: its query can't be answered now.
     Busy,
 }

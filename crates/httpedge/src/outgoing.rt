@@ -93,7 +93,7 @@ fn refusal_head(refusal: Refusal, closing: bool) -> ResponseHead
     head
 }
 
-// The head of a server that is busy.
+// The head of the response that the server is busy.
 fn busy_head(closing: bool) -> ResponseHead
     ensures { result ≡ busy_lines ++ head_end closing }
 {
@@ -117,7 +117,8 @@ fn mime_bytes<'a>(mime: Mime) -> &'a [u8]
     }
 }
 
-/// What is to be sent of a response: the rest of its head, and that of its body, from where it stands.
+/// The bytes of a response that are still to be sent: the rest of its head, and the rest of its body, which
+/// isn't copied.
 #[derive(Drop)]
 pub struct Outgoing {
     head: ResponseHead,
@@ -160,7 +161,7 @@ impl Outgoing {
         }
     }
 
-    /// The response to an outcome, whose body is taken over as it is.
+    /// The response to an outcome. Its body is moved, not copied.
     #[tactic(auto, unfolding(crate::specs::Response::body_text))]
     pub fn of(outcome: Outcome, closing: bool) -> Self
         ensures { result ≡ response outcome closing }
@@ -191,7 +192,7 @@ impl Outgoing {
         }
     }
 
-    /// What is left, in two parts.
+    /// The bytes left, in two parts.
     pub fn parts(&self) -> (&[u8], &[u8])
         ensures { result.0.now ++ result.1.now ≡ self.now }
     {
@@ -208,7 +209,7 @@ impl Outgoing {
         self.head_sent == self.head.len() && self.body_sent == body_slice(&self.body).len()
     }
 
-    /// Notes that the first so many bytes went out. The memory of the body is given back with its last byte.
+    /// Notes that the first so many bytes were sent. The memory of the body is freed with its last byte.
     pub fn sent(&mut self, count: usize)
         requires { count ≤ length self.old }
         ensures { self.new ≡ drop count self.old }

@@ -17,7 +17,7 @@ pub struct Received {
     pub bytes: Vec<u8>,
     /// What they decide, if they do.
     pub decision: Option<Decision>,
-    /// Where the query of their target stands.
+    /// The position of the query of their target.
     pub query: Span,
     /// Whether their head ends the connection.
     pub closes: bool,
@@ -88,8 +88,8 @@ impl Received {
         self.has_text || !is_blank(piece)
     }
 
-    // Whether the bytes with a further piece are to be parsed: where a head may end in the piece, and
-    // where they have doubled since they were last parsed, so that bytes without a line are refused too.
+    // Whether the bytes with a further piece are to be parsed. They are where a head may end in the piece, and where
+    // they have doubled since they were last parsed, so that bytes without a line are refused too.
     fn is_due(&self, piece: &[u8]) -> bool
         requires received { IsReceived self.now }
         requires open { self.now.decision ≡ None }
@@ -109,8 +109,8 @@ impl Received {
         self.has_text || !is_blank(piece)
     }
 
-    // Takes from a further piece what may belong to the head, and judges the bytes. A head that ends in the piece is
-    // all that is kept.
+    // Takes from a further piece the bytes that may belong to the head, and judges the bytes. Where a head ends in
+    // the piece, only its bytes are kept.
     fn take_in(&mut self, piece: &[u8]) -> usize
         requires received { IsReceived self.old }
         requires open { self.old.decision ≡ None }
@@ -132,7 +132,7 @@ impl Received {
         judged.len - before
     }
 
-    /// Takes bytes of a piece, and says how many. What was decided stays.
+    /// Takes bytes of a piece, and returns how many. A decision that was there stays.
     pub fn feed(&mut self, piece: &[u8]) -> usize
         requires received { IsReceived self.old }
         ensures received { IsReceived self.new }
@@ -144,7 +144,7 @@ impl Received {
         }
     }
 
-    /// Takes the end of the stream. What was decided stays.
+    /// Takes the end of the stream. A decision that was there stays.
     pub fn end(&mut self)
         requires received { IsReceived self.old }
         ensures received { IsReceived self.new }
@@ -160,7 +160,7 @@ impl Received {
         }
     }
 
-    /// Forgets the head, and what it decided. The room stays.
+    /// Forgets the head, and its decision. The capacity stays.
     pub fn forget(&mut self)
         requires received { IsReceived self.old }
         ensures received { IsReceived self.new }

@@ -3,7 +3,7 @@ ghost use Rattle.httpedge.specs.Response.{status_of};
 
 use http::StatusCode;
 
-/// Why a request asks no query.
+/// Why a request has no query for the answerer.
 #[derive(Clone, Copy, Debug)]
 pub enum Refusal {
     /// There is no head, or it announces a body.
@@ -15,7 +15,7 @@ pub enum Refusal {
 }
 
 impl Refusal {
-    /// The status that it is answered with.
+    /// The status of its response.
     pub fn status(self) -> StatusCode
         ensures { result ≡ status_of self }
     {

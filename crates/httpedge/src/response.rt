@@ -35,7 +35,7 @@ pub(crate) fn refusal_lines(refusal: Refusal) -> &'static [u8]
     }
 }
 
-/// The lines of a server that is busy.
+/// The lines of the response that the server is busy.
 #[tactic(auto, unfolding(crate::specs::Response::busy_lines))]
 pub(crate) fn busy_lines() -> &'static [u8]
     ensures text { result.now ≡ busy_lines }
@@ -44,7 +44,7 @@ pub(crate) fn busy_lines() -> &'static [u8]
     b"HTTP/1.1 503 Service Unavailable\r\nContent-Length: 0\r\n"
 }
 
-// Writes the head of an answer, and its body from where it stands.
+// Writes the head of an answer, and its body, which isn't copied.
 #[tactic(auto, unfolding(crate::specs::Response::body_text))]
 fn send_body<'a, W: Sink>(
     mime: &'a [u8],
@@ -99,7 +99,7 @@ fn send<W: Sink>(outcome: &Outcome, closing: bool, writer: &mut W) -> Result<(),
 }
 
 /// Writes an outcome, which is the last of its connection where it is `closing`. The error is that the writer
-/// failed: exactly the first `written` bytes of the response went out, and not all of them.
+/// failed: exactly the first `written` bytes of the response were written, and not all of them.
 ///
 /// It takes no memory.
 pub fn respond<W: Sink>(outcome: &Outcome, closing: bool, writer: &mut W) -> Result<(), WriteFault>

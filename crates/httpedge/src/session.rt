@@ -13,7 +13,7 @@ use crate::{Asks, Conn, Decision, Outcome, Refusal};
 use std::alloc::{AllocError, Global};
 use std::marker::Model;
 
-/// What is to be sent where that is decided, and whether the connection goes on. Then the head is forgotten.
+/// The response to a decision, and whether the connection goes on. Then the head is forgotten.
 pub(crate) fn reply<A: Asks>(conn: &mut Conn, decision: Decision, asks: &mut A) -> (Outgoing, bool)
     requires decided { step_of conn.old.progress ≡ Some decision }
     ensures replies { IsReply A.answers (is_closing conn.old) (decision_meaning decision (query_of conn.old.progress)) asks.old result.0 asks.new }
@@ -25,7 +25,7 @@ pub(crate) fn reply<A: Asks>(conn: &mut Conn, decision: Decision, asks: &mut A) 
     (outgoing, conn.next())
 }
 
-// What is to be sent at the end of a stream: bytes without a head are refused.
+// The response at the end of a stream: bytes without a head are refused.
 fn end_reply(conn: &mut Conn) -> Outgoing
     requires reading { IsReading conn.old }
     ensures { (later : List QueryOutcome) → IsExchange says_as_listed (requests_left conn.old) (came_of conn.old.progress) later result later }
@@ -36,11 +36,11 @@ fn end_reply(conn: &mut Conn) -> Outgoing
     }
 }
 
-/// A connection without its stream: bytes of a client are fed into it, and bytes that answer them are sent from it, at
-/// any times and in any pieces. It keeps one response at most, and takes no byte while that is to be sent.
+/// A connection without its stream: the caller feeds bytes of a client into it, and sends the bytes that answer them, at any
+/// times and in any pieces. It keeps one response at most, and takes no byte while that is to be sent.
 ///
-/// What it has sent answers what it was fed (`said`, `laws::session_answers`), also where whoever is asked answers
-/// queries of other sessions in between. Where it alone asks, `responded` says the same of whoever is asked.
+/// What it has sent answers what it was fed (`said`, `laws::session_answers`), also where the answerer answers queries of other
+/// sessions in between. Where it alone uses the answerer, `responded` says the same of the answerer.
 #[derive(Drop)]
 pub struct Session {
     conn: Conn,
@@ -70,7 +70,7 @@ impl Session {
         })
     }
 
-    /// Whether further bytes are wanted: nothing is to be sent, and heads are read.
+    /// Whether it takes further bytes: nothing is to be sent, and heads are read.
     pub fn wants_more(&self) -> bool
         ensures { result ≡ wants self.now }
     {
@@ -84,8 +84,8 @@ impl Session {
         !matches!(self.stage, Stage::Reading) && self.outgoing.is_empty()
     }
 
-    /// Takes bytes of a piece where further ones are wanted, and says how many: all, or those up to the end of a head,
-    /// which is answered. Where a response is to be sent it takes none, and nobody is asked.
+    /// Takes bytes of a piece where it takes further ones, and returns how many: all, or those up to the end of a head, which is
+    /// answered. Where a response is to be sent it takes none, and doesn't call the answerer.
     pub fn feed<A: Asks>(&mut self, piece: &[u8], asks: &mut A) -> usize
         ensures count { result ≤ length piece.now }
         ensures all { wants self.new ≡ true → wants self.old ≡ true → result ≡ length piece.now }
@@ -110,7 +110,7 @@ impl Session {
         fed.taken
     }
 
-    /// Takes the end of the stream, where further bytes are wanted: bytes without a head are refused.
+    /// Takes the end of the stream, where it takes further bytes: bytes without a head are refused.
     pub fn end(&mut self)
         requires wanted { wants self.old ≡ true }
         ensures ended { self.new.stage ≡ Ended }
@@ -120,14 +120,15 @@ impl Session {
         self.stage = Stage::Ended;
     }
 
-    /// What is to be sent, in two parts: the rest of a response's head, and that of its body, from where it stands.
+    /// The bytes that are to be sent, in two parts: the rest of a response's head, and the rest of its body. Nothing is copied.
     pub fn outgoing(&self) -> (&[u8], &[u8])
         ensures { result.0.now ++ result.1.now ≡ self.now.outgoing }
     {
         self.outgoing.parts()
     }
 
-    /// Notes that the first so many bytes of what is to be sent went out. The memory of a body is given back with its last byte.
+    /// Notes that the first so many of the bytes that are to be sent were sent. The memory of a body is freed with its last
+    /// byte.
     pub fn sent(&mut self, count: usize)
         requires { count ≤ length self.old.outgoing }
         ensures rest { self.new ≡ record self.old { outgoing = drop count self.old.outgoing } }

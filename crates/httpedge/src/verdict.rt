@@ -22,23 +22,23 @@ pub const HEAD_BYTES: usize = 16_384;
 /// The most fields of a head.
 pub const HEAD_FIELDS: usize = 64;
 
-/// A verdict on the first bytes of some.
+/// A verdict on the first bytes of a stream.
 #[derive(Clone, Copy)]
 pub struct Judged {
-    /// What they decide, if they do.
+    /// The decision, if there is one.
     pub decision: Option<Decision>,
-    /// Where the query of their target stands.
+    /// The position of the query of their target.
     pub query: Span,
-    /// Whether that ends the connection.
+    /// Whether the decision ends the connection.
     pub closes: bool,
-    /// How many bytes that are: a whole head, or all.
+    /// How many bytes were judged: a whole head, or all.
     pub len: usize,
 }
 
-/// Where nothing stands.
+/// The empty range.
 pub const NOWHERE: Span = Span { start: 0, end: 0 };
 
-// How many bytes stand before the first question mark.
+// How many bytes are before the first question mark.
 fn path_len(target: &[u8]) -> usize
     ensures value { result ≡ position_or_len is_question_mark target.now }
     ensures bound { result ≤ length target.now }
@@ -53,7 +53,7 @@ fn is_served(path: &[u8]) -> bool
     path == b"/".as_slice() || path == b"/wms".as_slice()
 }
 
-// Where the query of a target stands: after its first question mark.
+// The position of the query of a target: after its first question mark.
 fn query_of(bytes: &[u8], target: Span) -> Span
     requires within { IsWithin (length bytes.now) target }
     ensures within { IsWithin target.end result }
@@ -122,7 +122,7 @@ fn judge_head(bytes: &[u8], fields: &[HeaderSpan], head: RequestSpans) -> Judged
     }
 }
 
-// The verdict on bytes without a head, which get none by any that follow.
+// The verdict on bytes without a head that get none, whatever follows.
 fn judge_hopeless(bytes: &[u8]) -> Judged
     requires headless { HasNoHead bytes.now }
     requires always { (is_last : Bool) → AlwaysTurns is_last bytes.now true (Refused BadRequest) }
@@ -167,7 +167,8 @@ fn judge_parsed(bytes: &[u8]) -> Judged
     }
 }
 
-/// What the bytes decide that came so far. Where it isn't due, they have no head.
+/// The decision of the bytes that came so far. Where `is_due` is false, the caller shows that they
+/// have no head.
 pub fn judge(bytes: &[u8], is_due: bool) -> Judged
     requires some { 0 < length bytes.now }
     requires limit { length bytes.now ≤ HEAD_BYTES }

@@ -3,7 +3,7 @@ use Rattle.streams.specs.Sent.{IsSent}
 use Rattle.httpedge.specs.Serving.{IsReading, HasCome, requests_left, came_of, missing}
 use Rattle.httpedge.proofs.edge.answer_piece.Given as goal
 
--- the front of the piece was read and its heads answered, and the rest is left
+-- a prefix of the piece was read and its heads answered, and the rest is left
 abbrev pub invariant-loop-decision : goal.invariant-loop-decision
 invariant-loop-decision g l = record {
   front : List ℕ;

@@ -6,7 +6,7 @@ use Rattle.httpedge.specs.declared.conn.TheConstants.{REQUESTS}
 use Rattle.httpedge.proofs.Wanted.{HasGoneOn}
 use Rattle.httpedge.proofs.edge.exchange.Given as goal
 
--- the heads of what was read so far were answered, and a further read is wanted
+-- the heads of the bytes read so far were answered, and a further read is needed
 abbrev pub invariant-loop-count : goal.invariant-loop-count
 invariant-loop-count g l = record {
   pieces : List (List ℕ);
