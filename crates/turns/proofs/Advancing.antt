@@ -6,7 +6,7 @@ use Rattle.httpedge.specs.Session.{QueryOutcome, HasAsked}
 use Rattle.turns.specs.Advancing.{HasServed, HasSaid, Advances, Sends, Receives}
 use Rattle.turns.specs.declared.buffered_session.BufferedSession.{BufferedSession}
 
--- one query that was asked is a list of them
+-- one query that was answered is a list of them
 queries-of : {A : Type 0} (answers : A → List ℕ → Said → A → Type 0) (old : A) (queries : List QueryOutcome) (new : A) → HasAsked answers old queries new → HasSaid answers old queries new
 queries-of answers old queries new (inl (none, same)) = subst (λ (h : List QueryOutcome). HasSaid answers old h new) (sym none) same
 queries-of answers old queries new (inr (one, is, answer)) = subst (λ (h : List QueryOutcome). HasSaid answers old h new) (sym is) (new, answer, refl)
@@ -29,7 +29,7 @@ rests answers delivered accepted exchange transport asks = record {
   keeps = λ read written earlier holds. rw (append-nil read, append-nil earlier, append-nil written) holds;
 }
 
--- bytes went
+-- bytes were sent
 pub sends-advance : {A T : Type 0} (answers : A → List ℕ → Said → A → Type 0) (delivered accepted : T → Option (List ℕ)) (old new : BufferedSession) (before after : T) (asks : A) (sent : ℕ) → Sends delivered accepted old before new after sent →
     Advances answers delivered accepted old before asks new after asks sent
 sends-advance answers delivered accepted old new before after asks sent s = record {
@@ -85,7 +85,7 @@ ends-advance answers delivered accepted old new transport asks keeps = record {
   keeps = λ read written earlier holds. rw (append-nil read, append-nil earlier, append-nil written) (keeps read written earlier holds);
 }
 
--- one step in which nothing goes out, and then another
+-- one step in which nothing is sent, and then another
 pub advance-then : {A T : Type 0} (answers : A → List ℕ → Said → A → Type 0) (delivered accepted : T → Option (List ℕ)) (l m n : BufferedSession) (u v w : T) (a b c : A) (sent : ℕ) →
     Advances answers delivered accepted l u a m v b 0 → Advances answers delivered accepted m v b n w c sent → Advances answers delivered accepted l u a n w c sent
 advance-then answers delivered accepted l m n u v w a b c sent x y = record {

@@ -1,4 +1,4 @@
--- Queues, in which each stands once.
+-- Queues, in which each slot is once.
 use Rattle.std.proofs.Common.{inl, inr, ◌≡◌, ◌∙◌, ◌<◌, ◌≤◌, ◌+◌, ℕ, cond, true≢false, length-set, List, [], ◌∷◌, ◌++◌, Bool, true, false, not, ◌&&◌, ◌||◌, ◌==◌, get_or, length, refl, sym, ap, subst, arith}
 use Rattle.std.proofs.lemmas.Bool.{cases_lt, eqb-true, eqb-false, eq-eqb, ne_eqb}
 use Rattle.std.proofs.lemmas.List.{get_or-set_same, get_or-set_other, get_or_past}
@@ -8,7 +8,7 @@ use Rattle.std.specs.List.{count_by}
 use Rattle.std.proofs.lemmas.List.Folds.{list_any-append}
 use Rattle.turns.specs.Queue.{Queue, has, joined, joins, is_set, is_distinct, IsMarked, Event, Ready, Serve, served, before, Fair}
 
--- what a conjunction says
+-- both parts of a conjunction hold
 both : (a b : Bool) → (a && b) ≡ true → (a ≡ true) × (b ≡ true)
 both true b e = (refl, e)
 both false b e = absurd (cc)
@@ -21,7 +21,7 @@ free : (a : Bool) → not a ≡ true → a ≡ false
 free true e = absurd (cc)
 free false e = refl
 
--- one more stands in a queue
+-- one more slot is in a queue
 has-more : (one slot : ℕ) (queue : List ℕ) → has one (queue ++ slot ∷ []) ≡ (has one queue || ((slot == one) || false))
 has-more one slot queue = list_any-append (λ x. x == one) queue (slot ∷ [])
 
@@ -53,7 +53,7 @@ marked-more marks queue slot fits marked one = has-more one slot queue ∙ go (s
         first true = refl
         first false = refl
 
--- those before one stand before it however the queue goes on
+-- the slots before one are before it however the queue goes on
 ahead-more : (other slot : ℕ) (queue more : List ℕ) → has other (before slot queue) ≡ true → has other (before slot (queue ++ more)) ≡ true
 ahead-more other slot [] more ahead = absurd (cc)
 ahead-more other slot (x ∷ xs) more ahead = go (λ a. ahead-more other slot xs more a) (x == slot) refl (x == other) refl
@@ -70,7 +70,7 @@ ahead-joined other slot one queue ahead = go (has one queue) refl
     go true e = rw e ahead
     go false e = rw e (ahead-more other slot queue (one ∷ []) ahead)
 
--- whoever stands before another in the queue is served before it
+-- a slot before another in the queue is served before it
 ahead-served : (events : List Event) (other slot : ℕ) (queue : List ℕ) → has other (before slot queue) ≡ true → has slot (served queue events) ≡ true → has other (before slot (served queue events)) ≡ true
 ahead-served [] other slot queue ahead found = absurd (cc)
 ahead-served (Ready one ∷ events) other slot queue ahead found = ahead-served events other slot (joined queue one) (ahead-joined other slot one queue ahead) found
@@ -82,7 +82,7 @@ ahead-served (Serve ∷ events) other slot (x ∷ xs) ahead found = go (λ a f. 
     go further false e true f = rw (e, f) refl
     go further false e false f = rw (e, f) (further (rw (e, f) at ahead) (rw e at found))
 
--- one slot doesn't stand in a queue has all of it before
+-- a slot that isn't in a queue has all of it before it
 all-before : (slot : ℕ) (queue : List ℕ) → has slot queue ≡ false → before slot queue ≡ queue
 all-before slot [] none = refl
 all-before slot (x ∷ xs) none =
@@ -108,7 +108,7 @@ count-less marks slot known was = omega (arith, rw was at (count-set marks slot 
 pub count-room : (marks : List Bool) (slot : ℕ) → slot < length marks → get_or marks slot false ≡ false → count_by is_set marks < length marks
 count-room marks slot known out = omega (arith, count-more marks slot known out, count_by-le-length is_set (set marks slot true), length-set marks slot true)
 
--- the first of a queue is marked, and stands in it once
+-- the first of a queue is marked, and is in it once
 has-first : (slot : ℕ) (queue : List ℕ) → has slot (slot ∷ queue) ≡ true
 has-first slot queue = rw (eq-eqb slot slot refl) refl
 
@@ -135,7 +135,7 @@ marked-rest marks slot queue fits distinct marked one = go (slot == one) refl
         let is : has one queue ≡ get_or marks one false = rw e at (marked one) in
         is ∙ sym (get_or-set_other marks slot one false false (λ same. eqb-false slot one e (sym same)))
 
--- a slot that comes stands in the queue, whoever comes then
+-- a slot that comes is in the queue, whichever slots come then
 pub has-joined : (queue : List ℕ) (slot : ℕ) → has slot (joined queue slot) ≡ true
 has-joined queue slot = go (has slot queue) refl
   where

@@ -16,7 +16,7 @@ free-more (x ∷ xs) free (suc slot) = free-more xs (λ i. free (suc i)) slot
 below-next : (other count : ℕ) → other < count + 1 → (other < count) ⊎ (other ≡ count)
 below-next other count below = elim (cases_lt other count) [ inl less ↦ inl less | inr past ↦ inr (omega (arith, below, past)) ]
 
--- what was found, once one more slot was looked at
+-- the result of a search, once one more slot was looked at
 pub found-more : {T : Type 0} (pressure : Pressure) (slots : List (Option (OpenConnection T))) (count : ℕ) (found : Option (ℕ × ℕ)) →
     IsFoundIn pressure slots count found → IsFoundIn pressure slots (count + 1) (first_of found count (rank_of pressure (get_or slots count None)))
 found-more {T} pressure slots count found held = go found (rank_of pressure (get_or slots count None)) refl held
@@ -61,7 +61,7 @@ found-more {T} pressure slots count found held = go found (rank_of pressure (get
           ],
         )
 
--- what was found in all slots is the first
+-- the slot found in all slots is the first
 pub found-first : {T : Type 0} (pressure : Pressure) (slots : List (Option (OpenConnection T))) (count slot least : ℕ) → length slots ≤ count →
     IsFoundIn pressure slots count (Some (slot, least)) → IsFirst pressure slots slot
 found-first pressure slots count slot least all (is, others) = record {

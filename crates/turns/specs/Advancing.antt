@@ -12,18 +12,18 @@ use Rattle.turns.specs.declared.outcomes.WriteOutcome.TheVariants as write
 use Rattle.turns.specs.declared.turn.Next.{Next}
 use Rattle.turns.specs.declared.turn.Next.TheVariants.{Turn, Readable, Writable, Room, Done, Failed}
 
--- the bytes `read` came, and all but those in the buffer were taken; these queries of theirs were asked, and `written` went out:
--- with what is to be sent that is what answers the bytes that were taken
+-- the bytes `read` came, and all but those in the buffer were taken; these queries of theirs were answered, and `written` was sent. `written` and the
+-- bytes that are to be sent answer the bytes that were taken
 abbrev pub HasServed : List ℕ → List QueryOutcome → List ℕ → BufferedSession → Type 0
 HasServed read queries written exchange =
     (front : List ℕ) × (read ≡ front ++ exchange.buffer) × HasRespondedWith front queries written exchange.session × (exchange.session.stage ≡ Ended → exchange.buffer ≡ [])
 
--- whoever is asked said this to some queries, one after the other
+-- an answerer gave these outcomes to some queries, one after the other
 abbrev pub HasSaid : {A : Type 0} → (A → List ℕ → Said → A → Type 0) → A → List QueryOutcome → A → Type 0
 HasSaid answers old [] new = new ≡ old
 HasSaid {A} answers old (one ∷ others) new = (between : A) × answers old one.query one.said between × HasSaid answers between others new
 
--- a connection went on: some bytes came of its client, some queries of it were asked, and so many bytes went out to it
+-- a connection went on: some bytes of its client came, some queries of it were answered, and so many bytes were sent to it
 pub record Advances {A T : Type 0} (answers : A → List ℕ → Said → A → Type 0) (delivered accepted : T → Option (List ℕ)) (old : BufferedSession) (before : T) (asker : A) (new : BufferedSession) (after : T) (asks : A) (sent : ℕ) : Type 0 where
   pub came : List ℕ
   pub went : List ℕ
@@ -34,7 +34,7 @@ pub record Advances {A T : Type 0} (answers : A → List ℕ → Said → A → 
   pub says : HasSaid answers asker queries asks
   pub keeps : (read written : List ℕ) (earlier : List QueryOutcome) → HasServed read earlier written old → HasServed (read ++ came) (earlier ++ queries) (written ++ went) new
 
--- so many bytes went out, and none came
+-- so many bytes were sent, and none came
 pub record Sends {T : Type 0} (delivered accepted : T → Option (List ℕ)) (old : BufferedSession) (before : T) (new : BufferedSession) (after : T) (sent : ℕ) : Type 0 where
   pub went : List ℕ
   pub reads : Appends (delivered before) (delivered after) []
@@ -42,7 +42,7 @@ pub record Sends {T : Type 0} (delivered accepted : T → Option (List ℕ)) (ol
   pub count : length went ≡ sent
   pub keeps : (read written : List ℕ) (queries : List QueryOutcome) → HasServed read queries written old → HasServed read queries (written ++ went) new
 
--- some bytes came, and none went out
+-- some bytes came, and none were sent
 pub record Receives {T : Type 0} (delivered accepted : T → Option (List ℕ)) (old : BufferedSession) (before : T) (new : BufferedSession) (after : T) : Type 0 where
   pub came : List ℕ
   pub reads : Appends (delivered before) (delivered after) came
@@ -53,7 +53,7 @@ pub record Receives {T : Type 0} (delivered accepted : T → Option (List ℕ)) 
 abbrev pub HasTaken : {T : Type 0} → (T → ReadOutcome → T → Type 0) → BufferedSession → T → BufferedSession → T → Type 0
 HasTaken reads old before new after = (new.buffer ≡ []) × (old.buffer ≡ [] → (n : ℕ) × reads before (read.Bytes n) after)
 
--- why a connection has no further turn: the last read or write would have waited, or failed; or no answer may be made; or all went out
+-- why a connection has no further turn: the last read or write would have waited, or failed; or no query may be answered; or all was sent
 abbrev pub IsNext : {T : Type 0} → (T → ReadOutcome → T → Type 0) → (T → WriteOutcome → T → Type 0) → Bool → Next → BufferedSession → T → Type 0
 IsNext reads writes may_ask Turn exchange after = Unit {0}
 IsNext {T} reads writes may_ask Readable exchange after = (before : T) × reads before read.WouldBlock after

@@ -21,8 +21,8 @@ abbrev pub next_by : Next → Next
 next_by next.Done = next.Turn
 next_by other = other
 
--- a turn before the last answer went out: the connection goes on as its session says, and its time by what happened. It waits for what would have
--- waited, and it has a further turn at once only where bytes were taken or went out. After the last answer the side that is written to is closed
+-- a turn before the last answer was sent: the connection goes on as its session does, and its phase changes by what happened. It waits for the call
+-- that would have waited. It has a further turn at once only where bytes were taken or sent. After the last answer its sending side is closed
 pub record IsServed {A T : Type 0} (answers : A → List ℕ → Said → A → Type 0) (delivered accepted : T → Option (List ℕ)) (reads : T → ReadOutcome → T → Type 0) (writes : T → WriteOutcome → T → Type 0) (shuts : T → T → Type 0) (may_ask : Bool) (now : ℕ) (old : OpenConnection T) (asker : A) (new : OpenConnection T) (asks : A) (result : Next) : Type 0 where
   pub turned : TurnResult
   pub advances : Advances answers delivered accepted old.exchange old.transport asker new.exchange new.transport asks turned.sent
@@ -32,7 +32,7 @@ pub record IsServed {A T : Type 0} (answers : A → List ℕ → Said → A → 
   pub next : result ≡ next_by turned.next
   pub waits : IsNext reads writes may_ask result new.exchange new.transport
 
--- a turn after the last answer: one read, whose bytes are dropped. It is over at the end of what the client sends, at a fault, and where
+-- a turn after the last answer: one read, whose bytes are dropped. The connection is over at the end of what the client sends, at a fault, and where
 -- more than 1,048,576 bytes were dropped
 pub record IsDrained {T : Type 0} (accepted : T → Option (List ℕ)) (reads : T → ReadOutcome → T → Type 0) (old : OpenConnection T) (new : OpenConnection T) (result : Next) : Type 0 where
   pub session : new.exchange.session ≡ old.exchange.session
@@ -43,8 +43,8 @@ pub record IsDrained {T : Type 0} (accepted : T → Option (List ℕ)) (reads : 
   pub next : result ≡ next_drained outcome new.dropped
   pub time : new.phase ≡ phase_drained result old.phase
 
--- a turn of a connection: before its last answer went out it is served, and after that it is drained; one that is over is told of as
--- failed. Where nothing may be asked, nobody is, and no more bytes are to be sent than before
+-- a turn of a connection: before its last answer was sent it is served, and after that it is drained; one that is over is reported as failed. Where
+-- no query may be answered, the answerer isn't called, and no more bytes are to be sent than before
 pub record IsTurn {A T : Type 0} (answers : A → List ℕ → Said → A → Type 0) (delivered accepted : T → Option (List ℕ)) (reads : T → ReadOutcome → T → Type 0) (writes : T → WriteOutcome → T → Type 0) (shuts : T → T → Type 0) (may_ask : Bool) (now : ℕ) (old : OpenConnection T) (asker : A) (new : OpenConnection T) (asks : A) (result : Next) : Type 0 where
   pub over : is_over old.phase ≡ true → (new ≡ old) × (asks ≡ asker) × (result ≡ next.Failed)
   pub drained : is_draining old.phase ≡ true → IsDrained accepted reads old new result × (asks ≡ asker)

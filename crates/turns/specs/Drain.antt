@@ -1,4 +1,4 @@
--- What is read after the last answer (docs/WMS.md, "HTTP").
+-- The bytes that are read after the last answer (docs/WMS.md, "HTTP").
 use Rattle.std.specs.Prelude.{ℕ, nat_lt, if◌then◌else◌}
 use Rattle.turns.specs.declared.drained.TheConstants.{DRAINED_BYTES}
 use Rattle.turns.specs.declared.outcomes.ReadOutcome.{ReadOutcome}
@@ -15,14 +15,14 @@ brought read.WouldBlock = 0
 brought read.End = 0
 brought read.Failed = 0
 
--- what is waited for after a read that dropped what came
+-- what a connection waits for after a read whose bytes were dropped
 abbrev pub next_drained : ReadOutcome → ℕ → Next
 next_drained (read.Bytes n) dropped = if nat_lt DRAINED_BYTES dropped then next.Done else next.Turn
 next_drained read.WouldBlock dropped = next.Readable
 next_drained read.End dropped = next.Done
 next_drained read.Failed dropped = next.Failed
 
--- what a connection does after such a read
+-- the phase of a connection after such a read
 abbrev pub phase_drained : Next → Phase → Phase
 phase_drained next.Done old = phase.Over
 phase_drained next.Failed old = phase.Over

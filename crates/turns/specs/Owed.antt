@@ -4,7 +4,7 @@ use Rattle.std.specs.List.{sum_by}
 use Rattle.turns.specs.Connection.{owed_by}
 use Rattle.turns.specs.declared.open_connection.OpenConnection.{OpenConnection}
 
--- how many bytes are to be sent to whoever is at a slot
+-- how many bytes are to be sent to the connection at a slot
 abbrev pub owed_at : {T : Type 0} → Option (OpenConnection T) → ℕ
 owed_at None = 0
 owed_at (Some connection) = owed_by connection

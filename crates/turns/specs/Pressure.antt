@@ -11,14 +11,14 @@ use Rattle.turns.specs.declared.times.Phase.TheVariants.{Opened, Idle, Answer}
 abbrev pub rate_since : ℕ → ℕ → Option ℕ
 rate_since passed sent = if nat_lt PATIENCE passed then Some (sent / passed) else None
 
--- for a slot those that were opened or are between requests may give way, by when that began; for room those being answered, by their rate
+-- for a slot, connections that were opened or are between requests may give way, by when that began; for room, those being answered, by their rate
 abbrev pub rank : Pressure → Phase → Option ℕ
 rank Slot (Opened since) = Some since
 rank Slot (Idle since) = Some since
 rank (Room now) (Answer since moved sent) = rate_since (now - since) sent
 rank pressure phase = None
 
--- the rank of whoever is at a slot, if anyone is
+-- the rank of the connection at a slot, if there is one
 abbrev pub rank_of : {T : Type 0} → Pressure → Option (OpenConnection T) → Option ℕ
 rank_of pressure None = None
 rank_of pressure (Some connection) = rank pressure connection.phase
@@ -35,7 +35,7 @@ first_of found slot None = found
 first_of None slot (Some rank) = Some (slot, rank)
 first_of (Some (other, least)) slot (Some rank) = if nat_lt rank least then Some (slot, rank) else Some (other, least)
 
--- what was found in some slots: none of them may give way, or the first of those that may
+-- the result of a search in some slots: no connection may give way, or the first of those that may
 abbrev pub IsFoundIn : {T : Type 0} → Pressure → List (Option (OpenConnection T)) → ℕ → Option (ℕ × ℕ) → Type 0
 IsFoundIn pressure slots count None = (other : ℕ) → other < count → rank_of pressure (get_or slots other None) ≡ None
 IsFoundIn pressure slots count (Some (slot, least)) =

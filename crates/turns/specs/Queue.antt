@@ -7,11 +7,11 @@ pub record Queue : Type 0 where
   pub slots : ℕ
   pub order : List ℕ
 
--- whether a slot stands in a queue
+-- whether a slot is in a queue
 abbrev pub has : ℕ → List ℕ → Bool
 has slot queue = list_any (λ x. x == slot) queue
 
--- a slot comes to the end, unless it stands in the queue
+-- a slot comes to the end, unless it is in the queue
 abbrev pub joined : List ℕ → ℕ → List ℕ
 joined queue slot = if has slot queue then queue else (queue ++ slot ∷ [])
 
@@ -20,20 +20,20 @@ abbrev pub joins : List ℕ → List ℕ → List ℕ
 joins queue [] = queue
 joins queue (slot ∷ slots) = joins (joined queue slot) slots
 
--- each stands in it once
+-- each slot is in it once
 abbrev pub is_distinct : List ℕ → Bool
 is_distinct [] = true
 is_distinct (slot ∷ slots) = not (has slot slots) && is_distinct slots
 
--- the marks say which slots stand in it
+-- the marks say which slots are in it
 abbrev pub IsMarked : List Bool → List ℕ → Type 0
 IsMarked marks queue = (slot : ℕ) → has slot queue ≡ get_or marks slot false
 
--- whether a slot stands in it by its mark
+-- whether a slot is in it, by its mark
 abbrev pub is_set : Bool → Bool
 is_set mark = mark
 
--- each stands in it once, the marks say which, and there is room for all
+-- each slot is in it once, the marks say which, and there is capacity for all
 pub record IsQueue (marks : List Bool) (queue : List ℕ) (len capacity : ℕ) : Type 0 where
   pub distinct : is_distinct queue ≡ true
   pub marked : IsMarked marks queue
@@ -52,7 +52,7 @@ served queue (Ready slot ∷ events) = served (joined queue slot) events
 served [] (Serve ∷ events) = served [] events
 served (slot ∷ queue) (Serve ∷ events) = slot ∷ served queue events
 
--- those before the first of a slot
+-- the slots before the first occurrence of a slot
 abbrev pub before : ℕ → List ℕ → List ℕ
 before slot [] = []
 before slot (x ∷ xs) = if x == slot then [] else (x ∷ before slot xs)

@@ -7,11 +7,11 @@ use Rattle.turns.specs.declared.outcomes.ReadOutcome.{ReadOutcome}
 use Rattle.turns.specs.declared.outcomes.WriteOutcome.{WriteOutcome}
 use Rattle.turns.specs.declared.turn.Next.{Next}
 
--- who is at a slot, if anyone is
+-- the connection at a slot, if there is one
 abbrev pub at_slot : {T : Type 0} → List (Option (OpenConnection T)) → ℕ → Option (OpenConnection T)
 at_slot slots slot = get_or slots slot None
 
--- whoever is at another slot stays as it is
+-- the connections at other slots stay as they are
 abbrev pub OthersStay : {T : Type 0} → ℕ → List (Option (OpenConnection T)) → List (Option (OpenConnection T)) → Type 0
 OthersStay slot old new = (other : ℕ) → (other ≡ slot → ⊥) → at_slot new other ≡ at_slot old other
 

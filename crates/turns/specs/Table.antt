@@ -1,11 +1,11 @@
--- What a table of connections is seen as (docs/WMS.md, "HTTP").
+-- The parts of a table of connections that its contract speaks of (docs/WMS.md, "HTTP").
 use Rattle.std.specs.Prelude.{◌≡◌, ◌⊎◌, ℕ, List, Option, Bool, true, nat_lt}
 use Rattle.turns.specs.Queue.{has}
 use Rattle.turns.specs.declared.open_connection.OpenConnection.{OpenConnection}
 use Rattle.turns.specs.declared.times.Timeouts.{Timeouts}
 use Rattle.turns.specs.declared.table.ConnectionTable.{ConnectionTable}
 
--- who is at each slot
+-- the connection at each slot
 abbrev pub connections : {T : Type 0} → ConnectionTable T → List (Option (OpenConnection T))
 connections table = table.slots.items.items
 
@@ -13,7 +13,7 @@ connections table = table.slots.items.items
 abbrev pub ready_slots : {T : Type 0} → ConnectionTable T → List ℕ
 ready_slots table = table.ready.order
 
--- the slots whose connections wait until an answer may be made
+-- the slots whose connections wait for room
 abbrev pub waiting_slots : {T : Type 0} → ConnectionTable T → List ℕ
 waiting_slots table = table.waiting.order
 
@@ -21,15 +21,15 @@ waiting_slots table = table.waiting.order
 abbrev pub timeouts_of : {T : Type 0} → ConnectionTable T → Timeouts
 timeouts_of table = table.timeouts
 
--- a query is asked while fewer bytes are to be sent
+-- the room: a query is answered only while fewer bytes are to be sent
 abbrev pub room_of : {T : Type 0} → ConnectionTable T → ℕ
 room_of table = table.room
 
--- a query may be asked: less than so many bytes of answers are owed
+-- a query may be answered: fewer bytes of answers than the room are owed
 abbrev pub has_room : {T : Type 0} → ConnectionTable T → Bool
 has_room table = nat_lt table.slots.owed table.room
 
--- the limits stay, and no slot that waits for room is lost: it waits on, or has a turn
+-- the limits stay, and no slot that waits for room is lost: it still waits, or has a turn
 pub record KeepsWaiting {T : Type 0} (old new : ConnectionTable T) : Type 0 where
   pub timeouts : timeouts_of new ≡ timeouts_of old
   pub room : room_of new ≡ room_of old

@@ -1,4 +1,4 @@
--- What a connection does, since when, and when its time is over (docs/WMS.md, "HTTP").
+-- The phase of a connection, when it began, and when its time is over (docs/WMS.md, "HTTP").
 use Rattle.std.specs.Prelude.{ℕ, ◌+◌, ◌/◌, ◌-◌, ◌^◌, ◌==◌, min, max, Bool, true, false, nat_lt, if◌then◌else◌}
 use Rattle.turns.specs.declared.turn.Next.{Next}
 use Rattle.turns.specs.declared.turn.Next.TheVariants.{Turn, Room, Done, Failed}
@@ -11,8 +11,8 @@ use Rattle.turns.specs.declared.times.Phase.TheVariants.{Opened, Idle, Head, Ans
 abbrev pub capped : ℕ → ℕ
 capped number = min number (2 ^ 64 - 1)
 
--- when the time of what a connection does is over: an answer's where no byte of it was taken for the timeout, and where all of it takes
--- longer than the grace and the time of its bytes at the least rate
+-- when the time of a phase is over. An answer's time is over where no byte of it was taken for the timeout, and where all of it takes longer than the
+-- grace and the time of its bytes at the least rate
 abbrev pub deadline : Timeouts → Phase → ℕ
 deadline timeouts (Opened since) = capped (since + timeouts.timeout)
 deadline timeouts (Idle since) = capped (since + timeouts.idle)
@@ -26,7 +26,7 @@ abbrev pub is_over : Phase → Bool
 is_over Over = true
 is_over phase = false
 
--- its last answer went out
+-- its last answer was sent
 abbrev pub is_draining : Phase → Bool
 is_draining (Drain since) = true
 is_draining phase = false
@@ -38,7 +38,7 @@ is_unanswered (Idle since) = true
 is_unanswered (Head since) = true
 is_unanswered phase = false
 
--- while an answer is to be sent: the time of one that begins is from now on, and bytes of it that went out are noted
+-- while an answer is to be sent: the time of one that begins is from now on, and bytes of it that were sent are noted
 abbrev pub answering : Phase → ℕ → ℕ → Phase
 answering (Answer since moved sent) more now = Answer since (if more == 0 then moved else now) (capped (sent + more))
 answering phase more now = Answer now now more
@@ -51,21 +51,21 @@ reading (Idle since) Turn now = Head now
 reading (Idle since) Room now = Head now
 reading phase next now = phase
 
--- where nothing is to be sent: it is between requests once an answer has gone out
+-- where nothing is to be sent: it is between requests once an answer was sent
 abbrev pub unanswering : Phase → Next → ℕ → ℕ → Phase
 unanswering phase next sent now = if nat_lt 0 sent then Idle now else reading phase next now
 
--- what a connection that goes on does, by whether bytes are still to be sent
+-- the phase of a connection that goes on, by whether bytes are still to be sent
 abbrev pub going_on : Phase → Next → ℕ → Bool → ℕ → Phase
 going_on phase next sent true now = answering phase sent now
 going_on phase next sent false now = unanswering phase next sent now
 
--- what it does by what it waits for: its last answer went out, it has failed, or it goes on
+-- the phase by what the connection waits for: its last answer was sent, it has failed, or it goes on
 abbrev pub phase_by : Next → Phase → ℕ → Bool → ℕ → Phase
 phase_by Done phase sent owes now = Drain now
 phase_by Failed phase sent owes now = Over
 phase_by next phase sent owes now = going_on phase next sent owes now
 
--- what a connection does after a turn, where some or no bytes are still to be sent
+-- the phase of a connection after a turn, where some or no bytes are still to be sent
 abbrev pub phase_after : Phase → TurnResult → Bool → ℕ → Phase
 phase_after phase turned owes now = phase_by turned.next phase turned.sent owes now

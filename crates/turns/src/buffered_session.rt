@@ -8,14 +8,14 @@ use std::alloc::{AllocError, Global};
 /// A session, and the bytes of its client that were read and aren't taken yet.
 #[derive(Drop)]
 pub struct BufferedSession {
-    /// What is answered.
+    /// The session, which answers the bytes.
     pub session: Session,
-    /// What was read and isn't taken yet.
+    /// The bytes that were read and aren't taken yet.
     pub buffer: ReadBuffer,
 }
 
 impl BufferedSession {
-    /// One from which nothing came.
+    /// One to which nothing came.
     pub fn new(alloc: Global) -> Result<Self, AllocError>
         ensures session { IfOk result (λ exchange. exchange.session ≡ new_session) }
         ensures buffer { IfOk result (λ exchange. exchange.buffer ≡ []) }

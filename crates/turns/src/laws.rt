@@ -2,7 +2,7 @@
 
 ghost use Rattle.turns.specs.Queue.{Fair};
 
-/// Whoever is ready when another is served is served before that one is served again.
+/// A slot that is ready when another is served is served before that one is served again.
 pub fn fair()
     ensures { Fair }
 {}

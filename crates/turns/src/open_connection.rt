@@ -11,11 +11,11 @@ use std::alloc::Global;
 /// A connection of a worker.
 #[derive(Drop)]
 pub struct OpenConnection<T> {
-    /// What is answered.
+    /// The session, which answers the client.
     pub exchange: BufferedSession,
     /// The connection to the client.
     pub transport: T,
-    /// What it does, and since when.
+    /// Its phase: what it does, and since when.
     pub phase: Phase,
     /// How many bytes of its client were dropped after its last answer.
     pub dropped: usize,
@@ -31,7 +31,7 @@ fn brought(outcome: ReadOutcome) -> usize
     }
 }
 
-// What is waited for after a read that dropped what came, and so many bytes in all.
+// What a connection waits for after a read whose bytes were dropped, so many in all.
 fn next_drained(outcome: ReadOutcome, dropped: usize) -> Next
     ensures { result ≡ next_drained outcome dropped }
 {
@@ -43,7 +43,7 @@ fn next_drained(outcome: ReadOutcome, dropped: usize) -> Next
     }
 }
 
-// What a connection does after a turn in which it was drained.
+// The phase of a connection after a turn in which it was drained.
 fn phase_drained(next: Next, phase: Phase) -> Phase
     ensures { result ≡ phase_drained next phase }
 {
@@ -56,7 +56,7 @@ fn phase_drained(next: Next, phase: Phase) -> Phase
 impl<T: Transport> OpenConnection<T> {
     ghost use Rattle.turns.specs.Connection.{owed_by, IsServed, IsDrained, IsTurn};
 
-    /// A connection that is opened now. Where its memory is refused the transport comes back.
+    /// A connection that is opened now. Where its memory is refused the transport is returned.
     pub fn new(alloc: Global, transport: T, now: u64) -> Result<Self, T>
     where
         T: Drop,
@@ -86,7 +86,7 @@ impl<T: Transport> OpenConnection<T> {
         first.len() as u128 + second.len() as u128
     }
 
-    // A turn before the last answer went out. After it the side that is written to is closed, and further turns drain.
+    // A turn before the last answer was sent. After that answer the sending side is closed, and further turns drain.
     fn serve<A: Asks>(&mut self, asks: &mut A, may_ask: bool, now: u64) -> Next
         ensures served { IsServed A.answers T.delivered T.accepted T.reads T.writes T.shuts may_ask now self.old asks.old self.new asks.new result }
         ensures no_more { may_ask ≡ false → (owed_by self.new ≤ owed_by self.old) × (asks.new ≡ asks.old) }
@@ -101,7 +101,7 @@ impl<T: Transport> OpenConnection<T> {
         Next::Turn
     }
 
-    // A turn after the last answer: what still comes is dropped.
+    // A turn after the last answer: the bytes that still come are dropped.
     fn drain(&mut self) -> Next
         ensures { IsDrained T.accepted T.reads self.old self.new result }
     {

@@ -1,7 +1,7 @@
-/// What a read gave.
+/// The result of a read.
 #[derive(Clone, Copy, Debug, PartialEq, Eq)]
 pub enum ReadOutcome {
-    /// So many bytes, at least one.
+    /// So many bytes were read, at least one.
     Bytes(usize),
     /// None yet: the call would wait.
     WouldBlock,
@@ -11,10 +11,10 @@ pub enum ReadOutcome {
     Failed,
 }
 
-/// What a write took.
+/// The result of a write.
 #[derive(Clone, Copy, Debug, PartialEq, Eq)]
 pub enum WriteOutcome {
-    /// So many bytes, at least one.
+    /// So many bytes were taken, at least one.
     Bytes(usize),
     /// None now: the call would wait.
     WouldBlock,

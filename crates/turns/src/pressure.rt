@@ -3,10 +3,10 @@ ghost use Rattle.turns.specs.Pressure.{rank};
 
 use crate::Phase;
 
-/// For how many milliseconds an answer goes, at least, until its connection may be closed for want of room.
+/// For how many milliseconds an answer goes, at least, until its connection may be closed because room is missing.
 pub const PATIENCE: u64 = 1_000;
 
-/// What connections are closed for before their time is over.
+/// Why connections are closed before their time is over.
 #[derive(Clone, Copy, Debug)]
 pub enum Pressure {
     /// A slot for a further connection.
@@ -16,7 +16,7 @@ pub enum Pressure {
 }
 
 impl Pressure {
-    /// The rank of a connection among those that may give way, if it is one: the least gives way first.
+    /// The rank of a connection among those that may give way, if it is one: the lowest gives way first.
     pub(crate) fn rank(self, phase: Phase) -> Option<u64>
         ensures { result ≡ rank self phase }
     {

@@ -9,7 +9,7 @@ use std::marker::Model;
 /// How many bytes are read at once, at most.
 pub const READ_BYTES: usize = 4_096;
 
-/// Bytes that were read and aren't taken yet: those behind a head that is answered first.
+/// Bytes that were read and aren't taken yet: those after a head that is answered first.
 #[derive(Drop)]
 pub struct ReadBuffer {
     room: Vec<u8>,

@@ -5,7 +5,7 @@ use std::alloc::{AllocError, Global};
 use std::collections::VecDeque;
 use std::marker::Model;
 
-/// Which slots have a turn next: each stands in it once, behind those that came before.
+/// The slots that have a turn next, in order: each is in it once, after those that came before.
 #[derive(Drop)]
 pub struct ReadyQueue {
     order: VecDeque<usize>,
@@ -45,7 +45,7 @@ impl ReadyQueue {
         self.order.push_back_reserved(slot);
     }
 
-    /// A slot has a turn. If it is in the queue it stays where it is, else it comes to the end.
+    /// A slot has a turn. If it is in the queue it keeps its position, else it comes to the end.
     pub fn add(&mut self, slot: usize)
         ensures joins { slot < self.old.slots → self.new ≡ record self.old { order = joined self.old.order slot } }
         ensures none { self.old.slots ≤ slot → self.new ≡ self.old }

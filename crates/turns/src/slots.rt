@@ -12,13 +12,13 @@ use std::alloc::{AllocError, Global};
 /// The connections of a worker, each at its slot, and how many bytes of responses are to be sent to them in all.
 #[derive(Drop)]
 pub struct Slots<T: Drop> {
-    /// Who is at each slot, if anyone is.
+    /// The connection at each slot, if there is one.
     pub items: Vec<Option<OpenConnection<T>>>,
     /// How many bytes are to be sent in all.
     pub owed: u128,
 }
 
-// A connection has its turn. It says how many bytes are to be sent to it before and after.
+// A connection has its turn. The result has the bytes that are to be sent to it before and after.
 fn turn_of<T: Transport, A: Asks>(
     connection: &mut OpenConnection<T>,
     asks: &mut A,
@@ -35,7 +35,7 @@ fn turn_of<T: Transport, A: Asks>(
     (next, before, connection.owed())
 }
 
-// The rank of whoever is at a slot.
+// The rank of the connection at a slot.
 fn rank_of<T: Drop>(connection: &Option<OpenConnection<T>>, pressure: Pressure) -> Option<u64>
     ensures { result ≡ rank_of pressure connection.now }
 {
@@ -57,7 +57,7 @@ fn first_of(found: Option<(usize, u64)>, slot: usize, rank: Option<u64>) -> Opti
 }
 
 impl<T: Transport + Drop> Slots<T> {
-    /// So many slots, with nobody at any.
+    /// So many slots, with no connection at any.
     pub fn new(alloc: Global, slots: usize) -> Result<Self, AllocError>
         ensures len { IfOk result (λ made. length made.items.items ≡ slots) }
         ensures free { IfOk result (λ made. (slot : ℕ) → at_slot made.items.items slot ≡ None) }
@@ -71,7 +71,7 @@ impl<T: Transport + Drop> Slots<T> {
         Ok(Slots { items, owed: 0 })
     }
 
-    /// Whoever is at a slot has its turn.
+    /// The connection at a slot has its turn.
     pub fn turn<A: Asks>(
         &mut self,
         slot: usize,
@@ -100,7 +100,7 @@ impl<T: Transport + Drop> Slots<T> {
         Some(next)
     }
 
-    /// Whoever is at a slot leaves it.
+    /// The connection at a slot leaves it.
     pub fn take(&mut self, slot: usize) -> Option<OpenConnection<T>>
         requires counted { self.old.owed ≡ owed_in_all self.old.items.items }
         ensures counted { self.new.owed ≡ owed_in_all self.new.items.items }
@@ -119,7 +119,7 @@ impl<T: Transport + Drop> Slots<T> {
         Some(connection)
     }
 
-    /// A connection comes to a free slot, to which nothing is to be sent.
+    /// A connection comes to a free slot. Nothing is to be sent to it.
     pub fn put(&mut self, slot: usize, connection: OpenConnection<T>)
         requires counted { self.old.owed ≡ owed_in_all self.old.items.items }
         requires known { slot < length self.old.items.items }
@@ -134,7 +134,7 @@ impl<T: Transport + Drop> Slots<T> {
         self.items[slot] = Some(connection);
     }
 
-    /// What whoever is at a slot does, if anyone is.
+    /// The phase of the connection at a slot, if there is one.
     pub fn phase(&self, slot: usize) -> Option<Phase>
         ensures { MatchOption result (at_slot self.now.items.items slot ≡ None) (λ phase. IsSomeAnd (at_slot self.now.items.items slot) (λ connection. connection.phase ≡ phase)) }
     {
@@ -159,14 +159,14 @@ impl<T: Transport + Drop> Slots<T> {
         }
     }
 
-    /// Whether nobody is at any.
+    /// Whether no slot has a connection.
     pub fn is_empty(&self) -> bool
         ensures { result ≡ list_all is_none self.now.items.items }
     {
         self.items.iter().all(|item| item.is_none())
     }
 
-    /// The first slot at which nobody is.
+    /// The first slot without a connection.
     pub fn free(&self) -> Option<usize>
         ensures known { IfSome result (λ slot. slot < length self.now.items.items) }
         ensures free { IfSome result (λ slot. at_slot self.now.items.items slot ≡ None) }

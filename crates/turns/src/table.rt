@@ -11,20 +11,20 @@ use std::alloc::{AllocError, Global};
 /// The connections of a worker, each at a slot, and which of them has the next turn.
 ///
 /// The responses that are to be sent to them have at most `room` bytes and one response more (`bounded`): a query is
-/// asked only while they have less than `room` bytes. Where there is room and a connection waits for it, some
-/// connection has a turn (`admitted`). No call but `close_overdue`, `close_unanswered`, `close_for_slot`,
-/// `close_for_descriptor` and `close_for_room` has a connection leave its slot.
+/// answered only while they have less than `room` bytes. Where there is room and a connection waits for it, some connection
+/// has a turn (`admitted`). No call but `close_overdue`, `close_unanswered`, `close_for_slot`, `close_for_descriptor` and
+/// `close_for_room` removes a connection from its slot.
 #[derive(Drop)]
 pub struct ConnectionTable<T: Drop> {
     slots: Slots<T>,
     // Those that have a turn.
     ready: ReadyQueue,
-    // Those that wait until an answer may be made.
+    // Those that wait for room.
     waiting: ReadyQueue,
     timeouts: Timeouts,
-    // A query is asked while fewer bytes are to be sent.
+    // A query is answered only while fewer bytes are to be sent.
     room: usize,
-    // The slot of the last turn in which a query might be asked.
+    // The slot of the last turn in which a query might be answered.
     last_asked: usize,
     ghost counted: { slots.owed ≡ owed_in_all slots.items.items },
     ghost bounded: { slots.owed ≤ room + owed_at (at_slot slots.items.items last_asked) },
@@ -37,9 +37,9 @@ pub struct ConnectionTable<T: Drop> {
 /// A turn.
 #[derive(Clone, Copy, Debug)]
 pub struct Served {
-    /// Of which slot.
+    /// The slot that had it.
     pub slot: usize,
-    /// What the connection at it waits for, if one is at it.
+    /// What the connection at that slot waits for, if there is one.
     pub next: Option<Next>,
 }
 
@@ -65,7 +65,8 @@ impl<T: Transport + Drop> ConnectionTable<T> {
     ghost use Rattle.turns.specs.Times.{deadline, is_unanswered};
     ghost use Rattle.turns.specs.declared.turn.Next.TheVariants.{Turn, Room};
 
-    /// A table of so many slots, with nobody at any. A query is asked while fewer than `room` bytes are to be sent.
+    /// A table of so many slots, with no connection at any. A query is answered only while fewer than `room` bytes are to
+    /// be sent.
     pub fn new(
         alloc: Global,
         slots: usize,
@@ -94,14 +95,14 @@ impl<T: Transport + Drop> ConnectionTable<T> {
         self.slots.items.len()
     }
 
-    /// Whether nobody is at any slot. It looks at each.
+    /// Whether no slot has a connection. It looks at each.
     pub fn is_empty(&self) -> bool
         ensures { result ≡ list_all is_none (connections self.now) }
     {
         self.slots.is_empty()
     }
 
-    /// The first slot at which nobody is.
+    /// The first slot without a connection.
     pub fn free_slot(&self) -> Option<usize>
         ensures known { IfSome result (λ slot. slot < length (connections self.now)) }
         ensures free { IfSome result (λ slot. at_slot (connections self.now) slot ≡ None) }
@@ -125,7 +126,7 @@ impl<T: Transport + Drop> ConnectionTable<T> {
         self.ready.add(slot);
     }
 
-    /// Whoever is at a slot may have something to do: it has a turn.
+    /// The connection at a slot may have something to do: it has a turn.
     pub fn wake(&mut self, slot: usize)
         ensures ready { slot < length (connections self.old) → has slot (ready_slots self.new) ≡ true }
         ensures joins { (slots : List ℕ) × (ready_slots self.new ≡ joins (ready_slots self.old) slots) }
@@ -143,7 +144,7 @@ impl<T: Transport + Drop> ConnectionTable<T> {
         !self.ready.is_empty()
     }
 
-    /// The next turn: that of the slot that has waited longest. Where there is none, no slot has one.
+    /// Makes the next turn: that of the slot that has waited longest. There is none where no slot has a turn.
     pub fn serve_next<A: Asks>(&mut self, asks: &mut A, now: u64) -> Option<Served>
         ensures first { MatchOption result (ready_slots self.old ≡ []) (λ served. (rest : List ℕ) × (slots : List ℕ) × (ready_slots self.old ≡ served.slot ∷ rest) × (ready_slots self.new ≡ joins rest slots)) }
         ensures none { IfNone result ((connections self.new ≡ connections self.old) × (asks.new ≡ asks.old)) }
@@ -166,7 +167,7 @@ impl<T: Transport + Drop> ConnectionTable<T> {
         Some(Served { slot, next })
     }
 
-    // Whoever is at a slot leaves it.
+    // The connection at a slot leaves it.
     fn close(&mut self, slot: usize) -> Option<OpenConnection<T>>
         ensures taken { result ≡ at_slot (connections self.old) slot }
         ensures left { at_slot (connections self.new) slot ≡ None }
@@ -181,8 +182,8 @@ impl<T: Transport + Drop> ConnectionTable<T> {
         connection
     }
 
-    /// Whoever is at a slot leaves it, if its time is over: where it has failed, where its client has sent all, and at
-    /// the deadline of what it does.
+    /// The connection at a slot leaves it, if its time is over: where it has failed, where its client has sent all, and at
+    /// the deadline of its phase.
     pub fn close_overdue(&mut self, slot: usize, now: u64) -> Option<OpenConnection<T>>
         ensures overdue { IfSome result (λ connection. deadline (timeouts_of self.old) connection.phase ≤ now) }
         ensures closed { IfSome result (λ connection. (at_slot (connections self.old) slot ≡ Some connection) × (at_slot (connections self.new) slot ≡ None)) }
@@ -199,7 +200,7 @@ impl<T: Transport + Drop> ConnectionTable<T> {
         self.close(slot)
     }
 
-    /// Whoever is at a slot leaves it, if it is between requests or has sent a part of a head: for a worker that ends.
+    /// The connection at a slot leaves it, if it is between requests or has sent a part of a head: for a worker that ends.
     pub fn close_unanswered(&mut self, slot: usize) -> Option<OpenConnection<T>>
         ensures unanswered { IfSome result (λ connection. is_unanswered connection.phase ≡ true) }
         ensures closed { IfSome result (λ connection. (at_slot (connections self.old) slot ≡ Some connection) × (at_slot (connections self.new) slot ≡ None)) }
@@ -231,7 +232,7 @@ impl<T: Transport + Drop> ConnectionTable<T> {
         Some(Closed { slot, connection })
     }
 
-    /// Where all slots are taken, the connection leaves that has been between requests for longest, if one is.
+    /// Where all slots are taken, the connection leaves that has been between requests for longest, if there is one.
     pub fn close_for_slot(&mut self) -> Option<Closed<T>>
         ensures full { IfSome result (λ _. (slot : ℕ) → slot < length (connections self.old) → is_some (at_slot (connections self.old) slot) ≡ true) }
         ensures first { IfSome result (λ closed. IsFirst Slot (connections self.old) closed.slot) }
@@ -248,7 +249,7 @@ impl<T: Transport + Drop> ConnectionTable<T> {
     }
 
     /// Where no descriptor is free for a further connection, that one leaves that has been between requests for longest, if
-    /// one is.
+    /// there is one.
     pub fn close_for_descriptor(&mut self) -> Option<Closed<T>>
         ensures first { IfSome result (λ closed. IsFirst Slot (connections self.old) closed.slot) }
         ensures closed { IfSome result (λ closed. (at_slot (connections self.old) closed.slot ≡ Some closed.connection) × (at_slot (connections self.new) closed.slot ≡ None)) }
@@ -261,8 +262,8 @@ impl<T: Transport + Drop> ConnectionTable<T> {
         self.give_way(Pressure::Slot)
     }
 
-    /// Where a connection waits until an answer may be made, the slowest leaves of those whose answers have been going
-    /// for over a second, if one is.
+    /// Where a connection waits for room, the slowest of those connections leaves whose answers have been going for over a
+    /// second, if there is one.
     pub fn close_for_room(&mut self, now: u64) -> Option<Closed<T>>
         ensures no_room { IfSome result (λ _. has_room self.old ≡ false) }
         ensures wanted { IfSome result (λ _. waiting_slots self.old ≡ [] → ⊥) }

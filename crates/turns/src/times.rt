@@ -18,7 +18,7 @@ pub struct Timeouts {
     pub drain: u64,
 }
 
-/// What a connection does, and since when, in milliseconds of its worker's clock.
+/// The phase of a connection: what it does, and since when, in milliseconds of its worker's clock.
 #[derive(Clone, Copy, Debug)]
 pub enum Phase {
     /// It was opened, and no byte of a head was taken.
@@ -27,9 +27,9 @@ pub enum Phase {
     Idle { since: u64 },
     /// Bytes of a head came.
     Head { since: u64 },
-    /// An answer is to be sent: since when, when its last bytes went out, and how many have.
+    /// An answer is to be sent: since when, when its last bytes were sent, and how many were.
     Answer { since: u64, moved: u64, sent: u64 },
-    /// Its last answer went out, and what its client still sends is dropped.
+    /// Its last answer was sent, and what its client still sends is dropped.
     Drain { since: u64 },
     /// It has failed, or its client has sent all.
     Over,
@@ -74,7 +74,7 @@ impl Phase {
         )
     }
 
-    /// What a connection does after a turn, where some or no bytes are still to be sent.
+    /// The phase of a connection after a turn, where some or no bytes are still to be sent.
     pub(crate) fn after(self, turned: TurnResult, owes: bool, now: u64) -> Self
         ensures { result ≡ phase_after self turned owes now }
     {

@@ -16,28 +16,28 @@ pub trait Transport {
     // The bytes that it has accepted, where they are known.
     ghost accepted: { Self → Option (List ℕ) };
 
-    // What a read gives: the transport before, what it gives, and the transport after.
+    // The results of a read: the transport before, the result, and the transport after.
     ghost reads: { Self → ReadOutcome → Self → Type 0 };
 
-    // What a write takes: the transport before, what it takes, and the transport after.
+    // The results of a write: the transport before, the result, and the transport after.
     ghost writes: { Self → WriteOutcome → Self → Type 0 };
 
-    // That the side that is written to is closed: the transport before, and after.
+    // How the sending side is closed: the transport before, and after.
     ghost shuts: { Self → Self → Type 0 };
 
-    /// Puts bytes that came into the front of the room.
+    /// Puts bytes that came at the start of the room.
     fn read(&mut self, room: &mut [u8]) -> ReadOutcome
         ensures bytes { HasRead (delivered self.old) (delivered self.new) result room.new }
         ensures accepted { Appends (accepted self.old) (accepted self.new) [] }
         ensures reads { reads self.old result self.new };
 
-    /// Takes some bytes from the front of two parts.
+    /// Takes some first bytes of two parts.
     fn write(&mut self, first: &[u8], second: &[u8]) -> WriteOutcome
         ensures bytes { HasWritten (accepted self.old) (accepted self.new) (first.now ++ second.now) result }
         ensures delivered { Appends (delivered self.old) (delivered self.new) [] }
         ensures writes { writes self.old result self.new };
 
-    /// Closes the side that is written to: the client reads its end.
+    /// Closes the sending side: the client reads its end.
     fn shut_down(&mut self)
         ensures shuts { shuts self.old self.new }
         ensures accepted { Appends (accepted self.old) (accepted self.new) [] }

@@ -18,24 +18,24 @@ pub enum Next {
     Readable,
     /// That its client takes bytes.
     Writable,
-    /// That an answer may be made: bytes came.
+    /// Room for an answer: bytes came.
     Room,
-    /// Nothing: its last answer went out.
+    /// Nothing: its last answer was sent.
     Done,
     /// Nothing: it failed.
     Failed,
 }
 
-/// What a turn came to.
+/// The result of a turn.
 #[derive(Clone, Copy, Debug, PartialEq, Eq)]
 pub struct TurnResult {
-    /// What is waited for.
+    /// What the connection waits for.
     pub next: Next,
-    /// How many bytes went out.
+    /// How many bytes were sent.
     pub sent: usize,
 }
 
-// Sends what is to be sent, as much as is taken at once.
+// Sends the bytes that are to be sent, as many as are taken at once.
 fn send<T: Transport>(exchange: &mut BufferedSession, transport: &mut T) -> WriteOutcome
     ensures sends { Sends T.delivered T.accepted exchange.old transport.old exchange.new transport.new (count_of result) }
     ensures writes { T.writes transport.old result transport.new }
@@ -50,7 +50,7 @@ fn send<T: Transport>(exchange: &mut BufferedSession, transport: &mut T) -> Writ
     outcome
 }
 
-// Sends what is to be sent, and says what is waited for.
+// Sends the bytes that are to be sent, and returns what the connection waits for.
 fn send_on<T: Transport>(exchange: &mut BufferedSession, transport: &mut T) -> TurnResult
     ensures sends { Sends T.delivered T.accepted exchange.old transport.old exchange.new transport.new result.sent }
     ensures next { (may_ask : Bool) → IsNext T.reads T.writes may_ask result.next exchange.new transport.new }
@@ -94,7 +94,7 @@ fn receive<T: Transport>(exchange: &mut BufferedSession, transport: &mut T) -> R
     }
 }
 
-// Has bytes of the buffer taken: up to the end of a head, whose query is asked.
+// Feeds bytes of the buffer into the session: up to the end of a head, whose query is answered.
 fn take_bytes<A: Asks>(exchange: &mut BufferedSession, asks: &mut A)
     ensures all { wants exchange.old.session ≡ true → wants exchange.new.session ≡ true → exchange.new.buffer ≡ [] }
     ensures said { (queries : List QueryOutcome) × HasAsked A.answers asks.old queries asks.new
@@ -104,7 +104,7 @@ fn take_bytes<A: Asks>(exchange: &mut BufferedSession, asks: &mut A)
     exchange.buffer.consume(count);
 }
 
-// Has the end of the stream taken.
+// Feeds the end of the stream into the session.
 fn take_end(exchange: &mut BufferedSession)
     requires wanted { wants exchange.old.session ≡ true }
     requires empty { exchange.old.buffer ≡ [] }
@@ -114,7 +114,7 @@ fn take_end(exchange: &mut BufferedSession)
     exchange.session.end();
 }
 
-// Takes what came, and says what is waited for where nothing did, or nothing may be asked.
+// Takes the bytes that came. Returns what the connection waits for where none came, or no query may be answered.
 fn take<T: Transport, A: Asks>(
     exchange: &mut BufferedSession,
     transport: &mut T,
@@ -144,7 +144,8 @@ fn take<T: Transport, A: Asks>(
     }
 }
 
-// Takes what came where it is wanted, and says what is waited for where nothing is to be sent.
+// Takes the bytes that came where the session takes further ones. Returns what the connection waits for where nothing is to
+// be sent.
 fn take_on<T: Transport, A: Asks>(
     exchange: &mut BufferedSession,
     transport: &mut T,
@@ -173,11 +174,12 @@ fn take_on<T: Transport, A: Asks>(
     None
 }
 
-/// The turn of a connection: at most one read, one query and one write. Where nothing may be asked, what came isn't taken.
+/// The turn of a connection: at most one read, one query and one write. Where no query may be answered, the bytes that came
+/// aren't taken.
 ///
-/// What came, what was asked and what went out go on as its session says (`advances`), whatever other connections did
-/// before. It has no further turn only where a read or a write would have waited or has failed, where nothing may be
-/// asked, and where its last answer went out (`next`). It has one at once only where bytes went out, or were taken (`moves`).
+/// The bytes, queries and answers go on as its session does (`advances`), whatever other connections did before. It has no
+/// further turn only where a read or a write would have waited or has failed, where no query may be answered, and where its
+/// last answer was sent (`next`). It has one at once only where bytes were sent, or were taken (`moves`).
 pub fn serve_turn<T: Transport, A: Asks>(
     exchange: &mut BufferedSession,
     transport: &mut T,

@@ -1,4 +1,4 @@
--- A connection that was answered, by what its writer holds.
+-- A connection that was answered, by the bytes that its writer holds.
 use Rattle.std.proofs.Common.{ℕ, List, Option, None, Some, IfSome, Result, Ok, Err, OnOk, IfErr, inl}
 use Rattle.httpedge.specs.Exchange.{Said}
 use Rattle.httpedge.specs.Stopped.{HasExchanged, HasStopped}

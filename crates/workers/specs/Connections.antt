@@ -7,49 +7,49 @@ use Rattle.httpedge.specs.declared.conn.TheConstants.{REQUESTS}
 use Rattle.httpedge.specs.declared.edge.EdgeFault.{EdgeFault}
 use Rattle.httpedge.specs.declared.edge.EdgeFault.TheVariants.{Read, Write}
 
--- whoever is asked answered a stream, and all of the answers went out
+-- an answerer answered a stream, and all of the answers were sent
 pub record HasAnswered {A : Type 0} (answers : A → List ℕ → Said → A → Type 0) (stream : List ℕ) (old new : A) (before after : Option (List ℕ)) : Type 0 where
   pub text : List ℕ
   pub exchange : IsExchange answers REQUESTS stream old text new
   pub bytes : Appends before after text
 
--- so it was, or there was no memory for a head, which was told, and nobody was asked
+-- the stream was answered, or there was no memory for a head, the client got the answer that the server is busy, and the answerer wasn't called
 abbrev pub HasServed : {A : Type 0} → (A → List ℕ → Said → A → Type 0) → List ℕ → A → A → Option (List ℕ) → Option (List ℕ) → Type 0
 HasServed answers stream old new before after = HasAnswered answers stream old new before after ⊎ (new ≡ old) × Appends before after (busy_text true)
 
--- whoever is asked answered the first requests of a stream, and all of these answers went out, so many bytes
+-- an answerer answered the first requests of a stream, and all of these answers were sent, so many bytes
 pub record HasAnsweredFirst {A : Type 0} (answers : A → List ℕ → Said → A → Type 0) (stream : List ℕ) (old new : A) (before after : Option (List ℕ)) (written : ℕ) : Type 0 where
   pub text : List ℕ
   pub begun : IsBegun answers REQUESTS stream old text new
   pub bytes : Appends before after text
   pub count : written ≡ length text
 
--- whoever is asked answered the first requests of a stream, and of these answers exactly the first so many bytes went out, and not all
+-- an answerer answered the first requests of a stream; exactly the first so many bytes of these answers were sent, and not all
 pub record HasBrokenOff {A : Type 0} (answers : A → List ℕ → Said → A → Type 0) (stream : List ℕ) (old new : A) (before after : Option (List ℕ)) (written : ℕ) : Type 0 where
   pub text : List ℕ
   pub begun : IsBegun answers REQUESTS stream old text new
   pub short : written < length text
   pub bytes : Appends before after (take written text)
 
--- what went out before a fault; of the text that there was no memory for a head only the front may have
+-- the bytes that were sent before a fault. Where there was no memory for a head, they are a prefix of the answer that the server is busy
 abbrev pub HasLeft : {A : Type 0} → EdgeFault → (A → List ℕ → Said → A → Type 0) → List ℕ → A → A → Option (List ℕ) → Option (List ℕ) → Type 0
 HasLeft (Read written) answers stream old new before after = HasAnsweredFirst answers stream old new before after written
 HasLeft (Write written) answers stream old new before after =
     HasBrokenOff answers stream old new before after written
     ⊎ (new ≡ old) × (written < length (busy_text true)) × Appends before after (take written (busy_text true))
 
--- a connection's two sides, and who is asked for it
+-- the two sides of a connection, and its answerer
 pub record Attended (R W A : Type 0) : Type 0 where
   pub reader : R
   pub writer : W
   pub asked : A
 
--- a stream was answered, up to a fault if there was one. `left` is what is left of a reader, `held` what a writer holds
+-- a stream was answered, up to a fault if there was one. `left` is the bytes that a reader has left, `held` those that a writer holds
 abbrev pub Exchanges : {R W A : Type 0} → (A → List ℕ → Said → A → Type 0) → (R → Option (List ℕ)) → (W → Option (List ℕ)) → Option EdgeFault → Attended R W A → Attended R W A → Type 0
 Exchanges answers left held None old new = IfSome (left old.reader) (λ stream. HasServed answers stream old.asked new.asked (held old.writer) (held new.writer))
 Exchanges answers left held (Some fault) old new = IfSome (left old.reader) (λ stream. HasLeft fault answers stream old.asked new.asked (held old.writer) (held new.writer))
 
--- a connection was opened, its client was served, and the connection was closed with the fault of that, if it had one
+-- a connection was opened, its client was served, and the connection was closed with the fault of the exchange, if there was one
 pub record IsServedOne {C R W D A : Type 0} (opens : C → Option (R × W) → Type 0) (closes : R → W → Option EdgeFault → D → Type 0) (serves : Option EdgeFault → Attended R W A → Attended R W A → Type 0) (connection : C) (old new : A) (closed : D) : Type 0 where
   pub reader : R
   pub writer : W

@@ -17,7 +17,7 @@ pub struct Sides<R, W> {
     pub writer: W,
 }
 
-/// What a closed connection leaves where nothing of it is looked at.
+/// Stands for a closed connection, of which nothing is kept.
 #[derive(Clone, Copy)]
 pub struct NothingLeft;
 
@@ -26,13 +26,13 @@ pub trait Opens {
     ghost use Rattle.std.specs.Prelude.{Option, option_map};
     ghost use Rattle.httpedge.specs.declared.edge.EdgeFault.{EdgeFault};
 
-    /// What a client sends.
+    /// Where the bytes of a client come from.
     type Reader: Source + Drop;
 
-    /// What a client gets.
+    /// Where the answers for a client go.
     type Writer: Sink + Drop;
 
-    /// What is left of it when it is closed.
+    /// The rest of it once it is closed.
     type Closed: Drop;
 
     // What opening it may give: its two sides, or none.
@@ -41,29 +41,28 @@ pub trait Opens {
     // What closing its two sides with a fault, or none, may leave.
     ghost closes: { Self.Reader → Self.Writer → Option EdgeFault → Self.Closed → Type 0 };
 
-    /// Begins to serve it, in the thread that does so. There are no sides where that fails: then it is dropped.
+    /// Opens it for serving, in the thread that serves it. Where that fails there are no sides, and it is dropped.
     fn open(self, alloc: Global) -> Option<Sides<Self::Reader, Self::Writer>>
         ensures { opens self (option_map (λ sides. (sides.reader, sides.writer)) result) };
 
-    /// Ends it, which had this fault or none.
+    /// Closes it, with its fault or none.
     fn close(sides: Sides<Self::Reader, Self::Writer>, fault: Option<EdgeFault>) -> Self::Closed
         ensures { closes sides.reader sides.writer fault result };
 }
 
-/// A connection that waits for a worker. Its sides stay out of sight: they are opened and closed in the worker's
-/// thread.
+/// A connection that waits for a worker. Its sides are hidden: they are opened and closed in the worker's thread.
 pub trait Connection {
-    /// Answers it by whoever is asked, and ends it. [`serve_one`] does so for one that can be opened.
+    /// Answers it by an answerer, and ends it. [`serve_one`] does so for one that can be opened.
     fn serve<A: Asks>(self, alloc: Global, asks: &mut A);
 
-    /// Tells it that the server is busy, and ends it, without waiting for its client.
+    /// Answers that the server is busy, and ends it, without waiting for its client.
     fn turn_away(self, alloc: Global);
 }
 
-/// Answers one connection: all of its requests, one after the other. Where there is no memory for a head, it isn't
-/// read, and is told that the server is busy; else it is read no further than `exchange` does. After a fault of the
-/// reader all answers to what was read have gone out; where the writer fails, exactly the first `written` bytes of the
-/// answers went out.
+/// Answers one connection: all of its requests, one after the other. Where there is no memory for a head, nothing is read,
+/// and the client gets the answer that the server is busy; else it is read no further than `exchange` does. After a fault of
+/// the reader all answers to the bytes read were sent; where the writer fails, exactly the first `written` bytes of the
+/// answers were sent.
 pub fn serve_connection<R: Source, W: Sink, A: Asks>(
     alloc: Global,
     asks: &mut A,
@@ -89,8 +88,8 @@ pub fn serve_connection<R: Source, W: Sink, A: Asks>(
     }
 }
 
-/// Opens a connection, answers it by whoever is asked as [`serve_connection`] does, and closes it with the fault of that, if
-/// it had one. Nothing is left of a connection that can't be opened.
+/// Opens a connection, answers it by an answerer as [`serve_connection`] does, and closes it with the fault of that, if it
+/// had one. A connection that can't be opened gives none.
 pub fn serve_one<C: Opens, A: Asks>(alloc: Global, asks: &mut A, connection: C) -> Option<C::Closed>
     ensures { MatchOption result (C.opens connection None × (asks.new ≡ asks.old))
         (λ closed. IsServedOne C.opens C.closes (Exchanges A.answers C.Reader.Source.left C.Writer.Sink.held) connection asks.old asks.new closed) }

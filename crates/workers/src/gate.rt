@@ -1,13 +1,13 @@
-/// Who is told of each query that a worker asks. A test may hold a worker there.
+/// A gate that gets a call before and after each query of a worker. A test may hold a worker there.
 pub trait Gate {
-    /// A query of the connection of this number is to be asked.
+    /// A query of the connection of this number is about to be answered.
     fn asked(&self, number: u64);
 
-    /// It is answered.
+    /// The query is answered.
     fn answered(&self, number: u64);
 }
 
-/// A gate that holds nobody.
+/// A gate that holds no worker.
 #[derive(Clone, Copy)]
 pub struct OpenGate;
 

@@ -1,12 +1,12 @@
 //! Workers: threads that each answer connections, one after the other.
 //!
-//! Proved: `serve_connection` answers one connection, by whoever is asked (`served`, `left`): what went out is what the
-//! definition says of all bytes that its client sent, however the reads cut them. `work` returns once no more connections
-//! come (`served`), or took none of them (`refused`). What is answered to which connection is said of each connection by
-//! `serve_connection`; that each goes to the worker that it belongs to, and that workers run at once, is tested.
+//! Proved: `serve_connection` answers one connection by an answerer (`served`, `left`): it sends what the definition says
+//! for all bytes that the client sent, however the reads cut them. `work` returns once no more connections come
+//! (`served`), or took none of them (`refused`). The answers to each connection are stated by `serve_connection`; that
+//! each connection goes to its worker, and that workers run at once, is tested.
 //!
-//! Words: a *worker* is a thread with a member of its own that is asked. Connections are numbered from 1, and
-//! connection c is served by worker c mod N, of N.
+//! Terms: a *worker* is a thread with a member of its own, which answers its queries. Connections are numbered from 1,
+//! and connection c is served by worker c mod N, of N.
 #![tactic(auto)]
 
 mod connection;

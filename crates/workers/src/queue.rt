@@ -2,7 +2,7 @@ use std::alloc::Global;
 use std::collections::VecDeque;
 use std::sync::{Condvar, Mutex, Wait};
 
-// What waits for one worker.
+// The state of the queue of one worker.
 #[derive(Drop)]
 struct QueueState<T> {
     waiting: VecDeque<T>,
@@ -28,7 +28,7 @@ impl<T: Drop> Queue<T> {
         }
     }
 
-    /// Puts a connection at the end, or gives it back where memory for it is refused.
+    /// Puts a connection at the end, or returns it where memory for it is refused.
     pub fn put<R: Wait>(&self, rt: &R, item: T) -> Result<(), T> {
         let mut state = self.state.lock(rt);
         match state.waiting.push_back(item) {
@@ -40,7 +40,7 @@ impl<T: Drop> Queue<T> {
         }
     }
 
-    /// No more is put.
+    /// Closes the queue: no more is put.
     pub fn close<R: Wait>(&self, rt: &R) {
         let mut state = self.state.lock(rt);
         state.closed = true;

@@ -6,7 +6,7 @@ use mapmachine::Answer;
 use std::alloc::Global;
 use std::sync::{Arc, Wait};
 
-/// A worker's member, and the connection that it is asked for.
+/// The member of a worker, its gate, and the number of the connection that it serves.
 #[derive(Drop)]
 pub(crate) struct Worker<A, G: Drop> {
     member: A,
@@ -26,7 +26,7 @@ impl<A: Asks, G: Gate + Drop> Asks for Worker<A, G> {
 }
 
 impl<A: Asks, G: Gate + Drop> Worker<A, G> {
-    /// One that has served nothing yet.
+    /// A member that has served nothing yet.
     pub fn new(member: A, gate: Arc<G, Global>) -> Self {
         Worker {
             member,

@@ -11,12 +11,12 @@ use std::sync::{Arc, Wait};
 use std::thread::{self, JoinHandle, Threads};
 use thiserror::Error;
 
-/// The workers could not be started: there was nobody to be asked, or a thread or memory for them was refused.
+/// The workers could not be started: there was no member, or a thread or memory for them was refused.
 #[derive(Clone, Copy, Debug, Error)]
 #[error("the workers can't be started")]
 pub struct StartError;
 
-/// Where connections come from.
+/// A source of connections.
 pub trait Streams<C> {
     /// Whether no more will come.
     ghost ended: { Self → Type 0 };
@@ -38,7 +38,7 @@ struct Workers<C: Drop> {
 }
 
 impl<C: Connection + Drop> Workers<C> {
-    // Nobody yet, with room for so many.
+    // No workers yet, with room for so many.
     fn new(alloc: Global, count: usize) -> Result<Self, AllocError> {
         Ok(Workers {
             alloc,
@@ -47,7 +47,7 @@ impl<C: Connection + Drop> Workers<C> {
         })
     }
 
-    // Gives a connection to its worker. Where memory is refused, it is answered that the server is busy.
+    // Gives a connection to its worker. Where memory is refused, its client gets the answer that the server is busy.
     fn dispatch<R: Wait>(&self, rt: &R, number: u64, connection: C) {
         let worker = number.checked_rem(self.queues.len() as u64).unwrap_or(0) as usize;
         let Some(queue) = self.queues.get(worker) else {
@@ -58,7 +58,7 @@ impl<C: Connection + Drop> Workers<C> {
         }
     }
 
-    // Waits until all that was given is served.
+    // Waits until all connections that were given are served.
     fn end<R: Wait + Threads>(self, rt: &R) {
         let Workers {
             queues,
@@ -74,7 +74,7 @@ impl<C: Connection + Drop> Workers<C> {
     }
 }
 
-// Starts one worker more.
+// Starts one more worker.
 fn start_worker<R, A, C, G>(
     rt: &R,
     workers: &mut Workers<C>,
@@ -139,13 +139,13 @@ fn dispatch_all<R: Wait, C: Connection + Drop, T: Streams<C>>(
     unreachable!()
 }
 
-/// Starts a worker for each member that may be asked, and gives them connection after connection, numbered from 1:
-/// connection c to member c mod N, of N. It returns once no more come and all are served. A connection waits for its
-/// worker as long as there is memory for it; where that is refused, or the memory for its head, it is answered that the
-/// server is busy.
+/// Starts a worker for each member, and gives them connection after connection, numbered from 1: connection c to member
+/// c mod N, of N. It returns once no more come and all are served. A connection waits for its worker as long as there
+/// is memory for it. Where that is refused, or the memory for its head, its client gets the answer that the server is
+/// busy.
 ///
-/// The error is that there is no member, or that a thread or memory for the workers was refused; then no connection
-/// was taken.
+/// The error is that there is no member, or that a thread or memory for the workers was refused; then no connection was
+/// taken.
 pub fn work<R, A, C, T, G>(
     rt: &R,
     alloc: Global,
