@@ -1,4 +1,4 @@
--- What an administrator's client got through a sink that stands before its own.
+-- The bytes that an administrator's client got through a sink in front of its own.
 use Rattle.std.proofs.Common.{◌≡◌, ◌⊎◌, inl, inr, ℕ, ◌+◌, ◌-◌, Bool, List, ◌++◌, Option, None, Some, Result, Ok, Err, refl}
 use Rattle.std.specs.Prelude.{OnOk, IsErrOf, MatchResult, true}
 use Rattle.administration.specs.Commands.{Command}
@@ -13,7 +13,7 @@ use Rattle.workers.specs.Connections.{Attended}
 use Rattle.service.specs.Administering.{Administers, fault_of, has_kept}
 
 module _ {A B : Type 0} (within : A → B) (held : B → Option (List ℕ)) (taken : B → ℕ) where
-  -- what was sent to the outer sink was sent to the one within
+  -- the text that was sent to the outer sink was sent to the inner one
   sent-within : (old : A) (text : List ℕ) (new : A) → IsSent (λ s. held (within s)) (λ s. taken (within s)) old text new → IsSent held taken (within old) text (within new)
   sent-within old text new sent = record { bytes = sent.bytes; count = sent.count }
 
@@ -59,7 +59,7 @@ module _ {A B : Type 0} (within : A → B) (held : B → Option (List ℕ)) (tak
     reported = reported-within failed.middle last failed.reported;
   }
 
-  -- so an administrator was served, whatever its outcome
+  -- so an administrator was served, whatever the outcome
   pub administered : {R : Type 0} (opening : State) (left : R → Option (List ℕ)) (failed : R → Bool) (served : Result (Unit {0}) AdministerFault) (reader rest : R) (old new : Batches) (first last : A) (written : ℕ)
       → OnOk served ((commands : List Command) × (lines bytes : List ℕ) × HasDoneAll opening (left reader) (left rest) commands old lines bytes new
       × IsSent (λ s. held (within s)) (λ s. taken (within s)) first lines last × IsServed commands bytes (left rest) (failed rest))
@@ -75,7 +75,7 @@ module _ {A B : Type 0} (within : A → B) (held : B → Option (List ℕ)) (tak
   administered opening left failed (Err KeepFailed) reader rest old new first last written ok stopped ended count =
       failed-within opening (left reader) (left rest) old first new last (ended refl)
 
--- what was accepted is kept, unless what keeps batches failed
+-- what was accepted is kept, unless the keeper of batches failed
 pub kept-of : (served : Result (Unit {0}) AdministerFault) (P : Type 0) → MatchResult served (λ _. P) (λ why. why ≡ PutFailed → P) → has_kept served ≡ true → P
 kept-of (Ok done) P is e = is
 kept-of (Err PutFailed) P is e = is refl

@@ -1,4 +1,4 @@
--- What happens at a port, call after call.
+-- The events of a port, call after call.
 use Rattle.std.proofs.Common.{◌≡◌, ◌≢◌, true, false, ◌∙◌, ℕ, ◌+◌, List, [], ◌∷◌, ◌++◌, replicate, Option, None, Some, sym, ap, append_assoc, append-nil}
 use Rattle.std.proofs.lemmas.Grind.{replicate_next}
 use Rattle.std.specs.Option.{option_eq}
@@ -15,7 +15,7 @@ Notes-trans (Some x) None c es fs p q = absurd p
 Notes-trans (Some x) (Some y) None es fs p q = absurd q
 Notes-trans (Some x) (Some y) (Some z) es fs p q = q ∙ ap (λ l. l ++ fs) p ∙ append_assoc x es fs
 
--- one call more has failed
+-- one more call has failed
 pub one-failed-more : (a b c : Option (List PortEvent)) (n : ℕ) → Notes a b (replicate n Failed) → Notes b c (Failed ∷ []) → Notes a c (replicate (n + 1) Failed)
 one-failed-more a b c n p q = rw (replicate_next n Failed) (Notes-trans a b c (replicate n Failed) (Failed ∷ []) p q)
 

@@ -18,15 +18,15 @@ fault_of (Ok done) written = None
 fault_of (Err KeepFailed) written = None
 fault_of (Err PutFailed) written = Some (Write written)
 
--- what keeps batches didn't fail
+-- the keeper of batches didn't fail
 abbrev pub has_kept : Result (Unit {0}) AdministerFault → Bool
 has_kept (Ok done) = true
 has_kept (Err PutFailed) = true
 has_kept (Err KeepFailed) = false
 
--- an administrator's commands were done and answered: all up to the end of them, or up to a line that wasn't written, of which so many
--- bytes went out with those before; or up to a batch that what keeps batches failed to keep. `left` and `failed` are of a reader, `held` and
--- `taken` of a writer
+-- an administrator's commands were done and answered: all up to the end of them, or up to a line that wasn't written, of which so many bytes were
+-- sent with those before; or up to a batch that the keeper of batches failed to keep. `left` and `failed` are of a reader, `held` and `taken` of a
+-- writer
 abbrev pub Administers : {R W : Type 0} → State → (R → Option (List ℕ)) → (R → Bool) → (W → Option (List ℕ)) → (W → ℕ) → Bool → Option EdgeFault → Attended R W Batches → Attended R W Batches → Type 0
 Administers opening left failed held taken true None old new =
     (commands : List Command) × (lines rest : List ℕ)

@@ -1,7 +1,7 @@
--- The connections that come at a port, one after the other (docs/SERVICE.md, "The program").
+-- The connections of a port, one after the other (docs/SERVICE.md, "The program").
 use Rattle.std.specs.Prelude.{◌≡◌, ◌≢◌, ◌⊎◌, ℕ, zero, suc, ◌-◌, ◌<◌, Bool, true, List, [], ◌∷◌, ◌++◌, replicate, Option, None, Some, option_map, ⊤}
 
--- what happens at a port: a call for a connection fails, or one is opened
+-- an event of a port: a call for a connection fails, or one is opened
 pub data PortEvent : Type 0 where
   Failed : PortEvent
   Opened : PortEvent
@@ -12,12 +12,12 @@ Notes None after events = ⊤
 Notes (Some before) None events = ⊥
 Notes (Some before) (Some after) events = after ≡ before ++ events
 
--- how many connections are wanted, where that is asked for: 0 asks for no end
+-- how many connections are requested, if there is an end: 0 requests no end
 abbrev pub wanted_of : ℕ → Option ℕ
 wanted_of zero = None
 wanted_of (suc n) = Some (suc n)
 
--- some calls failed, fewer than 100, and then a connection was opened: one less is wanted, where there is an end
+-- some calls failed, fewer than 100, and then a connection was opened: one fewer remains, where there is an end
 pub record HasOpened (wanted : Option ℕ) (before after : Option (List PortEvent)) (left : Option ℕ) : Type 0 where
   pub more : wanted ≢ Some 0
   pub failures : ℕ
@@ -25,7 +25,7 @@ pub record HasOpened (wanted : Option ℕ) (before after : Option (List PortEven
   pub noted : Notes before after (replicate failures Failed ++ Opened ∷ [])
   pub one_less : left ≡ option_map (λ n. n - 1) wanted
 
--- none was opened: no more are wanted, and nothing was done; or 100 calls failed one after the other, and the port was given up
+-- none was opened: no more remain, and nothing was done; or 100 calls failed one after the other, and the port was given up
 abbrev pub HasEnded : Option ℕ → Option (List PortEvent) → Option (List PortEvent) → Option ℕ → Bool → Type 0
 HasEnded wanted before after left given_up =
     (left ≡ wanted) × (((wanted ≡ Some 0) × (after ≡ before))

@@ -6,8 +6,8 @@ use Rattle.console.specs.Console.{Outcome, WriterState, IsWritten}
 use Rattle.console.specs.declared.failure.Failure.{Failure}
 use Rattle.console.specs.declared.failure.Failure.TheVariants.{ListenFailed, SocketFailed, WatchFailed, JournalFailed, NoMemory}
 
--- what was served: the machine whose map it was and what kept its batches, as they began, the ports of clients and of administration, how it
--- was asked for, and how it ended
+-- a service: the machine whose map it served and the keeper of its batches, as they began, the ports of clients and of administration, its options,
+-- and how it ended
 pub record ServedValue (P K : Type 0) : Type 0 where
   pub machine : State
   pub keeper : K
@@ -16,8 +16,8 @@ pub record ServedValue (P K : Type 0) : Type 0 where
   pub service : Service
   pub outcome : Outcome
 
--- why there is no service, or it ended early: a port, a thread, the input with whose end it ends, or what keeps batches failed, or memory
--- was refused
+-- why there is no service, or it ended early: a port, a thread, the input with whose end it ends, or the keeper of batches failed, or memory was
+-- refused
 abbrev pub is_service_failure : Failure → Bool
 is_service_failure (ListenFailed port cause) = true
 is_service_failure SocketFailed = true
@@ -31,7 +31,7 @@ abbrev pub fails_service : Outcome → Bool
 fails_service (Ok done) = false
 fails_service (Err failure) = is_service_failure failure
 
--- the line that says where the ports of a service are, that of clients first
+-- the line with the addresses of the ports of a service, that of clients first
 abbrev pub addresses_line : List ℕ → List ℕ → List ℕ
 addresses_line clients administration = codes "listening " ++ (clients ++ (codes " " ++ (administration ++ codes "\n")))
 
@@ -44,22 +44,22 @@ abbrev pub HasWrittenAddresses : Outcome → Option (List ℕ) → Option (List 
 HasWrittenAddresses outcome clients administration old new =
     (first second : List ℕ) × AreAddresses clients administration first second × IsWritten outcome old new (addresses_line first second)
 
--- nothing was written, for want of a port's address, a port, a thread or memory
+-- nothing was written, because a port's address, a port, a thread or memory is missing
 abbrev pub IsUnserved : Outcome → WriterState → WriterState → Type 0
 IsUnserved outcome old new = (fails_service outcome ≡ true) × (new ≡ old)
 
--- writing where two ports are had this outcome
+-- writing the addresses of two ports had this outcome
 abbrev pub WritesAddresses : Outcome → Option (List ℕ) → Option (List ℕ) → WriterState → WriterState → Type 0
 WritesAddresses outcome clients administration old new =
     HasWrittenAddresses outcome clients administration old new ⊎ IsUnserved outcome old new
 
--- how it ended after the addresses were written: well, or for want of a port, a thread or memory; no mapfile is to blame, and no
--- argument. It ends as writing them did, where that failed
+-- how it ended after the addresses were written: well, or because a port, a thread or memory is missing; never because of the mapfile or an argument.
+-- Where writing the addresses failed, it ended with that failure
 abbrev pub GoesOnAfter : Outcome → Outcome → Type 0
 GoesOnAfter (Ok done) outcome = MatchResult outcome (λ _. Unit {0}) (λ failure. is_service_failure failure ≡ true)
 GoesOnAfter (Err failure) outcome = outcome ≡ Err failure
 
--- where the two ports of a service are was written once, and it went on after that; or it failed before
+-- the addresses of the two ports of a service were written once, and it went on after that; or it failed before
 abbrev pub HasAnnounced : Option (List ℕ) → Option (List ℕ) → Outcome → WriterState → WriterState → Type 0
 HasAnnounced clients administration outcome old new =
     IsUnserved outcome old new ⊎ ((said : Outcome) × HasWrittenAddresses said clients administration old new × GoesOnAfter said outcome)

@@ -3,14 +3,14 @@ use Rattle.std.specs.Prelude.{◌≡◌, ℕ, ◌+◌, ◌-◌, ◌*◌, ◌<◌
 use Rattle.commandline.specs.declared.subcommand.Service.{Service}
 use Rattle.turns.specs.declared.times.Timeouts.{Timeouts}
 
--- what is left of a time at an instant after it began, in nanoseconds; nothing where it is over
+-- the rest of a time at an instant after it began, in nanoseconds; none where it is over
 abbrev pub IsLeft : ℕ → ℕ → ℕ → Option ℕ → Type 0
 IsLeft began whole now None = whole ≤ now - began
 IsLeft began whole now (Some left) = (0 < left) × (left + (now - began) ≡ whole)
 
--- how long a connection of a client may take, in milliseconds, as a service asks for it: idle, for a head, for an answer of which nothing is
--- taken, and for an answer beside the time that its bytes have at 16 of them a millisecond; and what a client sends after its last answer is
--- read for 2 seconds
+-- how long a connection of a client may take, in milliseconds, by the options of a service: idle, for a head, for an answer of which nothing is
+-- taken, and for an answer beside the time that its bytes have at 16 of them a millisecond. What a client sends after its last answer is read for 2
+-- seconds
 pub record IsTimed (service : Service) (timeouts : Timeouts) : Type 0 where
   pub idle : timeouts.idle ≡ service.idle
   pub timeout : timeouts.timeout ≡ 1000 * service.timeout

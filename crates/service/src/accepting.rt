@@ -6,7 +6,7 @@ use crate::port::{AcceptFailed, Port};
 /// How many calls for a connection fail one after the other, until the port is given up.
 pub(crate) const MAX_FAILURES: u32 = 100;
 
-// How many are wanted after one has come.
+// How many connections remain after one has come.
 fn one_less(wanted: Option<u32>) -> Option<u32>
     ensures { result ≡ option_map (λ n. n - 1) wanted }
 {
@@ -16,11 +16,11 @@ fn one_less(wanted: Option<u32>) -> Option<u32>
     }
 }
 
-/// The connections of a port, up to the last that is wanted.
+/// The connections of a port, up to the last that is requested.
 #[derive(Drop)]
 pub struct Accepting<P> {
     port: P,
-    // How many are still wanted, where there is an end.
+    // How many connections remain, where there is an end.
     wanted: Option<u32>,
     is_given_up: bool,
 }
@@ -50,8 +50,8 @@ impl<P> Accepting<P> {
         self.is_given_up
     }
 
-    /// The next connection. A call for one that fails is made again, and doesn't count; where 100 of them fail one
-    /// after the other, the port is given up. There is none after that, and none after the last that is wanted.
+    /// The next connection. A call that fails is made again, and doesn't count; where 100 of them fail one after the
+    /// other, the port is given up. There is none after that, and none after the last that is requested.
     pub fn accept<C>(&mut self) -> Option<C>
     where
         P: Port<C>,
@@ -75,7 +75,7 @@ impl<P> Accepting<P> {
         None
     }
 
-    /// The next connection, by one call. There is none after the last that is wanted, and then no call.
+    /// The next connection, by one call. After the last that is requested there is none, and no call is made.
     pub fn accept_once<C>(&mut self) -> Result<Option<C>, AcceptFailed>
     where
         P: Port<C>,

@@ -23,13 +23,14 @@ use workers::{Opens, Sides};
 // A connection of an administrator that was closed.
 #[derive(Drop)]
 struct Attempt<D> {
-    // What is left of it.
+    // The rest of it.
     closed: D,
-    // What keeps batches didn't fail.
+    // The keeper of batches didn't fail.
     has_kept: bool,
 }
 
-// The fault with which a connection is closed: its writer failed. One that was sent `FAILED` has none, so that its client gets that.
+// The fault with which a connection is closed: its writer failed. One that was sent `FAILED` has none, so that its client gets that
+// line.
 fn fault_of(served: Result<(), AdministerFault>, written: u128) -> Option<EdgeFault>
     ensures { result ≡ fault_of served written }
 {
@@ -39,14 +40,14 @@ fn fault_of(served: Result<(), AdministerFault>, written: u128) -> Option<EdgeFa
     }
 }
 
-// Whether what keeps batches didn't fail.
+// Whether the keeper of batches didn't fail.
 fn has_kept(served: Result<(), AdministerFault>) -> bool
     ensures { result ≡ has_kept served }
 {
     !matches!(served, Err(AdministerFault::KeepFailed))
 }
 
-// A connection of an administrator, its number, and where its commands are logged, if they are.
+// A connection of an administrator, its number, and the log of its commands, if there is one.
 #[derive(Drop)]
 struct Numbered<C, R> {
     connection: C,
@@ -54,8 +55,8 @@ struct Numbered<C, R> {
     log: Option<LogQueue<R>>,
 }
 
-// Serves one connection of an administrator, and closes it with the fault of that, if it had one. What is accepted is kept. Nothing is
-// left of a connection that can't be opened.
+// Serves one connection of an administrator, and closes it with the fault of that, if it had one. Each accepted batch is kept. A
+// connection that can't be opened gives none.
 fn administer_one<S: Sharing, K: Keeps, R: Runtime, C: Opens>(
     rt: &R,
     admin: Admin<S>,
@@ -89,7 +90,7 @@ fn administer_one<S: Sharing, K: Keeps, R: Runtime, C: Opens>(
     (admin, Some(attempt))
 }
 
-/// The port of administrators, what says that no client is served any more, and where their commands are logged, if they are.
+/// The port of administrators, whether the signal to stop was given, and the log of their commands, if there is one.
 #[derive(Drop)]
 pub(crate) struct Administering<P, R> {
     pub port: Accepting<PortFor<Administrators, P>>,
@@ -97,8 +98,8 @@ pub(crate) struct Administering<P, R> {
     pub log: Option<LogQueue<R>>,
 }
 
-/// Serves the connections of administrators, one after the other, up to the last, until the signal is given, or until what keeps batches
-/// fails. All that was accepted is kept then.
+/// Serves the connections of administrators, one after the other: up to the last, until the signal is given, or until the keeper of
+/// batches fails. Without such a failure all accepted batches are kept.
 pub(crate) fn administer_all<S, K, R, C, P>(
     rt: &R,
     admin: Admin<S>,

@@ -8,7 +8,7 @@ use mapdefs::Text;
 use std::alloc::Global;
 use streams::Sink;
 
-// Where a port is.
+// The address of a port.
 fn address_of<C, P: Port<C>>(alloc: Global, port: &P) -> Result<Text, Failure>
     ensures address { IfOk result (λ text. IfSome (P.address port.now) (λ known. text ≡ known)) }
     ensures unknown { IfErr result (λ failure. is_service_failure failure ≡ true) }
@@ -20,7 +20,8 @@ fn address_of<C, P: Port<C>>(alloc: Global, port: &P) -> Result<Text, Failure>
     }
 }
 
-/// Writes where the two ports of a service are to the output, in one line, and flushes it: that of clients first.
+/// Writes the addresses of the two ports of a service to the output, in one line, and flushes it: that of clients
+/// first.
 pub(crate) fn write_addresses<C, P: Port<C>, W, Q, I, O: Sink>(
     alloc: Global,
     ports: &Ports<P, W, Q, I>,

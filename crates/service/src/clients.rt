@@ -64,7 +64,7 @@ where
     Ok(())
 }
 
-// The queue of a log for one connection more. Where it has too many ends, that connection isn't logged.
+// The queue of a log for one more connection. Where the queue has too many ends, that connection isn't logged.
 pub(crate) fn queue_of<R: Runtime>(log: &Option<LogQueue<R>>) -> Option<LogQueue<R>> {
     match log {
         Some(queue) => queue.share().ok(),
@@ -72,8 +72,8 @@ pub(crate) fn queue_of<R: Runtime>(log: &Option<LogQueue<R>>) -> Option<LogQueue
     }
 }
 
-// Hands over the connections of clients to their workers, up to the last that is wanted, or until that is to stop. Where a call for one fails, one that is
-// between requests gives way to it. The port is given up where 100 calls fail one after the other and nobody is served.
+// Hands over the connections of clients to their workers, up to the last that is requested, or until the thread has to stop. Where a call for one
+// fails, one that is between requests gives way to it. The port is given up where 100 calls fail one after the other and no client is served.
 fn accept_all<R, C, T, P, W>(
     rt: &R,
     clients: (&mut Accepting<PortFor<Clients, P>>, &AtomicBool),
@@ -119,21 +119,21 @@ where
     unreachable!()
 }
 
-/// The port of clients, what tells its workers which of them may go on, and how they are served.
+/// The side of clients: their port, the pollers and the log.
 #[derive(Drop)]
 pub(crate) struct ClientSide<P, Q, R> {
-    /// Where they come from.
+    /// The connections of the port.
     pub port: Accepting<PortFor<Clients, P>>,
     /// A poller for each worker.
     pub pollers: Vec<Q>,
-    /// How they are served.
+    /// The options of the service.
     pub service: Service,
-    /// Where what becomes of them is logged, if it is.
+    /// The log of clients, if there is one.
     pub log: Option<LogQueue<R>>,
 }
 
-/// Answers the connections of clients by a worker for each reader, up to the last. Those that came are answered to their
-/// end; where that is to stop, those that are being answered have their answers, and the others are closed.
+/// Answers the connections of clients by a worker for each reader, up to the last. Those that came are answered to their end. Where the thread has to
+/// stop, those that are being answered get their answers, and the others are closed.
 pub(crate) fn serve_clients<S, R, C, T, P, Q>(
     rt: &R,
     readers: Vec<Reader<S>>,

@@ -10,7 +10,7 @@ pub const DRAINED: usize = 1_048_576;
 // How many bytes are read at once, at most.
 const PIECE: usize = 65_536;
 
-/// A side of a connection that can be closed by itself.
+/// The sending side of a connection, which can be closed without the other side.
 pub trait Closing {
     ghost use Rattle.std.specs.Prelude.{Bool};
 
@@ -37,9 +37,9 @@ pub fn drain<R: Source>(reader: &mut R)
     }
 }
 
-/// Ends an exchange, which had that fault or none. After an answer it closes the writing side, so that the client sees the
-/// end, and reads what the client still sends: bytes that stand unread would have the system throw away what the
-/// client hasn't read yet. After a fault there is nothing to save.
+/// Ends an exchange, with its fault or none. After an answer it closes the sending side, so that the client sees the end,
+/// and reads what the client still sends: with unread bytes the system would drop answers that the client hasn't read yet.
+/// After a fault there is nothing to save.
 pub fn hang_up<R: Source, C: Closing>(reader: &mut R, writer: &mut C, fault: Option<EdgeFault>)
     ensures shut { fault ≡ None → C.is_shut writer.new ≡ true }
     ensures drained { fault ≡ None → HasDrained (R.left reader.old) (R.left reader.new) (R.take_failed reader.new) }

@@ -1,16 +1,16 @@
-//! The service: what `serve` does once it has a map. Workers answer the connections of clients, and an administrator's
-//! batches are taken at a second port.
+//! The service: `serve` with a map. Workers answer the connections of clients, and a second port takes the batches of administrators.
 //!
-//! Proved: `Accepting::accept` gives connections up to the last that is wanted, or up to 100 calls that fail one after the
-//! other. `hang_up` closes the writing side of a connection after its answer and reads what still comes, up to a limit. `serve_by_threads`
-//! writes where the ports are once, and ends as that did, or for want of a port, a thread or memory (`announced`); what it
-//! gives says which map it served, and where (`served`). `administer_all` keeps all batches that it accepts, unless that fails (`kept`),
-//! and then the service ends with that failure (`outcome_of`). What its threads do is said by the calls that they make: of clients by
-//! `ConnectionTable::serve_next` of `turns`, and of an administrator's connection by `administer` of `administration`. How long a
-//! client may take is said by `timeouts_of`; for an administrator by `TimeLimit`, which `TimedReader` and `TimedWriter` keep.
+//! Proved: `Accepting::accept` gives connections up to the last that is requested, or up to 100 calls that fail one after the other.
+//! `hang_up` closes the sending side of a connection after its answer and reads what still comes, up to a limit. `serve_by_threads` writes
+//! the addresses of the ports once. It ends as writing them did, or because a port, a thread or memory is missing (`announced`). Its
+//! result names the map that it served, and the ports (`served`). `administer_all` keeps all batches that it accepts, unless the keeper
+//! fails (`kept`), and then the service ends with that failure (`outcome_of`). The contracts of what its threads do are those of the calls
+//! that they make: of clients `ConnectionTable::serve_next` of `turns`, and of an administrator's connection `administer` of
+//! `administration`. `timeouts_of` states how long a client may take; an administrator's time is a `TimeLimit`, which `TimedReader` and
+//! `TimedWriter` keep.
 //!
-//! Words: a *port* is where connections come from. Its *events* are the calls for a connection that failed, and the
-//! connections that were opened.
+//! Terms: a *port* gives connections. Its *events* are the calls for a connection that failed, and the connections that were opened. The
+//! *keeper* of batches keeps each accepted batch.
 #![tactic(auto)]
 
 mod accepting;

@@ -9,13 +9,13 @@ use std::rt::Clock;
 use std::time::{Duration, Instant};
 use turns::Timeouts;
 
-/// How often the time that an answer may stand still fits into the time that it may take in all.
+/// The time in which an answer may stand still fits so often into the time that it may take in all.
 pub const ANSWER_TIMES: u32 = 20;
 
-/// How many seconds a call of a connection waits, until it is made again or says how many bytes went.
+/// How many seconds a call of a connection waits, until it is made again or returns how many bytes were sent.
 pub const CALL_SECONDS: u64 = 1;
 
-/// For how many seconds in all is read what a client still sends after its answer.
+/// For how many seconds in all the service reads what a client still sends after its answer.
 pub const DRAIN_SECONDS: u64 = 2;
 
 /// How many connections of clients are open at once, at most, over all workers.
@@ -24,16 +24,16 @@ pub const CONNECTIONS: usize = 1_024;
 /// The least rate at which a client takes an answer, once the time of a head has passed, in bytes per millisecond.
 pub const RATE: u64 = 16;
 
-/// How many milliseconds are waited after a call for a connection has failed.
+/// How many milliseconds the service waits after a call for a connection has failed.
 pub const FAILURE_MILLISECONDS: u64 = 10;
 
 /// How many seconds a command of an administrator may take.
 pub const ADMINISTRATION_SECONDS: u64 = 600;
 
-/// How many seconds an administrator may be silent whose bytes are waited for.
+/// How many seconds an administrator may be silent while the service waits for its bytes.
 pub const SILENT_SECONDS: u64 = 30;
 
-/// How long a connection of a client may take, as a service asks for it.
+/// How long a connection of a client may take, by the options of a service.
 pub fn timeouts_of(service: Service) -> Timeouts
     ensures { IsTimed service result }
 {
@@ -54,10 +54,10 @@ pub fn slots_of(service: Service) -> usize
     CONNECTIONS / usize::from(service.workers.max(1))
 }
 
-/// How long the calls of a connection may wait that waits in its reads and writes, as an administrator's does.
+/// How long the calls of a connection may wait, where its reads and writes wait, as an administrator's do.
 #[derive(Clone, Copy)]
 pub struct Waits {
-    /// The first read behind an answer.
+    /// The first read after an answer.
     pub idle: Duration,
     /// Any read.
     pub silence: Duration,
@@ -67,7 +67,7 @@ pub struct Waits {
 }
 
 impl Waits {
-    /// Those of an administrator.
+    /// The limits of an administrator.
     pub fn of_administration() -> Self
         ensures idle { as_nanos result.idle ≡ 1000000000 * 30 }
         ensures silence { as_nanos result.silence ≡ 1000000000 * 30 }
@@ -89,19 +89,19 @@ pub struct TimeLimit {
 }
 
 impl TimeLimit {
-    /// So long, beginning at an instant.
+    /// A time of this length, which begins at an instant.
     pub fn new(began: Instant, whole: Duration) -> Self
         ensures { result ≡ record { began = began; whole = whole } }
     {
         TimeLimit { began, whole }
     }
 
-    /// So long from now on.
+    /// A time of this length, which begins now.
     pub fn start(clock: &impl Clock, whole: Duration) -> io::Result<Self> {
         Ok(TimeLimit::new(Instant::now(clock)?, whole))
     }
 
-    /// How much of it is left at an instant, where any is.
+    /// The rest of it at an instant, if there is one.
     pub fn left_at(self, now: Instant) -> Option<Duration>
         ensures { IsLeft (instant_nanos self.began) (as_nanos self.whole) (instant_nanos now) (option_map as_nanos result) }
     {
@@ -111,7 +111,7 @@ impl TimeLimit {
         }
     }
 
-    /// How much of it is left now. Where none is, that is an error.
+    /// The rest of it now. The error is that it is over.
     pub fn left(self, clock: &impl Clock) -> io::Result<Duration> {
         match self.left_at(Instant::now(clock)?) {
             Some(left) => Ok(left),

@@ -1,4 +1,4 @@
-//! The log of a service: the thread that writes it, and what stands before a poller where connections are logged.
+//! The log of a service: the thread that writes it, and the poller of connections that are logged.
 
 ghost use Rattle.std.specs.Prelude.{◌≡◌, ◌≤◌, IfErr, length, true};
 ghost use Rattle.service.specs.Serving.{is_service_failure};
@@ -103,7 +103,7 @@ impl<R: Runtime> Log<R> {
     }
 }
 
-/// Where what becomes of clients is logged, and what of administrators, if it is.
+/// The logs of clients and of administrators, each if there is one.
 #[derive(Drop)]
 pub(crate) struct Logs<R> {
     pub clients: Option<LogQueue<R>>,

@@ -5,15 +5,15 @@ use mapdefs::Text;
 use std::alloc::Global;
 use thiserror::Error;
 
-/// No connection came from a port.
+/// A call for a connection of a port failed.
 #[derive(Clone, Copy, Debug, Error)]
 #[error("no connection came")]
 pub struct AcceptFailed;
 
-/// Why the address of a port can't be told.
+/// Why the address of a port is missing.
 #[derive(Clone, Copy, Debug, Error)]
 pub enum AddressFault {
-    /// The port doesn't tell it.
+    /// The port doesn't know it.
     #[error("the port has no address")]
     Unknown,
     /// Memory was refused for its text.
@@ -21,18 +21,18 @@ pub enum AddressFault {
     NoMemory,
 }
 
-/// Where connections come from, which are of the type C.
+/// A port that gives connections of the type C.
 pub trait Port<C> {
     ghost use Rattle.std.specs.Prelude.{ℕ, List, Option};
     ghost use Rattle.service.specs.Ports.{PortEvent};
 
-    // What has happened so far, where that is known.
+    // The events so far, where they are known.
     ghost log: { Self → Option (List PortEvent) };
 
     // The text of the address, where it is known.
     ghost address: { Self → Option (List ℕ) };
 
-    /// Where the port is.
+    /// The address of the port.
     fn address(&self, alloc: Global) -> Result<Text, AddressFault>
         ensures { IfOk result (λ text. IfSome (address self.now) (λ known. text ≡ known)) };
 

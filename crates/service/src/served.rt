@@ -7,9 +7,9 @@ use mapmachine::Machine;
 use std::marker::Model;
 use std::snapshot::Snapshot;
 
-/// What was served: the map of a machine, at the ports of clients and of administration, as it was asked for, with what kept its
-/// batches as it began; and how that ended. Only `serve_by_threads` makes one, so who has one knows which map, which ports and which
-/// keeper that call was given. That it started a thread for each port is tested.
+/// A service: the map of a machine that it served, the ports of clients and of administration, its options, the keeper of its
+/// batches as it began, and how it ended. Only `serve_by_threads` makes one, so a caller who has one knows which map, which ports
+/// and which keeper that call was given. That it started a thread for each port is tested.
 #[derive(Drop)]
 pub struct Served<P, K> {
     machine: Snapshot<Machine>,
@@ -33,7 +33,7 @@ impl<P, K> Model for Served<P, K> {
 }
 
 impl<P, K> Served<P, K> {
-    // What is about to be served, which ends well so far.
+    // A service that is about to begin, which ends well so far.
     pub(crate) fn begin<W, Q, I>(machine: &Machine, keeper: &K, ports: &Ports<P, W, Q, I>) -> Self
         ensures { result ≡ record { machine = machine.now; keeper = keeper.now; clients = ports.now.clients.port; administration = ports.now.administration.port; service = ports.now.service; outcome = Ok tt } }
     {
@@ -47,7 +47,7 @@ impl<P, K> Served<P, K> {
         }
     }
 
-    // The same with how it ended.
+    // The same, with how it ended.
     pub(crate) fn ended(self, outcome: Result<(), Failure>) -> Self
         ensures { result ≡ record self { outcome = outcome } }
     {

@@ -13,7 +13,7 @@ use std::thread::Threads;
 use turns::Transport;
 use workers::Opens;
 
-/// What a service runs on: it takes memory, has a clock, writes a log, waits, and starts threads.
+/// The runtime of a service: it takes memory, has a clock, writes a log, waits, and starts threads.
 pub trait Runtime: AllocGlobal + Clock + Eprint + Wait + Threads + Send + Copy + Drop + 'static {}
 
 impl<R: AllocGlobal + Clock + Eprint + Wait + Threads + Send + Copy + Drop + 'static> Runtime
@@ -21,16 +21,16 @@ impl<R: AllocGlobal + Clock + Eprint + Wait + Threads + Send + Copy + Drop + 'st
 
 /// A connection whose calls can be made such that none waits.
 pub trait IntoTransport<T> {
-    /// The same connection by calls that never wait. It is closed where that can't be had.
+    /// The same connection by calls that never wait. It is closed where there are none.
     fn into_transport(self) -> Option<T>;
 }
 
-/// The types of a network: its connections, its ports, and what ends a wait at one.
+/// The types of a network: its connections, its ports, and the wakers of a wait at one.
 pub trait Network {
     /// A connection of a client, by calls that never wait.
     type Transport: Transport + Send + Drop + 'static;
 
-    /// What tells which of them may go on.
+    /// What reports which connections may go on.
     type Poller: Poller<Self::Transport> + Send + Drop + 'static;
 
     /// A connection that comes at a port.
@@ -39,29 +39,29 @@ pub trait Network {
     /// A port that is listened on.
     type Port: Port<Self::Connection> + Send + Drop + 'static;
 
-    /// What ends a wait at a port.
+    /// A waker: it ends a wait at a port.
     type Waker: Wakes + Send + Drop + 'static;
 
     /// An input with whose end a service may end.
     type Input: Read + Send + Drop + 'static;
 }
 
-/// What a service ends with: an input that comes to its end, and what ends the wait for a client then.
+/// The input whose end ends a service, and the waker for the wait for a client then.
 #[derive(Drop)]
 pub struct Until<W, I> {
-    /// What ends the wait at the port of clients.
+    /// The waker of the port of clients.
     pub waker: W,
     /// The input.
     pub input: I,
 }
 
-/// What a port is for: the connections of clients.
+/// The purpose of a port: the connections of clients.
 pub struct Clients;
 
-/// What a port is for: those of administrators.
+/// The purpose of a port: the connections of administrators.
 pub struct Administrators;
 
-/// A port that is for K alone, so that no call takes one for the other.
+/// A port for the purpose K alone, so that no call takes one for the other.
 #[derive(Drop)]
 pub struct PortFor<K, P> {
     port: P,
@@ -101,20 +101,20 @@ impl<C, K, P: Port<C>> Port<C> for PortFor<K, P> {
     }
 }
 
-/// The ports of a service, and how it was asked for.
+/// The ports of a service, and its options.
 #[derive(Drop)]
 pub struct Ports<P, W, Q, I> {
-    /// Where clients ask.
+    /// The port of clients.
     pub clients: PortFor<Clients, P>,
-    /// Where batches come.
+    /// The port of administrators.
     pub administration: PortFor<Administrators, P>,
-    /// What ends a wait for an administrator, if that port tells where it is.
+    /// The waker of a wait for an administrator, if that port knows its address.
     pub waker: Option<W>,
-    /// What ends a wait for a client, if that port tells where it is.
+    /// The waker of a wait for a client, if that port knows its address.
     pub clients_waker: Option<W>,
-    /// What tells the workers which of their connections may go on, one for each.
+    /// The pollers of the workers, one for each.
     pub pollers: Vec<Q>,
-    /// What the service ends with, where that is asked for.
+    /// The input whose end ends the service, if there is one.
     pub until: Option<Until<W, I>>,
     /// How many connections come at each, and how many workers answer clients.
     pub service: Service,

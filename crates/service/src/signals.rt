@@ -1,4 +1,4 @@
-//! The signals between the threads of a service: that clients are served no more, and that the input ended.
+//! The signals between the threads of a service: that no more clients are served, and that the input ended.
 
 ghost use Rattle.std.specs.Prelude.{◌≡◌, IfErr, true};
 ghost use Rattle.service.specs.Serving.{is_service_failure};
@@ -12,7 +12,7 @@ use std::sync::Arc;
 use std::sync::atomic::{AtomicBool, Ordering};
 use std::thread;
 
-/// What tells the administrator that no client is served any more.
+/// The signal to the thread of administrators that no more clients are served.
 #[derive(Drop)]
 pub(crate) struct StopSignal<W: Wakes> {
     pub is_given: Arc<AtomicBool, Global>,
@@ -20,14 +20,14 @@ pub(crate) struct StopSignal<W: Wakes> {
 }
 
 impl<W: Wakes> StopSignal<W> {
-    /// Says so, and ends the wait for a connection.
+    /// Gives the signal, and ends the wait for a connection.
     pub(crate) fn give(&self) {
         self.is_given.store(true, Ordering::SeqCst);
         self.waker.wake();
     }
 }
 
-// A signal of this waker, and what says whether it was given.
+// A signal with this waker, and the flag that it sets.
 fn stop_signal_of<W: Wakes + Drop>(
     alloc: Global,
     waker: Option<W>,
@@ -52,16 +52,16 @@ fn stop_signal_of<W: Wakes + Drop>(
     }
 }
 
-/// What has the thread of clients stop.
+/// The signal to the thread of clients that it has to stop.
 #[derive(Drop)]
 pub(crate) struct ClientStop<W: Wakes> {
     pub is_stopped: Arc<AtomicBool, Global>,
-    /// What ends its wait for a client, if their port tells where it is.
+    /// The waker of its wait for a client, if their port knows its address.
     pub waker: Option<W>,
 }
 
 impl<W: Wakes> ClientStop<W> {
-    /// Says so, and ends the wait for a connection.
+    /// Gives the signal, and ends the wait for a connection.
     pub(crate) fn give(&self) {
         self.is_stopped.store(true, Ordering::SeqCst);
         if let Some(waker) = &self.waker {
@@ -70,26 +70,26 @@ impl<W: Wakes> ClientStop<W> {
     }
 }
 
-/// What the thread of clients is told, and tells.
+/// The signal that the thread of clients gets, and the one that it gives.
 #[derive(Drop)]
 pub(crate) struct ClientSignals<W: Wakes> {
-    /// That it is to stop.
+    /// It has to stop.
     pub is_stopped: Arc<AtomicBool, Global>,
-    /// That no client is served any more.
+    /// No more clients are served.
     pub is_over: StopSignal<W>,
 }
 
-// What an input says of its end.
+// The flags that the end of an input sets.
 #[derive(Drop)]
 struct InputEnds {
-    // The thread of clients is to stop.
+    // The thread of clients has to stop.
     is_stopped: Arc<AtomicBool, Global>,
     // The input could not be read to its end.
     has_failed: Arc<AtomicBool, Global>,
 }
 
 impl InputEnds {
-    // Neither.
+    // Neither flag is set.
     fn new(alloc: Global) -> Result<Self, AllocError> {
         Ok(InputEnds {
             is_stopped: Arc::new(alloc, AtomicBool::new(false))?,
@@ -97,7 +97,7 @@ impl InputEnds {
         })
     }
 
-    // The same for another thread.
+    // The same flags for another thread.
     fn share(&self) -> Result<Self, AllocError> {
         Ok(InputEnds {
             is_stopped: Arc::try_clone(&self.is_stopped)?,
@@ -106,7 +106,7 @@ impl InputEnds {
     }
 }
 
-// Reads an input to its end. Says whether it didn't fail.
+// Reads an input to its end, and returns whether no read failed.
 fn read_out<I: Read>(input: &mut I) -> bool {
     let mut room = [0; 1_024];
     for _ in 0..u64::MAX {
@@ -119,7 +119,8 @@ fn read_out<I: Read>(input: &mut I) -> bool {
     true
 }
 
-// Waits for the end of an input, and then has the clients' thread stop. An input that fails has ended, which is noted.
+// Waits for the end of an input, and then has the thread of clients stop. An input that fails has ended, and the
+// failure is noted.
 fn watch<W: Wakes + Drop, I: Read + Drop>(until: Until<W, I>, ends: &InputEnds) {
     let Until { waker, mut input } = until;
     if !read_out(&mut input) {
@@ -129,7 +130,7 @@ fn watch<W: Wakes + Drop, I: Read + Drop>(until: Until<W, I>, ends: &InputEnds) 
     waker.wake();
 }
 
-// What says that the clients' thread is to stop. A thread sets it at the end of the input, where one is waited for.
+// The flag that has the thread of clients stop. A thread sets it at the end of the input, if there is one.
 fn input_ends_of<R, W, I>(rt: &R, until: Option<Until<W, I>>) -> Result<InputEnds, Failure>
 where
     R: Runtime,
@@ -159,24 +160,24 @@ where
 /// The signals between the threads of a service.
 #[derive(Drop)]
 pub(crate) struct Signals<W: Wakes> {
-    /// Those of the thread of clients.
+    /// The signals of the thread of clients.
     pub clients: ClientSignals<W>,
-    /// No client is served any more.
+    /// No more clients are served.
     pub is_given: Arc<AtomicBool, Global>,
-    /// What has clients served no more.
+    /// Has the thread of clients stop.
     pub stop: ClientStop<W>,
     /// The input with whose end the service ends could not be read.
     pub has_failed: Arc<AtomicBool, Global>,
 }
 
-/// The wakers of a service, and what it ends with.
+/// The wakers of a service, and the input whose end ends it.
 #[derive(Drop)]
 pub(crate) struct Wakers<W, I> {
-    /// What ends a wait for an administrator.
+    /// The waker of a wait for an administrator.
     pub administration: Option<W>,
-    /// What ends a wait for a client.
+    /// The waker of a wait for a client.
     pub clients: Option<W>,
-    /// What the service ends with, where that is asked for.
+    /// The input whose end ends the service, if there is one.
     pub until: Option<Until<W, I>>,
 }
 

@@ -8,7 +8,7 @@ use std::time::Duration;
 // The token of the waker. No slot has this number.
 const WAKER: Token = Token(usize::MAX);
 
-/// What ends a wait of a `SocketPoller`.
+/// Ends a wait of a `SocketPoller`.
 #[derive(Drop)]
 pub struct PollWaker {
     waker: Waker,
@@ -21,7 +21,7 @@ impl Wakes for PollWaker {
     }
 }
 
-/// What tells which connections of the machine may go on.
+/// Reports which connections of the machine may go on.
 #[derive(Drop)]
 pub struct SocketPoller {
     poll: Poll,
@@ -48,7 +48,7 @@ impl Poller<SocketTransport> for SocketPoller {
         }
     }
 
-    // It tells of each change once, so it watches both sides from the start.
+    // The poller reports each change once, so it watches both sides from the start.
     fn register(&mut self, transport: &mut SocketTransport, slot: usize) -> bool {
         let both = Interest::READABLE | Interest::WRITABLE;
         self.poll

@@ -24,7 +24,7 @@ impl SocketTransport {
     }
 }
 
-// What a call means that failed: it is made again, it would wait, or the connection failed.
+// The meaning of a call that failed: it is made again, it would wait, or the connection failed.
 fn is_interrupted(error: &io::Error) -> bool {
     error.kind() == ErrorKind::Interrupted
 }

@@ -18,7 +18,7 @@ use std::{io, thread};
 use streams::Flagged;
 use workers::{NothingLeft, Opens, Sides};
 
-// How often a connection that ends a wait is tried to be opened.
+// How often a waker tries to open a connection.
 const WAKE_TRIES: u32 = 6_000;
 
 type SocketReader = Flagged<TimedReader<TcpStream, HostRuntime>>;
@@ -44,7 +44,7 @@ impl SocketPort {
         })
     }
 
-    /// What ends a wait at the port, if its address is known.
+    /// The waker of a wait at the port, if its address is known.
     pub fn waker(&self) -> Option<SocketWaker> {
         match (self.listener.local_addr(), Arc::try_clone(&self.is_ending)) {
             (Ok(address), Ok(is_ending)) => Some(SocketWaker {
@@ -87,7 +87,7 @@ impl Port<SocketConnection> for SocketPort {
     }
 }
 
-/// What ends a wait at a port of the machine: for a connection, and for a further command of one of its administrators.
+/// Ends a wait at a port of the machine: for a connection, and for a further command of one of its administrators.
 #[derive(Drop)]
 pub struct SocketWaker {
     rt: HostRuntime,
@@ -96,7 +96,8 @@ pub struct SocketWaker {
 }
 
 impl Wakes for SocketWaker {
-    // Where no descriptor is free it is tried again for a minute. Where it is refused nobody waits there.
+    // Where no descriptor is free, the waker tries again for a minute. Where the connection is refused, no thread waits at
+    // the port.
     fn wake(&self) {
         self.is_ending.store(true, Ordering::SeqCst);
         for _ in 0..WAKE_TRIES {
@@ -119,8 +120,8 @@ pub struct SocketConnection {
 }
 
 impl IntoTransport<SocketTransport> for SocketConnection {
-    // What is written leaves at once: an answer that waited for the client's word that it has the one before would wait for
-    // as long as that is kept back.
+    // Each write is sent at once. Else an answer would wait for the client's acknowledgement of the one before, for as long
+    // as the client delays that.
     fn into_transport(self) -> Option<SocketTransport> {
         let SocketConnection { stream, .. } = self;
         stream.set_nodelay(true).ok()?;
@@ -129,7 +130,7 @@ impl IntoTransport<SocketTransport> for SocketConnection {
     }
 }
 
-// Ends a connection, which had this fault or none. What its client still sends is read for so long.
+// Ends a connection, with its fault or none. What its client still sends is read for so long.
 fn end(sides: Sides<SocketReader, SocketWriter>, fault: Option<EdgeFault>, whole: Duration) {
     let Sides { reader, writer } = sides;
     let (mut reader, mut writer) = (reader.into_inner(), writer.into_inner());
@@ -148,7 +149,7 @@ impl Opens for SocketConnection {
 
     ghost closes = { λ _ _ _ _. Unit {0} };
 
-    // It is an administrator's: the time of its first command begins. What is written leaves at once.
+    // The connection is an administrator's: the time of its first command begins. Each write is sent at once.
     fn open(self, alloc: Global) -> Option<Sides<SocketReader, SocketWriter>> {
         let SocketConnection {
             rt,

@@ -24,7 +24,7 @@ use std::thread::{self, JoinHandle};
 use streams::Sink;
 use turns::Transport;
 
-// Answers the connections of clients, up to the last. Where that fails or stops the administrator is told.
+// Answers the connections of clients, up to the last. Where that fails or stops, the thread of administrators gets the signal.
 fn serve_all<S, R, C, T, P, Q, W>(
     rt: &R,
     readers: Vec<Reader<S>>,
@@ -73,8 +73,7 @@ where
     }
 }
 
-// How a service ended whose threads have ended: what keeps batches failed, or the input with whose end it ends, or as its clients'
-// thread did.
+// How a service ended whose threads have ended: the keeper of batches failed, or the input with whose end it ends, or as the thread of clients did.
 fn outcome_of(
     kept: Result<(), KeepFailed>,
     has_failed: bool,
@@ -95,14 +94,14 @@ fn outcome_of(
     }
 }
 
-// What serves a map, once its threads are started.
+// A service whose threads are started.
 #[derive(Drop)]
 struct Started<P, R, W: Wakes> {
     // The thread that accepts clients.
     clients: JoinHandle<Result<(), Failure>>,
-    // What the administrators' side is served by.
+    // The side of administrators.
     administering: Administering<P, R>,
-    // What has clients served no more.
+    // Has the thread of clients stop.
     stop: ClientStop<W>,
     // The input with whose end the service ends could not be read.
     has_failed: Arc<AtomicBool, Global>,
@@ -160,7 +159,7 @@ where
     })
 }
 
-// Serves clients in other threads and administrators in this one. What becomes of both is logged in these two queues, if it is.
+// Serves clients in other threads and administrators in this one. These two queues log the events of both, if there are logs.
 fn serve_both<S, R, N, K>(
     rt: &R,
     shared: (Admin<S>, Vec<Reader<S>>),
@@ -204,7 +203,7 @@ where
     outcome_of(kept, has_failed.load(Ordering::SeqCst), served)
 }
 
-// Serves clients and administrators, and logs what becomes of them, where that is asked for.
+// Serves clients and administrators, and logs the events of both, if the service has a log.
 fn serve_logged<S, R, N, K>(
     rt: &R,
     shared: (Admin<S>, Vec<Reader<S>>),
@@ -235,7 +234,7 @@ where
     served
 }
 
-// What is left to do once a map is shared: where its ports are is written, and it is served.
+// Writes the addresses of the ports, and serves the shared map.
 fn announce_and_serve<S, R, N, K, O>(
     rt: &R,
     shared: (Admin<S>, Vec<Reader<S>>),
@@ -262,7 +261,7 @@ where
     }
 }
 
-/// What is served: the map of a machine, and what keeps its batches.
+/// The map of a machine, and the keeper of its batches, for a service.
 #[derive(Drop)]
 pub struct Kept<K> {
     /// The machine.
@@ -316,9 +315,9 @@ where
     }
 }
 
-/// Serves the map of a machine, whose accepted batches are kept, by threads: one that accepts the connections of clients, one for each worker, which serves
-/// its connections in turns, and the one that calls, which serves administrators. Once the map is shared, and before the first connection, it writes where the
-/// ports are to the output, so that whoever started the program knows when to connect.
+/// Serves the map of a machine and keeps its accepted batches, by threads: one accepts the connections of clients, one for each worker serves its
+/// connections in turns, and the calling one serves administrators. Once the map is shared, and before the first connection, it writes the addresses
+/// of the ports to the output, so that the caller of the program knows when to connect.
 pub fn serve_by_threads<R: Runtime, N: Network, K: Keeps + Drop, O: Sink>(
     rt: &R,
     kept: Kept<K>,

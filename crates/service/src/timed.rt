@@ -13,7 +13,7 @@ use std::time::Duration;
 // How often a call is made again that a signal interrupted.
 const MAX_TRIES: u32 = 1_000;
 
-/// What the two sides of a connection share: whether an answer was written since the last read.
+/// The flag that the two sides of a connection share: whether an answer was written since the last read.
 #[derive(Drop)]
 pub struct AnswerWritten {
     is_set: Arc<AtomicBool, Global>,
@@ -28,9 +28,9 @@ impl AnswerWritten {
     }
 }
 
-/// What an administrator sends. The time of a command begins with its first bytes, that of the first with the opening of the
-/// connection. Each read waits for what is left of it, and no longer than the administrator may be silent. The first read behind an
-/// answer waits for the time of an idle connection.
+/// The bytes of an administrator, with limits of time. The time of a command begins with its first bytes, that of the first command
+/// with the opening of the connection. Each read waits for the rest of that time, and no longer than the administrator may be
+/// silent. The first read after an answer waits for the time of an idle connection.
 #[derive(Drop)]
 pub struct TimedReader<S, C> {
     stream: S,
@@ -39,7 +39,7 @@ pub struct TimedReader<S, C> {
     answered: AnswerWritten,
     limit: TimeLimit,
     is_idle: bool,
-    // Where that is set it comes to its end.
+    // Where the flag is set, the stream ends.
     is_ending: Option<Arc<AtomicBool, Global>>,
 }
 
@@ -61,13 +61,13 @@ impl<S, C: Clock> TimedReader<S, C> {
         })
     }
 
-    /// The same, which comes to its end where that is set and nothing comes for a second.
+    /// The same stream, which ends where the flag is set and nothing comes for a second.
     pub fn until(mut self, is_ending: Arc<AtomicBool, Global>) -> Self {
         self.is_ending = Some(is_ending);
         self
     }
 
-    // How long the next read may wait: not longer than a second, where it may come to its end.
+    // How long the next read may wait: not longer than a second, where the stream may end by the flag.
     fn next_wait(&self, silence: TimeLimit) -> io::Result<Duration> {
         let left = self
             .limit
@@ -79,7 +79,7 @@ impl<S, C: Clock> TimedReader<S, C> {
         }
     }
 
-    // Whether a read goes on that has waited in vain.
+    // Whether a read that got nothing is made again.
     fn goes_on(&self) -> bool {
         match &self.is_ending {
             Some(is_ending) => !is_ending.load(Ordering::SeqCst),
@@ -87,7 +87,7 @@ impl<S, C: Clock> TimedReader<S, C> {
         }
     }
 
-    /// Another time from now on, whatever was answered. Without a clock it stays as it is.
+    /// Begins another time now, whatever was answered. Without a clock the time stays as it is.
     pub fn limit(&mut self, whole: Duration) {
         if let Ok(limit) = TimeLimit::start(&self.clock, whole) {
             self.answered.is_set.store(false, Ordering::SeqCst);
@@ -136,8 +136,8 @@ impl<S: Read + OpenStream, C: Clock> Read for TimedReader<S, C> {
     }
 }
 
-/// What an administrator gets. An answer may stand still for a time, and has another in all, which begins with the first
-/// write after a read. So a write waits for a second at most, and is made again while none of its bytes went.
+/// The answers to an administrator, with limits of time. An answer may stand still for a time, and has another in all, which begins
+/// with the first write after a read. So a write waits for a second at most, and is made again while none of its bytes were sent.
 #[derive(Drop)]
 pub struct TimedWriter<S, C> {
     stream: S,
@@ -145,7 +145,7 @@ pub struct TimedWriter<S, C> {
     waits: Waits,
     answered: AnswerWritten,
     limit: Option<TimeLimit>,
-    // The time since bytes last went.
+    // The time since bytes were last sent.
     still: Option<TimeLimit>,
     is_shut: bool,
 }
@@ -165,7 +165,7 @@ impl<S, C> TimedWriter<S, C> {
     }
 }
 
-// How much is left of a time, which begins now if it hasn't begun.
+// The rest of a time, which begins now if it hasn't begun.
 fn left_of<C: Clock>(
     limit: &mut Option<TimeLimit>,
     clock: &C,
@@ -197,7 +197,7 @@ impl<S, C: Clock> TimedWriter<S, C> {
     }
 }
 
-// Whether a call failed since it had waited as long as it may, or a signal came.
+// Whether a call failed because it had waited as long as it may, or because of a signal.
 fn moved_nothing(error: &io::Error) -> bool {
     matches!(
         error.kind(),

@@ -2,7 +2,7 @@ use Rattle.std.proofs.Common.{List, ℕ}
 use Rattle.administration.specs.Keeping.{IsKeptSince}
 use Rattle.service.proofs.administering.administer_all.Given as goal
 
--- what was accepted so far is kept, behind what was kept before
+-- the batches accepted so far are kept, after those kept before
 abbrev pub invariant-loop : goal.invariant-loop
 invariant-loop g l = record {
   ready : (kept : List (List ℕ)) × g.K.Keeps.keeps l.keeper kept;

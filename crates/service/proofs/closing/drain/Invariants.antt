@@ -2,7 +2,7 @@ use Rattle.std.proofs.Common.{◌≡◌, ℕ, ◌+◌, List, length}
 use Rattle.std.specs.Io.KnownBytes.{Consumes}
 use Rattle.service.proofs.closing.drain.Given as goal
 
--- what was read so far, and what may still be read, are the limit
+-- the bytes read so far and those that may still be read add up to the limit
 abbrev pub invariant-loop-left : goal.invariant-loop-left
 invariant-loop-left g l = record {
   bytes : List ℕ;
