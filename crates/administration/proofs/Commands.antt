@@ -1,4 +1,4 @@
--- What stands at the front of the bytes of a client.
+-- The first command in the bytes of a client.
 use Rattle.std.proofs.Common.{MatchOption, IfSome, ◌≡◌, ℕ, suc, ◌+◌, ◌-◌, ◌<◌, Bool, true, false, List, [], ◌∷◌, ◌++◌, length, take, drop, Option, None, Some, nat_le, nat_lt, refl, arith, take_all, append_assoc, length-append}
 use Rattle.std.proofs.Math.Seq.{drop-append_seam, take-append-add, take-append_seam}
 use Rattle.std.proofs.lemmas.Bool.Decides.{nat_tests}
@@ -13,7 +13,7 @@ use Rattle.administration.specs.Commands.{Submit, first_command, line_of}
 use Rattle.administration.specs.Reading.{HasEnded, IsCommandOf, IsLineOf}
 use Rattle.administration.specs.declared.line.ClientLine.TheVariants as line
 
--- an LF stands among the first bytes of a line that is no longer than the limit
+-- an LF is among the first bytes of a line that is no longer than the limit
 ends-early : (text more : List ℕ) → list_any is_line_end text ≡ false → length text < 33 → list_any is_line_end (take 33 (text ++ 10 ∷ more)) ≡ true
 ends-early text more none short = go (32 - length text) (omega (arith, short))
   where
@@ -60,7 +60,7 @@ pub at-none : {X : Type 0} (o : Option X) (P : Type 0) (Q : X → Type 0) → o 
 at-none None P Q is p = p
 at-none (Some x) P Q is p = absurd (cc)
 
--- what follows from what is known of a value follows for it
+-- what follows from a fact about a value follows for the fact
 pub match-so : {X : Type 0} (o : Option X) (P P' : Type 0) (Q Q' : X → Type 0) → (P → P') → ((x : X) → Q x → Q' x) → MatchOption o P Q → MatchOption o P' Q'
 match-so None P P' Q Q' f g m = f m
 match-so (Some x) P P' Q Q' f g m = g x m
@@ -69,7 +69,7 @@ match-so (Some x) P P' Q Q' f g m = g x m
 pub ended-after : (a b c : Option (List ℕ)) (failed : Bool) (bytes piece : List ℕ) → Consumes a b bytes → HasEnded b c failed piece → HasEnded a c failed (bytes ++ piece)
 ended-after a b c failed bytes piece came ended = record { read = Consumes-trans a b c bytes piece came ended.read; end = ended.end }
 
--- a piece more is held, if anything is
+-- one more piece is held, if anything is
 pub held-on : (old new : Option (Vec ℕ Global)) (bytes piece : List ℕ) → MatchOption old (new ≡ None) (λ held. IfSome new (λ more. more.items ≡ held.items ++ piece)) → IfSome old (λ held. held.items ≡ bytes) →
     IfSome new (λ more. more.items ≡ bytes ++ piece)
 held-on None new bytes piece m held = rw m tt

@@ -1,4 +1,4 @@
--- What is kept of a client's batches.
+-- The batches of a client that are kept.
 use Rattle.std.proofs.Common.{◌≡◌, ℕ, ◌+◌, List, [], ◌∷◌, ◌++◌, Option, length, refl, sym, ◌∙◌, ap, subst, append_assoc, append-nil}
 use Rattle.std.specs.Prelude.{IfSome, Vec}
 use Rattle.std.specs.declared.alloc.Global.{Global}
@@ -25,7 +25,7 @@ submitted_done opening old batch submitted.Held new is = is
 submitted_done opening old batch (submitted.Refused fault) new is = is
 submitted_done opening old batch submitted.NoMemory new is = is
 
--- a batch for which what keeps batches failed changed nothing
+-- a batch for which the keeper failed changed nothing
 pub failed_done : (opening : State) (old : Batches) (command : Command) (new : Batches) → HasFailed opening old command new → HasDone opening old command done.NoMemory new
 failed_done opening old (Submit batch) new is = is.1
 failed_done opening old Publish new is = absurd is
@@ -42,7 +42,7 @@ module _ {K : Type 0} (keeps : K → List (List ℕ) → Type 0) where
   pub same_kept : (old new : Batches) (kept : List (List ℕ)) (keeper : K) → all_of new ≡ all_of old → keeps keeper kept → IsKeptSince keeps old kept new keeper
   same_kept old new kept keeper same is = ([], same ∙ sym (append-nil (all_of old)), subst (keeps keeper) (sym (append-nil kept)) is)
 
-  -- one batch was
+  -- one batch was accepted
   one_kept : (old new : Batches) (batch : List ℕ) (kept : List (List ℕ)) (keeper : K) → all_of new ≡ all_of (with_batch batch old) → keeps keeper (kept ++ batch ∷ []) → IsKeptSince keeps old kept new keeper
   one_kept old new batch kept keeper same is = (batch ∷ [], same ∙ sym (append_assoc old.published old.pending (batch ∷ [])), is)
 
@@ -56,7 +56,7 @@ module _ {K : Type 0} (keeps : K → List (List ℕ) → Type 0) where
   submitted_kept opening old new batch kept before after submitted.NoMemory is has was =
       same_kept old new kept after (ap all_of is) (subst (λ (k : K). keeps k kept) (sym has) was)
 
-  -- what was accepted, and then more
+  -- some batches were accepted, and then more
   pub more_kept : (old between new : Batches) (kept : List (List ℕ)) (middle last : K) → IsKeptSince keeps old kept between middle
       → ((now : List (List ℕ)) → keeps middle now → IsKeptSince keeps between now new last) → IsKeptSince keeps old kept new last
   more_kept old between new kept middle last (first, is, has) next =
@@ -66,7 +66,7 @@ module _ {K : Type 0} (keeps : K → List (List ℕ) → Type 0) where
         subst (keeps last) (append_assoc kept first then.0) then.2,
       )
 
--- what keeps batches failed
+-- the keeper failed
 module _ {O : Type 0} (opening : State) (held : O → Option (List ℕ)) (taken : O → ℕ) (old : Batches) (start : Option (List ℕ)) (first : O) (left : Option (List ℕ)) (now : Batches) (current : O) (come : HasCome opening held taken old start first left now current) where
   pub came-to-failure : (after : Option (List ℕ)) (new : Batches) (last : O) (piece : List ℕ) (command : Command) → Consumes left after piece → IsCommandOf piece command
       → HasFailed opening now command new → IsReported held taken current last → IsFailed opening start after held taken old first new last

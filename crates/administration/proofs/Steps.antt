@@ -16,7 +16,7 @@ use Rattle.administration.specs.Serving.{AreDone, HasDone, HasDoneAll, IsServed,
 use Rattle.administration.specs.declared.done.Done.{Done}
 use Rattle.administration.specs.declared.done.Done.TheVariants as done
 
--- what ends the connection is malformed
+-- a result that ends the connection is of a malformed command
 pub malformed-ends : (opening : State) (a b : Batches) (command : Command) (what : Done) → HasDone opening a command what b → ends what ≡ true → is_malformed command ≡ true
 malformed-ends opening a b Malformed what h e = refl
 malformed-ends opening a b (Submit batch) done.Malformed h e = absurd h
@@ -32,7 +32,7 @@ malformed-ends opening a b Publish (done.Refused f) h e = cc
 malformed-ends opening a b Publish done.NoMemory h e = cc
 malformed-ends opening a b Publish done.Idle h e = cc
 
--- and nothing else is
+-- a command that isn't malformed goes on
 pub others-go-on : (opening : State) (a b : Batches) (command : Command) (what : Done) → HasDone opening a command what b → ends what ≡ false → is_malformed command ≡ false
 others-go-on opening a b (Submit batch) what h e = refl
 others-go-on opening a b Publish what h e = refl
@@ -48,7 +48,7 @@ or-true true = refl
 or-true false = refl
 
 module _ {O : Type 0} (opening : State) (held : O → Option (List ℕ)) (taken : O → ℕ) (old : Batches) (start : Option (List ℕ)) (first : O) where
-  -- some commands were read and done, and whatever is done then goes on from them
+  -- some commands were read and done, and the commands after them go on from there
   pub record HasCome (left : Option (List ℕ)) (now : Batches) (current : O) : Type 0 where
     pub bytes : List ℕ
     pub commands : List Command
@@ -72,7 +72,7 @@ module _ {O : Type 0} (opening : State) (held : O → Option (List ℕ)) (taken 
   }
 
   module _ (left : Option (List ℕ)) (now : Batches) (current : O) (come : HasCome left now current) where
-    -- one command more
+    -- one more command
     pub one-more : (after : Option (List ℕ)) (next : Batches) (last : O) (piece : List ℕ) (command : Command) (what : Done) → Consumes left after piece → IsCommandOf piece command →
         HasDone opening now command what next → ends what ≡ false → IsSent held taken current (done_line what) last → HasCome after next last
     one-more after next last piece command what taken_in is has on sent = record {
@@ -146,7 +146,7 @@ module _ {O : Type 0} (opening : State) (held : O → Option (List ℕ)) (taken 
       cut = cut;
     }
 
--- what is known of an error, of a success, and where there is no value
+-- what holds of an error, of a success, and where there is no value
 pub known-err : {T E : Type 0} (r : Result T E) (P : Type 0) → is_err r ≡ true → OnErr r P → P
 known-err (Ok x) P e p = cc
 known-err (Err x) P e p = p

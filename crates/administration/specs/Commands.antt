@@ -1,4 +1,4 @@
--- What a client of the administration port asks for (docs/SERVICE.md, "Administration").
+-- The commands of a client of the administration port (docs/SERVICE.md, "Administration").
 use Rattle.std.specs.Prelude.{ℕ, nat_eq, nat_le, nat_lt, if◌then◌else◌, List, length, take, drop, Option, None, Some, codes}
 use Rattle.std.specs.List.{before_first, after_first, list_any, starts_with}
 use Rattle.std.specs.Str.{bytes_eq}
@@ -8,7 +8,7 @@ use Rattle.administration.specs.declared.line.ClientLine.{ClientLine}
 use Rattle.administration.specs.declared.line.ClientLine.TheVariants as line
 use Rattle.administration.specs.declared.line.TheConstants.{LINE}
 
--- to submit a batch of these bytes, to publish what is pending, or nothing that there is
+-- to submit a batch of these bytes, to publish the pending batches, or no command
 pub data Command : Type 0 where
   Submit : List ℕ → Command
   Publish : Command
@@ -19,21 +19,21 @@ abbrev pub batch_line : Option ℕ → ClientLine
 batch_line None = line.Malformed
 batch_line (Some count) = if nat_le count MAX_BATCH then line.Batch count else line.Malformed
 
--- what a line says
+-- the meaning of a line
 abbrev pub line_of : List ℕ → ClientLine
 line_of text =
     if starts_with nat_eq text (codes "BATCH ") then batch_line (count_of (drop 6 text))
     else if bytes_eq text (codes "RETRY") then line.Retry
     else line.Malformed
 
--- the command of a line that some bytes follow, and what stands after it, if that many bytes follow
+-- the command of a line that some bytes follow, and the bytes after it, if that many bytes follow
 abbrev pub command_of : ClientLine → List ℕ → Option (Command × List ℕ)
 command_of (line.Batch count) rest = if nat_lt (length rest) count then None else Some (Submit (take count rest), drop count rest)
 command_of line.Retry rest = Some (Publish, rest)
 command_of line.Malformed rest = Some (Malformed, rest)
 
--- the command at the front of some bytes, and what stands after it, if a whole one stands there. The line of a command ends within
--- its first 33 bytes; 33 bytes without an LF are malformed, whatever follows
+-- the command at the start of some bytes, and the bytes after it, if there is a whole one. The line of a command ends within its first 33 bytes; 33
+-- bytes without an LF are malformed, whatever follows
 unfoldable pub first_command : List ℕ → Option (Command × List ℕ)
 first_command bytes =
     if list_any is_line_end (take LINE bytes) then command_of (line_of (before_first is_line_end bytes)) (after_first is_line_end bytes)

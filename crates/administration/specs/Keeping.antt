@@ -1,4 +1,4 @@
--- What the client of an administrator does whose batches are kept (docs/SERVICE.md, "Administration" and "Journal").
+-- The effects of an administrator's client whose batches are kept (docs/SERVICE.md, "Administration" and "Journal").
 use Rattle.std.specs.Prelude.{◌≡◌, ◌⊎◌, ℕ, ◌+◌, false, List, [], ◌++◌, length, Option, Some, codes}
 use Rattle.std.specs.List.{list_any}
 use Rattle.streams.specs.Sent.{IsSent, IsCutSomewhere}
@@ -11,33 +11,33 @@ use Rattle.administration.specs.declared.done.Done.TheVariants as done
 use Rattle.mapshare.specs.declared.admin.Submitted.{Submitted}
 use Rattle.mapshare.specs.declared.admin.Submitted.TheVariants as submitted
 
--- what became of a batch that was submitted: where it is published, the sequence is the one after all that the receipt stands for
+-- the result of a batch that was submitted: where it is published, the sequence is the one after all batches of the receipt
 abbrev pub done_of : {S : Type 0} → State → Submitted S → Done
 done_of opening (submitted.Published receipt) = done.Published (opening.sequence + length receipt)
 done_of opening submitted.Held = done.Held
 done_of opening (submitted.Refused fault) = done.Refused fault
 done_of opening submitted.NoMemory = done.NoMemory
 
--- what was accepted from one state to a later one is kept, behind what was kept before
+-- the batches accepted from one state to a later one are kept, after those kept before
 abbrev pub IsKeptSince : {K : Type 0} → (K → List (List ℕ) → Type 0) → Batches → List (List ℕ) → Batches → K → Type 0
 IsKeptSince keeps old kept new keeper = (more : List (List ℕ)) × (all_of new ≡ all_of old ++ more) × keeps keeper (kept ++ more)
 
--- the command is to submit a batch, which has no fault; what keeps batches failed, and nothing is published
+-- the command is to submit a batch, which has no fault; the keeper failed, and nothing is published
 abbrev pub HasFailed : State → Batches → Command → Batches → Type 0
 HasFailed opening old (Submit batch) new = IsAccepted opening (with_batch batch old) × (new ≡ old)
 HasFailed opening old Publish new = ⊥
 HasFailed opening old Malformed new = ⊥
 
--- the line that says so
+-- the line that reports this
 abbrev pub failed_line : List ℕ
 failed_line = codes "FAILED\n"
 
--- the line went out, or a prefix of it, where the writer failed
+-- the line was sent, or a prefix of it, where the writer failed
 abbrev pub IsReported : {O : Type 0} → (O → Option (List ℕ)) → (O → ℕ) → O → O → Type 0
 IsReported held taken old new = IsSent held taken old failed_line new ⊎ IsCutSomewhere held taken old failed_line new
 
--- what keeps batches failed: all commands before the last are done, all of their lines went out, and none of them is malformed. The last
--- is a batch that may be kept or not
+-- the keeper failed: all commands before the last are done, all of their lines were sent, and none of them is malformed. The last is a batch that may
+-- be kept or not
 pub record IsFailed {O : Type 0} (opening : State) (before after : Option (List ℕ)) (held : O → Option (List ℕ)) (taken : O → ℕ) (old : Batches) (first : O) (new : Batches) (last : O) : Type 0 where
   pub commands : List Command
   pub lines : List ℕ

@@ -1,4 +1,4 @@
--- What the client of an administrator does, and is told (docs/SERVICE.md, "Administration").
+-- The effects of an administrator's client, and the lines that it gets (docs/SERVICE.md, "Administration").
 use Rattle.std.specs.Prelude.{◌≡◌, ◌≢◌, ◌⊎◌, ℕ, ◌+◌, Bool, true, false, List, [], ◌∷◌, ◌++◌, length, Option, None, Some, codes}
 use Rattle.std.specs.List.{list_any}
 use Rattle.std.specs.Io.KnownBytes.{Consumes, IsAtEnd}
@@ -16,9 +16,9 @@ abbrev pub ArePublished : State → List (List ℕ) → ℕ → Batches → Type
 ArePublished opening batches sequence new =
     (new ≡ record { published = batches; pending = [] }) × (sequence ≡ opening.sequence + length batches)
 
--- what became of a command: a batch is accepted after all batches before it, and published with all that is pending, or held; or it
--- is refused with its first fault there, or out of memory. What is pending is published or held, if anything is.
--- What is refused, held or malformed publishes nothing
+-- the result of a command. A batch is accepted after all batches before it, and published with all that is pending, or held; or it is refused with
+-- its first fault there, or out of memory. Pending batches are published or held, if there are any. A command that is refused, held or malformed
+-- publishes nothing
 abbrev pub HasDone : State → Batches → Command → Done → Batches → Type 0
 HasDone opening old (Submit batch) (done.Published sequence) new =
     IsAccepted opening (with_batch batch old) × ArePublished opening (all_of (with_batch batch old)) sequence new
@@ -31,7 +31,7 @@ HasDone opening old Publish done.Idle new = (old.pending ≡ []) × (new ≡ old
 HasDone opening old Malformed done.Malformed new = new ≡ old
 HasDone opening old command what new = ⊥
 
--- the line that says what became of a command
+-- the line that reports the result of a command
 abbrev pub done_line : Done → List ℕ
 done_line (done.Published sequence) = reply_text (reply.Published sequence)
 done_line done.Held = codes "HELD\n"
@@ -40,19 +40,19 @@ done_line done.NoMemory = codes "NOMEMORY\n"
 done_line done.Idle = codes "IDLE\n"
 done_line done.Malformed = codes "MALFORMED\n"
 
--- what was asked for is none of the commands
+-- it is none of the commands
 abbrev pub is_malformed : Command → Bool
 is_malformed (Submit batch) = false
 is_malformed Publish = false
 is_malformed Malformed = true
 
--- so it was told, which ends the connection
+-- the result ends the connection: the command was malformed
 abbrev pub ends : Done → Bool
 ends done.Malformed = true
 ends what = false
 
--- these commands stand at the front of some bytes, before a rest, and only the last may be malformed. One after the other they led from
--- some batches to others, and these lines say so, in the same order
+-- these commands are at the start of some bytes, before a rest, and only the last may be malformed. One after the other they led from some batches to
+-- others, and these lines report that, in the same order
 abbrev pub AreDone : State → List Command → Batches → List ℕ → List ℕ → List ℕ → Batches → Type 0
 AreDone opening [] old bytes lines rest new = (rest ≡ bytes) × (lines ≡ []) × (new ≡ old)
 AreDone opening (command ∷ commands) old bytes lines rest new =
@@ -72,8 +72,8 @@ abbrev pub IsServed : List Command → List ℕ → Option (List ℕ) → Bool �
 IsServed commands rest left failed =
     (list_any is_malformed commands ≡ true) ⊎ ((first_command rest ≡ None) × (IsAtEnd left ⊎ (failed ≡ true)))
 
--- the writer failed: all commands before the last are done and all of their lines went out, and none of them is malformed, since nothing
--- is read after such a one; the last is done, too, and only a prefix of its line went out
+-- the writer failed: all commands before the last are done and all of their lines were sent, and none of them is malformed, since nothing is read
+-- after a malformed one; the last is done, too, and only a prefix of its line was sent
 pub record IsStopped {O : Type 0} (opening : State) (before after : Option (List ℕ)) (held : O → Option (List ℕ)) (taken : O → ℕ) (old : Batches) (first : O) (new : Batches) (last : O) : Type 0 where
   pub commands : List Command
   pub lines : List ℕ

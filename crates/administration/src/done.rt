@@ -7,12 +7,12 @@ use mapmachine::Reply;
 use scripts::send_reply;
 use streams::{PutFailed, Sink, put_all};
 
-/// What became of a command.
+/// The result of a command.
 #[derive(Clone, Copy)]
 pub enum Done {
     /// All that was pending is published, and the sequence is this.
     Published(u64),
-    /// What is pending is still pending: there was no memory to publish it.
+    /// The pending batches are still pending: there was no memory to publish them.
     Held,
     /// The batch has this first fault.
     Refused(BatchFault),
@@ -33,7 +33,7 @@ impl Done {
     }
 }
 
-// Writes the line that says what became of a command.
+// Writes the line that reports the result of a command.
 pub(crate) fn send_line<O: Sink>(writer: &mut O, done: Done) -> Result<(), PutFailed>
     ensures sent { OnOk result (IsSent O.held O.taken writer.old (done_line done) writer.new) }
     ensures cut { OnErr result (IsCutSomewhere O.held O.taken writer.old (done_line done) writer.new) }

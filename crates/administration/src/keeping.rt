@@ -20,13 +20,13 @@ use streams::{Sink, Source, put_all};
 /// Why a client isn't served to its end.
 #[derive(Clone, Copy, Debug, PartialEq, Eq)]
 pub enum AdministerFault {
-    /// The writer failed. What the line says that wasn't written is done all the same.
+    /// The writer failed. The command is done, although its line wasn't written.
     PutFailed,
-    /// What keeps batches failed, and the client was sent `FAILED`. The service has to stop.
+    /// The keeper of batches failed, and the client was sent `FAILED`. The service has to stop.
     KeepFailed,
 }
 
-// What became of a batch that was submitted.
+// The result of a batch that was submitted.
 fn done_of<S: Sharing>(submitted: Submitted<S>) -> Done
     ensures { result ≡ done_of S.opening submitted }
 {
@@ -60,7 +60,7 @@ fn submit_kept<S: Sharing, K: Keeps, R: Wait>(
     }
 }
 
-// Publishes what is pending, which is kept already.
+// Publishes the pending batches, which are kept already.
 fn retry_kept<S: Sharing, R: Wait>(rt: &R, admin: Admin<S>) -> (Admin<S>, Done)
     ensures done { HasDone S.opening admin Publish result.1 result.0 }
     ensures same { all_of result.0 ≡ all_of admin }
@@ -72,7 +72,7 @@ fn retry_kept<S: Sharing, R: Wait>(rt: &R, admin: Admin<S>) -> (Admin<S>, Done)
     }
 }
 
-// Does what was asked for, and keeps a batch that is accepted.
+// Does a command, and keeps a batch that is accepted.
 pub(crate) fn perform_kept<S: Sharing, K: Keeps, R: Wait>(
     rt: &R,
     admin: Admin<S>,
@@ -94,15 +94,15 @@ pub(crate) fn perform_kept<S: Sharing, K: Keeps, R: Wait>(
     }
 }
 
-// Writes the line that says that what keeps batches failed, as far as the writer takes it.
+// Writes the line that reports a failure of the keeper, as far as the writer takes it.
 fn send_failure<O: Sink>(writer: &mut O)
     ensures { IsReported O.held O.taken writer.old writer.new }
 {
     let _sent = put_all(writer, b"FAILED\n");
 }
 
-/// Serves a client as `administer` does, and keeps each batch before it is published. Where what keeps batches fails, the client
-/// is sent `FAILED` in the place of what became of its batch, and is served no more.
+/// Serves a client as `administer` does, and keeps each batch before it is published. Where the keeper fails, the client is sent
+/// `FAILED` in place of the batch's result, and is served no more.
 pub fn administer_kept<S: Sharing, K: Keeps, R: AllocGlobal + Wait, I: Source, O: Sink>(
     rt: &R,
     admin: Admin<S>,
@@ -118,7 +118,7 @@ pub fn administer_kept<S: Sharing, K: Keeps, R: AllocGlobal + Wait, I: Source, O
     ensures stopped { IsErrOf result.1 fault.PutFailed → IsStopped S.opening (I.left reader.old) (I.left reader.new) O.held O.taken admin writer.old result.0 writer.new }
     ensures failed { IsErrOf result.1 fault.KeepFailed → IsFailed S.opening (I.left reader.old) (I.left reader.new) O.held O.taken admin writer.old result.0 writer.new }
 
-    // All that was accepted is kept, unless what keeps batches failed.
+    // All accepted batches are kept, unless the keeper failed.
     ensures kept { (kept : List (List ℕ)) → K.keeps keeper.old kept → MatchResult result.1
         (λ _. IsKeptSince K.keeps admin kept result.0 keeper.new)
         (λ why. why ≡ fault.PutFailed → IsKeptSince K.keeps admin kept result.0 keeper.new) }

@@ -1,11 +1,11 @@
-//! The administration of a shared map over a stream: a client's commands come in, and a line says what became of each.
+//! The administration of a shared map over a stream: a client's commands come in, and a line reports the result of each.
 //!
-//! Proved: `administer` reads commands up to the client's end, to one that is malformed or to a fault, does one after the
-//! other, and writes their lines in order (`served`); where the writer fails, the command whose line it was is done all
-//! the same (`stopped`). Nothing is read beyond a command before its line is written.
+//! Proved: `administer` reads commands up to the client's end, to one that is malformed or to a fault, does one after the other, and
+//! writes their lines in order (`served`); where the writer fails, the command whose line it was is done all the same (`stopped`).
+//! Nothing is read after a command before its line is written.
 //!
-//! Words: a *command* is a line, and the bytes of a batch where it announces them. A *line* ends with an LF; one that has none within
-//! 33 bytes is *malformed*, as is any other that is no command.
+//! Terms: a *command* is a line, and the bytes of a batch where the line announces them. A *line* ends with an LF. One that has no LF
+//! within 33 bytes is *malformed*, as is any other that is no command. The *keeper* keeps each accepted batch.
 #![tactic(auto)]
 
 mod done;

@@ -7,18 +7,18 @@ use batches::{MAX_BATCH, count_of};
 /// The most bytes of a line, with the LF at its end.
 pub const LINE: usize = 33;
 
-/// What a line of a client says.
+/// The meaning of a line of a client.
 #[derive(Clone, Copy)]
 pub enum ClientLine {
     /// A batch of so many bytes follows.
     Batch(usize),
-    /// What is pending is to be published.
+    /// The pending batches are to be published.
     Retry,
     /// It is none of the two.
     Malformed,
 }
 
-// What a line says, which stands without the LF at its end.
+// The meaning of a line, without the LF at its end.
 pub(crate) fn line_of(text: &[u8]) -> ClientLine
     ensures { result ≡ line_of text.now }
 {

@@ -10,14 +10,14 @@ use streams::Source;
 // How many bytes are read at once, at most.
 const PIECE: usize = 4_096;
 
-/// What a client asks for, as far as it is held.
+/// A command of a client, as far as it is held.
 #[derive(Drop)]
 pub enum ReadCommand {
     /// To submit a batch of these bytes. There are none where memory was refused for them.
     Batch(Option<Vec<u8>>),
-    /// To publish what is pending.
+    /// To publish the pending batches.
     Retry,
-    /// Nothing that there is.
+    /// No command.
     Malformed,
 }
 
@@ -34,7 +34,7 @@ fn read_byte<I: Source>(reader: &mut I) -> Option<u8>
     }
 }
 
-// Reads a line, byte by byte, so that nothing behind it is taken.
+// Reads a line, byte by byte, so that nothing after it is taken.
 fn read_line<I: Source>(reader: &mut I) -> Option<ClientLine>
     ensures { MatchOption result
         ((bytes : List ℕ) × HasEnded (I.left reader.old) (I.left reader.new) (I.take_failed reader.new) bytes × (first_command bytes ≡ None))
@@ -51,7 +51,7 @@ fn read_line<I: Source>(reader: &mut I) -> Option<ClientLine>
     Some(ClientLine::Malformed)
 }
 
-// Holds a piece of a batch behind what is held, as long as there is memory.
+// Adds a piece of a batch to the held bytes, as long as there is memory.
 fn hold(held: Option<Vec<u8>>, piece: &[u8]) -> Option<Vec<u8>>
     ensures { MatchOption held (result ≡ None) (λ old. IfSome result (λ new. new.items ≡ old.items ++ piece.now)) }
 {
@@ -82,8 +82,8 @@ fn read_batch<I: Source>(alloc: Global, reader: &mut I, count: usize) -> Option<
     Some(ReadCommand::Batch(held))
 }
 
-/// Reads the command that comes next, and nothing behind it. There is none where the client ends before it or within it, or the
-/// reader fails.
+/// Reads the next command, and nothing after it. There is none where the client ends before it or within it, or the reader
+/// fails.
 pub(crate) fn read_command<I: Source>(alloc: Global, reader: &mut I) -> Option<ReadCommand>
     ensures { MatchOption result
         ((bytes : List ℕ) × HasEnded (I.left reader.old) (I.left reader.new) (I.take_failed reader.new) bytes × (first_command bytes ≡ None))

@@ -15,7 +15,7 @@ use std::alloc::Global;
 use std::sync::Wait;
 use streams::{PutFailed, Sink, Source};
 
-// Does what was asked for. No batch is kept, so that nothing that keeps them fails.
+// Does a command. No batch is kept, so that no keeper fails.
 fn perform<S: Sharing, R: Wait>(rt: &R, admin: Admin<S>, asked: ReadCommand) -> (Admin<S>, Done)
     ensures { (command : Command) → IsHeldOf command asked → HasDone S.opening admin command result.1 result.0 }
 {
@@ -27,12 +27,12 @@ fn perform<S: Sharing, R: Wait>(rt: &R, admin: Admin<S>, asked: ReadCommand) -> 
     }
 }
 
-/// Serves a client that administers a shared map: reads its commands, does one after the other, and says what became
-/// of each in a line of its own. It ends with the client's bytes, where the reader fails, or after a command that is
-/// malformed. Nothing is read beyond a command before its line is written. An end within a command does nothing.
+/// Serves a client that administers a shared map: reads its commands, does one after the other, and reports the result of each in a
+/// line of its own. It ends with the client's bytes, where the reader fails, or after a command that is malformed. Nothing is read
+/// after a command before its line is written. An end within a command does nothing.
 ///
-/// The error is that the writer failed, after the first bytes of a line: what that line says is done all the same. It waits for the
-/// client, and for readers of the map that still read an older state.
+/// The error is that the writer failed, after the first bytes of a line: the command of that line is done all the same. It waits
+/// for the client, and for readers of the map that still read an older state.
 pub fn administer<S: Sharing, R: Wait, I: Source, O: Sink>(
     rt: &R,
     alloc: Global,

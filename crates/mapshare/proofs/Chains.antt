@@ -1,4 +1,4 @@
--- Prefixes that each go one batch further.
+-- Prefixes of which each has one batch more than the one before.
 use Rattle.std.specs.Prelude.{MatchBool, MatchResult, OnOk, option_and_then}
 use Rattle.std.proofs.Common.{arith, length, take, drop, ◌+◌, ◌≤◌, ◌≡◌, ◌∙◌, ℕ, Bool, true, false, Some, Result, Ok, Err, List, [], ◌∷◌, ◌++◌, fold, refl, sym, ap, subst, append_assoc}
 use Rattle.std.proofs.Math.Seq.{take-append_seam, take-length}
@@ -29,7 +29,7 @@ chain_goes opening first (e ∷ replicas) last c =
     ap (take n) (sym (take-append-drop (n + 1) last)) ∙ take-append-le n (take (n + 1) last) (drop (n + 1) last) within in
     (begins ∙ ap (take n) prefix ∙ c.0.begins, omega (arith, rest.1, c.0.one_more))
 
--- the last prefix is the first and what is behind it
+-- the last prefix is the first and the batches after it
 pub chain_all : {S : Type 0} (opening : State) (first : List (List ℕ)) (replicas : List (Replica S)) (last : List (List ℕ)) → IsChain opening first replicas last →
     last ≡ first ++ drop (length first) last
 chain_all opening first replicas last c =
@@ -44,22 +44,22 @@ chain_snoc : {S : Type 0} (opening : State) (first : List (List ℕ)) (replicas 
 chain_snoc opening first [] last e c next made = (rw c next, made, refl)
 chain_snoc opening first (x ∷ replicas) last e c next made = (c.0, c.1, chain_snoc opening x.prefix replicas last e c.2 next made)
 
--- a prefix and one batch more
+-- a prefix and one more batch
 pub next_one : (last : List (List ℕ)) (b : List ℕ) → IsNext last (last ++ b ∷ [])
 next_one last b = record { begins = take-append_seam last (b ∷ []); one_more = length-append last (b ∷ []) }
 
--- a chain that goes on by one replica, where the queue does
+-- a chain goes on by one replica, where the queue does
 pub chain_push : {S : Type 0} (opening : State) (first : List (List ℕ)) (xs ys zs : List (Replica S)) (last next : List (List ℕ)) (e : Replica S) → IsChain opening first (xs ++ ys) last →
     zs ≡ ys ++ e ∷ [] → IsNext last e.prefix → IsMade opening (shape_of e) → e.prefix ≡ next → IsChain opening first (xs ++ zs) next
 chain_push opening first xs ys zs last next e c same is made prefix =
     subst (λ z. IsChain opening first (xs ++ z) next) (sym same) (subst (λ l. IsChain opening first l next) (append_assoc xs ys (e ∷ [])) (subst (IsChain opening first ((xs ++ ys) ++ e ∷ [])) prefix (chain_snoc opening first (xs ++ ys) last e c is made)))
 
--- what is shown after all replicas has the last prefix
+-- the state shown after all replicas has the last prefix
 pub chain_prefix : {S : Type 0} (opening : State) (s : ReplicaValue) (replicas : List (Replica S)) (last : List (List ℕ)) → IsChain opening s.batches replicas last → (fold applied s replicas).batches ≡ last
 chain_prefix opening s [] last c = c
 chain_prefix opening s (e ∷ replicas) last c = chain_prefix opening (applied s e) replicas last c.2
 
--- it is made by all of its batches
+-- that state is made by all of its batches
 pub chain_made : {S : Type 0} (opening : State) (s : ReplicaValue) (replicas : List (Replica S)) (last : List (List ℕ)) → IsChain opening s.batches replicas last → IsMade opening s → IsMade opening (fold applied s replicas)
 chain_made opening s [] last c m = m
 chain_made opening s (e ∷ replicas) last c m = chain_made opening (applied s e) replicas last c.2 c.1
@@ -74,7 +74,7 @@ pub idle_last : {S : Type 0} (opening : State) (first : List (List ℕ)) (replic
     drop (length first) last ≡ [] → last ≡ first
 idle_last opening first replicas last c e = chain_all opening first replicas last c ∙ (ap (λ z. first ++ z) e ∙ append-nil first)
 
--- one more batch behind the last prefix is one more that is pending
+-- one more batch after the last prefix is one more that is pending
 pub pending_more : {S : Type 0} (opening : State) (first : List (List ℕ)) (replicas : List (Replica S)) (last : List (List ℕ)) (b : List ℕ) → IsChain opening first replicas last →
     drop (length first) (last ++ b ∷ []) ≡ drop (length first) last ++ b ∷ []
 pending_more opening first replicas last b c =

@@ -1,4 +1,4 @@
--- What may be sent to other threads and read from them, a type at a time: all at once the search comes to an end of its steps.
+-- The types that may be sent to other threads and read from them, one at a time: for all at once the search would run out of steps.
 use Rattle.std.proofs.Crossing.{crosses}
 use denote.Param.Send.{IsSend, IsSync, sendable}
 use denote.Param.SendFields.{as_row_send, as_row_sync, declared_send, declared_sync, variants_send, variants_sync}
@@ -36,7 +36,7 @@ use Rattle.mapdefs.specs.declared.limited.Limits.{Ghosts}
 use Rattle.layers.specs.contracts.layers.Layers as Layers
 use Rattle.mapmachine.specs.contracts.machine.Machine as Machine
 
--- structures and enums whose fields may
+-- structures and enums whose fields may be sent and read
 pub ruleset fielded = (as_row_send, as_row_sync, declared_send, declared_sync, variants_send, variants_sync, sendable, crosses)
 
 pub text-send : IsSend Text.the_row
@@ -105,7 +105,7 @@ module _ (R : RattleType) where
       let whole = shared-sync (Items.the_row R) (items-send R s) (items-sync R y) in
       search (fielded) depth 9
 
--- what the types of maps are made of
+-- the types that maps are made of
 ruleset wrapped = (text-send, text-sync, micro-send, micro-sync, world-send, world-sync, part-send, part-sync, items-send, items-sync, boxed-send, boxed-sync, shared-send, shared-sync, shared_items-send, shared_items-sync, fielded)
 
 pub feature-send : IsSend FeatureFields.the_row
@@ -133,7 +133,7 @@ module _ (R : RattleType) (g : Ghosts R.Denot) where
   pub limited-sync : IsSync R → IsSync (Limited.the_row R g)
   limited-sync y = search (fielded) depth 9
 
--- an expression leads back to itself
+-- an expression contains expressions
 ruleset knotted = (Knot.crosses, wrapped)
 
 pub expr-send : IsSend Expr.the_row
@@ -226,7 +226,7 @@ grid-send = search (GridCrosses.the_send, small) depth 60 fits 20000
 pub grid-sync : IsSync Grid.the_row
 grid-sync = search (GridCrosses.the_sync, small) depth 60 fits 20000
 
--- parts of what a machine holds
+-- parts of a machine
 ruleset held = (map-send, map-sync, grid-send, grid-sync, small)
 
 pub layers-send : IsSend Layers.the_row

@@ -1,4 +1,4 @@
--- A step after which the batches begin with those before keeps what each end has seen.
+-- A step keeps the batches that each end has seen, where the batches after it begin with those before.
 use Rattle.std.proofs.Common.{◌≡◌, ◌≢◌, ℕ, List, [], ◌∷◌, refl, subst, set, ⊎_elim}
 use mathlib.Core.List.{IsPrefix}
 use mathlib.Core.Option.{some}
@@ -12,7 +12,7 @@ use Rattle.mapshare.specs.Seeing.{Keeps, Shows, nothing_seen}
 use Rattle.mapshare.specs.declared.replica.Replica.{Replica}
 use Rattle.mapshare.specs.declared.rule.View.{View}
 
--- no batch begins all batches
+-- the view of no batch begins all batches
 nothing_begins : (v : View) (xs : List (List ℕ)) → nothing_seen ≡ v → IsPrefix v.seen xs
 nothing_begins v xs e = subst (λ (u : View). IsPrefix u.seen xs) e (xs, refl)
 
@@ -27,7 +27,7 @@ admits opening x views h = (
 pub starts : {S : Type 0} (opening : State) (x : Replica S) → IsMade opening (shape_of x) → Keeps opening x (nothing_seen ∷ [])
 starts opening x made = admits opening x [] (made, (λ seat v at. absurd (cc at)))
 
--- one end's view becomes another that the batches after the step begin with
+-- the view of one end becomes another that begins the batches after the step
 keeps_on : {S : Type 0} (opening : State) (seat : ℕ) (w : View) (x y : Replica S) (views : List View) → Keeps opening x views → IsPrefix x.prefix y.prefix → IsMade opening (shape_of y) → IsPrefix w.seen y.prefix
     → Keeps opening y (set views seat w)
 keeps_on opening seat w x y views h grows made sees = (

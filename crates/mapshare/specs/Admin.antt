@@ -1,4 +1,4 @@
--- What an administrator does (docs/SERVICE.md, "Sharing").
+-- The steps of an administrator (docs/SERVICE.md, "Sharing").
 use Rattle.std.specs.Prelude.{◌≡◌, ℕ, List, [], ◌∷◌, ◌++◌, Some, IsSome, Err}
 use Rattle.batches.specs.Batch.{State, batched, accepted}
 use Rattle.batches.specs.declared.fault.BatchError.{BatchError}
@@ -10,16 +10,16 @@ use Rattle.mapshare.specs.declared.admin.Submitted.TheVariants as submitted
 use Rattle.mapshare.specs.declared.admin.Retried.{Retried}
 use Rattle.mapshare.specs.declared.admin.Retried.TheVariants as retried
 
--- the batches that are published, and those that were accepted and wait
+-- the batches that are published, and those that were accepted and are pending
 pub record Batches : Type 0 where
   pub published : List (List ℕ)
   pub pending : List (List ℕ)
 
--- all that were accepted, in their order
+-- all batches that were accepted, in their order
 abbrev pub all_of : Batches → List (List ℕ)
 all_of batches = batches.published ++ batches.pending
 
--- what is pending was published: the receipt stands for all batches, and nothing is pending any more
+-- the pending batches were published: the receipt is of all batches, and nothing is pending any more
 abbrev pub IsPublished : Batches → List (List ℕ) → Batches → Type 0
 IsPublished old receipt new = (receipt ≡ all_of old) × (new ≡ record { published = receipt; pending = [] })
 
@@ -41,15 +41,15 @@ abbrev pub IsFaultOf : State → Batches → List ℕ → BatchError → Type 0
 IsFaultOf opening batches batch (batch_error.Fault fault) = IsRefused opening batches batch fault
 IsFaultOf opening batches batch batch_error.NoMemory = Unit {0}
 
--- what a batch became that was submitted: it was accepted, and published with all that was pending or is pending; or it
--- was refused with its first fault, or out of memory, and nothing has changed
+-- the result of submitting a batch: it was accepted, and published with all that was pending, or is pending; or it was refused with its first fault,
+-- or out of memory, and nothing has changed
 abbrev pub HasSubmitted : {S : Type 0} → State → Batches → List ℕ → Submitted S → Batches → Type 0
 HasSubmitted opening old batch (submitted.Published receipt) new = IsAccepted opening (with_batch batch old) × IsPublished (with_batch batch old) receipt new
 HasSubmitted opening old batch submitted.Held new = IsAccepted opening (with_batch batch old) × (new ≡ with_batch batch old)
 HasSubmitted opening old batch (submitted.Refused fault) new = IsRefused opening old batch fault × (new ≡ old)
 HasSubmitted opening old batch submitted.NoMemory new = new ≡ old
 
--- what became of all that was pending: nothing was, or it was published, or it is held
+-- the result for the pending batches: there were none, or they were published, or they are held
 abbrev pub HasRetried : {S : Type 0} → Batches → Retried S → Batches → Type 0
 HasRetried old retried.Idle new = (old.pending ≡ []) × (new ≡ old)
 HasRetried old (retried.Published receipt) new = IsPublished old receipt new

@@ -4,7 +4,7 @@ use Rattle.batches.specs.Batch.{State}
 use Rattle.mapshare.specs.Replica.{IsMade, shape_of}
 use Rattle.mapshare.specs.declared.replica.Replica.{Replica}
 
--- some batches are others and one more
+-- the second batches are the first and one more
 pub record IsNext (before after : List (List ℕ)) : Type 0 where
   pub begins : take (length before) after ≡ before
   pub one_more : length after ≡ length before + 1

@@ -1,14 +1,14 @@
--- What is known of a reader (docs/SERVICE.md, "Sharing").
+-- The value of a reader (docs/SERVICE.md, "Sharing").
 use Rattle.std.specs.Prelude.{ℕ, Bool, true, false, List, []}
 
--- the batches that a reader knows to be published, those that its last entry showed, and whether its part of the map is
--- at hand: an entry has it until it ends
+-- the batches that a reader knows to be published, those that its last entry showed, and whether it has its part of the map: an entry has that part
+-- until the entry ends
 pub record ReaderValue : Type 0 where
   pub known : List (List ℕ)
   pub seen : List (List ℕ)
   pub is_free : Bool
 
--- a reader with its part at hand, which knows these batches and was shown all of them
+-- a reader that has its part, knows these batches and was shown all of them
 abbrev pub free : List (List ℕ) → ReaderValue
 free known = record { known = known; seen = known; is_free = true }
 

@@ -5,11 +5,11 @@ use Rattle.sharing.specs.Sharing.{after}
 use Rattle.mapshare.specs.declared.replica.Replica.{Replica}
 use Rattle.mapshare.specs.declared.replica.ReplicaValue.{ReplicaValue}
 
--- what a replica shows
+-- the value of a replica
 abbrev pub shape_of : {S : Type 0} → Replica S → ReplicaValue
 shape_of replica = record { machine = replica.machine; batches = replica.prefix }
 
--- what is shown after a later replica
+-- the value after a later replica
 abbrev pub applied : {S : Type 0} → ReplicaValue → Replica S → ReplicaValue
 applied shape later = shape_of later
 

@@ -1,4 +1,4 @@
--- What names a sharing that nobody has opened.
+-- The name of a sharing that nobody has opened.
 use Rattle.std.specs.Prelude.{pos, [], None}
 use Rattle.batches.specs.Batch.{State}
 

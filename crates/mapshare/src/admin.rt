@@ -18,7 +18,7 @@ use std::collections::VecDeque;
 use std::marker::Model;
 use std::sync::Wait;
 
-/// What a batch became that was submitted.
+/// The result of submitting a batch.
 #[derive(Drop)]
 pub enum Submitted<S: Sharing> {
     /// Readers see it, with all that was pending.
@@ -31,7 +31,7 @@ pub enum Submitted<S: Sharing> {
     NoMemory,
 }
 
-/// What keeps batches failed. Whether the batch that was submitted is kept isn't known, and nothing was published.
+/// The keeper of batches failed. Whether the submitted batch is kept is unknown, and nothing was published.
 #[derive(Clone, Copy, Debug, PartialEq, Eq)]
 pub struct KeepFailed;
 
@@ -42,11 +42,11 @@ pub(crate) enum AcceptFault {
     Fault(BatchFault),
     // Memory was refused.
     NoMemory,
-    // What keeps batches failed.
+    // The keeper failed.
     Failed,
 }
 
-/// What became of what was pending.
+/// The result of publishing the pending batches.
 #[derive(Drop)]
 pub enum Retried<S: Sharing> {
     /// Nothing was pending.
@@ -91,7 +91,7 @@ where
     ghost invariant = { λ a. (a.writer.desk.shown.value.prefix ≡ a.published) × IsChain S.opening a.published (drop a.writer.behind a.writer.log.items ++ a.queue.items) a.last × (after accepted S.opening a.last ≡ Some a.checked) };
 }
 
-// Shows readers all that the writer has, which ends with the last prefix.
+// Shows readers all replicas of the writer, which end with the last prefix.
 fn show_all<S: Sharing, R: Wait>(
     rt: &R,
     writer: MapWriter<S>,
@@ -106,7 +106,7 @@ fn show_all<S: Sharing, R: Wait>(
     writer.publish_as::<Moves, R>(rt)
 }
 
-// Hands what waits to the writer, as long as there is memory.
+// Hands waiting replicas to the writer, as long as there is memory.
 fn fill<S: Sharing>(writer: &mut MapWriter<S>, queue: &mut VecDeque<Replica<S>>) -> bool
     ensures desk { writer.new.desk ≡ writer.old.desk }
     ensures all { drop writer.new.behind writer.new.log.items ++ queue.new.items ≡ drop writer.old.behind writer.old.log.items ++ queue.old.items }
@@ -121,7 +121,7 @@ fn fill<S: Sharing>(writer: &mut MapWriter<S>, queue: &mut VecDeque<Replica<S>>)
     true
 }
 
-// Shows readers all that waits, which ends with the last prefix, and says whether it did.
+// Shows readers all waiting replicas, which end with the last prefix, and returns whether it did.
 fn show_waiting<S: Sharing, R: Wait>(
     rt: &R,
     mut writer: MapWriter<S>,
@@ -141,7 +141,7 @@ fn show_waiting<S: Sharing, R: Wait>(
 }
 
 impl<S: Sharing> Admin<S> {
-    // The administrator at the opening.
+    // The administrator of a map that was just opened.
     pub(crate) fn new(
         alloc: Global,
         writer: MapWriter<S>,
@@ -180,8 +180,8 @@ impl<S: Sharing> Admin<S> {
         Receipt::new(self.published.copy(), self.checked.sequence())
     }
 
-    // The machine after all accepted batches and this one, if it has no fault there. The batch is applied to a copy,
-    // which shares the features.
+    // The machine after all accepted batches and this one, if it has no fault there. The batch is applied to a copy, which
+    // shares the features.
     fn after_batch(&self, batch: &Vec<u8>) -> Result<Machine, BatchError>
         ensures accepted { IfOk result (λ m. after accepted S.opening (all_of (with_batch batch.now.items self.now)) ≡ Some m) }
         ensures refused { IfErr result (IsFaultOf S.opening self.now batch.now.items) }
@@ -238,7 +238,7 @@ impl<S: Sharing> Admin<S> {
         Ok(())
     }
 
-    // Shows readers all that is pending, and says whether it did.
+    // Shows readers all pending batches, and returns whether it did.
     fn publish<R: Wait>(self, rt: &R) -> (Self, bool)
         ensures { MatchBool result.1 (IsPublished self result.0.published result.0) (result.0 ≡ self) }
     {
@@ -273,8 +273,8 @@ impl<S: Sharing> Admin<S> {
         (admin, true)
     }
 
-    /// Submits a batch: it is looked at in the state after all that were accepted. One without a fault is accepted, and
-    /// then all that is pending is published at once. It waits for readers that still read the older copy.
+    /// Submits a batch: it is checked in the state after all batches that were accepted. One without a fault is accepted, and
+    /// then all pending batches are published at once. The call waits for readers that still read the older copy.
     pub fn submit<R: Wait>(self, rt: &R, batch: Vec<u8>) -> (Self, Submitted<S>)
         ensures submitted { HasSubmitted S.opening self batch.items result.1 result.0 }
     {
@@ -288,7 +288,7 @@ impl<S: Sharing> Admin<S> {
     /// Submits a batch as `submit` does, and keeps it between its check and its publishing: one that is accepted is kept before
     /// anything is published or reported, and one that isn't accepted is never kept.
     ///
-    /// The error is that it may be kept or not, and that nothing was published. Nothing may be submitted after it.
+    /// The error is that the batch may be kept or not, and that nothing was published. Nothing may be submitted after it.
     pub fn submit_kept<K: Keeps, R: Wait>(
         mut self,
         rt: &R,
@@ -303,7 +303,7 @@ impl<S: Sharing> Admin<S> {
         ensures kept { (batches : List (List ℕ)) → K.keeps keeper.old batches
             → IfOk result.1 (λ submitted. HasKept K.keeps keeper.old batches batch.items submitted keeper.new) }
 
-        // A crash at any moment leaves the batches, with this one, where it is accepted, or without.
+        // A crash at any moment leaves the batches, with this one, where it is accepted, or without it.
         ensures any_moment { (batches : List (List ℕ)) → K.keeps keeper.old batches → (file : List ℕ) → K.may_leave keeper.old keeper.new file
             → K.stands keeper.old file batches
             ⊎ (IsAccepted S.opening (with_batch batch.items self) × K.stands keeper.old file (batches ++ batch.items ∷ [])) }
@@ -322,7 +322,7 @@ impl<S: Sharing> Admin<S> {
         (admin, Ok(Submitted::Held))
     }
 
-    /// Publishes what is pending, if anything is. It waits for readers that still read the older copy.
+    /// Publishes the pending batches, if there are any. It waits for readers that still read the older copy.
     pub fn retry<R: Wait>(self, rt: &R) -> (Self, Retried<S>)
         ensures idle { self.pending ≡ [] → IsIdle result.1 }
         ensures retried { HasRetried self result.1 result.0 }
@@ -338,7 +338,7 @@ impl<S: Sharing> Admin<S> {
         (admin, Retried::Held)
     }
 
-    /// Ends the sharing: no reader enters any more. What is pending is lost. It waits for readers that still read.
+    /// Ends the sharing: no reader enters any more. Pending batches are lost. It waits for readers that still read.
     pub fn close<R: Wait>(self, rt: &R) {
         let Admin {
             writer,

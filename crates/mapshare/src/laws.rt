@@ -5,9 +5,9 @@ ghost use Rattle.sharing.specs.Law.{AnswersAreRight, Grows, KeepsPromises};
 ghost use Rattle.batches.specs.Batch.{State, accepted};
 ghost use Rattle.mapmachine.specs.Machine.{IsAnswer};
 
-/// Whatever happens, and from whatever state the map is opened in, each answer is one of the map machine in the
-/// state after published batches that begin with all that its reader was shown or told of; what is known
-/// begins what is published, and stays known.
+/// Whatever happens, and from whatever state the map is opened in, each answer is one of the map machine after
+/// published batches. These begin with all batches that its reader was shown or learned of; the known batches begin the
+/// published ones, and stay known.
 pub fn shared()
     ensures answers { (start : State) → AnswersAreRight start accepted IsAnswer }
     ensures keeps { (start : State) → KeepsPromises (List ℕ) start accepted }

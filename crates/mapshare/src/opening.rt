@@ -12,7 +12,7 @@ use std::alloc::{AllocError, Global};
 use std::sync::Wait;
 use thiserror::Error;
 
-/// A map has at most so many readers.
+/// How many readers a map has, at most.
 pub const MAX_READERS: usize = 32;
 
 /// Why a map can't be shared.
@@ -73,8 +73,8 @@ fn readers_of<S: Sharing>(
     Ok(readers)
 }
 
-/// Shares a map: it gives the administrator and so many readers. Who calls it names the sharing, by `S`, and hands over
-/// a history of its own for it. The machine is copied three times; the copies share its features.
+/// Shares a map: it gives the administrator and so many readers. The caller names the sharing, by `S`, and hands over a
+/// history of its own for it. The machine is copied three times; the copies share its features.
 pub fn open<S: Sharing, R: Wait>(
     rt: &R,
     alloc: Global,

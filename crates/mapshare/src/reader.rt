@@ -14,14 +14,14 @@ use mapmachine::Answer;
 use std::alloc::AllocError;
 use std::marker::Model;
 
-/// Why nothing could be entered.
+/// Why a reader can't enter.
 #[derive(Debug, Drop)]
 pub enum Closed {
-    /// There is no map to enter: the administrator has closed, or an entry that was forgotten has the reader's part.
-    /// No clause says when the two copies give a map.
+    /// There is no map to enter: the administrator has closed, or an entry that was leaked has the reader's part. No
+    /// clause says when the two copies give a map.
     NoGuard,
-    /// The map that is at hand lacks a batch of which the reader learned by a receipt. A reader that knows no more than
-    /// its last entry showed never gets this.
+    /// The published map lacks a batch of which the reader learned by a receipt. A reader that knows no more than its
+    /// last entry showed never gets this.
     Behind,
 }
 
@@ -29,11 +29,11 @@ pub enum Closed {
 /// showed, and whether it may enter.
 #[derive(Drop)]
 pub struct Reader<S: Sharing> {
-    // It is away while an entry has it.
+    // It is missing while an entry has it.
     end: Option<MapReader<S>>,
-    // What the last entry showed.
+    // The batches that the last entry showed.
     seen: Prefix<S>,
-    // The longer of what was seen and of each receipt.
+    // The longest of the batches that were shown and those of each receipt.
     known: Prefix<S>,
 }
 
@@ -50,7 +50,7 @@ impl<S: Sharing> Model for Reader<S> {
     ghost invariant = { λ r. IfSome r.end (λ end. IsPrefix r.seen (seen_by end.place).seen) };
 }
 
-/// What is published as one reader sees it: the machine after these batches, as which contracts see it.
+/// The published map as one reader sees it. Contracts see it as the machine after these batches.
 pub struct Shown<S: Sharing> {
     reading: MapReading<S>,
 }
@@ -67,7 +67,7 @@ impl<S: Sharing> Model for Shown<S> {
     ghost invariant = { λ s. IsMade S.opening (shape_of s.reading.part.value) × ((seen_by s.reading.place).seen ≡ s.reading.part.value.prefix) };
 }
 
-/// What gives the end of a reader back.
+/// Returns the end of a reader.
 pub trait Ends<S: Sharing> {
     ghost use Rattle.std.specs.Prelude.{◌≡◌, ℕ, List};
     ghost use Rattle.left_right.specs.Sides.{view as seen_by};
@@ -75,7 +75,7 @@ pub trait Ends<S: Sharing> {
     /// The batches that were shown.
     ghost shows: { Self → List (List ℕ) };
 
-    /// Ends the reading. It gives the end of the reader, and what was shown.
+    /// Ends the reading. It returns the end of the reader, and the batches that were shown.
     fn end(self) -> (MapReader<S>, Prefix<S>)
         ensures seen { (seen_by result.0.place).seen ≡ shows self }
         ensures prefix { result.1 ≡ shows self };
@@ -136,8 +136,8 @@ impl<S: Sharing> Reader<S> {
         }
     }
 
-    /// Takes in a receipt. Of what it knows and what the receipt stands for, of which the one begins the other, the
-    /// reader knows the longer from then on.
+    /// Takes in a receipt. The reader's known batches begin those of the receipt, or the other way round; the reader
+    /// knows the longer ones from then on.
     pub fn learn(&mut self, receipt: Receipt<S>)
         ensures one { (self.new ≡ self.old) ⊎ (self.new ≡ record self.old { known = receipt }) }
         ensures kept { IsPrefix self.old.known self.new.known }
@@ -146,9 +146,9 @@ impl<S: Sharing> Reader<S> {
         self.known = self.known.longer(receipt.prefix());
     }
 
-    /// Enters: the entry shows batches that begin with all that the reader knows, and which it knows from then on. That
-    /// they begin with what earlier entries showed is kept by the copies, so they are fewer than the reader knows only
-    /// where it learned of more by a receipt.
+    /// Enters: the entry shows batches that begin with all that the reader knows, and the reader knows them from then
+    /// on. The copies keep it true that they begin with those of earlier entries. So they are fewer than the reader
+    /// knows only where it learned of more by a receipt.
     pub fn enter(&mut self) -> Result<Entered<'_, S>, Closed>
         ensures* closed { sem 𝓛 (RestsIfErr (reader_row S.row (record { opening = S.opening }) (record { book = S.book })) self.entry (λ e. e.home.ghost_name) result (λ n. n ≡ self.old)) }
         ensures same_reference { IfOk result (λ e. e.home.ghost_name ≡ self.entry.ghost_name) }
@@ -188,7 +188,8 @@ impl<S: Sharing> Entry<'_, S, Shown<S>> {
         self.shown.sequence()
     }
 
-    /// Ends the entry, as dropping it does: the reader keeps what it knows, was shown this, and may enter again.
+    /// Ends the entry, as dropping it does: the reader keeps what it knows, was shown these batches, and may enter
+    /// again.
     pub fn leave(self)
         ensures { self.exit.0.now ≡ freed self.entry.home.now self.entry.shown }
     {

@@ -4,7 +4,7 @@ use crate::rule::Sharing;
 use history::Prefix;
 use std::marker::Model;
 
-/// What stands for all batches that were published when it was made. Contracts see it as these batches.
+/// A receipt of all batches that were published when it was made. Contracts see it as these batches.
 #[derive(Drop)]
 pub struct Receipt<S: Sharing> {
     prefix: Prefix<S>,
@@ -30,7 +30,7 @@ impl<S: Sharing> Receipt<S> {
         Receipt { prefix, sequence }
     }
 
-    // What the receipt stands for.
+    // The batches of the receipt.
     pub(crate) fn prefix(&self) -> &Prefix<S>
         ensures { result.now ≡ self.now }
     {

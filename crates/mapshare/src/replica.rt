@@ -1,4 +1,4 @@
-//! What is published, twice: a map machine, and the prefix of the history that led to it.
+//! A published replica: a map machine, and the prefix of the history that led to it. There are two copies of it.
 
 ghost use Rattle.mapshare.specs.Replica.{applied, shape_of};
 
@@ -15,7 +15,7 @@ pub struct ReplicaValue {
     pub batches: [[u8; 0]; 0],
 }
 
-/// What is published, or waits to be: the machine, and the batches that led to it.
+/// A replica, which is published or waits for that: the machine, and the batches that led to it.
 #[derive(Drop)]
 pub struct Replica<J: Naming> {
     /// The machine.

@@ -8,7 +8,7 @@ use history::Naming;
 use left_right::{reader, writer};
 use std::marker::{Brand, PhantomData};
 
-/// Which sharing it is: the history of its batches, and the state that it opened in. Each call that opens one
+/// The identity of a sharing: the history of its batches, and the state that it opened in. Each call that opens one
 /// picks it.
 pub trait Sharing: Naming {
     ghost use Rattle.batches.specs.Batch.{State};
@@ -23,14 +23,14 @@ impl Sharing for Brand {
     ghost opening = { no_state };
 }
 
-/// What a reader's end, or the writer's, has seen. No value of it is made.
+/// The view of a reader's end, or of the writer's. No value of it is made.
 pub struct View {
     /// The batches that were shown last.
     pub seen: [[u8; 0]; 0],
 }
 
-/// The rule: what is published is the opening state after the batches of its prefix, which begins with all that each
-/// end has seen.
+/// The rule: the published replica is the opening state after the batches of its prefix, which begins with the batches
+/// that each end has seen.
 pub struct Ruled<S> {
     of: PhantomData<S>,
 }
@@ -41,8 +41,7 @@ impl<S: Sharing> Protocol<Replica<S>, View> for Ruled<S> {
     ghost first = { nothing_seen };
 }
 
-/// A step that tells of a replica that it is made by its batches, which begin with what was seen before and are what
-/// is seen then.
+/// A step that shows a replica: it is made by its batches, which begin with those seen before and are those seen after.
 pub struct Sees<S> {
     of: PhantomData<S>,
 }
@@ -51,7 +50,7 @@ impl<S: Sharing> Outcome<Replica<S>, View> for Sees<S> {
     ghost then = { λ before _ replica after. Shows S.opening before replica after };
 }
 
-/// A publish, which tells nothing more than the history does.
+/// A publish, which states nothing more than the history does.
 pub struct Moves;
 
 impl<J: Naming> Outcome<Replica<J>, View> for Moves {

@@ -3,10 +3,10 @@ use crate::rule::Sharing;
 use layers::Layers;
 use mapmachine::Machine;
 
-// Takes what may be sent to other threads, and read from them.
+// Takes a value that may be sent to other threads, and read from them.
 fn crosses<T: Send + Sync>(_value: &T) {}
 
-// Takes what may be sent to other threads.
+// Takes a value that may be sent to other threads.
 fn sends<T: Send>(_value: &T) {}
 
 /// Served layers may be sent to other threads, and read from them.
@@ -14,7 +14,8 @@ pub fn layers_cross(layers: &Layers) {
     crosses(layers);
 }
 
-/// So may a map machine: readers and the administrator may have threads of their own.
+/// A map machine may be sent to other threads, and read from them: readers and the administrator may have threads of
+/// their own.
 pub fn machine_crosses(machine: &Machine) {
     crosses(machine);
 }

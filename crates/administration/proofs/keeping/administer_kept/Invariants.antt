@@ -3,7 +3,7 @@ use Rattle.administration.specs.Keeping.{IsKeptSince}
 use Rattle.administration.proofs.Steps.{HasCome}
 use Rattle.administration.proofs.keeping.administer_kept.Given as goal
 
--- all that was read so far is done and reported, and what was accepted is kept
+-- all commands read so far are done and reported, and the accepted batches are kept
 abbrev pub invariant-loop : goal.invariant-loop
 invariant-loop g l = record {
   can_next : (goal.iterator-loop g).can_next l.iterator';

@@ -2,7 +2,7 @@ use Rattle.std.proofs.Common.{◌≡◌}
 use Rattle.administration.proofs.Steps.{HasCome}
 use Rattle.administration.proofs.serving.administer.Given as goal
 
--- all that was read so far is done and told
+-- all commands read so far are done and reported
 abbrev pub invariant-loop : goal.invariant-loop
 invariant-loop g l = record {
   can_next : (goal.iterator-loop g).can_next l.iterator';
