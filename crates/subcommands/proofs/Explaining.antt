@@ -1,4 +1,4 @@
--- The fault of a mapfile, with the words on it.
+-- The fault of a mapfile, with the message on it.
 use Rattle.std.proofs.Common.{◌≡◌, ap, ◌∙◌, refl, subst, Bool, false, ℕ, List, Option, None, Some, Result, Ok, Err}
 use Rattle.std.specs.Option.{IfSome}
 use Rattle.maplex.specs.Lexed.{lexed}
@@ -21,12 +21,12 @@ use Rattle.subcommands.specs.Explained.{IsMapFault, NamesFirst, with_words}
 use Rattle.subcommands.specs.Folder.{ComesTo, FilesOf, Giving}
 use Rattle.subcommands.specs.Mapfiles.{HasReadFile, HasReadMapfile}
 
--- the fault that is told is that of the first file that has one
+-- the fault that is reported is that of the first file that has one
 told : (first : Fault) (made : Result MapFields Fault) (fault : Fault) → told_by (Some first) made ≡ Err fault → first ≡ fault
 told first (Ok map) fault e = absurd (cc e)
 told first (Err other) fault e = cc e
 
--- words on a file that can't be read name it
+-- the message on a file that can't be read names it
 names : (cause : FileCause) (files : List FileBytes) (tree : MapTree) (words : List ℕ) → kind_of cause ≡ MissingFile → AreOnCause cause files tree words →
     NamesMissing files tree words
 names Missing files tree words e on = on
@@ -41,7 +41,7 @@ named mapfile tree files fault (Some words) read is on e =
     let same : fault_in on.fault ≡ fault = told _ _ fault (rw on.is_first at is) in
     record { tree = tree; is_read = read; names = names on.fault.cause files tree words (ap (λ (f : Fault). f.kind) same ∙ e) on.on }
 
--- the fault of a file, with words on it
+-- the fault of a file, with the message on it
 pub of-files : (gives : Giving) (explains : Bool) (mapfile : List ℕ) (tree : MapTree) (files : List FileBytes) (fault : ParseFault) (words : Option (List ℕ)) →
     tree_of (lexed mapfile) ≡ Ok tree → FilesOf gives (uses_of tree) files → IsFaultOf (map_of files tree) fault →
     (explains ≡ false → words ≡ None) → IfSome words (AreOnFiles files tree) → IsMapFault gives explains mapfile (with_words fault words)

@@ -16,7 +16,7 @@ after-goes-on b bs h =
     let more : position_or_len is_line_end (b ∷ bs) + 1 ≡ suc (position_or_len is_line_end bs + 1) = omega (arith, line-goes-on b bs h) in
     ap (λ n. drop n (b ∷ bs)) more
 
--- bytes are their first line and what stands after it
+-- bytes are their first line and the bytes after it
 pub first-line : (bytes : List ℕ) →
     (bytes ≡ before_first is_line_end bytes ++ (10 ∷ after_first is_line_end bytes)) ⊎ ((bytes ≡ before_first is_line_end bytes) × (after_first is_line_end bytes ≡ []))
 first-line [] = inr (refl, refl)

@@ -1,4 +1,4 @@
--- What stands before the name of a file in its path.
+-- The parent of a file in its path.
 use Rattle.std.proofs.Common.{◌≡◌, ◌≢◌, ◌∙◌, ℕ, ◌+◌, ◌<◌, List, [], length, take, drop, inl, inr, refl, sym, arith, length-drop}
 use Rattle.std.proofs.Math.ListN.{get_or}
 use Rattle.std.proofs.lemmas.List.{take-append-drop, take_more, get_or-drop}

@@ -1,4 +1,4 @@
--- Where a session is parted: by its lines, one after the other.
+-- Where a session is split: by its lines, one after the other.
 use Rattle.std.proofs.Common.{◌≡◌, ◌∙◌, ℕ, suc, ◌+◌, ◌-◌, ◌<◌, ◌≤◌, Bool, true, false, ◌&&◌, List, [], ◌∷◌, ◌++◌, length, take, drop, inl, inr, refl, ap, arith, length-append, length-drop, length-take, eqb-true, drop-drop, drop_of_length-le}
 use Rattle.std.specs.Prelude.{nat_eq, codes, if◌then◌else◌}
 use Rattle.std.specs.List.{before_first, after_first, position_or_len}
@@ -13,7 +13,7 @@ use Rattle.subcommands.specs.Parts.{IsFollowed, IsParted, AreParts}
 abbrev pub is_parting : List ℕ → Bool
 is_parting bytes = pointwise nat_eq (before_first is_line_end bytes) (codes "%%")
 
--- how many bytes stand before the first such line; the flag says whether a line begins here
+-- how many bytes are before the first such line; the flag says whether a line begins here
 abbrev pub parting_at : Bool → List ℕ → ℕ
 parting_at at_line [] = 0
 parting_at at_line (b ∷ bs) = if at_line && is_parting (b ∷ bs) then 0 else suc (parting_at (is_line_end b) bs)
@@ -23,7 +23,7 @@ abbrev pub begins_after : Bool → List ℕ → Bool
 begins_after at_line [] = at_line
 begins_after at_line (b ∷ bs) = begins_after (is_line_end b) bs
 
--- such a line stands at the front
+-- the bytes begin with such a line
 pub parting-follows : (bytes : List ℕ) → is_parting bytes ≡ true → IsFollowed bytes [] (after_first is_line_end bytes)
 parting-follows bytes h =
     let line : before_first is_line_end bytes ≡ codes "%%" = (bytes_decides (before_first is_line_end bytes) (codes "%%")).0 h in
@@ -53,7 +53,7 @@ begin-lines (b ∷ m) h = inr (last b m h)
     last c [] h = ([], ap (λ x. x ∷ []) (eqb-true c 10 h))
     last c (d ∷ bs) h = let (front, is) = last d bs h in (c ∷ front, ap (λ x. c ∷ x) is)
 
--- what such a line follows is no shorter
+-- a mapfile that such a line follows is no shorter
 pub parting-least : (at_line : Bool) (bytes m s : List ℕ) → begins_after at_line m ≡ true → IsFollowed bytes m s → parting_at at_line bytes ≤ length m
 parting-least at_line [] m s begins follows = omega arith
 parting-least at_line (b ∷ bs) [] s begins follows = rw (begins, follows-parting (b ∷ bs) s follows) (omega arith)
@@ -69,7 +69,7 @@ parting-least at_line (b ∷ bs) (c ∷ m) s begins follows =
     by others true h = rw h (omega arith)
     by others false h = let (is, rest) = same follows in rw h (omega (arith, others (rw is at begins) rest))
 
--- where one is found, it stands there
+-- where one is found, it is there
 pub parting-is : (at_line : Bool) (bytes : List ℕ) → parting_at at_line bytes < length bytes →
     (begins_after at_line (take (parting_at at_line bytes) bytes) ≡ true)
     × IsFollowed bytes (take (parting_at at_line bytes) bytes) (after_first is_line_end (drop (parting_at at_line bytes) bytes))
@@ -115,7 +115,7 @@ are-no-parts session h = inr (record { never = never; all = refl; none = refl })
     never : (m s : List ℕ) → IsParted session m s → ⊥
     never m s parted = absurd (omega (arith, h, too-long m s parted.1, parting-least true session m s (lines-begin m parted.0) parted.1))
 
--- a line that is not two percent signs is passed over
+-- a line that is not two percent signs is skipped
 pub line-left : (bytes : List ℕ) →
     parting_at false bytes ≡ (length bytes - length (after_first is_line_end bytes)) + parting_at true (after_first is_line_end bytes)
 line-left [] = refl
@@ -131,7 +131,7 @@ pub line-passed : (bytes : List ℕ) → 1 ≤ length bytes → is_parting bytes
 line-passed [] some h = absurd (omega arith)
 line-passed (b ∷ bs) some h = rw h (line-left (b ∷ bs))
 
--- the first line of two percent signs stands here
+-- the first line of two percent signs is here
 pub parted-here : (session here line rest : List ℕ) (at : ℕ) → here ≡ drop at session → line ≡ before_first is_line_end here → rest ≡ after_first is_line_end here →
     at < length session → at + parting_at true (drop at session) ≡ parting_at true session → pointwise nat_eq line (codes "%%") ≡ true →
     AreParts session (take at session) rest
@@ -145,7 +145,7 @@ parted-here session here line rest at is front back inside first test =
     parting-here [] some h = absurd (omega arith)
     parting-here (b ∷ bs) some h = rw h refl
 
--- no line up to this one is two percent signs: the first such line is sought from there on
+-- no line up to this one is two percent signs: the search for the first such line goes on from there
 pub passed-here : (session here line rest : List ℕ) (at : ℕ) → here ≡ drop at session → line ≡ before_first is_line_end here → rest ≡ after_first is_line_end here →
     at < length session → at + parting_at true (drop at session) ≡ parting_at true session → pointwise nat_eq line (codes "%%") ≡ false →
     (length session - length rest) + parting_at true (drop (length session - length rest) session) ≡ parting_at true session

@@ -12,7 +12,7 @@ use Rattle.subcommands.specs.Mapfiles.{ChecksTo, HasReadFile, HasReadMap, IsUnre
 use Rattle.subcommands.specs.Reports.{ReadFile}
 use Rattle.subcommands.specs.Session.{HasRead, Ends, EndsOn, PlaysTo, opened}
 
--- what playing a script comes to, by the outcome
+-- the result of playing a script, by the outcome
 pub served : (gives : Giving) (outcome : Outcome) (old new : ConsoleState) (mapfile script : List ℕ) (map : MapFields) →
     HasRead old.input.left new.input.left mapfile script → ComesTo gives mapfile (Ok map) → EndsOn map outcome script old.output.held new.output.held →
     Keeps old.errors.held new.errors.held → PlaysTo gives outcome old new
@@ -31,11 +31,11 @@ served gives (Err OutputFailed) old new mapfile script map read is_map ends kept
     record { mapfile = mapfile; script = script; read = read; map = map; is_map = is_map; state = ends.0; ends = ends.1; errors = kept }
 served gives (Err NoMemory) old new mapfile script map read is_map ends kept = record { output = ends; errors = kept }
 
--- nothing reported leaves the errors as they were
+-- an empty report leaves the errors as they were
 pub unreported : (errors : WriterState) → IsUnreported errors errors
 unreported errors = record { held = Keeps-refl errors.held; failed = refl; flushed = refl }
 
--- what a script that was read after its mapfile comes to, by the outcome
+-- the result of a script that was read after its mapfile, by the outcome
 pub ran : (gives : Giving) (explains : Bool) (outcome : Outcome) (mapfile script : ReadFile) (files : Readings) (old new : ConsoleState) (map : MapFields) (bytes : List ℕ) →
     HasReadMap gives files.mapfile_before files.mapfile_after map → HasReadFile files.script_before files.script_after bytes → EndsOn map outcome bytes old.output.held new.output.held →
     ReportsWarnings explains mapfile.name map old.errors new.errors → RunsTo gives explains outcome mapfile script files old new
@@ -55,7 +55,7 @@ ran gives explains (Err InputFailed) mapfile script files old new map bytes read
 ran gives explains (Err NoMemory) mapfile script files old new map bytes read read_script ends warnings =
     (ends, inr (record { map = map; read = read; warned = record { errors = new.errors; warnings = warnings }; unread = Keeps-refl new.errors.held }))
 
--- what a script that was not read after its mapfile comes to
+-- the result of a script that was not read after its mapfile
 pub unscripted : (gives : Giving) (explains : Bool) (failure : Failure) (mapfile script : ReadFile) (files : Readings) (old new : ConsoleState) (map : MapFields) →
     HasReadMap gives files.mapfile_before files.mapfile_after map → (warned : IsWarned explains mapfile.name map old.errors) → IsUnread explains failure script warned.errors new.errors →
     Keeps old.output.held new.output.held → RunsTo gives explains (Err failure) mapfile script files old new
@@ -73,11 +73,11 @@ unscripted gives explains WordsRefused mapfile script files old new map read war
 unscripted gives explains InputFailed mapfile script files old new map read warned unread kept = absurd unread
 unscripted gives explains OutputFailed mapfile script files old new map read warned unread kept = absurd unread
 
--- nothing is reported where no warnings are asked for
+-- nothing is reported where no warnings are requested
 pub unwarned : (name : List ℕ) (map : MapFields) (old new : WriterState) → IsUnreported old new → ReportsWarnings false name map old new
 unwarned name map old new kept = record { reported = inr kept; unasked = λ e. kept }
 
--- what a map whose line was not written comes to
+-- the result of a map whose line was not written
 pub unsummed : (gives : Giving) (explains : Bool) (failure : Failure) (file : ReadFile) (before after : Option (List ℕ)) (old new : ConsoleState) (map : MapFields) →
     HasReadMap gives before after map → WritesSummary (Err failure) map old.output.held new.output.held → IsUnreported old.errors new.errors → ChecksTo gives explains (Err failure) file before after old new
 unsummed gives explains OutputFailed file before after old new map read sums kept =

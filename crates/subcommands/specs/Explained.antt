@@ -1,4 +1,4 @@
--- The fault of a mapfile with the words on it (docs/MAPFILE.md, "Faults in words").
+-- The fault of a mapfile with the message on it (docs/MAPFILE.md, "Faults in words").
 use Rattle.std.specs.Prelude.{◌≡◌, Bool, true, false, ℕ, List, Option, None, IfSome, Ok, Err}
 use Rattle.maplex.specs.Lexed.{lexed}
 use Rattle.maptree.specs.declared.tree.MapTree.{MapTree}
@@ -13,14 +13,14 @@ use Rattle.subcommands.specs.Folder.{Giving, ComesTo}
 use Rattle.subcommands.specs.declared.map_fault.MapFault.{MapFault}
 use Rattle.subcommands.specs.declared.map_fault.MapFault.TheVariants as unmapped
 
--- words name the first file that a mapfile uses and that isn't among these
+-- a message names the first file that a mapfile uses and that isn't among these
 pub record NamesFirst (files : List FileBytes) (mapfile words : List ℕ) : Type 0 where
   pub tree : MapTree
   pub is_read : tree_of (lexed mapfile) ≡ Ok tree
   pub names : NamesMissing files tree words
 
--- a mapfile has this fault with the files of a folder, and these words are on it. There are none where `explains` is false, or where memory
--- was refused for them; those on a file that can't be read name it
+-- a mapfile has this fault with the files of a folder, and this message is on it. There is none where `explains` is false, or where memory was
+-- refused for it; the message on a file that can't be read names it
 pub record IsExplained (gives : Giving) (explains : Bool) (mapfile : List ℕ) (fault : Fault) (words : Option (List ℕ)) : Type 0 where
   pub is_fault : ComesTo gives mapfile (Err fault)
   pub unasked : explains ≡ false → words ≡ None
@@ -36,7 +36,7 @@ abbrev pub has_missing : ParseFault → Bool
 has_missing (At line MissingFile) = true
 has_missing fault = false
 
--- a fault with the words on it
+-- a fault with the message on it
 abbrev pub with_words : ParseFault → Option (List ℕ) → MapFault
 with_words (At line kind) words = unmapped.Faulty (record { line = line; kind = kind }) words
 with_words NoMemory words = unmapped.NoMemory

@@ -13,7 +13,7 @@ pub record IsParent (path parent : List ℕ) : Type 0 where
   pub plain : All (λ b. b ≢ 47) name
   pub slash : (parent ≡ []) ⊎ ((folder : List ℕ) × (parent ≡ folder ++ codes "/"))
 
--- what stands before a name in its path: the parent of the folder's files, but nothing before a name that begins with a slash
+-- the prefix of a name in its path: the parent of the folder's files, but the empty one for a name that begins with a slash
 abbrev pub parent_before : List ℕ → List ℕ → List ℕ
 parent_before parent [] = parent
 parent_before parent (b ∷ bs) = if b == 47 then [] else parent
@@ -22,11 +22,11 @@ parent_before parent (b ∷ bs) = if b == 47 then [] else parent
 abbrev pub path_of : List ℕ → List ℕ → List ℕ
 path_of parent name = parent_before parent name ++ name
 
--- what a folder gives under a name: bytes, or none
+-- the content of a folder by names: bytes, or none
 abbrev pub Giving : Type 1
 Giving = List ℕ → Option (List ℕ) → Type 0
 
--- the files of these names, of which those are left out that the folder doesn't give
+-- the files of these names, without those that the folder doesn't have
 pub data FilesOf (gives : Giving) : List (List ℕ) → List FileBytes → Type 0 where
   none : FilesOf gives [] []
   given : (names : List (List ℕ)) (files : List FileBytes) (name bytes : List ℕ) → FilesOf gives names files → gives name (Some bytes) →
@@ -34,7 +34,7 @@ pub data FilesOf (gives : Giving) : List (List ℕ) → List FileBytes → Type 
   missing : (names : List (List ℕ)) (files : List FileBytes) (name : List ℕ) → FilesOf gives names files → gives name None →
       FilesOf gives (names ++ name ∷ []) files
 
--- a mapfile comes to this map, or has this fault, with the files of a folder that it wants
+-- a mapfile gives this map, or has this fault, with the files of a folder that it uses
 pub record ComesTo (gives : Giving) (mapfile : List ℕ) (map : Result MapFields Fault) : Type 0 where
   pub files : List FileBytes
   pub are : (names : List (List ℕ)) → wanted mapfile ≡ Ok names → FilesOf gives names files

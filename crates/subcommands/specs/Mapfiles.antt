@@ -27,7 +27,7 @@ abbrev pub is_file_failed : Failure → Bool
 is_file_failed FileFailed = true
 is_file_failed _ = false
 
--- the reader of a file has failed where that is the outcome, or where it had before
+-- the reader of a file has failed where that is the outcome, or where it had failed before
 abbrev pub LeavesFile : {X : Type 0} → Result X Failure → InputState → InputState → Type 0
 LeavesFile (Ok x) old new = new.failed ≡ old.failed
 LeavesFile (Err failure) old new = new.failed ≡ (is_file_failed failure || old.failed)
@@ -37,7 +37,7 @@ pub record TouchesNeither (failure : Failure) : Type 0 where
   pub input : is_input_failed (Err failure) ≡ false
   pub output : is_output_failed (Err failure) ≡ false
 
--- a file was not read: that was reported, or memory was refused and nothing reported
+-- a file was not read: that was reported, or memory was refused and nothing was reported
 abbrev pub IsUnread : Bool → Failure → ReadFile → WriterState → WriterState → Type 0
 IsUnread explains FileFailed file old new = IsReported old new (file_fault explains file)
 IsUnread explains NoMemory file old new = Keeps old.held new.held
@@ -55,14 +55,14 @@ pub record HasReadMapfile (gives : Giving) (before after : Option (List ℕ)) (m
   pub is_map : ComesTo gives mapfile (Ok map)
   pub uses : is_map.files ≡ files
 
--- what is reported of a fault: its line, and then words on it, with the name of the mapfile and the fault's line before them; or its
--- line alone, where there are no words
+-- the report on a fault: its line, and then the message on it, with the name of the mapfile and the fault's line before the message; or its line
+-- alone, where there is no message
 abbrev pub explained_fault : List ℕ → Fault → Option (List ℕ) → List ℕ
 explained_fault name fault None = mapfile_fault fault.line (number_of fault.kind)
 explained_fault name fault (Some words) =
     mapfile_fault fault.line (number_of fault.kind) ++ (name ++ (codes ":" ++ (decimal fault.line ++ (codes ": " ++ (words ++ codes "\n")))))
 
--- a mapfile was read, and its fault reported with the words on it, if there are any
+-- a mapfile was read, and its fault was reported with the message on it, if there is one
 pub record HasExplainedFault (gives : Giving) (explains : Bool) (name : List ℕ) (before after : Option (List ℕ)) (old new : WriterState) : Type 0 where
   pub mapfile : List ℕ
   pub read : HasReadFile before after mapfile
@@ -82,35 +82,35 @@ pub record IsUnreported (old new : WriterState) : Type 0 where
   pub failed : new.failed ≡ old.failed
   pub flushed : new.flushed ≡ old.flushed
 
--- the warnings on the map of a mapfile are reported, or nothing is, since memory was refused for them; nothing where `explains` is false
+-- the warnings on the map of a mapfile are reported; or nothing is, because memory was refused for them, or because `explains` is false
 pub record ReportsWarnings (explains : Bool) (name : List ℕ) (map : MapFields) (old new : WriterState) : Type 0 where
   pub reported : IsReported old new (warning_lines name map) ⊎ IsUnreported old new
   pub unasked : explains ≡ false → IsUnreported old new
 
--- what the output got of the line of a map, by the outcome: all of it; or exactly its first so many bytes, or all of them
--- where the flush failed
+-- the part of the line of a map that the output got, by the outcome: all of it; or exactly its first so many bytes, or all of them where the flush
+-- failed
 abbrev pub WritesSummary : Outcome → MapFields → Option (List ℕ) → Option (List ℕ) → Type 0
 WritesSummary (Ok done) map before after = Appends before after (summary_line map)
 WritesSummary (Err OutputFailed) map before after =
     ((written : ℕ) × HasPartlySummed map before after written) ⊎ Appends before after (summary_line map)
 WritesSummary (Err _) map before after = ⊥
 
--- a mapfile describes a map, whose line was written with this outcome, and then the warnings on it reported
+-- a mapfile describes a map, whose line was written with this outcome, and then the warnings on it were reported
 pub record IsChecked (gives : Giving) (explains : Bool) (outcome : Outcome) (name : List ℕ) (before after : Option (List ℕ)) (old new : ConsoleState) : Type 0 where
   pub map : MapFields
   pub read : HasReadMap gives before after map
   pub sums : WritesSummary outcome map old.output.held new.output.held
   pub warnings : ReportsWarnings explains name map old.errors new.errors
 
--- what checking a mapfile makes of the streams by its outcome. `before` and `after` are what is left of the mapfile; `explains` says
--- whether a fault is reported in words, too, and the warnings on a map whose whole line was written
+-- the result of checking a mapfile for the streams, by its outcome. `before` and `after` are the rest of the mapfile; `explains` says whether a fault
+-- is reported with a message, and the warnings on a map whose whole line was written
 abbrev pub ChecksTo : Giving → Bool → Outcome → ReadFile → Option (List ℕ) → Option (List ℕ) → ConsoleState → ConsoleState → Type 0
 ChecksTo gives explains (Ok done) file before after old new = IsChecked gives explains (Ok done) file.name before after old new
 ChecksTo gives explains (Err OutputFailed) file before after old new = IsChecked gives false (Err OutputFailed) file.name before after old new
 ChecksTo gives explains (Err failure) file before after old new =
     Keeps old.output.held new.output.held × GivesNoMap gives explains failure file before after old.errors new.errors
 
--- what is read for a script: the bytes of the mapfile before and after, and those of the script
+-- the bytes that are read for a script: those of the mapfile before and after, and those of the script
 pub record Readings : Type 0 where
   pub mapfile_before : Option (List ℕ)
   pub mapfile_after : Option (List ℕ)
@@ -139,7 +139,7 @@ pub record IsWithoutScript (gives : Giving) (explains : Bool) (failure : Failure
   pub warned : IsWarned explains name map old
   pub unread : IsUnread explains failure script warned.errors new
 
--- what running a script makes of the streams by its outcome, with the mapfile and the script as they are reported
+-- the result of running a script for the streams, by its outcome, with the mapfile and the script as they are reported
 abbrev pub RunsTo : Giving → Bool → Outcome → ReadFile → ReadFile → Readings → ConsoleState → ConsoleState → Type 0
 RunsTo gives explains (Ok done) mapfile script files old new = IsRun gives explains (Ok done) mapfile.name files old new
 RunsTo gives explains (Err OutputFailed) mapfile script files old new = IsRun gives explains (Err OutputFailed) mapfile.name files old new
@@ -154,8 +154,8 @@ pub record ReportsScript (explains : Bool) (name : List ℕ) (script : ReadFile)
   pub warned : IsWarned explains name map old
   pub reported : IsReported warned.errors new (file_fault explains script)
 
--- a file that was not read was reported. It is the mapfile: its reader has failed, and that of the script stayed as it was, which
--- `untouched` says; or it is the script: its reader has failed, and that of the mapfile has not
+-- a file that was not read was reported. It is the mapfile: its reader has failed, and that of the script stayed as it was (`untouched`); or it is
+-- the script: its reader has failed, and that of the mapfile has not
 abbrev pub ReportsUnread : Bool → ReadFile → ReadFile → WriterState → WriterState → InputState → InputState → InputState → Type 0 → Type 0
 ReportsUnread explains mapfile script old new mapfile_before mapfile_after script_after untouched =
     (IsReported old new (file_fault explains mapfile) × (mapfile_after.failed ≡ true) × untouched)
@@ -166,7 +166,7 @@ pub record NoneFailed (mapfile_before mapfile_after script_before script_after :
   pub mapfile : mapfile_after.failed ≡ mapfile_before.failed
   pub script : script_after.failed ≡ script_before.failed
 
--- what an outcome leaves of the two: none has failed since, unless a file was not read
+-- the state of the two readers after an outcome: none has failed since, unless a file was not read
 abbrev pub LeavesFiles : Outcome → InputState → InputState → InputState → InputState → Type 0
 LeavesFiles (Ok done) a b c d = NoneFailed a b c d
 LeavesFiles (Err failure) a b c d = is_file_failed failure ≡ false → NoneFailed a b c d

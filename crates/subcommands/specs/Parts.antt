@@ -2,7 +2,7 @@
 use Rattle.std.specs.Prelude.{◌≡◌, ℕ, ◌≤◌, List, [], ◌++◌, length, ◌⊎◌, codes}
 use Rattle.subcommands.specs.Lines.{AreLines}
 
--- after the mapfile stand a line of two percent signs and the script; where the session ends with that line, it may lack its LF
+-- after the mapfile there are a line of two percent signs and the script; where the session ends with that line, it may lack its LF
 abbrev pub IsFollowed : List ℕ → List ℕ → List ℕ → Type 0
 IsFollowed session mapfile script =
     (session ≡ mapfile ++ (codes "%%\n" ++ script)) ⊎ ((session ≡ mapfile ++ codes "%%") × (script ≡ []))

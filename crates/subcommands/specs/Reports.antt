@@ -1,16 +1,16 @@
--- Faults as they are reported (docs/SERVICE.md, "The program" and "Sessions").
+-- Reports of faults (docs/SERVICE.md, "The program" and "Sessions").
 use Rattle.std.specs.Prelude.{ℕ, Bool, true, false, List, ◌++◌, codes}
 use Rattle.std.specs.Fmt.{decimal}
 use Rattle.subcommands.specs.declared.unread.UnreadCause.{UnreadCause}
 use Rattle.subcommands.specs.declared.unread.UnreadCause.TheVariants.{Missing, NotAllowed, Other}
 
--- why a file can't be read, in words that follow its name
+-- why a file can't be read, in a message that follows its name
 unfoldable pub cause_words : UnreadCause → List ℕ
 cause_words Missing = codes ": the file is missing\n"
 cause_words NotAllowed = codes ": the file may not be read\n"
 cause_words Other = codes ": the file can't be read\n"
 
--- a file that is read by its name, and why it can't be, where it can't
+-- a file that is read by its name, and why it can't be read, if it can't
 pub record ReadFile : Type 0 where
   pub name : List ℕ
   pub cause : UnreadCause

@@ -29,8 +29,8 @@ pub record IsSilent (old new : ConsoleState) : Type 0 where
 abbrev pub opened : MapFields → State
 opened map = record { map = map; sequence = 0 }
 
--- what the output got of a script that was played from a state to another, by the outcome: all that there was to write; or exactly the first so many
--- bytes of it, or all of them where the flush failed
+-- the bytes that the output got of a script that was played from a state to another, by the outcome: all that there were to write; or exactly the
+-- first so many of them, or all of them where the flush failed
 abbrev pub Ends : Outcome → State → List ℕ → State → Option (List ℕ) → Option (List ℕ) → Type 0
 Ends (Ok done) old script new before after = HasPlayed old script new before after
 Ends (Err OutputFailed) old script new before after =
@@ -59,7 +59,7 @@ pub record HasReportedFault (gives : Giving) (mapfile : List ℕ) (old new : Wri
   pub is_fault : ComesTo gives mapfile (Err fault)
   pub reported : IsReported old new (mapfile_fault fault.line (number_of fault.kind))
 
--- there is no map: the mapfile's fault was reported, or memory was refused and nothing reported
+-- there is no map: the mapfile's fault was reported, or memory was refused and nothing was reported
 abbrev pub IsWithoutMap : Giving → Failure → List ℕ → WriterState → WriterState → Type 0
 IsWithoutMap gives MapfileFault mapfile old new = HasReportedFault gives mapfile old new
 IsWithoutMap gives NoMemory mapfile old new = Keeps old.held new.held
@@ -73,7 +73,7 @@ pub record IsFaulty (gives : Giving) (old new : ConsoleState) : Type 0 where
   pub output : Keeps old.output.held new.output.held
   pub reported : HasReportedFault gives mapfile old.errors new.errors
 
--- what playing a session makes of the streams by its outcome
+-- the result of playing a session for the streams, by its outcome
 abbrev pub PlaysTo : Giving → Outcome → ConsoleState → ConsoleState → Type 0
 PlaysTo gives (Ok done) old new = IsServed gives (Ok done) old new
 PlaysTo gives (Err MapfileFault) old new = IsFaulty gives old new

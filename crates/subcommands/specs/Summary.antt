@@ -1,4 +1,4 @@
--- What is said of a map that has no fault (docs/SERVICE.md, "The program").
+-- The summary of a map that has no fault (docs/SERVICE.md, "The program").
 use Rattle.std.specs.Prelude.{ℕ, ◌<◌, List, ◌++◌, length, take, Option, codes, sum_by}
 use Rattle.std.specs.Fmt.{decimal}
 use Rattle.std.specs.Io.KnownBytes.{Appends}
@@ -14,7 +14,7 @@ abbrev pub summary_line : MapFields → List ℕ
 summary_line map =
     codes "ok " ++ (decimal (length map.layers) ++ (codes " layers " ++ (decimal (feature_count map.layers) ++ codes " features\n")))
 
--- exactly the first so many bytes of the line went out, and not all
+-- exactly the first so many bytes of the line were written, and not all
 pub record HasPartlySummed (map : MapFields) (before after : Option (List ℕ)) (written : ℕ) : Type 0 where
   pub short : written < length (summary_line map)
   pub bytes : Appends before after (take written (summary_line map))

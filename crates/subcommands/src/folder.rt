@@ -6,7 +6,7 @@ use mapdefs::{Items, Text};
 use mapparse::{Files, Mapfile};
 use std::alloc::{AllocError, Global};
 
-/// A folder, of which files are read by the names that mapfiles have for them.
+/// A folder, whose files are read by the names that mapfiles have for them.
 pub trait Folder {
     ghost use Rattle.std.specs.Prelude.{ℕ, List, Option};
 
@@ -18,8 +18,7 @@ pub trait Folder {
         ensures { IfOk result (λ bytes. gives self.now name.now bytes) };
 }
 
-/// What stands before the name of a file in its path: all up to the last slash, or nothing where there is
-/// none.
+/// The parent of a file in its path: all up to the last slash, or the empty text where there is none.
 pub fn parent_of(path: &str) -> &str
     ensures { IsParent path.now result.now }
 {
@@ -29,15 +28,15 @@ pub fn parent_of(path: &str) -> &str
     }
 }
 
-// What stands before a name in its path.
+// The prefix of a name in its path.
 fn parent_before<'a>(parent: &'a str, name: &str) -> &'a str
     ensures { result.now ≡ parent_before parent.now name.now }
 {
     if name.starts_with('/') { "" } else { parent }
 }
 
-/// The path of a name in a folder, by what stands before the names of the folder's files: a name that begins
-/// with a slash is a path. The error is that memory was refused.
+/// The path of a name in a folder, by the parent of the folder's files: a name that begins with a slash is a path. The
+/// error is that memory was refused.
 pub fn path_of(alloc: Global, parent: &str, name: &str) -> Result<Text, AllocError>
     ensures { IfOk result (λ path. path ≡ path_of parent.now name.now) }
 {

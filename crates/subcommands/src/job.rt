@@ -7,13 +7,13 @@ pub struct NamedFile<'a, I> {
     pub reader: I,
 }
 
-/// What a subcommand works on: a mapfile, and the folder of the files that it names.
+/// The files of a subcommand: a mapfile, and the folder of the files that it names.
 #[derive(Drop)]
 pub struct Job<'a, F, I> {
     /// The folder.
     pub folder: &'a F,
     /// The mapfile.
     pub mapfile: NamedFile<'a, I>,
-    /// Whether a fault is reported in words, too, and why a file can't be read, and warnings on the map.
+    /// Whether a fault is reported with a message, and why a file can't be read, and the warnings on the map.
     pub explains: bool,
 }

@@ -4,7 +4,7 @@ ghost use Rattle.batches.specs.Command.{is_line_end};
 
 use batches::line_len;
 
-/// The first line, without its LF, and what stands after that LF.
+/// The first line, without its LF, and the bytes after that LF.
 pub fn split_line(bytes: &[u8]) -> (&[u8], &[u8])
     ensures line { result.0.now ≡ before_first is_line_end bytes.now }
     ensures rest { result.1.now ≡ after_first is_line_end bytes.now }

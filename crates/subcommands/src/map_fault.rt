@@ -13,7 +13,7 @@ pub enum MapFault {
     Faulty {
         /// Its first one.
         fault: Fault,
-        /// The words on it, where they are asked for and memory isn't refused for them.
+        /// The message on it, where it is requested and memory isn't refused for it.
         words: Option<Text>,
     },
     /// Memory was refused.
@@ -21,7 +21,7 @@ pub enum MapFault {
 }
 
 impl MapFault {
-    /// A fault with the words on it.
+    /// A fault with the message on it.
     pub fn new(fault: ParseFault, words: Option<Text>) -> Self
         ensures { result ≡ with_words fault words }
     {

@@ -2,8 +2,7 @@ ghost use Rattle.subcommands.specs.Parts.{AreParts};
 
 use crate::line::split_line;
 
-/// The mapfile and the script of a session: what stands before the first line of two percent signs,
-/// and what stands after it.
+/// The mapfile and the script of a session: the bytes before the first line of two percent signs, and those after it.
 pub fn split_session(session: &[u8]) -> (&[u8], &[u8])
     ensures { AreParts session.now result.0.now result.1.now }
 {

@@ -17,7 +17,7 @@ use std::alloc::Global;
 use streams::{Sink, Source};
 
 /// Reads a session from the input up to its end, and plays it: the transcript goes to the output, or the fault of the
-/// mapfile is reported. The result says what the writers got.
+/// mapfile is reported. The result says which bytes the writers got.
 pub fn session<F: Folder, I: Source, O: Sink, E: Sink>(
     alloc: Global,
     folder: &F,

@@ -17,7 +17,7 @@ use mapparse::{Files, Mapfile, ParseFault, ParseKind};
 use std::alloc::Global;
 use streams::{Sink, Source};
 
-// The words on a fault of what is written in a mapfile, where they are asked for.
+// The message on a fault of the text of a mapfile, where it is requested.
 fn source_words(alloc: Global, explains: bool, source: &[u8], fault: &ParseFault) -> Option<Text>
     ensures unasked { explains ≡ false → result ≡ None }
     ensures unnamed { has_missing fault.now ≡ true → result ≡ None }
@@ -33,7 +33,7 @@ fn source_words(alloc: Global, explains: bool, source: &[u8], fault: &ParseFault
     }
 }
 
-// The words on a fault of the files of a mapfile, where they are asked for.
+// The message on a fault of the files of a mapfile, where it is requested.
 fn file_words(alloc: Global, explains: bool, at_hand: MapfileAtHand<'_>) -> Option<Text>
     ensures unasked { explains ≡ false → result ≡ None }
     ensures on { IfSome result (AreOnFiles at_hand.entry.files.now at_hand.entry.mapfile.now) }
@@ -45,8 +45,8 @@ fn file_words(alloc: Global, explains: bool, at_hand: MapfileAtHand<'_>) -> Opti
     }
 }
 
-/// The map of a mapfile with the files of its folder, or its first fault, with the words on it where these are asked
-/// for. A source without a fault of its own is parsed once, and each file is read from the folder once. The files come with the map.
+/// The map of a mapfile with the files of its folder, or its first fault, with the message on it where that is requested. A source without a fault of
+/// its own is parsed once, and each file is read from the folder once. The files are returned with the map.
 pub fn read_map_of<F: Folder>(
     alloc: Global,
     folder: &F,
@@ -87,7 +87,7 @@ pub struct ReadMap {
     pub files: Files,
 }
 
-/// The bytes of a file. One that can't be read is reported by its name, and, where that is asked for, why it can't.
+/// The bytes of a file. One that can't be read is reported by its name, and, where that is requested, with the cause.
 pub fn read_file<I: Source + HasCause, E: Sink>(
     alloc: Global,
     explains: bool,
@@ -111,8 +111,8 @@ pub fn read_file<I: Source + HasCause, E: Sink>(
     }
 }
 
-/// The map of a mapfile, with its bytes and its files. Its fault is reported, or that it can't be read; where the job explains, a second line has words
-/// on it, unless memory is refused for these.
+/// The map of a mapfile, with its bytes and its files. Its fault is reported, or that it can't be read; where the job has `explains`, a second line
+/// has the message on it, unless memory is refused for that.
 pub fn read_explained<F: Folder, I: Source + HasCause, E: Sink>(
     alloc: Global,
     job: &mut Job<'_, F, I>,
@@ -138,8 +138,8 @@ pub fn read_explained<F: Folder, I: Source + HasCause, E: Sink>(
     }
 }
 
-/// Reports the warnings on the map of a job, with the mapfile's name, where the job explains. Where memory is refused for
-/// them nothing is reported.
+/// Reports the warnings on the map of a job, with the mapfile's name, where the job has `explains`. Where memory is refused for them nothing is
+/// reported.
 pub fn report_warnings<F, I, E: Sink>(alloc: Global, job: &Job<'_, F, I>, map: &Map, errors: &mut E)
     ensures reports { ReportsWarnings job.now.explains job.now.mapfile.name.now map.now (⟦<E as Writes>⟧.state errors.old) (⟦<E as Writes>⟧.state errors.new) }
     ensures same { job.now.explains ≡ false → errors.new ≡ errors.old }
@@ -153,8 +153,8 @@ pub fn report_warnings<F, I, E: Sink>(alloc: Global, job: &Job<'_, F, I>, map: &
     }
 }
 
-/// The map of a mapfile, with its bytes and its files. A fault is reported; where the job explains, in words, too, and else the warnings on the map,
-/// unless memory is refused for these.
+/// The map of a mapfile, with its bytes and its files. A fault is reported. Where the job has `explains`, the report of a fault has a message, and
+/// the warnings on a map are reported, unless memory is refused for these.
 pub fn read_map<F: Folder, I: Source + HasCause, E: Sink>(
     alloc: Global,
     job: &mut Job<'_, F, I>,

@@ -10,7 +10,7 @@ use mapdefs::Text;
 use mapwords::Fault;
 use streams::Sink;
 
-// Why a file can't be read, in words that follow its name.
+// Why a file can't be read, in a message that follows its name.
 #[tactic(auto, unfolding(crate::specs::Reports::cause_words))]
 fn cause_words(cause: UnreadCause) -> &'static str
     ensures { result.now ≡ cause_words cause }
@@ -22,14 +22,14 @@ fn cause_words(cause: UnreadCause) -> &'static str
     }
 }
 
-// Reports a file that can't be read: its name, and the words on the cause behind it once more.
+// Reports a file that can't be read: its name, and on a second line its name and the message on the cause.
 fn report_with_cause<'a, E: Sink>(errors: &mut E, name: &'a [u8], words: &'a [u8])
     ensures { IsReported (⟦<E as Writes>⟧.state errors.old) (⟦<E as Writes>⟧.state errors.new) (codes "fault file " ++ (name.now ++ (codes "\n" ++ (name.now ++ words.now)))) }
 {
     report(errors, &[b"fault file ", name, b"\n", name, words]);
 }
 
-/// Reports a file that can't be read: its name, and, where that is asked for, why.
+/// Reports a file that can't be read: its name, and, where that is requested, the cause.
 pub fn report_file<E: Sink>(errors: &mut E, explains: bool, name: &str, cause: UnreadCause)
     ensures { IsReported (⟦<E as Writes>⟧.state errors.old) (⟦<E as Writes>⟧.state errors.new) (file_fault explains (record { name = name.now; cause = cause })) }
 {
@@ -50,7 +50,7 @@ pub fn report_mapfile_fault<E: Sink>(errors: &mut E, line: u64, kind: u8)
     report(errors, &[b"fault line ", line, b" kind ", kind, b"\n"]);
 }
 
-/// Reports the fault of a mapfile, and the words on it, where there are any.
+/// Reports the fault of a mapfile, and the message on it, if there is one.
 pub fn report_explained<E: Sink>(errors: &mut E, name: &str, fault: Fault, words: &Option<Text>)
     ensures { IsReported (⟦<E as Writes>⟧.state errors.old) (⟦<E as Writes>⟧.state errors.new) (explained_fault name.now fault words.now) }
 {

@@ -19,8 +19,8 @@ fn feature_count(layers: &[Layer]) -> u64
     count
 }
 
-/// Writes the line that says how many layers a map has, and how many features. The error is that the
-/// writer failed: exactly the first `written` bytes of the line went out, and not all of them.
+/// Writes the line with the number of layers of a map, and of features. The error is that the writer failed: exactly
+/// the first `written` bytes of the line were written, and not all of them.
 ///
 /// It takes no memory.
 pub fn summary<S: Sink>(map: &Map, sink: &mut S) -> Result<(), WriteFault>

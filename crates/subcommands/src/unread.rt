@@ -11,7 +11,7 @@ pub enum UnreadCause {
     Other,
 }
 
-/// What knows why it failed.
+/// A reader that knows why it failed.
 pub trait HasCause {
     ghost use Rattle.std.specs.Prelude.{◌≡◌};
     ghost use Rattle.subcommands.specs.declared.unread.UnreadCause.{UnreadCause};
@@ -19,7 +19,7 @@ pub trait HasCause {
     // Why it failed last.
     ghost cause: { Self → UnreadCause };
 
-    /// Why it failed last. It is another cause where it hasn't failed.
+    /// Why it failed last. It is `Other` where it hasn't failed.
     fn cause(&self) -> UnreadCause
         ensures { result ≡ cause self.now };
 }
