@@ -60,7 +60,7 @@ pub at-none : {X : Type 0} (o : Option X) (P : Type 0) (Q : X → Type 0) → o 
 at-none None P Q is p = p
 at-none (Some x) P Q is p = absurd (cc)
 
--- what follows from a fact about a value follows for the fact
+-- a fact about a value that may be missing gives the facts that follow from it
 pub match-so : {X : Type 0} (o : Option X) (P P' : Type 0) (Q Q' : X → Type 0) → (P → P') → ((x : X) → Q x → Q' x) → MatchOption o P Q → MatchOption o P' Q'
 match-so None P P' Q Q' f g m = f m
 match-so (Some x) P P' Q Q' f g m = g x m

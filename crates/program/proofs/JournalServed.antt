@@ -10,7 +10,7 @@ use Rattle.program.specs.Endings.{EndingValue}
 use Rattle.program.specs.Journals.{IsOpened, ReportsEnd}
 use Rattle.program.specs.Performing.{HostView, IsJournalServed, ServesMachine, Written}
 
--- what keeps its batches is a journal that was opened
+-- the keeper of its batches is a journal that was opened
 pub journal-served : {P L : Type 0} (host : HostView P L) (path fingerprint : List ℕ) (map : MapFields) (service : Service) (ending : EndingValue P L) (written : Written) (machine : State) (keeper : Option (Journal L))
     → is_some keeper ≡ true → IfSome keeper (IsOpened host.journal path fingerprint (opened map) machine) → ServesMachine host machine keeper service ending written.output written.later_output
     → ReportsEnd path ending.outcome written.errors written.later_errors → IsJournalServed host path fingerprint map service ending written

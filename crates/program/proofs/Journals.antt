@@ -7,7 +7,7 @@ use Rattle.journalfile.specs.declared.recovery.RecoverFault.{RecoverFault}
 use Rattle.journalfile.specs.declared.recovery.RecoverFault.TheVariants as recover_fault
 use Rattle.program.specs.Journals.{erased, fault_of}
 
--- the fault is that of what is left
+-- the fault is that of the recovery without its failure
 pub erased-fault : {F : Type 0} (cause : RecoverFault F) → fault_of cause ≡ fault_of (erased cause)
 erased-fault (recover_fault.Header header_fault.NotAJournal) = refl
 erased-fault (recover_fault.Header header_fault.OtherMap) = refl
@@ -16,7 +16,7 @@ erased-fault (recover_fault.Refused number) = refl
 erased-fault recover_fault.NoMemory = refl
 erased-fault (recover_fault.Failed failure) = refl
 
--- and so is what it means
+-- and so are the conditions for it
 pub erased-is : {F L : Type 0} (fingerprint : List ℕ) (content : L → List ℕ) (old new : L) (first : State) (cause : RecoverFault F)
     → IsFaultOf fingerprint content old new first cause → IsFaultOf fingerprint content old new first (erased cause)
 erased-is fingerprint content old new first (recover_fault.Header header_fault.NotAJournal) is = is

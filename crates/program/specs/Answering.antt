@@ -1,4 +1,4 @@
--- What the program does for its arguments on a host (docs/SERVICE.md, "The program").
+-- The effects of the program for its arguments on a host (docs/SERVICE.md, "The program").
 use Rattle.std.specs.Prelude.{◌≡◌, ◌⊎◌, false, ℕ, List, None, Result, Ok, Err, codes}
 use Rattle.std.specs.Io.KnownBytes.{Keeps}
 use Rattle.clap.specs.Words.{subcommand_of, takes}
@@ -23,7 +23,7 @@ pub record IsWithoutMemory {P L : Type 0} (ending : EndingValue P L) (old new : 
   pub untouched : IsUntouched old new
   pub errors : new.errors ≡ old.errors
 
--- the arguments were refused, and the command line doesn't take them; a text on it was reported
+-- the arguments were refused, and the command line doesn't take them; a message on that was reported
 pub record IsRefused {P L : Type 0} (arguments : List (List ℕ)) (ending : EndingValue P L) (old new : ConsoleState) : Type 0 where
   pub ends : ending ≡ record { outcome = Err WordsRefused; served = None }
   pub refused : takes app arguments ≡ false
@@ -31,7 +31,7 @@ pub record IsRefused {P L : Type 0} (arguments : List (List ℕ)) (ending : Endi
   pub text : List ℕ
   pub reported : IsReported old.errors new.errors text
 
--- the arguments ask for a command, which was performed; how it ended was explained, where that is asked for
+-- the arguments give a command, which was performed; how it ended was explained, where that is requested
 pub record IsPerformed {P L : Type 0} (host : HostView P L) (arguments : List (List ℕ)) (ending : EndingValue P L) (old new : ConsoleState) : Type 0 where
   pub command : Command
   pub asked : IsCommand (subcommand_of app arguments) command
@@ -47,7 +47,7 @@ pub record IsNoText {P L : Type 0} (ending : EndingValue P L) (old new : Console
   pub untouched : IsUntouched old new
   pub reported : IsReported old.errors new.errors (codes "error: a word is not UTF-8\n")
 
--- what the arguments come to, or arguments that can't be read
+-- the result for these arguments, or for arguments that can't be read
 abbrev pub Answers : {P L : Type 0} → HostView P L → Result (List (List ℕ)) ArgumentsUnread → EndingValue P L → ConsoleState → ConsoleState → Type 0
 Answers host (Ok arguments) ending old new =
     IsPerformed host arguments ending old new ⊎ IsRefused arguments ending old new ⊎ IsWithoutMemory ending old new

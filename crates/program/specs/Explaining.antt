@@ -1,4 +1,4 @@
--- What is said of an end that no other line explains (docs/SERVICE.md, "The program").
+-- The message on an end that no other line explains (docs/SERVICE.md, "The program").
 use Rattle.std.specs.Prelude.{◌≡◌, ℕ, Bool, true, false, List, ◌++◌, Option, None, Some, Ok, Err, codes}
 use Rattle.std.specs.Fmt.{decimal}
 use Rattle.commandline.specs.declared.subcommand.Command.{Command}
@@ -16,14 +16,14 @@ explains_end (Check name explains) = explains
 explains_end (Run name script explains) = explains
 explains_end (Serve name explains service journal) = explains
 
--- why a port can't be listened on
+-- the message why a port can't be listened on
 unfoldable pub cause_words : ListenCause → List ℕ
 cause_words Taken = codes " is taken\n"
 cause_words NotAllowed = codes " may not be listened on\n"
 cause_words Other = codes " can't be listened on\n"
 
--- the sentence on a failure of the output, a port, the input with whose end a service ends, or memory. Others were reported by a line of
--- their own; a session, which reads standard input, takes no option
+-- the message on a failure of the output, a port, the input with whose end a service ends, or memory. Other failures were reported by a line of their
+-- own; a session, which reads standard input, takes no option
 unfoldable pub sentence_on : Failure → Option (List ℕ)
 sentence_on OutputFailed = Some (codes "error: standard output can't be written\n")
 sentence_on (ListenFailed port cause) = Some (codes "error: port " ++ (decimal port ++ (codes " of 127.0.0.1" ++ cause_words cause)))
@@ -32,12 +32,12 @@ sentence_on WatchFailed = Some (codes "error: standard input can't be read\n")
 sentence_on NoMemory = Some (codes "error: out of memory\n")
 sentence_on failure = None
 
--- a sentence was reported, where there is one
+-- a message was reported, if there is one
 abbrev pub HasSaid : Option (List ℕ) → WriterState → WriterState → Type 0
 HasSaid None old new = new ≡ old
 HasSaid (Some sentence) old new = IsReported old new sentence
 
--- the sentence on an outcome was reported, where that is asked for
+-- the message on an outcome was reported, where that is requested
 abbrev pub ExplainsEnd : Bool → Outcome → WriterState → WriterState → Type 0
 ExplainsEnd true (Err failure) old new = HasSaid (sentence_on failure) old new
 ExplainsEnd explains outcome old new = new ≡ old

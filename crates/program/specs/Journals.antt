@@ -20,23 +20,23 @@ use Rattle.console.specs.declared.failure.Failure.TheVariants as failure
 use Rattle.program.specs.declared.keeping.JournalFault.{JournalFault}
 use Rattle.program.specs.declared.keeping.JournalFault.TheVariants as fault
 
--- what a host is known to have of journals: which logs it gives for a path, whether they are reliable, what they have, and what a crash
--- may leave of them
+-- the known properties of the journals of a host: which logs it gives for a path, whether they are reliable, which bytes they have, and which bytes a
+-- crash may leave of them
 pub record JournalView (L : Type 0) : Type 1 where
   pub gives : List ℕ → L → Type 0
   pub reliable : Type 0
   pub content : L → List ℕ
   pub may_leave : L → List ℕ → Type 0
 
--- a file that a mapfile uses, as it is digested: its name, and its bytes
+-- the part of a digest for a file that a mapfile uses: its name and its bytes
 abbrev pub given_message : FileBytes → List ℕ
 given_message file = sized file.name ++ content_message (Some file.bytes)
 
--- the fingerprint of a map: the digest of its mapfile and of the files that this uses
+-- the fingerprint of a map: the digest of its mapfile and of the files that it uses
 abbrev pub map_fingerprint : List ℕ → List FileBytes → List ℕ
 map_fingerprint mapfile files = sha256 (sized mapfile ++ flat_map given_message files)
 
--- what a recovery says, without the log's own failure
+-- the fault of a recovery, without the log's own failure
 abbrev pub erased : {F : Type 0} → RecoverFault F → RecoverFault (Unit {0})
 erased (recover_fault.Header cause) = recover_fault.Header cause
 erased (recover_fault.Damaged number) = recover_fault.Damaged number
@@ -44,7 +44,7 @@ erased (recover_fault.Refused number) = recover_fault.Refused number
 erased recover_fault.NoMemory = recover_fault.NoMemory
 erased (recover_fault.Failed cause) = recover_fault.Failed tt
 
--- why a journal isn't opened, by what its recovery says
+-- why a journal isn't opened, by the fault of its recovery
 abbrev pub fault_of : {F : Type 0} → RecoverFault F → JournalFault
 fault_of (recover_fault.Header header_fault.NotAJournal) = fault.NotAJournal
 fault_of (recover_fault.Header header_fault.OtherMap) = fault.OtherMap
@@ -53,7 +53,7 @@ fault_of (recover_fault.Refused number) = fault.Refused number
 fault_of recover_fault.NoMemory = fault.NoMemory
 fault_of (recover_fault.Failed cause) = fault.Unavailable
 
--- the words on it, which a number may follow
+-- the message on a journal's fault, which a number may follow
 unfoldable pub fault_words : JournalFault → List ℕ
 fault_words fault.NotAJournal = codes "it is no journal"
 fault_words fault.OtherMap = codes "it is of another map"
@@ -69,7 +69,7 @@ number_text (fault.Damaged number) = decimal number
 number_text (fault.Refused number) = decimal number
 number_text other = []
 
--- how the program ends for it
+-- the failure with which the program ends for it
 abbrev pub failure_of : JournalFault → Failure
 failure_of fault.InUse = failure.JournalFailed
 failure_of fault.Unavailable = failure.JournalFailed
@@ -88,8 +88,8 @@ is_unopened fault.NoMemory = Unit {0}
 is_unopened other = ⊥
 
 module _ {L : Type 0} (view : JournalView L) (path fingerprint : List ℕ) (first : State) where
-  -- a journal was opened on a log of the host: the machine is in the state after some batches, of which the journal has as many as its
-  -- count. Where the log is reliable, they are those that its bytes stood for, and it keeps them
+  -- a journal was opened on a log of the host: the machine is in the state after some batches, and their number is the journal's count. Where the log
+  -- is reliable, its bytes stood for these batches, and it keeps them
   pub record IsOpened (last : State) (journal : Journal L) : Type 0 where
     pub log : L
     pub gives : view.gives path log
@@ -99,7 +99,7 @@ module _ {L : Type 0} (view : JournalView L) (path fingerprint : List ℕ) (firs
     pub stood : view.reliable → StandsFor fingerprint (view.content log) batches
     pub settled : view.reliable → IsSettled view.content view.may_leave journal batches
 
-  -- why none was: the host gave no log, or its bytes are to blame
+  -- why none was opened: the host gave no log, or the bytes of the log have a fault
   abbrev pub IsUnopened : JournalFault → Type 0
   IsUnopened why =
       is_unopened why

@@ -1,4 +1,4 @@
--- What the program does for a command on a host (docs/SERVICE.md, "The program").
+-- The effects of the program for a command on a host (docs/SERVICE.md, "The program").
 use Rattle.std.specs.Prelude.{◌≡◌, ◌⊎◌, ℕ, Bool, List, [], Option, None, Some, option_map, Err}
 use Rattle.std.specs.Io.KnownBytes.{Keeps}
 use Rattle.commandline.specs.declared.subcommand.Command.{Command}
@@ -20,15 +20,15 @@ use Rattle.subcommands.specs.declared.unread.UnreadCause.{UnreadCause}
 use Rattle.program.specs.Endings.{EndingValue}
 use Rattle.program.specs.Hosts.{gives_in}
 
--- what a host is known to have: the bytes of the file of a path, which ports it gives for a number, the addresses of ports, and journals
+-- the known properties of a host: the bytes of the file of a path, which ports it gives for a number, the addresses of ports, and journals
 pub record HostView (P L : Type 0) : Type 1 where
   pub file : List ℕ → Option (List ℕ)
   pub listens : ℕ → P → Type 0
   pub address : P → Option (List ℕ)
   pub journal : JournalView L
 
--- a machine was served as it begins, at the two ports that were listened on, and its batches kept by this; that is how the program ended.
--- Where the ports are was written once, that of clients first
+-- a machine was served as it begins, at the two ports that were listened on, and this keeper kept its batches; the program ended as the service did.
+-- The addresses of the ports were written once, that of clients first
 pub record IsServed {P L : Type 0} (host : HostView P L) (machine : State) (keeper : Option (Journal L)) (service : Service) (ending : EndingValue P L) (old new : WriterState) : Type 0 where
   pub clients : P
   pub administration : P
@@ -53,7 +53,7 @@ pub record Written : Type 0 where
   pub errors : WriterState
   pub later_errors : WriterState
 
--- a map was served in the state after the batches of its journal, which kept all that followed; where it failed that was reported
+-- a map was served in the state after the batches of its journal, which kept all that followed; where it failed, that was reported
 pub record IsJournalServed {P L : Type 0} (host : HostView P L) (path fingerprint : List ℕ) (map : MapFields) (service : Service) (ending : EndingValue P L) (written : Written) : Type 0 where
   pub machine : State
   pub journal : Journal L
@@ -96,17 +96,16 @@ pub record IsWithoutMap {P L : Type 0} (gives : Giving) (explains : Bool) (endin
   pub without : GivesNoMap gives explains failure (record { name = name; cause = cause }) before after old.errors new.errors
   pub nothing : ServesNothing ending
 
--- what serving a mapfile comes to. `before` and `after` are what is left of the mapfile
+-- the result of serving a mapfile. `before` and `after` are the rest of the mapfile
 abbrev pub ServesTo : {P L : Type 0} → HostView P L → Giving → Bool → Option (List ℕ) → Service → EndingValue P L → List ℕ → Option (List ℕ) → Option (List ℕ) → ConsoleState → ConsoleState → Type 0
 ServesTo host gives explains journal service ending name before after old new =
     IsWithoutMap gives explains ending name before after old new ⊎ IsMapServed host gives explains journal service ending name before after old new
 
--- what is left of a file after so much was read of it
+-- the rest of a file after a part of it was read
 abbrev pub Left : Type 0
 Left = Option (List ℕ)
 
--- what performing a command comes to, by its end. The files that a mapfile names are those of its folder; a session's are those of the
--- current one
+-- the result of performing a command, by its end. The files that a mapfile names are those of its folder; a session's are those of the current one
 abbrev pub Performs : {P L : Type 0} → HostView P L → Command → EndingValue P L → ConsoleState → ConsoleState → Type 0
 Performs host Session ending old new = PlaysTo (gives_in host.file []) ending.outcome old new × ServesNothing ending
 Performs host (Check name explains) ending old new =

@@ -37,7 +37,7 @@ fn texts_of<'a>(alloc: Global, arguments: &'a [String]) -> Result<Vec<&'a str>, 
 }
 
 impl<R: Runtime, H: Host> Program<'_, R, H> {
-    // Does what texts ask for.
+    // Performs the command of texts.
     fn answer_texts<I: Source, O: Sink, E: Sink>(
         &self,
         texts: &[&str],
@@ -60,7 +60,7 @@ impl<R: Runtime, H: Host> Program<'_, R, H> {
         }
     }
 
-    // Does what arguments ask for.
+    // Performs the command of arguments.
     fn answer_strings<I: Source, O: Sink, E: Sink>(
         &self,
         arguments: &[String],
@@ -75,7 +75,7 @@ impl<R: Runtime, H: Host> Program<'_, R, H> {
         }
     }
 
-    /// Does what the arguments of the program ask for, or reports what is wrong with them, and says how the program ends.
+    /// Performs the command of the program's arguments, or reports the fault in them. Returns how the program ends.
     pub fn answer<I: Source, O: Sink, E: Sink>(
         &self,
         arguments: Result<Vec<String>, ArgumentsUnread>,

@@ -9,9 +9,9 @@ use std::io::Eprint;
 use std::marker::Model;
 use std::process::{ExitCode, Termination};
 
-/// How the program ended, and what it served on ports P, if anything, with a journal on a log L where batches were kept. Only `Program::answer`, `Program::perform` and
-/// `without_memory` make one, and the exit status is 0 or that of its failure, so that a `main` which returns one ends
-/// as they say.
+/// How the program ended, and what it served on ports P, if anything, with a journal on a log L where batches were kept. Only `Program::answer`,
+/// `Program::perform` and `without_memory` make one, and the exit status is 0 or that of its failure. So a `main` that returns one ends as they
+/// state.
 #[derive(Drop)]
 pub struct Ending<P, L> {
     outcome: Result<(), Failure>,
@@ -58,7 +58,7 @@ impl<P, L> Ending<P, L> {
         Ending::after(Err(Failure::NoMemory))
     }
 
-    /// Whether all was done that was asked, or why not.
+    /// Success, or why the command wasn't done.
     pub fn outcome(&self) -> Result<(), Failure>
         ensures { result ≡ self.now.outcome }
     {

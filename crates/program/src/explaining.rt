@@ -30,7 +30,7 @@ fn cause_words(cause: ListenCause) -> &'static [u8]
     }
 }
 
-// Reports the sentence on a failure, where there is one.
+// Reports the message on a failure, if there is one.
 #[tactic(auto, unfolding(crate::specs::Explaining::sentence_on))]
 fn report_failure<E: Sink>(failure: Failure, errors: &mut E)
     ensures { HasSaid (sentence_on failure) (⟦<E as Writes>⟧.state errors.old) (⟦<E as Writes>⟧.state errors.new) }
@@ -60,7 +60,7 @@ fn report_failure<E: Sink>(failure: Failure, errors: &mut E)
     }
 }
 
-/// Reports the sentence on how the program ends, where that is asked for, and no other line has said it.
+/// Reports the message on how the program ends, where that is requested, and no other line has reported it.
 pub(crate) fn explain_end<E: Sink>(explains: bool, outcome: Result<(), Failure>, errors: &mut E)
     ensures { ExplainsEnd explains outcome (⟦<E as Writes>⟧.state errors.old) (⟦<E as Writes>⟧.state errors.new) }
 {

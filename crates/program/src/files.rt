@@ -38,7 +38,7 @@ impl<'a, H: Files> HostFile<'a, H> {
         }
     }
 
-    // Reads what comes next, of a file that is opened first where it isn't open.
+    // Reads the next bytes of a file, which is opened first where it isn't open.
     fn read_on(&mut self, room: &mut [u8]) -> io::Result<usize>
         ensures bound { ReadsAtMost result room.new }
         ensures bytes { ReadConsumes (left_of (H.file self.old.host.now self.old.path.now) H.File.remaining self.old.file) (left_of (H.file self.new.host.now self.new.path.now) H.File.remaining self.new.file) result room.new }
@@ -79,7 +79,7 @@ impl<H: Files> HasCause for HostFile<'_, H> {
     }
 }
 
-// Why a file can't be read, by what the system says.
+// Why a file can't be read, by the error of the system.
 fn cause_of(kind: io::ErrorKind) -> UnreadCause
     ensures { result ≡ cause_of kind }
 {
@@ -94,8 +94,8 @@ fn cause_of(kind: io::ErrorKind) -> UnreadCause
 #[derive(Drop)]
 pub struct HostFolder<'a, H> {
     host: &'a H,
-    // What stands before a name that doesn't begin with a slash: nothing for the current folder, or a path
-    // with its last slash.
+    // The prefix of a name that doesn't begin with a slash: empty for the current folder, or a path with its last
+    // slash.
     parent: &'a str,
 }
 

@@ -11,7 +11,7 @@ use thiserror::Error;
 #[derive(Clone, Copy, Debug, Error)]
 #[error("the port can't be listened on")]
 pub struct ListenFailed {
-    /// Why.
+    /// The cause.
     pub cause: ListenCause,
 }
 
@@ -29,7 +29,7 @@ pub enum OpenFault {
     NoMemory,
 }
 
-/// What opens files by their paths.
+/// Opens files by their paths.
 pub trait Files {
     ghost use Rattle.std.specs.Prelude.{ℕ, List, Option};
 
@@ -44,11 +44,11 @@ pub trait Files {
         ensures { IfOk result (λ f. Self.File.remaining f ≡ file self.now path.now) };
 }
 
-/// Where the program runs: its files, its journals, and what listens on ports.
+/// The system on which the program runs: its files, its journals, and its ports.
 pub trait Host: Files + Network {
     ghost use Rattle.std.specs.Prelude.{ℕ, List};
 
-    /// What a journal is written to.
+    /// The log of a journal.
     type Log: Log + Drop;
 
     // A log is one that the host gives for a path.
@@ -61,18 +61,18 @@ pub trait Host: Files + Network {
     fn listen(&self, number: u16) -> Result<Self::Port, ListenFailed>
         ensures { IfOk result (λ p. listens self.now number p) };
 
-    /// Opens the log of a path, which no other program has meanwhile. Where there is none one is made that has these bytes: it is there with
-    /// all of them or not at all. What a crash garbles of a log that is reliable is known by its digests.
+    /// Opens the log of a path, which no other program has at the same time. Where there is none, one is made with these bytes: it has all
+    /// of them, or doesn't exist. Digests show which bytes of a reliable log a crash has garbled.
     fn open_log(&self, path: &str, bytes: &[u8]) -> Result<Self::Log, OpenFault>
         ensures given { IfOk result (λ log. journal self.now path.now log) }
         ensures recognised { OnOk result (Self.Log.reliable → (fingerprint : List ℕ) → GarblesNoRecord Self.Log.garbled fingerprint) };
 
-    /// What ends a wait at a port, if the port tells where it is.
+    /// The waker of a wait at a port, if the port knows its address.
     fn waker(&self, port: &Self::Port) -> Option<Self::Waker>;
 
-    /// What tells a worker which of its connections may go on, where that can be had.
+    /// A poller, which reports to a worker which of its connections may go on, if there is one.
     fn poller(&self) -> Option<Self::Poller>;
 
-    /// The input with whose end a service ends that asks for that.
+    /// The input whose end ends a service, where the service requests that.
     fn input(&self) -> io::Result<Self::Input>;
 }

@@ -18,7 +18,7 @@ impl From<io::Error> for OpenFault {
     }
 }
 
-// Locks a file. Another program that serves the journal has the lock, up to its end.
+// Locks a file. Another program that serves the journal holds the lock until it ends.
 fn lock(file: &File) -> Result<(), OpenFault> {
     match file.try_lock() {
         Ok(()) => Ok(()),
@@ -27,7 +27,7 @@ fn lock(file: &File) -> Result<(), OpenFault> {
     }
 }
 
-// The file of a path, for reading and appending. It has to be there, or is made, as `create` says.
+// The file of a path, for reading and appending. It exists before, or is made, by `create`.
 fn open(rt: &HostRuntime, path: &str, create: bool) -> io::Result<File> {
     OpenOptions::new()
         .read(true)
@@ -36,7 +36,7 @@ fn open(rt: &HostRuntime, path: &str, create: bool) -> io::Result<File> {
         .open(rt, path)
 }
 
-// Puts the name of a new file away, which stands in its folder.
+// Syncs the folder of a new file, which has the file's name.
 fn sync_folder(rt: &HostRuntime, path: &str) -> io::Result<()> {
     let folder = match parent_of(path) {
         "" => "./",
@@ -76,8 +76,8 @@ fn open_or_make(rt: &HostRuntime, path: &str, bytes: &[u8]) -> Result<File, Open
     }
 }
 
-/// The log of a journal on a file of the machine: it is read from its begin and written at its end. No clause says what a file does, so it
-/// isn't called reliable.
+/// The log of a journal on a file of the machine: it is read from its start and written at its end. No clause states what a file does, so
+/// the log isn't called reliable.
 #[derive(Drop)]
 pub struct JournalFile {
     file: File,

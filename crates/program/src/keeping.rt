@@ -25,9 +25,9 @@ use subcommands::ReadMap;
 pub enum JournalFault {
     /// The file isn't one.
     NotAJournal,
-    /// It is that of another map, or of other files.
+    /// It is the journal of another map, or of other files.
     OtherMap,
-    /// After so many records something stands that is no record, and a whole record further on.
+    /// After so many records there are bytes that are no record, and a whole record after them.
     Damaged(u64),
     /// The batch of the record of this number isn't accepted.
     Refused(u64),
@@ -40,7 +40,7 @@ pub enum JournalFault {
 }
 
 impl JournalFault {
-    /// How the program ends for it.
+    /// The failure with which the program ends.
     pub fn failure(self) -> Failure
         ensures failure { result ≡ failure_of self }
         ensures neither { TouchesNeither result }
@@ -55,7 +55,7 @@ impl JournalFault {
         }
     }
 
-    // The number of a record that it has.
+    // The number of the record, if it has one.
     fn number(self) -> Option<u64>
         ensures { MatchOption result (number_text self ≡ []) (λ number. number_text self ≡ decimal number) }
     {
@@ -65,7 +65,7 @@ impl JournalFault {
         }
     }
 
-    // The words on it, which a number may follow.
+    // The message on it, which a number may follow.
     #[tactic(auto, unfolding(crate::specs::Journals::fault_words))]
     fn words(self) -> &'static [u8]
         ensures { result.now ≡ fault_words self }
@@ -106,7 +106,7 @@ pub(crate) fn report_journal_fault<E: Sink>(errors: &mut E, path: &str, fault: J
     }
 }
 
-/// Reports that the journal of a service failed, where its outcome is that.
+/// Reports that the journal of a service failed, where that is its outcome.
 pub(crate) fn report_end<E: Sink>(errors: &mut E, path: &str, outcome: Result<(), Failure>)
     ensures { ReportsEnd path.now outcome (⟦<E as Writes>⟧.state errors.old) (⟦<E as Writes>⟧.state errors.new) }
 {
@@ -115,7 +115,7 @@ pub(crate) fn report_end<E: Sink>(errors: &mut E, path: &str, outcome: Result<()
     }
 }
 
-// The files of a map as its fingerprint has them.
+// The files of a map as they are digested for its fingerprint.
 fn used_files<'a>(alloc: Global, files: &'a MapFiles) -> Result<Vec<UsedFile<'a>>, AllocError>
     ensures { IfOk result (λ used. map file_message used.items ≡ map given_message files.now) }
 {
@@ -145,7 +145,7 @@ fn header_of(alloc: Global, fingerprint: &[u8; 32]) -> Result<Vec<u8>, AllocErro
     Ok(header)
 }
 
-// Why a journal isn't opened, by what its recovery says.
+// Why a journal isn't opened, by the fault of its recovery.
 fn fault_of<F: Drop>(fault: RecoverFault<F>) -> JournalFault
     ensures { result ≡ fault_of fault }
 {
@@ -159,7 +159,7 @@ fn fault_of<F: Drop>(fault: RecoverFault<F>) -> JournalFault
     }
 }
 
-// The log of a path on a host. One that isn't there is made, without a record.
+// The log of a path on a host. Where there is none, it is made, without a record.
 fn log_of<H: Host>(
     alloc: Global,
     host: &H,
@@ -181,7 +181,7 @@ fn log_of<H: Host>(
     }
 }
 
-/// Where a journal is.
+/// The position of a journal.
 #[derive(Clone, Copy)]
 pub(crate) struct JournalPlace<'a, H> {
     /// The host that has it.
@@ -190,7 +190,8 @@ pub(crate) struct JournalPlace<'a, H> {
     pub path: &'a str,
 }
 
-/// Opens the journal of a map and brings the map's machine to the state after its batches. One that isn't there is made.
+/// Opens the journal of a map and brings the map's machine to the state after its batches. Where there is no journal,
+/// one is made.
 pub(crate) fn open_journal<H: Host>(
     alloc: Global,
     place: JournalPlace<'_, H>,

@@ -1,11 +1,11 @@
 //! The program on a host, which opens files by their paths and listens on ports: from its arguments to its exit status.
 //!
-//! Proved over every host: `Program::answer` does what the arguments ask for (`answers`), and
-//! `Program::perform` what a command asks for, with the files of the names in it (`performs`). `Program::serve_map`
-//! listens on the two ports of a service, and serves the map as it begins there: the `Ending` has what was served. `HostFile`
-//! and `HostFolder` give the bytes that the host is known to have.
+//! Proved over every host: `Program::answer` performs the command of the arguments (`answers`), and `Program::perform` a
+//! command, with the files of the names in it (`performs`). `Program::serve_map` listens on the two ports of a service, and
+//! serves the map as it begins there; the `Ending` has the map and the ports. `HostFile` and `HostFolder` give the bytes that
+//! the host is known to have.
 //!
-//! `SystemHost` is the machine that the program runs on. Nothing is known of what its files and sockets give.
+//! `SystemHost` is the machine that the program runs on. Nothing is known of the bytes that its files and sockets give.
 #![tactic(auto)]
 
 mod arguments;

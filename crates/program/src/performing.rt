@@ -80,7 +80,7 @@ impl<R: Runtime, H: Host> Program<'_, R, H> {
         run(self.rt.alloc(), &mut job, &mut commands, console)
     }
 
-    // Answers connections about the map of a mapfile, with the journal of a path or without.
+    // Serves the map of a mapfile, with the journal of a path or without.
     fn serve<I: Source, O: Sink, E: Sink>(
         &self,
         file: &str,
@@ -125,8 +125,7 @@ impl<R: Runtime, H: Host> Program<'_, R, H> {
         }
     }
 
-    /// Does what a command asks for, with the files and the ports of the host. What a session is played from is the
-    /// input; no other command reads it.
+    /// Performs a command, with the files and the ports of the host. Only a session is read from the input.
     pub fn perform<I: Source, O: Sink, E: Sink>(
         &self,
         command: Command,

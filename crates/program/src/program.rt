@@ -1,8 +1,8 @@
 /// The program on a host.
 #[derive(Drop)]
 pub struct Program<'a, R, H> {
-    /// What it runs on.
+    /// Its runtime.
     pub rt: R,
-    /// Where its files are, and its ports.
+    /// The host, which has its files and its ports.
     pub host: &'a H,
 }

@@ -49,7 +49,7 @@ fn pollers_of<H: Host>(alloc: Global, host: &H, workers: u16) -> Result<Vec<H::P
     Ok(pollers)
 }
 
-// What a service ends with, where that is asked for.
+// The input whose end ends a service, if that is requested.
 fn until_of<H: Host>(
     host: &H,
     service: Service,
@@ -67,7 +67,7 @@ fn until_of<H: Host>(
     }
 }
 
-// The two ports of a service, its pollers, and what it ends with.
+// The two ports of a service, its pollers, and the input whose end ends it.
 fn listen<H: Host>(
     alloc: Global,
     host: &H,
@@ -172,7 +172,7 @@ impl<R: Runtime, H: Host> Program<'_, R, H> {
     }
 
     /// Serves a map that was read in the state after the batches of its journal, which keeps those that follow. It listens on two ports for
-    /// that. Why the journal can't be opened, or that it failed, is reported.
+    /// that. It reports why the journal can't be opened, or that the journal failed.
     pub fn serve_kept<I, O: Sink, E: Sink>(
         &self,
         read: ReadMap,

@@ -85,7 +85,7 @@ impl Host for SystemHost {
     }
 }
 
-// Why a port can't be listened on, by what the system says.
+// Why a port can't be listened on, by the error of the system.
 fn cause_of(kind: io::ErrorKind) -> ListenCause {
     match kind {
         io::ErrorKind::AddrInUse => ListenCause::Taken,
