@@ -14,11 +14,11 @@ is_escaped byte = nat_lt byte 33 || nat_lt 126 byte || (byte == 34) || (byte == 
 abbrev pub hex_digit : ℕ → ℕ
 hex_digit digit = if nat_lt digit 10 then 48 + digit else (87 + digit)
 
--- a byte as it is shown
+-- the text of a byte
 abbrev pub escaped_byte : ℕ → List ℕ
 escaped_byte byte = if is_escaped byte then (92 ∷ 120 ∷ hex_digit (byte / 16) ∷ hex_digit (byte % 16) ∷ []) else byte ∷ []
 
--- bytes as they are shown
+-- the text of bytes
 abbrev pub escaped : List ℕ → List ℕ
 escaped bytes = flat_map escaped_byte bytes
 

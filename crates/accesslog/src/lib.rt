@@ -1,9 +1,9 @@
 //! The log of a service: a line for each answer, for each command of an administrator, and for each connection that ended otherwise.
 //!
-//! Proved: each line is the one that its definition says (`answer_line`, `end_line`, `command_line`, `dropped_line`), and a
-//! `LoggedTransport` and a `LoggedSink` do what those do that they stand before, whatever is noted. Which lines come, and when, is tested.
+//! Proved: each line is the one of its definition (`answer_line`, `end_line`, `command_line`, `dropped_line`). A `LoggedTransport` and a
+//! `LoggedSink` do what the transport and the sink within do, whatever is noted. Which lines come, and when, is tested.
 //!
-//! Words: the *target* of a request is its path with its query.
+//! Terms: the *target* of a request is its path with its query.
 #![tactic(auto)]
 
 mod line;

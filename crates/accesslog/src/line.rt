@@ -8,7 +8,7 @@ ghost use Rattle.accesslog.specs.Lines.{answer_line, cause_word, command_line, d
 use itoa::Buffer;
 use std::alloc::{AllocError, Global};
 
-/// What is noted of an answer.
+/// The note of an answer.
 #[derive(Clone, Copy, Debug)]
 pub struct AnswerNote<'a> {
     /// The number of its connection.
@@ -19,14 +19,14 @@ pub struct AnswerNote<'a> {
     pub status: u16,
     /// How many bytes it has, with its head.
     pub bytes: u64,
-    /// How many milliseconds passed from the first byte of its request to the last of its own.
+    /// How many milliseconds passed from the first byte of its request to its own last byte.
     pub millis: u64,
 }
 
 /// Why a connection ended before its client had all of its answers, or between requests.
 #[derive(Clone, Copy, Debug)]
 pub enum Cause {
-    /// Nothing came of a request in time.
+    /// No byte of a request came in time.
     Idle,
     /// A head didn't end in time.
     Head,
@@ -55,7 +55,7 @@ fn hex_digit(digit: u8) -> u8
     if digit < 10 { 48 + digit } else { 87 + digit }
 }
 
-// Adds a byte as it is shown.
+// Adds the text of a byte.
 fn push_byte(line: &mut Vec<u8>, byte: u8) -> Result<(), AllocError>
     ensures { OnOk result (line.new.items ≡ line.old.items ++ escaped_byte byte) }
 {
@@ -65,7 +65,7 @@ fn push_byte(line: &mut Vec<u8>, byte: u8) -> Result<(), AllocError>
     line.extend_from_slice(&[byte])
 }
 
-// Adds bytes as they are shown.
+// Adds the text of bytes.
 fn push_escaped(line: &mut Vec<u8>, bytes: &[u8]) -> Result<(), AllocError>
     ensures { OnOk result (line.new.items ≡ line.old.items ++ escaped bytes.now) }
 {
@@ -102,7 +102,7 @@ pub fn answer_line(alloc: Global, note: &AnswerNote<'_>) -> Result<Vec<u8>, Allo
     Ok(line)
 }
 
-// The word for a cause.
+// The text of a cause.
 #[tactic(auto, unfolding(crate::specs::Lines::cause_word))]
 fn cause_word(cause: Cause) -> &'static [u8]
     ensures { result.now ≡ cause_word cause }

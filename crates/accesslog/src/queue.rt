@@ -19,7 +19,7 @@ struct Shared {
     is_ended: AtomicBool,
 }
 
-/// An end of the queue of a log. Lines are put into it by many threads, and none of them waits: one for which there is no place is
+/// An end of the queue of a log. Many threads put lines into it, and none of them waits: a line for which there is no room is
 /// dropped, and counted.
 #[derive(Drop)]
 pub struct LogQueue<R> {
@@ -29,7 +29,7 @@ pub struct LogQueue<R> {
 }
 
 impl<R: Clock + Wait + Copy> LogQueue<R> {
-    /// One without a line. Nothing is made where memory is refused, or there is no clock.
+    /// A queue without a line. There is none where memory is refused, or there is no clock.
     pub fn new(rt: &R, alloc: Global) -> Option<Self> {
         let Ok(began) = Instant::now(rt) else {
             return None;
@@ -61,7 +61,7 @@ impl<R: Clock + Wait + Copy> LogQueue<R> {
         }
     }
 
-    /// A line is to be written. One that wasn't made, or for which there is no place, is counted.
+    /// Puts a line that is to be written. One that wasn't made, or for which there is no room, is counted.
     pub fn put(&self, line: Option<Vec<u8>>) {
         let is_put = match line {
             Some(line) => self.shared.lines.push(&self.rt, line).is_ok(),
@@ -72,17 +72,17 @@ impl<R: Clock + Wait + Copy> LogQueue<R> {
         }
     }
 
-    /// No line comes any more.
+    /// Ends the queue: no further line comes.
     pub fn end(&self) {
         self.shared.is_ended.store(true, Ordering::SeqCst);
     }
 
-    /// Whether no line comes any more.
+    /// Whether no further line comes.
     pub fn is_ended(&self) -> bool {
         self.shared.is_ended.load(Ordering::SeqCst)
     }
 
-    /// The next line that waits: where some were dropped, the line on these.
+    /// The next line that waits. Where lines were dropped, it is the line on these.
     pub fn take(&self, alloc: Global) -> Option<Vec<u8>> {
         let dropped = self.shared.dropped.swap(0, Ordering::SeqCst);
         if dropped > 0 {

@@ -1,12 +1,12 @@
-//! What is noted of a connection.
+//! The notes on a connection.
 
 use crate::line::{AnswerNote, answer_line};
 use std::alloc::Global;
 
-// How many bytes are noted that came and aren't answered yet, at most: a head, and one read behind it.
+// How many bytes are noted that came and aren't answered yet, at most: a head, and one read after it.
 const NOTED_BYTES: usize = 20_480;
 
-// Where the status of a response stands in its first line.
+// The position of the status in the first line of a response.
 const STATUS: usize = 9;
 
 // An answer that is being sent.
@@ -19,7 +19,7 @@ struct Sending {
     since: u64,
 }
 
-/// What is noted of a connection: the bytes that came and aren't answered yet, and the answer that is being sent.
+/// The notes on a connection: the bytes that came and aren't answered yet, and the answer that is being sent.
 #[derive(Drop)]
 pub struct Record {
     alloc: Global,
@@ -29,7 +29,7 @@ pub struct Record {
     sending: Option<Sending>,
 }
 
-// The rest of some bytes behind the ends of lines that they begin with.
+// The rest of some bytes after the ends of lines that they begin with.
 fn behind_newlines(bytes: &[u8]) -> &[u8] {
     for index in 0..bytes.len() {
         if bytes[index] != b'\r' && bytes[index] != b'\n' {
@@ -39,7 +39,7 @@ fn behind_newlines(bytes: &[u8]) -> &[u8] {
     &[]
 }
 
-// How many bytes a head has that stands at the front of some: up to its first empty line behind another, or all.
+// How many bytes the head at the start of some bytes has: up to its first empty line after another, or all.
 fn head_len(bytes: &[u8]) -> usize {
     let mut is_empty = true;
     let mut has_text = false;
@@ -57,8 +57,7 @@ fn head_len(bytes: &[u8]) -> usize {
     bytes.len()
 }
 
-// The target of a request whose head this is: what stands between the first two spaces of its first line. It is empty where there are
-// none.
+// The target of a request with this head: the bytes between the first two spaces of its first line. It is empty where there are none.
 fn target_of(head: &[u8]) -> &[u8] {
     let text = behind_newlines(head);
     let line = match text
@@ -135,8 +134,8 @@ impl Record {
         self.came = left;
     }
 
-    /// Bytes went out, so many of those of an answer that were to be sent in two parts. Says whether all of it went out: then its line
-    /// is due.
+    /// Bytes were sent, so many of those of an answer that were to be sent in two parts. Returns whether all of it was sent: then its
+    /// line is due.
     pub fn went(&mut self, parts: (&[u8], &[u8]), count: usize) -> bool {
         let (first, second) = parts;
         if self.sending.is_none() {
@@ -150,7 +149,7 @@ impl Record {
         sending.left == 0
     }
 
-    /// The line on the answer that went out last, at this millisecond. There is none where memory is refused for it.
+    /// The line on the answer that was sent last, at this millisecond. There is none where memory is refused for it.
     pub fn line(&mut self, now: u64) -> Option<Vec<u8>> {
         let sending = self.sending.take()?;
         let note = AnswerNote {

@@ -10,7 +10,7 @@ use std::rt::Clock;
 use std::sync::Wait;
 use streams::{PutFailed, Sink};
 
-// The line that is being written, and where it goes.
+// The line that is being written, and the queue for it.
 #[derive(Drop)]
 struct LineLog<R> {
     alloc: Global,

@@ -12,13 +12,13 @@ use std::rt::Clock;
 use std::sync::Wait;
 use turns::{ReadOutcome, Transport, WriteOutcome};
 
-/// What may be told why its connection ends before its client had all of its answers.
+/// A connection that notes why it ends before its client had all of its answers.
 pub trait EndsEarly {
-    /// It ends, since this happened.
+    /// It ends for this cause.
     fn note_end(&mut self, cause: Cause);
 }
 
-// Where what is noted of a connection goes.
+// The notes on a connection, and the queue for their lines.
 #[derive(Drop)]
 struct AnswerLog<R> {
     alloc: Global,
@@ -26,7 +26,7 @@ struct AnswerLog<R> {
     queue: LogQueue<R>,
 }
 
-/// A transport that does what the one within does. Where a log is kept, a line is put into its queue for each answer that went out whole,
+/// A transport that does what the one within does. Where a log is kept, a line is put into its queue for each answer that was sent whole,
 /// and for an early end.
 #[derive(Drop)]
 pub struct LoggedTransport<T, R> {
@@ -88,7 +88,7 @@ impl<T: Transport, R: Clock + Wait + Copy> Transport for LoggedTransport<T, R> {
     }
 }
 
-// Notes what a read gave.
+// Notes the bytes that a read gave.
 fn note_read<R: Clock + Wait + Copy>(noted: &mut AnswerLog<R>, room: &[u8], outcome: ReadOutcome) {
     if let ReadOutcome::Bytes(count) = outcome {
         let bytes = room.get(..count).unwrap_or(room);
@@ -96,7 +96,7 @@ fn note_read<R: Clock + Wait + Copy>(noted: &mut AnswerLog<R>, room: &[u8], outc
     }
 }
 
-// Notes what a write took, and puts the line on an answer that went out whole.
+// Notes the bytes that a write took, and puts the line on an answer that was sent whole.
 fn note_write<R: Clock + Wait + Copy>(
     noted: &mut AnswerLog<R>,
     parts: (&[u8], &[u8]),

@@ -6,7 +6,7 @@ use std::sync::{Condvar, Mutex, Wait};
 /// How many connections wait for one worker at most. While so many wait, no further one is accepted.
 pub const WAITING: usize = 16;
 
-/// What is to become of a worker.
+/// Whether a worker ends, and how.
 #[derive(Clone, Copy, Debug, PartialEq, Eq)]
 pub enum Ending {
     /// It goes on.
@@ -17,12 +17,12 @@ pub enum Ending {
     Stops,
 }
 
-// What stands between whoever accepts connections and their worker.
+// The state that the accepting thread and a worker share.
 #[derive(Drop)]
 struct HandedOver<T> {
     transports: VecDeque<T>,
     ending: Ending,
-    // A descriptor is wanted for a further connection.
+    // A further connection needs a descriptor.
     is_pressed: bool,
     // The worker has connections.
     is_serving: bool,
@@ -54,7 +54,7 @@ impl<T: Drop, W: Wakes> Handover<T, W> {
         })
     }
 
-    /// Hands over a connection, once fewer than `WAITING` wait. It comes back where memory is refused.
+    /// Hands over a connection, once fewer than `WAITING` wait. It is returned where memory is refused.
     pub fn put<R: Wait>(&self, rt: &R, transport: T) -> Result<(), T> {
         let mut state = self.taken.wait_while(rt, self.state.lock(rt), |state| {
             state.transports.len() >= WAITING && state.ending == Ending::GoesOn
@@ -82,7 +82,7 @@ impl<T: Drop, W: Wakes> Handover<T, W> {
         !self.state.lock(rt).transports.is_empty()
     }
 
-    /// The worker ends, in one way or the other. One that stops isn't told to finish.
+    /// The worker ends, in one way or the other. One that stops isn't changed to finish.
     pub fn end<R: Wait>(&self, rt: &R, ending: Ending) {
         let mut state = self.state.lock(rt);
         if state.ending != Ending::Stops {
@@ -92,18 +92,19 @@ impl<T: Drop, W: Wakes> Handover<T, W> {
         self.waker.wake();
     }
 
-    /// What is to become of the worker.
+    /// Whether the worker ends, and how.
     pub fn ending<R: Wait>(&self, rt: &R) -> Ending {
         self.state.lock(rt).ending
     }
 
-    /// A descriptor is wanted: the connection that has been between requests for longest gives way, if one is.
+    /// A further connection needs a descriptor: the connection that has been between requests for longest gives way, if
+    /// there is one.
     pub fn press<R: Wait>(&self, rt: &R) {
         self.state.lock(rt).is_pressed = true;
         self.waker.wake();
     }
 
-    /// Whether a descriptor is wanted, which is taken note of.
+    /// Whether a further connection needs a descriptor. The call resets the need.
     pub fn take_press<R: Wait>(&self, rt: &R) -> bool {
         let mut state = self.state.lock(rt);
         let is_pressed = state.is_pressed;
@@ -116,7 +117,7 @@ impl<T: Drop, W: Wakes> Handover<T, W> {
         self.state.lock(rt).is_serving
     }
 
-    /// The worker says that it has connections, or none.
+    /// Notes that the worker has connections, or none.
     pub fn note_serving<R: Wait>(&self, rt: &R, has_connections: bool) {
         let mut state = self.state.lock(rt);
         state.is_serving = has_connections || !state.transports.is_empty();

@@ -1,14 +1,13 @@
 //! The event loop of a worker, which serves its connections in turns as they become ready, and the threads that run it.
 //!
 //! A connection comes to its worker by a `Handover`. The worker waits at its `Poller`, gives each connection that is ready its
-//! turn, and closes one whose time is over. What a turn does, and which connection has the next one, is proved of
-//! `ConnectionTable` of `turns`, whose calls the loop makes; the loop itself waits for events, and what it is told of them
-//! is no promise of any proof.
+//! turn, and closes one whose time is over. The loop calls `ConnectionTable` of `turns`, whose contracts state what a turn
+//! does and which connection has the next one. No proof covers the events for which the loop waits.
 //!
-//! Proved: a connection comes to a slot where nobody is, as `ConnectionTable::open` requires, and each call is safe and ends,
-//! but `run` and those that wait.
+//! Proved: a connection comes to a free slot, as `ConnectionTable::open` requires, and each call is safe and ends, but `run`
+//! and those that wait.
 //!
-//! Words: a worker *finishes* where no further connection comes to it: those that it has are served to their end. It *stops*
+//! Terms: a worker *finishes* where no further connection comes to it: those that it has are served to their end. It *stops*
 //! where those that aren't being answered are closed.
 #![tactic(auto)]
 

@@ -2,26 +2,26 @@ ghost use Rattle.std.specs.Prelude.{◌≤◌, length};
 
 use std::time::Duration;
 
-/// What ends a wait.
+/// A waker: it ends a wait.
 pub trait Wakes {
-    /// Has whoever waits go on.
+    /// Ends the wait.
     fn wake(&self);
 }
 
-/// What tells a worker which of its connections may go on.
+/// Reports to a worker which of its connections may go on.
 pub trait Poller<T> {
-    /// What ends its wait.
+    /// The waker of its wait.
     type Waker: Wakes + Send + Sync + Drop + 'static;
 
-    /// What ends its wait, where that can be had.
+    /// The waker of its wait, if there is one.
     fn waker(&self) -> Option<Self::Waker>;
 
-    /// A connection comes to a slot, and is watched from now on. It isn't where that can't be had.
+    /// Watches a connection at its slot from now on. Returns whether it does.
     fn register(&mut self, transport: &mut T, slot: usize) -> bool;
 
-    /// Waits until a connection may go on, until it is woken, or for so long. The slots of such connections stand at the front
-    /// of the room, as many as it says; others may stand among them. A slot is given once for each change, so none may be lost
-    /// for want of room: it has `EVENTS` places.
+    /// Waits until a connection may go on, until it is woken, or for so long. The slots of such connections are the first in
+    /// `room`, and the call returns their number; other slots may be among them. A slot is reported once for each change, so
+    /// none may be lost because room is missing: `room` has `EVENTS` slots.
     fn wait(&mut self, at_most: Duration, room: &mut [usize]) -> usize
         ensures count { result ≤ length room.new };
 }

@@ -23,7 +23,7 @@ impl<T: Transport> Write for AtOnce<'_, T> {
     }
 }
 
-/// Says to a client that the server is busy, as far as its connection takes that without a wait.
+/// Answers a client that the server is busy, as far as its connection takes that without a wait.
 pub fn turn_away<T: Transport>(transport: &mut T) {
     let mut writer = Flagged::new(AtOnce { transport });
     if respond(&Outcome::Busy, true, &mut writer).is_ok() {

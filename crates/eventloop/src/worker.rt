@@ -20,13 +20,13 @@ pub const ROOM: usize = 67_108_864;
 /// How many slots one wait gives, at most.
 pub const EVENTS: usize = 256;
 
-// How many turns are had until events are asked for again, at most.
+// How many turns are made until the worker looks for events again, at most.
 const TURNS: u32 = 64;
 
-// How many milliseconds pass between two looks whose time is over.
+// How many milliseconds pass between two looks for connections whose time is over.
 const TICK: u64 = 100;
 
-/// A worker: whoever it asks, its connections, and what tells it of them.
+/// A worker: its answerer, its connections, and the poller of them.
 #[derive(Drop)]
 pub struct Worker<A, T: Drop, P> {
     alloc: Global,
@@ -34,7 +34,7 @@ pub struct Worker<A, T: Drop, P> {
     poller: P,
     table: ConnectionTable<T>,
     timeouts: Timeouts,
-    // The milliseconds of its clock, and when it last looked whose time is over.
+    // The milliseconds of its clock, and when it last looked for connections whose time is over.
     now: u64,
     looked: u64,
 }
@@ -63,12 +63,13 @@ impl<A: Asks, T: Transport + EndsEarly + Drop, P: Poller<T>> Worker<A, T, P> {
         })
     }
 
-    /// What ends its wait, where that can be had.
+    /// The waker of its wait, if there is one.
     pub fn waker(&self) -> Option<P::Waker> {
         self.poller.waker()
     }
 
-    // A connection comes to a free slot. One without memory is told that the server is busy.
+    // A connection comes to a free slot. Where memory for it is refused, its client gets the answer that the server is
+    // busy.
     fn open(&mut self, slot: usize, mut transport: T)
         requires known { slot < length (connections self.old.table) }
         requires free { at_slot (connections self.old.table) slot ≡ None }
@@ -83,7 +84,7 @@ impl<A: Asks, T: Transport + EndsEarly + Drop, P: Poller<T>> Worker<A, T, P> {
     }
 
     // Takes over the next connection that waits. Where no slot is free, one that is between requests gives way, or none is
-    // taken over. Says whether one was.
+    // taken over. Returns whether one was.
     fn take_over<R: Wait, W: Wakes>(&mut self, rt: &R, handover: &Handover<T, W>) -> bool {
         if !handover.has_waiting(rt) {
             return false;
@@ -110,7 +111,7 @@ impl<A: Asks, T: Transport + EndsEarly + Drop, P: Poller<T>> Worker<A, T, P> {
         }
     }
 
-    // Has some turns made. A connection that is over leaves.
+    // Makes some turns. A connection that is over leaves.
     fn serve_some(&mut self) {
         for _ in 0..TURNS {
             let Some(served) = self.table.serve_next(&mut self.asks, self.now) else {
@@ -122,7 +123,8 @@ impl<A: Asks, T: Transport + EndsEarly + Drop, P: Poller<T>> Worker<A, T, P> {
         }
     }
 
-    // Closes the connection at a slot where its time is over. Why is noted, unless its client had all of its answers.
+    // Closes the connection at a slot where its time is over. The cause is noted, unless its client had all of its
+    // answers.
     fn close_overdue(&mut self, slot: usize) {
         if let Some(mut connection) = self.table.close_overdue(slot, self.now)
             && let Some(cause) = early_end(&connection, &self.timeouts, self.now)
@@ -151,7 +153,7 @@ impl<A: Asks, T: Transport + EndsEarly + Drop, P: Poller<T>> Worker<A, T, P> {
         handover.note_serving(rt, !self.table.is_empty());
     }
 
-    // Waits for events, and notes who may go on. Nobody is waited for while somebody has a turn.
+    // Waits for events, and notes which connections may go on. It doesn't wait while a connection has a turn.
     fn wait(&mut self, room: &mut [usize]) {
         let at_most = if self.table.is_ready() { 0 } else { TICK };
         let count = self.poller.wait(Duration::from_millis(at_most), room);
@@ -160,14 +162,14 @@ impl<A: Asks, T: Transport + EndsEarly + Drop, P: Poller<T>> Worker<A, T, P> {
         }
     }
 
-    // Closes those that aren't being answered.
+    // Closes the connections that aren't being answered.
     fn close_unanswered(&mut self) {
         for slot in 0..self.table.len() {
             self.table.close_unanswered(slot);
         }
     }
 
-    // Whether it has ended, in the way that is asked for.
+    // Whether it has ended, in this way.
     fn has_ended(&mut self, ending: Ending) -> bool {
         match ending {
             Ending::GoesOn => return false,

@@ -23,12 +23,12 @@ pub struct WorkerThreads<T: Drop, W: Drop> {
     threads: Vec<JoinHandle<()>>,
     // How many connections were handed over.
     count: u64,
-    // How often a descriptor was wanted.
+    // How often a connection needed a descriptor.
     pressed: u64,
 }
 
 impl<T: Transport + Drop, W: Wakes + Drop> WorkerThreads<T, W> {
-    /// Nobody yet, with room for so many. Its error is that memory was refused.
+    /// No workers yet, with room for so many. Its error is that memory was refused.
     pub fn new(alloc: Global, count: usize) -> Result<Self, AllocError> {
         Ok(WorkerThreads {
             handovers: Vec::with_capacity(alloc, count)?,
@@ -48,7 +48,7 @@ impl<T: Transport + Drop, W: Wakes + Drop> WorkerThreads<T, W> {
     }
 
     /// Hands over the next connection: connection c to worker c mod N, of N, counted from 1. It waits while many wait there.
-    /// Where memory is refused its client is told that the server is busy.
+    /// Where memory is refused its client gets the answer that the server is busy.
     pub fn hand_over<R: Wait>(&mut self, rt: &R, transport: T) {
         self.count = self.count.saturating_add(1);
         let Some(worker) = self.worker(self.count) else {
@@ -59,7 +59,8 @@ impl<T: Transport + Drop, W: Wakes + Drop> WorkerThreads<T, W> {
         }
     }
 
-    /// A descriptor is wanted: one worker, the next each time, closes a connection that is between requests, if it has one.
+    /// A further connection needs a descriptor: one worker, the next each time, closes a connection that is between
+    /// requests, if it has one.
     pub fn press<R: Wait>(&mut self, rt: &R) {
         self.pressed = self.pressed.saturating_add(1);
         if let Some(worker) = self.worker(self.pressed) {
@@ -77,7 +78,7 @@ impl<T: Transport + Drop, W: Wakes + Drop> WorkerThreads<T, W> {
         false
     }
 
-    /// Has each worker end, in one way or the other, and waits for that.
+    /// Has each worker end, in one way or the other, and waits until it has.
     pub fn end<R: Wait + Threads>(self, rt: &R, ending: Ending) {
         let WorkerThreads {
             handovers,
@@ -93,7 +94,7 @@ impl<T: Transport + Drop, W: Wakes + Drop> WorkerThreads<T, W> {
     }
 }
 
-/// Starts one worker more, in a thread of its own.
+/// Starts one more worker, in a thread of its own.
 pub fn start_worker<R, A, T, P>(
     rt: &R,
     alloc: Global,
@@ -125,7 +126,7 @@ where
     }
 }
 
-// A handover for whoever accepts connections, and for the worker.
+// A handover for the accepting thread, and for the worker.
 fn both_ends<T: Drop, W: Wakes + Drop>(
     alloc: Global,
     waker: W,

@@ -181,7 +181,7 @@ fn log_of<H: Host>(
     }
 }
 
-/// The position of a journal.
+/// The host and the path of a journal.
 #[derive(Clone, Copy)]
 pub(crate) struct JournalPlace<'a, H> {
     /// The host that has it.

@@ -9,11 +9,11 @@ use Rattle.operations.specs.declared.mime.Mime.TheVariants.{Pixmap, ArbitraryMap
 use Rattle.scripts.specs.Transcript.{body_text, hex_line, hex_within}
 use Rattle.scripts.specs.Digits.{digit_value, bytes_of, AreFullLines, lines_text}
 
--- whether the digit at a place of the sixteen stands for that place
+-- whether the digit at a position of the sixteen has that position as its value
 abbrev stands-for : ℕ → Bool
 stands-for n = unwrap_or (digit_value (slice_index lower_digits n)) 99 == n
 
--- whether those at the first places do
+-- whether the digits at the first positions have
 abbrev all-stand : ℕ → Bool
 all-stand zero = true
 all-stand (suc n) = stands-for n && all-stand n
@@ -34,7 +34,7 @@ known None n lt e = absurd (omega arith)
 digit-back : (n : ℕ) → n < 16 → digit_value (slice_index lower_digits n) ≡ Some n
 digit-back n lt = known (digit_value (slice_index lower_digits n)) n lt (eqb-true (unwrap_or (digit_value (slice_index lower_digits n)) 99) n (all-stand-at 16 n refl lt))
 
--- the digits of bytes stand for these
+-- the digits of bytes have these bytes as their value
 bytes-back : (bytes : List ℕ) → All (λ byte. byte < 256) bytes → bytes_of (encode_lower bytes) ≡ Some bytes
 unfolding encode_with bytes_of
 bytes-back [] below = refl

@@ -1,4 +1,4 @@
--- Lines that are put one behind the other.
+-- Lines that are put one after the other.
 use Rattle.std.proofs.lemmas.Bool.{cases_lt}
 use Rattle.std.proofs.Common.{inl, inr, ◌≡◌, ◌∙◌, ℕ, zero, suc, min, ◌+◌, ◌-◌, ◌*◌, ◌≤◌, List, [], ◌∷◌, ◌++◌, length, take, drop, refl, sym, ap, arith, append_assoc, append-nil, length-append, length-take, length-drop, take_all}
 use Rattle.std.proofs.lemmas.List.{drop_all, drop-take, drop-drop, take-take}
@@ -7,7 +7,7 @@ use Rattle.scripts.specs.Transcript.{hex_line, hex_lines, hex_within}
 use Rattle.scripts.proofs.HexLines.{hex_lines-split}
 use borrow.Rule.Slice.PartMut.{put_mid}
 
--- some room is what stands before a part up to its end, and the part
+-- a buffer that is filled from a position to its end is the part before the position, and the filling
 pub put-whole : (a : ℕ) (xs ys : List ℕ) → put_mid a (length xs - a) xs ys ≡ take a xs ++ ys
 put-whole a xs ys =
     ap (λ l. take a xs ++ (ys ++ l)) (drop_all (length xs - a) (drop a xs) (omega (arith, length-drop a xs))) ∙ ap (λ l. take a xs ++ l) (append-nil ys)
@@ -15,7 +15,7 @@ put-whole a xs ys =
 pub length-put : (a : ℕ) (xs ys : List ℕ) → a ≤ length xs → length ys ≡ length xs - a → length (put_mid a (length xs - a) xs ys) ≡ length xs
 length-put a xs ys fits count = ap length (put-whole a xs ys) ∙ omega (arith, fits, count, length-append (take a xs) ys, length-take a xs)
 
--- what was put behind the first bytes of some room
+-- the bytes that were put after the first bytes of a buffer
 pub put-behind : (a n : ℕ) (xs ys : List ℕ) → a ≤ length xs → take (a + n) (put_mid a (length xs - a) xs ys) ≡ take a xs ++ take n ys
 put-behind a n xs ys fits =
     let count : length (take a xs) ≡ a = omega (arith, fits, length-take a xs) in
@@ -38,7 +38,7 @@ lines-block (suc n) (b ∷ bs) =
     ∙ ap (λ text. hex_line (take 32 (b ∷ bs)) ++ text) (lines-block n (drop 32 (b ∷ bs)))
     ∙ sym (hex_lines-split (b ∷ bs) (omega arith)))
 
--- a block, cut off as the program does: whole lines, or all that is left
+-- a block, cut off as the program does: whole lines, or all bytes left
 pub lines-cut : (rest block others : List ℕ) (n : ℕ) → n ≡ min (length rest) 2016 → block ≡ take n rest → others ≡ drop n rest →
     hex_lines rest ≡ hex_lines block ++ hex_lines others
 unfolding hex_within

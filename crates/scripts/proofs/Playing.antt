@@ -1,4 +1,4 @@
--- Playing a readable script: what was played so far, and how it ends.
+-- Playing a readable script: the part played so far, and the end.
 use Rattle.std.proofs.Common.{MatchOption, ◌≡◌, ℕ, List, [], ◌∷◌, ◌++◌, Option, None, Some, Result, Ok, Err, ◌-◌, refl, sym, ap, subst, append-nil, arith}
 use Rattle.std.proofs.lemmas.Grind.{flat_map-append}
 use Rattle.batches.specs.Batch.{State}
@@ -32,7 +32,7 @@ is-transcript old new script events replies all run =
     let played : IsPlayed old events new (transcript replies) = record { replies = replies; run = run; written = refl } in
     subst (λ (read : Result (List Event) ℕ). IsSessionOf old read new (transcript replies)) (sym all) played
 
--- all of it went out
+-- all of it was sent
 pub has-played : {S : Type 0} (held : S → Option (List ℕ)) (taken : S → ℕ) (old new : State) (script : List ℕ) (events : List Event) (replies : List Reply) (a b : S) →
     script_of script ≡ Ok events → Runs old events replies new → IsSent held taken a (transcript replies) b → HasPlayed old script new (held a) (held b)
 has-played held taken old new script events replies a b all run sent = record {
@@ -45,7 +45,7 @@ has-played held taken old new script events replies a b all run sent = record {
 pub one-more : (replies : List Reply) (reply : Reply) → transcript (replies ++ reply ∷ []) ≡ transcript replies ++ reply_text reply
 one-more replies reply = rw (flat_map-append reply_text replies (reply ∷ []), append-nil (reply_text reply)) refl
 
--- the replies to the events so far went out, and then the front of one to the next event
+-- the replies to the events so far were sent, and then a prefix of the reply to the next event
 pub has-stopped : {S : Type 0} (held : S → Option (List ℕ)) (taken : S → ℕ) (old between new : State) (script : List ℕ) (done left others : List Event) (event : Event) (replies : List Reply) (a b c : S) →
     script_of script ≡ Ok (done ++ left) → left ≡ event ∷ others → Runs old done replies between →
     IsSent held taken a (transcript replies) b → IsPartlyReplied between event new held taken b c → HasPartlyPlayed old script new (held a) (held c) (taken c - taken a)
@@ -68,13 +68,13 @@ has-stopped held taken old between new script done left others event replies a b
     } in
     subst (λ (read : Result (List Event) ℕ). HasStoppedIn old read new (held a) (held c) (taken c - taken a)) (sym all) stopped
 
--- a reply after others went out
+-- a reply after others was sent
 pub sent-reply : {S : Type 0} (held : S → Option (List ℕ)) (taken : S → ℕ) (a b c : S) (replies : List Reply) (reply : Reply) →
     IsSent held taken a (transcript replies) b → IsSent held taken b (reply_text reply) c → IsSent held taken a (transcript (replies ++ reply ∷ [])) c
 sent-reply held taken a b c replies reply first second =
     rw (one-more replies reply) (sent-sent held taken a b c (transcript replies) (reply_text reply) first second)
 
--- what is known where there was no value
+-- the fact that holds where there was no value
 pub at-none : {X : Type 0} (o : Option X) (P : Type 0) (Q : X → Type 0) → MatchOption o P Q → ((x : X) → o ≡ Some x → ⊥) → P
 at-none None P Q m other = m
 at-none (Some x) P Q m other = absurd (other x refl)
@@ -90,7 +90,7 @@ is-refused state script number all =
     let nothing : IsRefused number state state (script_fault number) = record { state = refl; written = refl } in
     subst (λ (read : Result (List Event) ℕ). IsSessionOf state read state (script_fault number)) (sym all) nothing
 
--- only its front went out
+-- only a prefix of it was sent
 pub has-partly-refused : {S : Type 0} (held : S → Option (List ℕ)) (taken : S → ℕ) (state : State) (script : List ℕ) (number : ℕ) (a b : S) → script_of script ≡ Err number →
     IsCutSomewhere held taken a (script_fault number) b → HasPartlyPlayed state script state (held a) (held b) (taken b - taken a)
 has-partly-refused held taken state script number a b all (part, cut) =
@@ -98,7 +98,7 @@ has-partly-refused held taken state script number a b all (part, cut) =
     let refused : HasPartlyRefused number state state (held a) (held b) (taken b - taken a) = record { state = refl; short = omega (arith, count, cut.short); bytes = rw count cut.bytes } in
     subst (λ (read : Result (List Event) ℕ). HasStoppedIn state read state (held a) (held b) (taken b - taken a)) (sym all) refused
 
--- all of it went out
+-- all of it was sent
 pub has-refused : {S : Type 0} (held : S → Option (List ℕ)) (taken : S → ℕ) (state : State) (script : List ℕ) (number : ℕ) (a b : S) → script_of script ≡ Err number →
     IsSent held taken a (script_fault number) b → HasPlayed state script state (held a) (held b)
 has-refused held taken state script number a b all sent = record {

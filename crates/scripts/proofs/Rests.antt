@@ -1,7 +1,7 @@
--- What is left of some bytes.
+-- The rest of some bytes.
 use Rattle.std.proofs.Common.{◌≡◌, ◌∙◌, suc, ◌≤◌, ◌==◌, Bool, true, false, ℕ, List, [], ◌∷◌, length, refl, sym, eqb-true, arith}
 
--- what the test for an empty rest tells
+-- a rest that the test for an empty one refuses has a byte
 pub some-left : (rest : List ℕ) (empty : Bool) → empty ≡ (length rest == 0) → empty ≡ false → 1 ≤ length rest
 some-left [] empty e f = cc
 some-left (b ∷ bs) empty e f = omega arith

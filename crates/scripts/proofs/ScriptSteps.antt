@@ -8,11 +8,11 @@ use Rattle.scripts.specs.Script.{batch_of, command_of, first_command, has_line, 
 use Rattle.mapmachine.specs.declared.reply.Event.{Event}
 use Rattle.mapmachine.specs.declared.reply.Event.TheVariants.{Query, Batch}
 
--- what is read from a command of this number on
+-- the events of a script whose first command has this number
 abbrev pub script_from : ℕ → List ℕ → Result (List Event) ℕ
 script_from number script = script_within (length script) number script
 
--- what stands after a batch is no longer than what stands after its line
+-- the bytes after a batch are no more than those after its line
 batch-within : (count : Option ℕ) (rest : List ℕ) (r : Event × List ℕ) → batch_of count rest ≡ Some r → length r.1 ≤ length rest
 batch-within None rest r e = absurd (cc)
 batch-within (Some count) rest r e = go (nat_lt (length rest) count) refl
@@ -65,7 +65,7 @@ script_within-enough (suc n) (suc m) number (b ∷ bs) h k =
     step-same (script_within n (number + 1)) (script_within m (number + 1)) number (b ∷ bs)
     (λ rest short. script_within-enough n m (number + 1) rest (omega arith) (omega arith)) (first_command (b ∷ bs)) refl
 
--- what is read is the command at the front and what is read after it
+-- the events of a script are the first command, and the events of the bytes after it
 pub script_from-step : (number : ℕ) (script : List ℕ) → 1 ≤ length script →
     script_from number script ≡ with_command number (first_command script) (script_from (number + 1))
 unfolding script_within
@@ -74,7 +74,7 @@ script_from-step number (b ∷ bs) h =
     step-same (script_within (length bs) (number + 1)) (script_from (number + 1)) number (b ∷ bs)
     (λ rest short. script_within-enough (length bs) (length rest) (number + 1) rest (omega arith) (omega arith)) (first_command (b ∷ bs)) refl
 
--- nothing is read of nothing
+-- the empty script has no events
 pub script_from-nil : (number : ℕ) → script_from number [] ≡ Ok []
 unfolding script_within
 script_from-nil number = refl
@@ -94,7 +94,7 @@ pub fault-unreadable : (number : ℕ) (script : List ℕ) → 1 ≤ length scrip
 fault-unreadable number script some front =
     ap fault_of (script_from-step number script some ∙ ap (λ o. with_command number o (script_from (number + 1))) front)
 
--- a readable command at the front of events is the first of them, and the others stand after it
+-- a readable command at the start of a script is the first event, and the others follow it
 pub events-step : (number : ℕ) (script : List ℕ) (event : Event) (after : List ℕ) (left : List Event) → 1 ≤ length script → first_command script ≡ Some (event, after) →
     script_from number script ≡ Ok left → (others : List Event) × (left ≡ event ∷ others) × (script_from (number + 1) after ≡ Ok others)
 events-step number script event after left some front all =
@@ -107,7 +107,7 @@ events-step number script event after left some front all =
     split (Ok events) e = (events, cc, refl)
     split (Err n) e = cc
 
--- where no command stands at the front of events, there is none
+-- where a script of events begins with no command, it has none
 pub events-none : (number : ℕ) (script : List ℕ) (left : List Event) → first_command script ≡ None → script_from number script ≡ Ok left → left ≡ []
 unfolding script_within
 events-none number [] left front all = cc

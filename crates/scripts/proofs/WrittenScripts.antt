@@ -19,7 +19,7 @@ front-of-line : (line rest : List ℕ) → list_any is_line_end line ≡ false �
 front-of-line line rest none =
     rw (cut-there is_line_end line 10 rest none refl, cut-before is_line_end line 10 rest none refl, cut-after is_line_end line 10 rest none refl) refl
 
--- a command is read back, and what stands after it
+-- a command is read back, and the bytes after it are the rest
 read-back : (event : Event) (rest : List ℕ) → CanBeWritten event → first_command (command_text event ++ rest) ≡ Some (event, rest)
 read-back (Query text) rest can =
     let word = codes "QUERY " in

@@ -1,10 +1,10 @@
--- Lines of hexadecimal digits, and the bytes that they stand for (docs/SERVICE.md, "Sessions").
+-- Lines of hexadecimal digits, and the bytes of which they are the text (docs/SERVICE.md, "Sessions").
 use Rattle.std.specs.Prelude.{◌≡◌, ◌≤◌, ◌<◌, ◌+◌, ◌-◌, ◌*◌, ◌&&◌, nat_le, ℕ, if◌then◌else◌, List, [], ◌∷◌, ◌++◌, length, Option, None, Some, codes}
 use Rattle.std.specs.List.{All, concat, flat_map}
 use Rattle.operations.specs.declared.mime.Mime.TheVariants.{Pixmap, ArbitraryMap}
 use Rattle.scripts.specs.Transcript.{body_text}
 
--- the number that a digit stands for: 0 to 9 for themselves, a to f for 10 to 15
+-- the value of a digit: 0 to 9 for themselves, a to f for 10 to 15
 abbrev pub digit_value : ℕ → Option ℕ
 digit_value digit =
     if nat_le 48 digit && nat_le digit 57 then Some (digit - 48)
@@ -23,7 +23,7 @@ with_byte (Some byte) (Some bytes) = Some (byte ∷ bytes)
 with_byte (Some byte) None = None
 with_byte None bytes = None
 
--- the bytes that digits stand for, two digits each
+-- the bytes of a text of digits, two digits each
 unfoldable pub bytes_of : List ℕ → Option (List ℕ)
 bytes_of [] = Some []
 bytes_of (digit ∷ []) = None
@@ -39,7 +39,7 @@ AreFullLines (line ∷ next ∷ lines) = (length line ≡ 64) × AreFullLines (n
 abbrev pub lines_text : List (List ℕ) → List ℕ
 lines_text lines = flat_map (λ line. line ++ codes "\n") lines
 
--- the law: the body of a picture, in each format, is written as such lines, and their digits, one line after the other, stand for its bytes
+-- the law: the body of a picture, in each format, is written as such lines, and their digits, one line after the other, are the text of its bytes
 abbrev pub DigitsStandForBody : Type 0
 DigitsStandForBody = (body : List ℕ) → All (λ byte. byte < 256) body →
     (lines : List (List ℕ)) × (body_text Pixmap body ≡ lines_text lines) × (body_text ArbitraryMap body ≡ lines_text lines) × AreFullLines lines × (bytes_of (concat lines) ≡ Some body)

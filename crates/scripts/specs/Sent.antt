@@ -1,4 +1,4 @@
--- What went out of the reply to an event (docs/SERVICE.md, "Sessions").
+-- The bytes that were sent of the reply to an event (docs/SERVICE.md, "Sessions").
 use Rattle.std.specs.Prelude.{ℕ, List, Option}
 use Rattle.streams.specs.Sent.{IsSent, IsCutSomewhere}
 use Rattle.batches.specs.Batch.{State}
@@ -7,13 +7,13 @@ use Rattle.mapmachine.specs.declared.reply.Event.{Event}
 use Rattle.mapmachine.specs.declared.reply.Reply.{Reply}
 use Rattle.scripts.specs.Transcript.{reply_text}
 
--- an event had a reply, and all of it went out
+-- an event had a reply, and all of it was sent
 pub record IsReplied (old : State) (event : Event) (new : State) {S : Type 0} (held : S → Option (List ℕ)) (taken : S → ℕ) (before after : S) : Type 0 where
   pub reply : Reply
   pub step : Steps old event reply new
   pub sent : IsSent held taken before (reply_text reply) after
 
--- an event had a reply, and only the front of it went out
+-- an event had a reply, and only a prefix of it was sent
 pub record IsPartlyReplied (old : State) (event : Event) (new : State) {S : Type 0} (held : S → Option (List ℕ)) (taken : S → ℕ) (before after : S) : Type 0 where
   pub reply : Reply
   pub step : Steps old event reply new

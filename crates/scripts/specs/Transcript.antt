@@ -1,4 +1,4 @@
--- Replies, and the fault of a script, as they are written (docs/SERVICE.md, "Sessions").
+-- The texts of replies, and of the fault of a script (docs/SERVICE.md, "Sessions").
 use Rattle.std.specs.Prelude.{ℕ, zero, suc, List, [], ◌∷◌, ◌++◌, length, take, drop, codes}
 use Rattle.std.specs.List.{flat_map}
 use Rattle.std.specs.Fmt.{decimal}
@@ -25,7 +25,7 @@ hex_within (suc n) (b ∷ bs) = hex_line (take 32 (b ∷ bs)) ++ hex_within n (d
 abbrev pub hex_lines : List ℕ → List ℕ
 hex_lines bytes = hex_within (length bytes) bytes
 
--- a body as it is written: pictures in hexadecimal
+-- the text of a body: pictures in hexadecimal
 abbrev pub body_text : Mime → List ℕ → List ℕ
 body_text Pixmap body = hex_lines body
 body_text ArbitraryMap body = hex_lines body
@@ -36,8 +36,7 @@ body_text Plain body = body
 abbrev pub answer_line : Answer → List ℕ
 answer_line answer = codes "ANSWER " ++ (mime_text answer.mime ++ (codes " " ++ (decimal (length answer.body) ++ codes "\n")))
 
--- a reply as it is written: of a batch the number that it was published as, or its first fault, by the number of its
--- command and that of its kind
+-- the text of a reply: of a batch the number that it was published as, or its first fault, by the number of its command and that of its kind
 abbrev pub reply_text : Reply → List ℕ
 reply_text (Answered answer) = answer_line answer ++ body_text answer.mime answer.body
 reply_text (Published sequence) = codes "PUBLISHED " ++ (decimal sequence ++ codes "\n")
@@ -45,7 +44,7 @@ reply_text (Refused fault) =
     codes "REFUSED " ++ (decimal fault.index ++ (codes " " ++ (decimal (number_of fault.kind) ++ codes "\n")))
 reply_text NoMemory = codes "NOMEMORY\n"
 
--- replies as they are written, one after the other
+-- the text of replies, one after the other
 abbrev pub transcript : List Reply → List ℕ
 transcript replies = flat_map reply_text replies
 

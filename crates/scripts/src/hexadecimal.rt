@@ -18,8 +18,8 @@ fn digit_of(value: u8) -> u8
     }
 }
 
-// Puts the digits of a whole line. Its lengths are constants, so that many bytes are done at once: the library's
-// call takes four times as many instructions.
+// Puts the digits of a whole line. Its lengths are constants, so that many bytes are done at once: the library's call
+// takes four times as many instructions.
 fn fill_digits(bytes: &[u8; 32], digits: &mut [u8; 64])
     ensures { digits.new ≡ encode_lower bytes.now }
 {
@@ -43,7 +43,7 @@ fn fill_text(bytes: &[u8], digits: &mut [u8])
     }
 }
 
-// Puts a line into the front of the room, and says how many bytes it has.
+// Puts a line at the start of the buffer, and returns how many bytes it has.
 fn fill_line(bytes: &[u8], room: &mut [u8]) -> usize
     requires short { length bytes.now ≤ LINE }
     requires room { 2 * LINE + 1 ≤ length room.old }
@@ -57,7 +57,7 @@ fn fill_line(bytes: &[u8], room: &mut [u8]) -> usize
     digits + 1
 }
 
-/// Puts the lines of some bytes into the front of the room, and says how many bytes they have.
+/// Puts the lines of some bytes at the start of the buffer, and returns how many bytes they have.
 pub(crate) fn fill_lines(bytes: &[u8], room: &mut [u8]) -> usize
     requires room { (2 * LINE + 1) * ((length bytes.now + 31) / LINE) ≤ length room.old }
     ensures lines { take result room.new ≡ hex_lines bytes.now }

@@ -2,11 +2,11 @@
 //!
 //! Proved: `play_script` plays a script on a machine and writes the whole transcript of its replies, or exactly the
 //! first bytes of it where the writer fails; of an unreadable script it writes the fault and plays nothing.
-//! `laws::written_script_is_read` says that a script which is written out from events is read as these, and
-//! `laws::digits_stand_for_body` that the lines of a picture stand for its bytes.
+//! `laws::written_script_is_read`: a script that is written out from events is read as these.
+//! `laws::digits_stand_for_body`: the lines of a picture are the text of its bytes.
 //!
-//! Words: a *script* is a list of commands, a query on a line or a line and the bytes of a batch; its *events* are what
-//! they ask of the machine. The *transcript* is what is written of the replies.
+//! Terms: a *script* is a list of commands, a query on a line or a line and the bytes of a batch; its *events* are what
+//! they request of the machine. The *transcript* is the text of the replies.
 #![tactic(auto)]
 
 mod hexadecimal;

@@ -8,12 +8,11 @@ use crate::sending::{send_reply, send_script_fault};
 use mapmachine::{Event, Machine};
 use streams::{PutFailed, Sink, WriteFault};
 
-/// Plays a script on the machine, and writes the transcript of its replies; of an unreadable script it
-/// plays nothing and writes the fault. The error is that the writer failed: exactly the first `written`
-/// bytes of what there was to write went out, and not all of them. The machine stands after the event
-/// whose reply they end in, and played none after it.
+/// Plays a script on the machine, and writes the transcript of its replies; of an unreadable script it plays nothing
+/// and writes the fault. The error is that the writer failed: exactly the first `written` bytes of the text were sent,
+/// and not all of them. The machine is in the state after the event whose reply they end in, and played none after it.
 ///
-/// It takes no memory but in the machine.
+/// Only the machine takes memory.
 pub fn play_script<S: Sink>(
     machine: &mut Machine,
     script: &[u8],

@@ -4,7 +4,7 @@ ghost use Rattle.scripts.specs.Script.{batch_of, command_of, first_command, scri
 use batches::{count_of, line_len};
 use mapmachine::{Bytes, Event};
 
-// The batch of so many bytes at the front of some bytes, and what stands after it.
+// The batch of so many bytes at the start of some bytes, and the bytes after it.
 fn split_batch(count: u64, rest: &[u8]) -> Option<(Event<'_>, &[u8])>
     ensures value { MatchOption result (batch_of (Some count) rest.now ≡ None) (λ c. batch_of (Some count) rest.now ≡ Some (c.0, c.1.now)) }
     ensures within { IfSome result (λ c. length c.1.now ≤ length rest.now) }
@@ -16,7 +16,7 @@ fn split_batch(count: u64, rest: &[u8]) -> Option<(Event<'_>, &[u8])>
     Some((Event::Batch(Bytes::new(bytes)), after))
 }
 
-// The command of a line that some bytes follow, and what stands after it.
+// The command of a line that some bytes follow, and the bytes after it.
 fn command_of<'a>(line: &'a [u8], rest: &'a [u8]) -> Option<(Event<'a>, &'a [u8])>
     ensures value { MatchOption result (command_of line.now rest.now ≡ None) (λ c. command_of line.now rest.now ≡ Some (c.0, c.1.now)) }
     ensures within { IfSome result (λ c. length c.1.now ≤ length rest.now) }
@@ -33,7 +33,7 @@ fn command_of<'a>(line: &'a [u8], rest: &'a [u8]) -> Option<(Event<'a>, &'a [u8]
     }
 }
 
-/// The command at the front of a script, and what stands after it.
+/// The first command of a script, and the bytes after it.
 pub fn split_command(script: &[u8]) -> Option<(Event<'_>, &[u8])>
     ensures shrinks { IfSome result (λ c. length c.1.now < length script.now) }
     ensures value { MatchOption result (first_command script.now ≡ None) (λ c. first_command script.now ≡ Some (c.0, c.1.now)) }

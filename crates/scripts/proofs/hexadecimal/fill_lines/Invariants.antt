@@ -2,7 +2,7 @@ use Rattle.std.proofs.Common.{◌≡◌, ◌+◌, ◌*◌, ◌≤◌, ◌/◌, l
 use Rattle.scripts.specs.Transcript.{hex_lines}
 use Rattle.scripts.proofs.hexadecimal.fill_lines.Given as goal
 
--- the lines so far and those of what is left are all, and what is left has room
+-- the lines so far and those of the rest are all, and the rest has room
 abbrev pub invariant-loop-rest : goal.invariant-loop-rest
 invariant-loop-rest l = record {
   lines : take l.count l.room ++ hex_lines l.rest ≡ hex_lines l.bytes;

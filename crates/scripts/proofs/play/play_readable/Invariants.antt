@@ -8,8 +8,7 @@ use Rattle.scripts.specs.Transcript.{transcript}
 use Rattle.scripts.proofs.ScriptSteps.{script_from}
 use Rattle.scripts.proofs.play.play_readable.Given as goal
 
--- the events of the script that were played, and those that are left; the replies to the first led to the machine's
--- state, and they went out
+-- the events of the script that were played, and those left; the replies to the played ones led to the machine's state, and they were sent
 abbrev pub invariant-loop-event : goal.invariant-loop-event
 invariant-loop-event g l = record {
   done : List Event;

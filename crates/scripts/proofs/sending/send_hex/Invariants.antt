@@ -3,7 +3,7 @@ use Rattle.streams.specs.Sent.{IsSent}
 use Rattle.scripts.specs.Transcript.{hex_lines}
 use Rattle.scripts.proofs.sending.send_hex.Given as goal
 
--- what was written, and the lines of what is left, are the lines of all
+-- the lines written and those of the rest are the lines of all
 abbrev pub invariant-loop-rest : goal.invariant-loop-rest
 invariant-loop-rest g l = record {
   text : List ℕ;
