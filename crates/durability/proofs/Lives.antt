@@ -1,4 +1,4 @@
--- What a service has, along its lives.
+-- The batches of a service, along its lives.
 use Rattle.std.proofs.Common.{◌≡◌, inl, inr, ℕ, List, [], ◌∷◌, ◌++◌, All, refl, sym, ◌∙◌, ap, subst, append_assoc}
 use Rattle.std.specs.Prelude.{Option, IsSome}
 use Rattle.std.proofs.lemmas.List.{append-nil}
@@ -40,7 +40,7 @@ one_list : (xs : List (List ℕ)) → All (λ list. IsPrefix list xs) (xs ∷ []
 one_list xs = All-cons (λ list. IsPrefix list xs) xs [] (prefix_self xs) (All-nil (λ list. IsPrefix list xs))
 
 module _ {S : Type 0} (accepted : S → List ℕ → Option S) (fingerprint : List ℕ) (start : S) where
-  -- the same batches are had, and nothing is published that they don't begin with
+  -- the service has the same batches, and publishes only lists that begin them
   same : (service new : Service) (published now : List (List (List ℕ))) (given more : List (List ℕ)) → (k : KeepsBatches accepted fingerprint start service published given) → All (λ list. IsPrefix list k.batches) now → HasBatches fingerprint new k.batches
       → KeepsBatches accepted fingerprint start new (published ++ now) (given ++ more)
   same service new published now given more k all has = record {
@@ -51,7 +51,7 @@ module _ {S : Type 0} (accepted : S → List ℕ → Option S) (fingerprint : Li
     part = sublist_more k.batches given more k.part;
   }
 
-  -- one batch more is had
+  -- the service has one more batch
   grown : (service new : Service) (published now : List (List (List ℕ))) (given : List (List ℕ)) (b : List ℕ) → (k : KeepsBatches accepted fingerprint start service published given) → IsSome (after accepted start (k.batches ++ b ∷ []))
       → All (λ list. IsPrefix list (k.batches ++ b ∷ [])) now → HasBatches fingerprint new (k.batches ++ b ∷ [])
       → KeepsBatches accepted fingerprint start new (published ++ now) (given ++ b ∷ [])

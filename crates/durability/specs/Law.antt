@@ -1,4 +1,4 @@
--- What is promised of a service with a journal, whatever happens (docs/SERVICE.md, "Journal").
+-- The promise of a service with a journal, whatever happens (docs/SERVICE.md, "Journal").
 use Rattle.std.specs.Prelude.{◌≡◌, ◌⊎◌, ℕ, List, [], ◌∷◌, All, Option, IsSome}
 use mathlib.Core.List.{IsPrefix}
 use Rattle.journal.specs.Record.{header}
@@ -35,7 +35,7 @@ pub record KeepsBatches {S : Type 0} (accepted : S → List ℕ → Option S) (f
   pub state : IsSome (after accepted start batches)
   pub part : IsSublist batches given
 
--- so it is after any events, from an empty journal on
+-- that holds after any events, from an empty journal on
 abbrev pub IsDurable : {S : Type 0} → (S → List ℕ → Option S) → List ℕ → S → Type 0
 IsDurable accepted fingerprint start = (events : List Event) (published : List (List (List ℕ))) (new : Service)
     → IsRun accepted fingerprint start (Stopped (header fingerprint)) events published new

@@ -1,17 +1,17 @@
--- A service over all its lives: what it has, what happens to it, and what it publishes (docs/SERVICE.md, "Journal").
+-- A service over all its lives: its batches, its events, and the batches that it publishes (docs/SERVICE.md, "Journal").
 use Rattle.std.specs.Prelude.{◌≡◌, ◌⊎◌, ℕ, List, [], ◌∷◌, ◌++◌, Option, IsSome}
 use Rattle.sha2.specs.Sha256.{sha256}
 use Rattle.journal.specs.Record.{journal_of}
 use Rattle.journal.specs.Reading.{StandsFor, StandAlike}
 use Rattle.sharing.specs.Sharing.{after}
 
--- it runs, with all batches that were accepted, of which readers are shown the first; or it has stopped, and this file is left: the one
--- that the next start reads once it has synced it, since a start that ends before that does nothing
+-- it runs, with all batches that were accepted, of which readers are shown the first; or it has stopped, and this file is left. The next start syncs
+-- and reads this file, since a start that ends before that does nothing
 pub data Service : Type 0 where
   Running : (batches shown : List (List ℕ)) → Service
   Stopped : (file : List ℕ) → Service
 
--- a batch is submitted; what is pending is to be published; a crash comes between two calls; the service is started
+-- a batch is submitted; the pending batches are to be published; a crash comes between two calls; the service is started
 pub data Event : Type 0 where
   Submit : (batch : List ℕ) → Event
   Retry : Event
@@ -37,8 +37,8 @@ module _ {S : Type 0} (accepted : S → List ℕ → Option S) (fingerprint : Li
       StandsFor fingerprint file batches
       ⊎ (IsSome (after accepted start (batches ++ batch ∷ [])) × StandsFor fingerprint file (batches ++ batch ∷ []))
 
-  -- what may become of a batch: it is refused or out of memory, and nothing has changed; or it is accepted after all batches before it, and
-  -- published with them or pending; or the log fails or a crash comes first, and the file is left with it or without
+  -- the possible results of a batch: it is refused or out of memory, and nothing has changed; or it is accepted after all batches before it, and
+  -- published with them or pending; or the log fails or a crash comes first, and the file is left with it or without it
   abbrev pub IsSubmitted : List (List ℕ) → List (List ℕ) → List ℕ → List (List (List ℕ)) → Service → Type 0
   IsSubmitted batches shown batch published new =
       ArePending batches shown published new
@@ -46,15 +46,15 @@ module _ {S : Type 0} (accepted : S → List ℕ → Option S) (fingerprint : Li
       × (ArePublished (batches ++ batch ∷ []) published new ⊎ ArePending (batches ++ batch ∷ []) shown published new))
       ⊎ ((file : List ℕ) × MayBeLeft batches batch file × HasStopped file published new))
 
-  -- what may become of a start: it publishes the batches that the file stands for; or it stops again, by a fault or a crash, and the file is
+  -- the possible results of a start: it publishes the batches that the file stands for; or it stops again, by a fault or a crash, and the file is
   -- left as it was or stands for the same batches
   abbrev pub IsStarted : List ℕ → List (List (List ℕ)) → Service → Type 0
   IsStarted file published new =
       ((batches : List (List ℕ)) × StandsFor fingerprint file batches × IsSome (after accepted start batches) × ArePublished batches published new)
       ⊎ ((other : List ℕ) × ((other ≡ file) ⊎ StandAlike fingerprint file other) × HasStopped other published new)
 
-  -- what an event may do, and which lists of batches are published by it. A service that has stopped does nothing but start, one that runs
-  -- doesn't start again
+  -- the possible effects of an event, and which lists of batches are published by it. A service that has stopped does nothing but start; one that
+  -- runs doesn't start again
   abbrev pub IsStep : Service → Event → List (List (List ℕ)) → Service → Type 0
   IsStep (Running batches shown) (Submit batch) published new = IsSubmitted batches shown batch published new
   IsStep (Running batches shown) Retry published new = ArePublished batches published new ⊎ ArePending batches shown published new
@@ -65,7 +65,7 @@ module _ {S : Type 0} (accepted : S → List ℕ → Option S) (fingerprint : Li
   IsStep (Stopped file) Retry published new = HasStopped file published new
   IsStep (Stopped file) Crash published new = HasStopped file published new
 
-  -- what some events may do, one after the other
+  -- the possible effects of some events, one after the other
   abbrev pub IsRun : Service → List Event → List (List (List ℕ)) → Service → Type 0
   IsRun old [] published new = (published ≡ []) × (new ≡ old)
   IsRun old (event ∷ events) published new =

@@ -1,4 +1,4 @@
--- The rule of a history: what the shared word has, and what the step that adds a batch tells (docs/SERVICE.md, "Sharing").
+-- The rule of a history: the value of the shared word, and the effect of the step that adds a batch (docs/SERVICE.md, "Sharing").
 use Rattle.std.specs.Prelude.{ℕ, ◌≡◌, ◌==◌, true, List, [], ◌∷◌, ◌++◌, length, MatchBool}
 use Rattle.logbook.specs.Pages.{Cell, Step, View, Book, Named}
 
@@ -10,6 +10,6 @@ IsKept cells log = cells ≡ (length log, true) ∷ (0, true) ∷ []
 abbrev pub head_of : Book → Named
 head_of b = record { tracked = true; key = 0; book = b }
 
--- where the word was the length of all that had been seen, the batch is added behind it; else a longer history is seen
+-- where the word was the length of all that had been seen, the batch is added after it; else a longer history is seen
 abbrev pub Added : Step (List ℕ) → View (List ℕ) ℕ → ℕ → View (List ℕ) ℕ → Type 0
 Added s v found w = MatchBool (found == s.old) (w.0 ≡ v.0 ++ s.ask ∷ []) (length w.0 ≡ found)

@@ -7,7 +7,7 @@ use crate::rule::{Adds, Law, Naming, Nothing};
 use logbook::{Offer, Seen, Start, Word};
 use std::marker::{Model, PhantomData};
 
-/// A history has at most so many batches. No run of a program comes so far.
+/// How many batches a history has, at most. No run of a program comes so far.
 pub const MAX_HISTORY: u64 = 1 << 62;
 
 /// An empty history, which has no name yet.
@@ -47,7 +47,7 @@ impl Blank {
     }
 }
 
-/// A history, to which whoever has it may add.
+/// A history. A thread that has it may add to it.
 #[derive(Drop)]
 pub struct History<J: Naming> {
     head: Word<[u8; 0], u64, Law>,
@@ -55,7 +55,7 @@ pub struct History<J: Naming> {
     ghost head_is: { head ≡ head_of J.book },
 }
 
-/// A beginning of the history that was seen. Contracts see it as its batches.
+/// A prefix of the history that was seen. Contracts see it as its batches.
 #[derive(Drop)]
 pub struct Prefix<J: Naming> {
     length: u64,
@@ -81,7 +81,7 @@ impl<J: Naming> Prefix<J> {
         self.length
     }
 
-    /// The same prefix once more.
+    /// A copy of the prefix.
     pub fn copy(&self) -> Prefix<J>
         ensures { result ≡ self.now }
     {
@@ -107,8 +107,8 @@ impl<J: Naming> Prefix<J> {
         }
     }
 
-    /// Adds a batch behind the prefix, if this is all of the history. Or it finds that the history is longer: then
-    /// the prefix is longer, too. It waits for nobody.
+    /// Adds a batch after the prefix, if this is all of the history. Or it finds that the history is longer: then the
+    /// prefix is longer, too. It waits for no thread.
     pub fn add(&mut self, history: &History<J>, batch: &Vec<u8>) -> bool
         requires room { length self.old < MAX_HISTORY }
         ensures adds { MatchBool result (self.new ≡ self.old ++ batch.now.items ∷ []) (IsPrefix self.old self.new) }

@@ -42,7 +42,7 @@ impl Play<[u8; 0], u64> for Adds {
     ghost then = { Added };
 }
 
-// What the step asks for: the batch.
+// The argument of the step: the batch.
 impl Plain<Vec<u8>, [u8; 0], u64> for Adds {
     ghost use Rattle.std.specs.Prelude.{None};
 
@@ -51,11 +51,11 @@ impl Plain<Vec<u8>, [u8; 0], u64> for Adds {
     ghost state = { λ batch. None };
 }
 
-/// Which history it is. Each call that makes one picks it.
+/// The identity of a history. Each call that makes one picks it.
 pub trait Naming {
     ghost use Rattle.logbook.specs.Pages.{Book};
 
-    /// The book in which the history stands.
+    /// The book that has the history.
     ghost book: { Book };
 }
 

@@ -1,4 +1,4 @@
--- What a frame says that is a record.
+-- The contents of a frame that is a record.
 use Rattle.std.proofs.Common.{◌≡◌, ℕ, ◌+◌, ◌-◌, ◌<◌, List, ◌++◌, length, take, drop, refl, sym, ◌∙◌, ap, arith, append_assoc, length-append}
 use Rattle.std.proofs.lemmas.List.{take_at, drop_at}
 use Rattle.journal.specs.Slip.{stuffed}
@@ -18,7 +18,7 @@ module _ (digest : List ℕ → List ℕ) (fingerprint : List ℕ) (is_digest : 
       let whole : decoded ≡ body digest fingerprint sequence batch = same_stuffed decoded (body digest fingerprint sequence batch) (sym is ∙ same) in
       absurd (omega (arith, ap length whole, length-body sequence batch))
 
-  -- it ends with the digest of what stands before that
+  -- it ends with the digest of the bytes before that
   pub ends_with_digest : (frame decoded sequence batch : List ℕ) → frame ≡ stuffed decoded → frame ≡ stuffed (body digest fingerprint sequence batch)
       → drop (length decoded - 32) decoded ≡ digest (fingerprint ++ take (length decoded - 32) decoded)
   ends_with_digest frame decoded sequence batch is same =

@@ -1,4 +1,4 @@
--- Records, and what stands behind them.
+-- Records, and the bytes after them.
 use Rattle.std.proofs.Common.{◌≡◌, ◌≢◌, ℕ, List, [], ◌∷◌, ◌++◌, length, refl, sym, ◌∙◌, ap, subst, arith, append_assoc, length-append}
 use Rattle.journal.specs.Slip.{stuffed, frame, HasNoEnd}
 use Rattle.journal.specs.Record.{sequence_bytes, body, record_of}
@@ -10,7 +10,7 @@ pub length-sequence_bytes : (number : ℕ) → length (sequence_bytes number) �
 unfolding sequence_bytes
 length-sequence_bytes number = refl
 
--- lists of one length that begin one list are one
+-- prefixes of one length of one list are equal
 pub same_begin : (a b x y : List ℕ) → length a ≡ length b → a ++ x ≡ b ++ y → (a ≡ b) × (x ≡ y)
 same_begin [] [] x y long same = (refl, same)
 same_begin [] (d ∷ b) x y long same = absurd (omega arith)
@@ -19,22 +19,22 @@ same_begin (c ∷ a) (d ∷ b) x y long same =
     let rest = same_begin a b x y (omega arith) (cc (same)) in
     (cc (same, rest.0), rest.1)
 
--- lists that end one list by as much are one
+-- suffixes of one length of one list are equal
 pub same_end : (a b x y : List ℕ) → length x ≡ length y → a ++ x ≡ b ++ y → (a ≡ b) × (x ≡ y)
 same_end a b x y long same = same_begin a b x y (omega (arith, ap length same, length-append a x, length-append b y)) same
 
--- a frame, as it stands before more
+-- a frame before more bytes
 pub frame_before : (bytes more : List ℕ) → frame bytes ++ more ≡ 192 ∷ (stuffed bytes ++ 192 ∷ more)
 frame_before bytes more = ap (λ (l : List ℕ). 192 ∷ l) (append_assoc (stuffed bytes) (192 ∷ []) more)
 
--- one frame at the front of some bytes, and one rest
+-- some bytes begin with one frame only, and have one rest
 pub same_frame : (a b x y : List ℕ) → frame a ++ x ≡ frame b ++ y → (a ≡ b) × (x ≡ y)
 same_frame a b x y same =
     let whole : 192 ∷ (stuffed a ++ 192 ∷ x) ≡ 192 ∷ (stuffed b ++ 192 ∷ y) = sym (frame_before a x) ∙ same ∙ frame_before b y in
     let fronts = same_front (stuffed a) (stuffed b) x y (stuffed_no_end a) (stuffed_no_end b) (cc (whole)) in
     (same_stuffed a b fronts.0, fronts.1)
 
--- an END stands in some bytes
+-- there is an END in some bytes
 pub record Ends (bytes : List ℕ) : Type 0 where
   pub front : List ℕ
   pub more : List ℕ
@@ -65,7 +65,7 @@ cut_frame bytes (p ∷ piece) missing is some = First piece (let end : p ≡ 192
     within [] (p ∷ q ∷ piece) (m ∷ missing) none is some = absurd (cc (is))
     within (c ∷ a) (p ∷ piece) missing none is some = ((λ e. let end : c ≡ 192 = cc (is, e) in none.0 end), within a piece missing none.1 (cc (is)) some)
 
--- an END stands at the first or further on
+-- there is an END at the first or later
 pub data Later (front more first rest : List ℕ) : Type 0 where
   Same : more ≡ rest → Later front more first rest
   Further : (between : List ℕ) → rest ≡ between ++ 192 ∷ more → Later front more first rest
@@ -81,7 +81,7 @@ first_end (c ∷ first) (f ∷ front) rest more none same = further (first_end f
     further (Further between is) = Further between is
 
 module _ (digest : List ℕ → List ℕ) (fingerprint : List ℕ) where
-  -- a record begins with an END, and another stands in it
+  -- a record begins with an END, and has another in it
   record_is : (bytes : List ℕ) → (has : StartsWithRecord digest fingerprint bytes) → bytes ≡ 192 ∷ (stuffed (body digest fingerprint has.0 has.1) ++ 192 ∷ has.2)
   record_is bytes has = has.4 ∙ frame_before (body digest fingerprint has.0 has.1) has.2
 
@@ -90,7 +90,7 @@ module _ (digest : List ℕ → List ℕ) (fingerprint : List ℕ) where
   no_end_torn bytes none (front, rest, is, has) =
       no_end_ends bytes none (record { front = front; more = stuffed (body digest fingerprint has.0 has.1) ++ 192 ∷ has.2; is = is ∙ ap (λ (l : List ℕ). front ++ l) (record_is rest has) })
 
-  -- nor with one END, at the front
+  -- with one END, at the start, there is none either
   one_end_torn : (piece front rest bytes : List ℕ) → piece ≡ 192 ∷ bytes → HasNoEnd bytes → piece ≡ front ++ rest → StartsWithRecord digest fingerprint rest → ⊥
   one_end_torn piece [] rest bytes is none split has =
       no_end_ends bytes none (record { front = stuffed (body digest fingerprint has.0 has.1); more = has.2; is = cc (is, split, record_is rest has) })
@@ -112,20 +112,20 @@ module _ (digest : List ℕ → List ℕ) (fingerprint : List ℕ) where
   record_more bytes more has =
       (has.0, has.1, has.2 ++ more, has.3, ap (λ (l : List ℕ). l ++ more) has.4 ∙ append_assoc (record_of digest fingerprint has.0 has.1) has.2 more)
 
-  -- what stands in some bytes stands in more
+  -- a record in some bytes is in more bytes
   pub within_more : (bytes more : List ℕ) → ContainsRecord digest fingerprint bytes → ContainsRecord digest fingerprint (bytes ++ more)
   within_more bytes more (front, rest, is, has) =
       (front, rest ++ more, ap (λ (l : List ℕ). l ++ more) is ∙ append_assoc front rest more, record_more rest more has)
 
-  -- what stands at the front of some bytes stands in them
+  -- a record at the start of some bytes is in them
   pub within_front : (bytes : List ℕ) → StartsWithRecord digest fingerprint bytes → ContainsRecord digest fingerprint bytes
   within_front bytes has = ([], bytes, refl, has)
 
-  -- so a torn end that is cut shorter is still one
+  -- so a torn end that is cut shorter is still torn
   pub torn_front : (bytes more : List ℕ) → IsTorn digest fingerprint (bytes ++ more) → IsTorn digest fingerprint bytes
   torn_front bytes more torn has = torn (within_more bytes more has)
 
-  -- one record at the front of some bytes, and one rest
+  -- some bytes begin with one record only, and have one rest
   pub same_recorded : IsDigest digest → (p q a b x y : List ℕ) → length p ≡ length q → record_of digest fingerprint p a ++ x ≡ record_of digest fingerprint q b ++ y → (p ≡ q) × (a ≡ b) × (x ≡ y)
   same_recorded is_digest p q a b x y long same =
       let frames = same_frame (body digest fingerprint p a) (body digest fingerprint q b) x y same in
@@ -133,7 +133,7 @@ module _ (digest : List ℕ → List ℕ) (fingerprint : List ℕ) where
       let batches = same_end a b _ _ (is_digest _ ∙ sym (is_digest _)) places.1 in
       (places.0, batches.0, frames.1)
 
-  -- a record within some bytes stands at their first END or behind it
+  -- a record in some bytes is at their first END or after it
   pub within_next : (bytes first rest : List ℕ) → HasNoEnd first → bytes ≡ first ++ 192 ∷ rest → (StartsWithRecord digest fingerprint (192 ∷ rest) → ⊥) → ContainsRecord digest fingerprint bytes → ContainsRecord digest fingerprint rest
   within_next bytes first rest none is not_here (front, bs, split, has) =
       at (first_end first front rest more none (sym is ∙ (split ∙ ap (λ (l : List ℕ). front ++ l) (record_is bs has))))
@@ -149,6 +149,6 @@ module _ (digest : List ℕ → List ℕ) (fingerprint : List ℕ) where
   within_back bytes first rest is (front, bs, split, has) =
       (first ++ 192 ∷ front, bs, is ∙ ap (λ (l : List ℕ). first ++ 192 ∷ l) split ∙ sym (append_assoc first (192 ∷ front) bs), has)
 
-  -- so it is with one at their first END
+  -- and a record at their first END is in them
   pub within_here : (bytes first rest : List ℕ) → bytes ≡ first ++ 192 ∷ rest → StartsWithRecord digest fingerprint (192 ∷ rest) → ContainsRecord digest fingerprint bytes
   within_here bytes first rest is has = (first, 192 ∷ rest, is, has)

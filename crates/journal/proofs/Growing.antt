@@ -24,7 +24,7 @@ longer_byte b rest (End p e) = omega (arith, ap length e)
 longer_byte b rest (Escape p e) = omega (arith, ap length e)
 longer_byte b rest (Plain p n e) = omega (arith, ap length e)
 
--- no fewer bytes stand in a frame than it says
+-- a frame has no fewer bytes than its contents
 pub longer : (bs : List ℕ) → length bs ≤ length (stuffed bs)
 longer [] = omega arith
 longer (b ∷ bs) = omega (arith, longer bs, longer_byte b (stuffed bs) (escapes b (stuffed bs)))
@@ -36,14 +36,14 @@ module _ (digest : List ℕ → List ℕ) (fingerprint : List ℕ) where
       let decoded = body digest fingerprint (sequence_bytes number) batch in
       omega (arith, length-append (stuffed decoded) (192 ∷ []), longer decoded, length-append (sequence_bytes number) (batch ++ digest (fingerprint ++ (sequence_bytes number ++ batch))), length-sequence_bytes number)
 
-  -- one record more
+  -- one more record
   pub records_push : (n m : ℕ) (batches : List (List ℕ)) (batch : List ℕ) → m ≡ n + length batches → records digest fingerprint n (batches ++ batch ∷ []) ≡ records digest fingerprint n batches ++ record_of digest fingerprint (sequence_bytes m) batch
   records_push n m [] batch is = append-nil (record_of digest fingerprint (sequence_bytes n) batch) ∙ ap (λ (k : ℕ). record_of digest fingerprint (sequence_bytes k) batch) (let same : n ≡ m = omega arith in same)
   records_push n m (b ∷ batches) batch is =
       ap (λ (l : List ℕ). record_of digest fingerprint (sequence_bytes n) b ++ l) (records_push (n + 1) m batches batch (omega arith))
       ∙ sym (append_assoc (record_of digest fingerprint (sequence_bytes n) b) (records digest fingerprint (n + 1) batches) (record_of digest fingerprint (sequence_bytes m) batch))
 
-  -- the journal of one batch more
+  -- the journal with one more batch
   pub journal_push : (m : ℕ) (batches : List (List ℕ)) (batch : List ℕ) → m ≡ length batches + 1 → journal_of digest fingerprint (batches ++ batch ∷ []) ≡ journal_of digest fingerprint batches ++ record_of digest fingerprint (sequence_bytes m) batch
   journal_push m batches batch is =
       ap (λ (l : List ℕ). header fingerprint ++ l) (records_push 1 m batches batch (omega arith))

@@ -1,4 +1,4 @@
--- What is read of files, whatever became of their ends.
+-- The readings of files, whatever became of their ends.
 use Rattle.std.proofs.Common.{◌≡◌, ◌≢◌, ℕ, ◌+◌, List, [], ◌∷◌, ◌++◌, length, refl, sym, ◌∙◌, ap, subst, arith, append_assoc}
 use Rattle.std.proofs.lemmas.List.{append-nil, append_cancel_left}
 use Rattle.journal.specs.Record.{header, sequence_bytes, record_of, records, journal_of}
@@ -52,7 +52,7 @@ module _ (digest : List ℕ → List ℕ) (fingerprint : List ℕ) (is_digest : 
       let torn = cut_torn digest fingerprint (sequence_bytes (length batches + 1)) batch piece missing is some in
       (reads_torn batches piece torn, torn)
 
-  -- of two beginnings of one list one goes on where the other ends
+  -- of two prefixes of one list one goes on where the other ends
   pub data Overlaps (a x b y : List ℕ) : Type 0 where
     Within : (more : List ℕ) → more ≢ [] → a ≡ b ++ more → y ≡ more ++ x → Overlaps a x b y
     Beyond : (more : List ℕ) → b ≡ a ++ more → x ≡ more ++ y → Overlaps a x b y

@@ -1,4 +1,4 @@
--- Which batches a file stands for.
+-- The batches that a file stands for.
 use Rattle.std.proofs.Common.{◌≡◌, inl, inr, ℕ, ◌+◌, List, [], ◌∷◌, ◌++◌, length, refl, sym, ◌∙◌, ap, subst, append_assoc}
 use Rattle.std.proofs.lemmas.List.{append-nil}
 use Rattle.sha2.specs.Sha256.{sha256}
@@ -20,7 +20,7 @@ module _ (fingerprint : List ℕ) where
   pub one_standing : (file : List ℕ) (a b : List (List ℕ)) → StandsFor fingerprint file a → StandsFor fingerprint file b → a ≡ b
   one_standing file a b (s, reads_s, torn_s) (t, reads_t, torn_t) = (one sha256 fingerprint length-sha256 file a b s t reads_s reads_t).0
 
-  -- where an append stops, with some of its bytes or all
+  -- the file where an append stops, with some of its bytes or all
   pub stops_at : (batches : List (List ℕ)) (batch left missing : List ℕ) → left ++ missing ≡ record_of sha256 fingerprint (sequence_bytes (length batches + 1)) batch
       → IsBeforeOrAfter fingerprint batches batch (journal_of sha256 fingerprint batches ++ left)
   stops_at batches batch left [] is =

@@ -1,4 +1,4 @@
--- The fingerprint of a map: the digest of its mapfile and of the files that this uses (docs/SERVICE.md, "Journal").
+-- The fingerprint of a map: the digest of its mapfile and of the files that it uses (docs/SERVICE.md, "Journal").
 use Rattle.std.specs.Prelude.{ℕ, List, [], ◌∷◌, ◌++◌, length, Option, None, Some, option_map}
 use Rattle.sha2.specs.Sha256.{sha256}
 use Rattle.journal.specs.Record.{sequence_bytes}
@@ -8,12 +8,12 @@ use Rattle.journal.specs.declared.fingerprint.UsedFile.{UsedFile}
 abbrev pub sized : List ℕ → List ℕ
 sized bytes = sequence_bytes (length bytes) ++ bytes
 
--- what a file has: a 1 and its bytes, or a 0 where it isn't given
+-- the content of a file: a 1 and its bytes, or a 0 where the file is missing
 abbrev pub content_message : Option (List ℕ) → List ℕ
 content_message None = 0 ∷ []
 content_message (Some bytes) = 1 ∷ sized bytes
 
--- a file: its name and what it has
+-- a file: its name and its content
 abbrev pub file_message : UsedFile → List ℕ
 file_message file = sized file.name.now ++ content_message (option_map (λ bytes. bytes.now) file.content)
 

@@ -1,4 +1,4 @@
--- What is read of a file, whatever became of its end (docs/SERVICE.md, "Journal").
+-- The reading of a file, whatever became of its end (docs/SERVICE.md, "Journal").
 use Rattle.std.specs.Prelude.{◌≡◌, ◌⊎◌, ℕ, ◌+◌, List, [], ◌∷◌, ◌++◌, length}
 use Rattle.sha2.specs.Sha256.{sha256}
 use Rattle.journal.specs.Record.{sequence_bytes, record_of, journal_of}
@@ -12,7 +12,7 @@ module _ (digest : List ℕ → List ℕ) (fingerprint : List ℕ) where
   abbrev pub StartsWithRecord : List ℕ → Type 0
   StartsWithRecord bytes = (sequence batch more : List ℕ) × (length sequence ≡ 8) × (bytes ≡ record_of digest fingerprint sequence batch ++ more)
 
-  -- a whole record stands somewhere in some bytes
+  -- there is a whole record somewhere in some bytes
   abbrev pub ContainsRecord : List ℕ → Type 0
   ContainsRecord bytes = (front rest : List ℕ) × (bytes ≡ front ++ rest) × StartsWithRecord rest
 

@@ -16,7 +16,7 @@ unfoldable pub sequence_bytes : ℕ → List ℕ
 sequence_bytes number = to_be_bytes w64 number
 
 module _ (digest : List ℕ → List ℕ) (fingerprint : List ℕ) where
-  -- what a record says: the 8 bytes of its number, the batch, and the digest of both after the fingerprint of the map
+  -- the contents of a record: the 8 bytes of its number, the batch, and the digest of both after the fingerprint of the map
   abbrev pub body : List ℕ → List ℕ → List ℕ
   body sequence batch = sequence ++ (batch ++ digest (fingerprint ++ (sequence ++ batch)))
 

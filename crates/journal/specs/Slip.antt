@@ -1,11 +1,11 @@
--- Frames: an END stands before and after each, and in none (RFC 1055, "SLIP").
+-- Frames: an END is before and after each, and in none (RFC 1055, "SLIP").
 use Rattle.std.specs.Prelude.{◌≢◌, ℕ, ◌==◌, if◌then◌else◌, List, [], ◌∷◌, ◌++◌}
 
--- a byte as it stands in a frame: an END (192) as ESC ESC_END, an ESC (219) as ESC ESC_ESC, and any other as it is
+-- the form of a byte in a frame: an END (192) is ESC ESC_END, an ESC (219) is ESC ESC_ESC, and any other byte is itself
 abbrev pub escaped : ℕ → List ℕ → List ℕ
 escaped byte rest = if byte == 192 then 219 ∷ 220 ∷ rest else if byte == 219 then 219 ∷ 221 ∷ rest else byte ∷ rest
 
--- bytes as they stand in a frame
+-- the form of bytes in a frame
 abbrev pub stuffed : List ℕ → List ℕ
 stuffed [] = []
 stuffed (byte ∷ bytes) = escaped byte (stuffed bytes)

@@ -10,9 +10,9 @@ use sha2::{Digest, Sha256};
 /// A file that a mapfile uses.
 #[derive(Clone, Copy)]
 pub struct UsedFile<'a> {
-    /// The name by which the mapfile has it.
+    /// The name of the file in the mapfile.
     pub name: &'a [u8],
-    /// Its bytes, if it is given.
+    /// Its bytes, or none where the file is missing.
     pub content: Option<&'a [u8]>,
 }
 
@@ -39,8 +39,8 @@ fn add_file(hasher: &mut Sha256, file: &UsedFile)
     }
 }
 
-/// The fingerprint of a map: the digest of its mapfile and of the files that this uses, in the order of their first use. Another
-/// mapfile, another file or a file that isn't given makes another text to digest.
+/// The fingerprint of a map: the digest of its mapfile and of the files that it uses, in the order of their first use. Another
+/// mapfile, another file or a missing file makes another text to digest.
 pub fn fingerprint_of(mapfile: &[u8], files: &[UsedFile]) -> [u8; 32]
     ensures { result ≡ fingerprint_of mapfile.now files.now }
 {

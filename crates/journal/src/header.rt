@@ -21,7 +21,7 @@ pub enum HeaderFault {
     OtherMap,
 }
 
-// What follows a prefix in some bytes, where they begin with it.
+// The bytes after a prefix, where the bytes begin with it.
 fn after_prefix<'a>(prefix: &[u8], bytes: &'a [u8]) -> Option<&'a [u8]>
     ensures { MatchOption result ((rest : List ℕ) → bytes.now ≡ prefix.now ++ rest → ⊥) (λ rest. bytes.now ≡ prefix.now ++ rest.now) }
 {
@@ -35,7 +35,7 @@ fn after_prefix<'a>(prefix: &[u8], bytes: &'a [u8]) -> Option<&'a [u8]>
     Some(rest)
 }
 
-// What follows the signature.
+// The bytes after the signature.
 #[tactic(auto, unfolding(crate::specs::Record::signature))]
 fn after_signature(bytes: &[u8]) -> Option<&[u8]>
     ensures { MatchOption result ((rest : List ℕ) → bytes.now ≡ signature ++ rest → ⊥) (λ rest. bytes.now ≡ signature ++ rest.now) }
@@ -43,7 +43,7 @@ fn after_signature(bytes: &[u8]) -> Option<&[u8]>
     after_prefix(&SIGNATURE, bytes)
 }
 
-/// What follows the header in the journal of the map that has this fingerprint.
+/// The bytes after the header in the journal of the map that has this fingerprint.
 pub fn after_header<'a>(fingerprint: &[u8; 32], bytes: &'a [u8]) -> Result<&'a [u8], HeaderFault>
     ensures journal { IfOk result (λ rest. bytes.now ≡ header fingerprint.now ++ rest.now) }
     ensures not_a_journal { IsErrOf result HeaderFault.NotAJournal → (rest : List ℕ) → bytes.now ≡ signature ++ rest → ⊥ }

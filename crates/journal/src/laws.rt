@@ -3,7 +3,7 @@
 ghost use Rattle.std.specs.Prelude.{ℕ, List};
 ghost use Rattle.journal.specs.Law.{IsDigest, HasOneReading, WrittenIsRead, StopsAnywhere, BeginsAnywhere, DamageIsSeen};
 
-/// Whatever the digest, and whatever map the journal is of.
+/// The promises of the format, for any digest and the journal of any map.
 pub fn promises()
     ensures one { (digest : List ℕ → List ℕ) (fingerprint : List ℕ) → IsDigest digest → HasOneReading digest fingerprint }
     ensures written { (digest : List ℕ → List ℕ) (fingerprint : List ℕ) → IsDigest digest → WrittenIsRead digest fingerprint }

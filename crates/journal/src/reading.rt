@@ -17,7 +17,7 @@ pub enum ReadFault {
     /// Its header isn't that of the map's journal.
     #[error(transparent)]
     Header(HeaderFault),
-    /// After so many records something stands that is no record, and a whole record further on.
+    /// After so many records there are bytes that are no record, and a whole record after them.
     #[error("the journal is damaged after record {0}")]
     Damaged(u64),
     /// Memory was refused.
@@ -35,16 +35,16 @@ impl From<AllocError> for ReadFault {
     }
 }
 
-/// What is read of a journal.
+/// The contents of a journal that was read.
 #[derive(Drop)]
 pub struct Found {
     /// The batches, in their order.
     pub batches: Vec<Vec<u8>>,
-    /// Where the last record ends.
+    /// The position at which the last record ends.
     pub end: usize,
 }
 
-// The batches of the records that some bytes begin with, and what follows these records.
+// The batches of the records that some bytes begin with, and the bytes after these records.
 fn leading_records<'a>(
     alloc: Global,
     fingerprint: &[u8; 32],

@@ -97,7 +97,7 @@ fn decode_frame(
     Ok(Some(decoded))
 }
 
-// The number and the batch of a record, from the bytes after its first END, and what follows the record.
+// The number and the batch of a record, from the bytes after its first END, and the bytes after the record.
 fn record_after_end<'a>(
     alloc: Global,
     fingerprint: &[u8; 32],
@@ -116,7 +116,7 @@ fn record_after_end<'a>(
     }
 }
 
-// The number and the batch of the record that some bytes begin with, and what follows the record.
+// The number and the batch of the record that some bytes begin with, and the bytes after the record.
 fn any_record<'a>(
     alloc: Global,
     fingerprint: &[u8; 32],
@@ -132,8 +132,8 @@ fn any_record<'a>(
     }
 }
 
-/// The batch of the record that some bytes begin with, if it has this number, and what follows the record. The one error is that
-/// memory was refused.
+/// The batch of the record that some bytes begin with, if it has this number, and the bytes after the record. The one error is
+/// that memory was refused.
 pub fn first_record<'a>(
     alloc: Global,
     fingerprint: &[u8; 32],
@@ -154,7 +154,7 @@ pub fn first_record<'a>(
     Ok(Some((batch.to_vec(alloc)?, rest)))
 }
 
-// Whether a whole record stands at an END, by what follows that.
+// Whether there is a whole record at an END, by the bytes after that.
 fn starts_with_record(
     alloc: Global,
     fingerprint: &[u8; 32],
@@ -168,7 +168,7 @@ fn starts_with_record(
     }
 }
 
-/// Whether a whole record stands somewhere in some bytes. The one error is that memory was refused.
+/// Whether there is a whole record somewhere in some bytes. The one error is that memory was refused.
 pub fn contains_record(
     alloc: Global,
     fingerprint: &[u8; 32],

@@ -21,7 +21,7 @@ pub(crate) fn is_equal(one: &[u8], other: &[u8]) -> bool
     one == other
 }
 
-// Adds a byte as it stands in a frame.
+// Adds a byte in its form in a frame.
 fn push_escaped(out: &mut Vec<u8>, byte: u8) -> Result<(), AllocError>
     ensures ok { OnOk result (out.new.items ≡ out.old.items ++ escaped byte []) }
 {
@@ -32,7 +32,7 @@ fn push_escaped(out: &mut Vec<u8>, byte: u8) -> Result<(), AllocError>
     }
 }
 
-// Adds bytes as they stand in a frame.
+// Adds bytes in their form in a frame.
 pub(crate) fn push_stuffed(out: &mut Vec<u8>, bytes: &[u8]) -> Result<(), AllocError>
     ensures ok { OnOk result (out.new.items ≡ out.old.items ++ stuffed bytes.now) }
 {
@@ -42,7 +42,7 @@ pub(crate) fn push_stuffed(out: &mut Vec<u8>, bytes: &[u8]) -> Result<(), AllocE
     Ok(())
 }
 
-// The byte that an ESC and some bytes stand for, and what follows them.
+// The byte of an ESC and the bytes after it, and the bytes that follow.
 fn after_escape(bytes: &[u8]) -> Option<(u8, &[u8])>
     ensures byte { MatchOption result ((v : List ℕ) → 219 ∷ bytes.now ≡ stuffed v → ⊥) (λ r. 219 ∷ bytes.now ≡ escaped r.0 r.1.now) }
     ensures shorter { IfSome result (λ r. length r.1.now < length bytes.now) }
@@ -60,7 +60,7 @@ fn after_escape(bytes: &[u8]) -> Option<(u8, &[u8])>
     None
 }
 
-// The first byte that a frame stands for, and what follows it.
+// The first byte of the contents of a frame, and the bytes that follow.
 fn first_byte(bytes: &[u8]) -> Option<(u8, &[u8])>
     ensures byte { MatchOption result ((v : List ℕ) → bytes.now ≡ stuffed v → bytes.now ≡ []) (λ r. bytes.now ≡ escaped r.0 r.1.now) }
     ensures shorter { IfSome result (λ r. length r.1.now < length bytes.now) }
@@ -91,7 +91,7 @@ pub(crate) fn unstuff(alloc: Global, bytes: &[u8]) -> Result<Option<Vec<u8>>, Al
     Ok(Some(out))
 }
 
-// What stands before the first END of some bytes, and what after it.
+// The bytes before the first END, and those after it.
 pub(crate) fn first_frame(bytes: &[u8]) -> Option<(&[u8], &[u8])>
     ensures { MatchOption result (HasNoEnd bytes.now) (λ r. HasNoEnd r.0.now × (bytes.now ≡ r.0.now ++ 192 ∷ r.1.now)) }
 {
@@ -103,7 +103,7 @@ pub(crate) fn first_frame(bytes: &[u8]) -> Option<(&[u8], &[u8])>
     None
 }
 
-// What follows the END that some bytes begin with.
+// The bytes after the END that some bytes begin with.
 pub(crate) fn after_end(bytes: &[u8]) -> Option<&[u8]>
     ensures { MatchOption result ((rest : List ℕ) → bytes.now ≡ 192 ∷ rest → ⊥) (λ rest. bytes.now ≡ 192 ∷ rest.now) }
 {

@@ -1,4 +1,4 @@
--- How a run of calls of a log goes on.
+-- The course of a run of calls of a log.
 use Rattle.std.proofs.Common.{inl, inr, ⊎_elim, ℕ, List, arith}
 use Rattle.journalfile.specs.Log.{Elapses, LeavesOnly}
 
@@ -7,7 +7,7 @@ module _ {L : Type 0} (moment : L → ℕ) (left_since : L → ℕ → List ℕ 
   pub started : (old : L) (P : List ℕ → Type 0) → ((c : List ℕ) → left_since old (moment old) c → P c) → LeavesOnly moment left_since old old P
   started old P here = record { later = omega arith; each = here; before = λ t c le left. inl left }
 
-  -- one call more, after which a crash leaves what has P
+  -- one more call, after which a crash leaves bytes that have P
   pub goes_on : (old mid new : L) (P outcomes : List ℕ → Type 0) → LeavesOnly moment left_since old mid P → Elapses (moment mid) (moment new) (left_since mid) (left_since new) outcomes
       → ((c : List ℕ) → outcomes c → P c) → LeavesOnly moment left_since old new P
   goes_on old mid new P outcomes so_far time here = record {

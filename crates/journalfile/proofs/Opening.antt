@@ -18,7 +18,7 @@ use Rattle.journalfile.specs.declared.recovery.RecoverFault.{RecoverFault}
 use Rattle.journalfile.specs.declared.recovery.RecoverFault.TheVariants as recover_fault
 
 module _ (fingerprint : List ℕ) where
-  -- records that some bytes begin with are the first of those that they begin with at most
+  -- a list of records that some bytes begin with is a prefix of the longest such list
   first_records : (n : ℕ) (a b : List (List ℕ)) (x y : List ℕ) → (StartsWithNumber sha256 fingerprint (n + length b) y → ⊥) → records sha256 fingerprint n a ++ x ≡ records sha256 fingerprint n b ++ y → IsPrefix a b
   first_records n [] b x y none same = (b, refl)
   first_records n (c ∷ a) [] x y none same =

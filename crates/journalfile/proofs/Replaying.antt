@@ -11,14 +11,14 @@ same_option : {S : Type 0} (o : Option S) → option_and_then (λ t. Some t) o �
 same_option None = refl
 same_option (Some t) = refl
 
--- one batch more
+-- one more batch
 after_push : (s : State) (bs : List (List ℕ)) (b : List ℕ) (t : State) → after accepted s bs ≡ Some t → after accepted s (bs ++ b ∷ []) ≡ accepted t b
 after_push s bs b t is = after_append accepted s bs (b ∷ []) ∙ ap (option_and_then (λ u. after accepted u (b ∷ []))) is ∙ same_option (accepted t b)
 
--- one that is accepted
+-- one more that is accepted
 pub after_accepted : (s t u : State) (bs : List (List ℕ)) (b : List ℕ) → after accepted s bs ≡ Some t → batched b t ≡ Ok u → after accepted s (bs ++ b ∷ []) ≡ Some u
 after_accepted s t u bs b is done = after_push s bs b t is ∙ ap result_ok done
 
--- one that is refused
+-- one more that is refused
 pub after_refused : (s t : State) (bs : List (List ℕ)) (b : List ℕ) (fault : BatchFault) → after accepted s bs ≡ Some t → batched b t ≡ Err fault → after accepted s (bs ++ b ∷ []) ≡ None
 after_refused s t bs b fault is refused = after_push s bs b t is ∙ ap result_ok refused

@@ -1,4 +1,4 @@
--- What a file stands for after an append or a cut.
+-- The batches that a file stands for after an append or a cut.
 use Rattle.std.proofs.Common.{◌≡◌, ◌⊎◌, inl, inr, ℕ, ◌+◌, ◌≤◌, List, [], ◌∷◌, ◌++◌, length, take, sym, ◌∙◌, ap, subst, arith, length-append}
 use Rattle.std.proofs.lemmas.List.{append-nil, take_at}
 use mathlib.Core.List.{IsPrefix}
@@ -15,7 +15,7 @@ use Rattle.journalfile.specs.Settled.{GarblesNoRecord}
 use Rattle.journalfile.specs.Steps.{MayCut}
 
 module _ (fingerprint : List ℕ) where
-  -- what a crash leaves of the append of a record
+  -- the bytes that a crash leaves of the append of a record
   pub add_crash : (garbled : List ℕ → Type 0) → GarblesNoRecord garbled fingerprint → (batches : List (List ℕ)) (batch c : List ℕ)
       → Torn garbled (record_of sha256 fingerprint (sequence_bytes (length batches + 1)) batch) (journal_of sha256 fingerprint batches) c → IsBeforeOrAfter fingerprint batches batch c
   add_crash garbled shown batches batch c (left, is, how) = subst (IsBeforeOrAfter fingerprint batches batch) (sym is) (by how)
@@ -45,7 +45,7 @@ module _ (fingerprint : List ℕ) where
       let J = journal_of sha256 fingerprint batches in
       ap (λ (l : List ℕ). take end l) is ∙ take_at J tail end (omega (arith, ends, ap length is, length-append J tail))
 
-  -- what a crash may leave of the cut of a torn end
+  -- the bytes that a crash may leave of the cut of a torn end
   pub cut_crash : (may_leave : List ℕ → Type 0) (batches : List (List ℕ)) (tail file c : List ℕ) (end : ℕ) → IsTorn sha256 fingerprint tail → file ≡ journal_of sha256 fingerprint batches ++ tail
       → end + length tail ≡ length file → ((f : List ℕ) → may_leave f → f ≡ file) → MayCut end may_leave c → StandAlike fingerprint file c
   cut_crash may_leave batches tail file c end torn is ends only (inl now) =

@@ -1,4 +1,4 @@
--- What keeps batches: that a settled journal stands for its batches, and a keeper that may be missing.
+-- Keepers of batches: a settled journal stands for its batches, and a keeper may be missing.
 use Rattle.std.specs.Prelude.{ℕ, List, Option, None, Some}
 use Rattle.std.proofs.Common.{sym, ◌∙◌, subst}
 use Rattle.journal.specs.Reading.{StandsFor}
@@ -6,24 +6,24 @@ use Rattle.journal.proofs.Standing.{stands}
 use Rattle.journalfile.specs.Settled.{IsSettled}
 use Rattle.journalfile.specs.declared.writing.Journal.{Journal}
 
--- what a crash may leave of a settled journal stands for its batches
+-- the bytes that a crash may leave of a settled journal stand for its batches
 pub settled_stands : {L : Type 0} (content : L → List ℕ) (may_leave : L → List ℕ → Type 0) (journal : Journal L) (batches : List (List ℕ))
     → IsSettled content may_leave journal batches → (file : List ℕ) → may_leave journal.log file → StandsFor journal.fingerprint file batches
 settled_stands content may_leave journal batches settled file left =
     subst (λ (l : List ℕ). StandsFor journal.fingerprint l batches) (sym (settled.durable file left ∙ settled.file)) (stands journal.fingerprint batches)
 
--- what keeps these batches where there is a keeper; where there is none, none is asked for
+-- the keeper keeps these batches, if there is one; without a keeper nothing is required
 abbrev pub keeps_of : {K : Type 0} → (K → List (List ℕ) → Type 0) → Option K → List (List ℕ) → Type 0
 keeps_of keeps None batches = Unit {0}
 keeps_of keeps (Some keeper) batches = keeps keeper batches
 
--- a crash leaves a file where there is a keeper
+-- a crash leaves a file, if there is a keeper
 abbrev pub may_leave_of : {K : Type 0} → (K → K → List ℕ → Type 0) → Option K → Option K → List ℕ → Type 0
 may_leave_of may_leave None new file = ⊥
 may_leave_of may_leave (Some old) None file = ⊥
 may_leave_of may_leave (Some old) (Some new) file = may_leave old new file
 
--- a file stands for these batches where there is a keeper
+-- a file stands for these batches, if there is a keeper
 abbrev pub stands_of : {K : Type 0} → (K → List ℕ → List (List ℕ) → Type 0) → Option K → List ℕ → List (List ℕ) → Type 0
 stands_of stands None file batches = Unit {0}
 stands_of stands (Some keeper) file batches = stands keeper file batches

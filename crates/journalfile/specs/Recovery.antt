@@ -1,4 +1,4 @@
--- What it means that a journal is opened (docs/SERVICE.md, "Journal").
+-- The opening of a journal (docs/SERVICE.md, "Journal").
 use Rattle.std.specs.Prelude.{◌≡◌, ℕ, ◌+◌, List, ◌++◌, Some, None, length}
 use Rattle.sha2.specs.Sha256.{sha256}
 use Rattle.batches.specs.Batch.{State, accepted}
@@ -14,8 +14,8 @@ use Rattle.journalfile.specs.declared.recovery.ReplayFault.{ReplayFault}
 use Rattle.journalfile.specs.declared.recovery.ReplayFault.TheVariants as replay_fault
 
 module _ (fingerprint : List ℕ) where
-  -- some bytes begin with the records of some batches, as many as the count, which led from one state to another; the rest follows them,
-  -- and doesn't begin with the next record
+  -- some bytes begin with the records of some batches, as many as the count, which led from one state to another; the rest follows them, and doesn't
+  -- begin with the next record
   abbrev pub IsReplayed : List ℕ → State → ℕ → List ℕ → State → Type 0
   IsReplayed bytes old count rest new =
       (batches : List (List ℕ)) × (bytes ≡ records sha256 fingerprint 1 batches ++ rest) × (count ≡ length batches)
@@ -47,7 +47,7 @@ module _ (fingerprint : List ℕ) where
     IsHeaderFault old header_fault.NotAJournal = (rest : List ℕ) → content old ≡ signature ++ rest → ⊥
     IsHeaderFault old header_fault.OtherMap = (rest : List ℕ) → content old ≡ header fingerprint ++ rest → ⊥
 
-    -- why it isn't opened; and the bytes are as they were, unless the log failed
+    -- why it isn't opened; the bytes are as they were, unless the log failed
     abbrev pub IsFaultOf : {F : Type 0} → L → L → State → RecoverFault F → Type 0
     IsFaultOf old new first (recover_fault.Header fault) = IsHeaderFault old fault × (content new ≡ content old)
     IsFaultOf old new first (recover_fault.Damaged count) =

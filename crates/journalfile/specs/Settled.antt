@@ -6,7 +6,7 @@ use Rattle.journal.specs.Reading.{IsTorn}
 use Rattle.journalfile.specs.Log.{Only}
 use Rattle.journalfile.specs.declared.writing.Journal.{Journal}
 
--- what a crash may leave in the place of appended bytes contains no record: the digests show it
+-- the bytes that a crash may leave in place of appended bytes contain no record: the digests show it
 abbrev pub GarblesNoRecord : (List ℕ → Type 0) → List ℕ → Type 0
 GarblesNoRecord garbled fingerprint = (left : List ℕ) → garbled left → IsTorn sha256 fingerprint left
 

@@ -1,4 +1,4 @@
-//! What keeps batches that are accepted.
+//! Keepers of accepted batches.
 
 ghost use Rattle.std.specs.Prelude.{◌≡◌, ◌⊎◌, ◌++◌, [], ◌∷◌, ℕ, List, OnOk, Err};
 ghost use Rattle.journal.specs.Reading.{StandsFor};
@@ -13,11 +13,12 @@ use crate::writing::{Journal, PutFault};
 pub enum KeepFault {
     /// Memory was refused, and nothing was done.
     NoMemory,
-    /// It failed. Whether the batch is kept isn't known, and no further one may be.
+    /// It failed. Whether the batch is kept is unknown, and no further one may be.
     Failed,
 }
 
-/// What keeps accepted batches before they are published: a journal, or nothing where they needn't outlive the process.
+/// A keeper of accepted batches, before they are published: a journal, or nothing where they needn't outlive the
+/// process.
 pub trait Keeps {
     /// These are the batches that it keeps.
     ghost keeps: { Self → List (List ℕ) → Type 0 };
@@ -28,7 +29,7 @@ pub trait Keeps {
     /// A file stands for these batches.
     ghost stands: { Self → List ℕ → List (List ℕ) → Type 0 };
 
-    /// Keeps one batch more. A crash at any moment leaves the batches with it or without.
+    /// Keeps one more batch. A crash at any moment leaves the batches with it or without it.
     fn keep(&mut self, batch: &[u8]) -> Result<(), KeepFault>
         requires ready { (batches : List (List ℕ)) × keeps self.old batches }
         ensures kept { OnOk result ((batches : List (List ℕ)) → keeps self.old batches → keeps self.new (batches ++ batch.now ∷ [])) }
@@ -40,7 +41,7 @@ pub trait Keeps {
     ghost stays: { (keeper : Self) (batches : List (List ℕ)) (file : List ℕ) → keeps keeper batches → may_leave keeper keeper file → stands keeper file batches };
 }
 
-/// Keeps nothing: batches end with the process.
+/// A keeper that keeps nothing: batches end with the process.
 #[derive(Clone, Copy)]
 pub struct Nowhere;
 
@@ -58,7 +59,7 @@ impl Keeps for Nowhere {
     }
 }
 
-/// What keeps batches where there is one; without it they end with the process.
+/// A keeper, if there is one; without it batches end with the process.
 impl<K: Keeps> Keeps for Option<K> {
     ghost keeps = { keeps_of K.keeps };
 

@@ -1,4 +1,4 @@
-//! What a journal is written to.
+//! The log of a journal.
 
 ghost use Rattle.std.specs.Prelude.{◌≡◌, ◌≤◌, ◌++◌, List, ℕ, length, take, IfOk, OnOk};
 ghost use Rattle.journalfile.specs.Log.{Torn, Cut, Follows, NoOther, Only, Elapses};
@@ -17,25 +17,25 @@ pub enum ReadError<F> {
 /// Bytes that grow at their end and outlive a crash, as a file on a disk. Each call may fail. A crash may come at any moment, also
 /// within a call. Each clause holds of a log that is reliable.
 pub trait Log {
-    /// What a call fails with. Nothing but a log makes one.
+    /// The failure of a call. Nothing but a log makes one.
     type Failure: Drop;
 
-    /// The log is as its clauses say. Of a file of the system that isn't known.
+    /// The log is as its clauses state. Of a file of the system that isn't known.
     ghost reliable: { Type 0 };
 
     /// The bytes that a read returns.
     ghost content: { Self → List ℕ };
 
-    /// What a crash at this moment may leave.
+    /// The bytes that a crash at this moment may leave.
     ghost may_leave: { Self → List ℕ → Type 0 };
 
     /// The moment, as a number that doesn't fall.
     ghost moment: { Self → ℕ };
 
-    /// What a crash at some moment from that one on might have left, during a call or between two.
+    /// The bytes that a crash at some moment from that one on might have left, during a call or between two.
     ghost left_since: { Self → ℕ → List ℕ → Type 0 };
 
-    /// What a crash may leave in the place of appended bytes, where it doesn't leave the first of them.
+    /// The bytes that a crash may leave in place of appended bytes, where it doesn't leave the first of them.
     ghost garbled: { List ℕ → Type 0 };
 
     /// Reads all the bytes.
@@ -58,7 +58,7 @@ pub trait Log {
         ensures crash { reliable → Follows (Cut end) (may_leave self.old) (may_leave self.new) }
         ensures time { reliable → Elapses (moment self.old) (moment self.new) (left_since self.old) (left_since self.new) (may_leave self.new) };
 
-    /// Keeps all bytes: after it, a crash leaves what a read returns.
+    /// Keeps all bytes: after it, a crash leaves the bytes that a read returns.
     fn sync(&mut self) -> Result<(), Self::Failure>
         ensures durable { reliable → OnOk result (Only (content self.old) (may_leave self.new)) }
         ensures content { reliable → content self.new ≡ content self.old }

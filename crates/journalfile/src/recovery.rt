@@ -20,7 +20,7 @@ use std::alloc::{AllocError, Global};
 pub enum RecoverFault<F> {
     /// It isn't a journal, or not that of the map. Nothing was written.
     Header(HeaderFault),
-    /// After so many records something stands that is no record, and a whole record further on. Nothing was written.
+    /// After so many records there are bytes that are no record, and a whole record after them. Nothing was written.
     Damaged(u64),
     /// The batch of the record of this number isn't accepted. Nothing was written.
     Refused(u64),
@@ -49,7 +49,7 @@ impl From<AllocError> for ReplayFault {
     }
 }
 
-// Applies the batches of the records that some bytes begin with, and says how many there are and what follows them.
+// Applies the batches of the records that some bytes begin with, and returns how many there are and the bytes after them.
 fn replay<'a>(
     alloc: Global,
     fingerprint: &[u8; 32],
@@ -73,7 +73,7 @@ fn replay<'a>(
     Ok((count, rest))
 }
 
-// Opens a journal. Its clauses don't say yet that what stands for accepted batches is opened.
+// Opens a journal. Its clauses don't state yet that a file that stands for accepted batches is opened.
 fn open_log<L: Log>(
     alloc: Global,
     fingerprint: &[u8; 32],
@@ -112,9 +112,9 @@ fn open_log<L: Log>(
 }
 
 /// Opens the journal of a map, whatever a crash left of it: applies its batches to the machine of the mapfile, and cuts a torn tail
-/// off. It says how many batches there are. All is read and judged before anything is written.
+/// off. It returns how many batches there are. All is read and judged before anything is written.
 ///
-/// After a fault the machine has a state that isn't said.
+/// After a fault the state of the machine is unspecified.
 pub fn recover<L: Log>(
     alloc: Global,
     fingerprint: &[u8; 32],
@@ -125,11 +125,11 @@ pub fn recover<L: Log>(
     ensures counted { IfOk result (λ count. machine.new.sequence ≡ machine.old.sequence + count) }
     ensures fault { L.reliable → IfErr result (λ fault. IsFaultOf fingerprint.now L.content log.old log.new machine.old fault) }
 
-    // What stands for accepted batches is opened, unless memory is refused or the log fails.
+    // A file that stands for accepted batches is opened, unless memory is refused or the log fails.
     ensures opens { L.reliable → (batches : List (List ℕ)) → StandsFor fingerprint.now (L.content log.old) batches
         → IsSome (after accepted machine.old batches) → IfErr result IsTransient }
 
-    // A crash at any moment leaves what a crash before might have left, or bytes that stand for the same batches.
+    // A crash at any moment leaves bytes that a crash before might have left, or bytes that stand for the same batches.
     ensures any_moment { L.reliable → LeavesOnly L.moment L.left_since log.old log.new
         (λ c. L.may_leave log.old c ⊎ StandAlike fingerprint.now (L.content log.old) c) }
 {

@@ -28,7 +28,7 @@ pub(crate) fn cut_synced<L: Log>(log: &mut L, end: usize) -> Result<(), L::Failu
     log.sync()
 }
 
-// Reads all bytes, which each crash leaves from then on. Those that a killed process had written may not have been synced.
+// Reads all bytes, which each crash leaves from then on. Bytes that a killed process had written may not have been synced.
 pub(crate) fn read_synced<L: Log>(
     alloc: Global,
     log: &mut L,

@@ -13,9 +13,9 @@ use std::alloc::Global;
 /// The journal of a map, on a log.
 #[derive(Drop)]
 pub struct Journal<L> {
-    /// What its records take memory from.
+    /// The allocator of its records.
     pub alloc: Global,
-    /// Where it stands.
+    /// The log that it is on.
     pub log: L,
     /// The fingerprint of the map.
     pub fingerprint: [u8; 32],
@@ -28,14 +28,14 @@ pub struct Journal<L> {
 pub enum PutFault<F> {
     /// Memory was refused, and nothing was done.
     NoMemory,
-    /// The log failed: what it keeps isn't known, and the journal has to be opened again.
+    /// The log failed: the batches that it keeps are unknown, and the journal has to be opened again.
     Failed(F),
 }
 
 impl<L: Log> Journal<L> {
     /// Adds a batch. At `Ok` it is kept: each crash from then on leaves a file that has it.
     pub fn put(&mut self, batch: &[u8]) -> Result<(), PutFault<L::Failure>>
-        // What a crash garbles is known by its digests.
+        // The digests show which bytes a crash has garbled.
         requires recognised { L.reliable → GarblesNoRecord L.garbled self.old.fingerprint }
         requires settled { L.reliable → (batches : List (List ℕ)) × IsSettled L.content L.may_leave self.old batches }
         requires room { self.old.count < 2 ^ 64 - 1 }
@@ -43,7 +43,7 @@ impl<L: Log> Journal<L> {
         ensures kept { L.reliable → OnOk result ((batches : List (List ℕ)) → IsSettled L.content L.may_leave self.old batches
             → IsSettled L.content L.may_leave self.new (batches ++ batch.now ∷ [])) }
 
-        // A crash at any moment of the call leaves the batches from before it, with the new one or without.
+        // A crash at any moment of the call leaves the batches from before it, with the new one or without it.
         ensures any_moment { L.reliable → (batches : List (List ℕ)) → IsSettled L.content L.may_leave self.old batches
             → LeavesOnly L.moment L.left_since self.old.log self.new.log (IsBeforeOrAfter self.old.fingerprint batches batch.now) }
 

@@ -12,12 +12,12 @@ then_same f g h None k = refl
 then_same f g h (Some s) k = k s
 
 module _ {S B : Type 0} (batch : S → B → Option S) where
-  -- the beginning of an accepted list is accepted
+  -- a prefix of an accepted list is accepted
   pub front_accepted : (s : S) (a b : List B) → IsSome (after batch s (a ++ b)) → IsSome (after batch s a)
   front_accepted s [] b h = refl
   front_accepted s (x ∷ a) b h = then_some (λ t. after batch t (a ++ b)) (λ t. after batch t a) (batch s x) (λ t k. front_accepted t a b k) h
 
-  -- after two lists comes what comes after the second in the state after the first
+  -- the state after two lists is the state after the second in the state after the first
   pub after_append : (s : S) (a b : List B) → after batch s (a ++ b) ≡ option_and_then (λ t. after batch t b) (after batch s a)
   after_append s [] b = refl
   after_append s (x ∷ a) b = then_same (λ t. after batch t (a ++ b)) (λ t. after batch t b) (λ t. after batch t a) (batch s x) (λ t. after_append t a b)

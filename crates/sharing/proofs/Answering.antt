@@ -9,7 +9,7 @@ use Rattle.sharing.specs.Law.{IsRight, AnswersAreRight}
 use Rattle.sharing.proofs.Keeping.{opened_keeps, opened_heard}
 
 module _ {S A B Q : Type 0} (start : S) (batch : S → B → Option S) (answers : S → Q → A → Type 0) where
-  -- a reply stands beside its event, in the sharing after the events before it
+  -- a reply of an event, in the sharing after the events before it
   reply_at : (w : Sharing B) (before later : List (Event B Q)) (given rest : List (Option A)) (e : Event B Q) (reply : Option A) → length given ≡ length before
       → AreReplies start batch answers w (before ++ e ∷ later) (given ++ reply ∷ rest) → IsReply start batch answers (run start batch w before) e reply
   reply_at w [] later [] rest e reply same all = all.0

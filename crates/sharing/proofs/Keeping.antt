@@ -1,4 +1,4 @@
--- Each event keeps what is promised, and so does a run.
+-- Each event keeps the promises, and so does a run.
 use Rattle.std.proofs.Common.{◌≡◌, ◌∙◌, ℕ, ◌==◌, List, [], ◌∷◌, ◌++◌, All, Option, None, Some, IsSome, IfSome, is_some, refl, sym, ap, subst, append_assoc, slice_get}
 use Rattle.std.proofs.lemmas.List.{append-nil}
 use Rattle.std.proofs.lemmas.List.Elements.{All-nil, All-append, All-push, All-weaker}
@@ -15,7 +15,7 @@ module _ {S B : Type 0} (start : S) (batch : S → B → Option S) where
   abbrev IsAccepted : List B → Type 0
   IsAccepted list = IsSome (after batch start list)
 
-  -- what each sharing has after some events
+  -- the properties of each sharing after some events
   pub record Keeps (w : Sharing B) : Type 0 where
     pub accepted : IsSome (after batch start (w.published ++ w.pending))
     pub receipts : All (λ receipt. IsPrefix receipt w.published) w.receipts
@@ -48,7 +48,7 @@ module _ {S B : Type 0} (start : S) (batch : S → B → Option S) where
   keeps_opened : Keeps opened
   keeps_opened = record { accepted = refl; receipts = All-nil (λ receipt. IsPrefix receipt []); readers = λ i. record { known = ([], refl); same = tt } }
 
-  -- an entry shows a beginning of what is published, which was accepted whole
+  -- an entry shows a prefix of the published batches, which was accepted whole
   answerable : (published pending known : List B) (entry : Option (List B)) → IsSome (after batch start (published ++ pending)) → IsPrefix known published → IfSome entry (λ list. list ≡ known)
       → IfSome entry (λ list. IsSome (after batch start list))
   answerable published pending known None h p e = tt

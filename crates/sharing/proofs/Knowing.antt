@@ -7,7 +7,7 @@ use Rattle.sharing.specs.Sharing.{Reader, longer}
 use Rattle.sharing.specs.Event.{learn, enter, leave, shown, told}
 use Rattle.sharing.proofs.Prefixes.{prefix_self, prefix_more, longer_both, either_has}
 
--- what a reader knows begins what is published, and its entry shows just that
+-- the batches that a reader knows begin the published ones, and its entry shows just those
 pub record Fits {B : Type 0} (published : List B) (r : Reader B) : Type 0 where
   pub known : IsPrefix r.known published
   pub same : IfSome r.entered (λ list. list ≡ r.known)
@@ -15,7 +15,7 @@ pub record Fits {B : Type 0} (published : List B) (r : Reader B) : Type 0 where
 pub fits_more : {B : Type 0} (published more : List B) (r : Reader B) → Fits published r → Fits (published ++ more) r
 fits_more published more r f = record { known = prefix_more r.known published more f.known; same = f.same }
 
--- a reader before and after an event, and the lists that the event shows it or tells it of
+-- a reader before and after an event, and the lists that it is shown or learns of by the event
 pub record Goes {B : Type 0} (published : List B) (old new : Reader B) (lists : List (List B)) : Type 0 where
   pub fits : Fits published new
   pub grows : IsPrefix old.known new.known
@@ -24,7 +24,7 @@ pub record Goes {B : Type 0} (published : List B) (old new : Reader B) (lists : 
 pub stays : {B : Type 0} (published : List B) (r : Reader B) → Fits published r → Goes published r r []
 stays published r f = record { fits = f; grows = prefix_self r.known; begins = All-nil (λ list. IsPrefix list r.known) }
 
--- one list that begins what the reader knows
+-- one list that begins the reader's known batches
 one_begins : {B : Type 0} (list known : List B) → IsPrefix list known → All (λ l. IsPrefix l known) (list ∷ [])
 one_begins list known p = All-cons (λ l. IsPrefix l known) list [] p (All-nil (λ l. IsPrefix l known))
 
@@ -51,13 +51,13 @@ enters published r None f = record {
 pub leaves : {B : Type 0} (published : List B) (r : Reader B) → Fits published r → Goes published r (leave r) []
 leaves published r f = record { fits = record { known = f.known; same = tt }; grows = prefix_self r.known; begins = All-nil (λ list. IsPrefix list r.known) }
 
--- only the reader that the event names is changed, and hears of it
+-- only the reader that the event names is changed, and gets the lists of the event
 pub one_goes : {B : Type 0} (published : List B) (old new : Reader B) (lists : List (List B)) (b : Bool) → Fits published old → Goes published old new lists
     → Goes published old (if b then new else old) (if b then lists else [])
 one_goes published old new lists true f g = g
 one_goes published old new lists false f g = stays published old f
 
--- so it is where nothing is heard
+-- so it is for a reader that gets no list
 pub one_leaves : {B : Type 0} (published : List B) (old new : Reader B) (b : Bool) → Fits published old → Goes published old new []
     → Goes published old (if b then new else old) []
 one_leaves published old new true f g = g

@@ -1,9 +1,9 @@
--- What happens to a sharing, and what it shows and tells its readers (docs/SERVICE.md, "Sharing").
+-- The events of a sharing, and the batches that its readers are shown or learn of (docs/SERVICE.md, "Sharing").
 use Rattle.std.specs.Prelude.{ℕ, ◌==◌, if◌then◌else◌, List, [], ◌∷◌, ◌++◌, Option, None, Some, slice_get}
 use Rattle.sharing.specs.Sharing.{Reader, Sharing, after, longer}
 
--- the administrator submits a batch, or publishes what is pending; the reader of a number learns the receipt of a number,
--- enters, is asked a query, or leaves
+-- the administrator submits a batch, or publishes the pending ones; the reader of a number learns the receipt of a number, enters, gets a query, or
+-- leaves
 pub data Event (B Q : Type 0) : Type 0 where
   Submit : B → Event B Q
   Publish : Event B Q
@@ -12,17 +12,17 @@ pub data Event (B Q : Type 0) : Type 0 where
   Answer : ℕ → Q → Event B Q
   Leave : ℕ → Event B Q
 
--- a batch waits behind the others where there is a state after it; else it is refused
+-- a batch is pending after the others where there is a state after it; else it is refused
 abbrev pub submit : {S B : Type 0} → B → Option S → List B → List B
 submit b None pending = pending
 submit b (Some state) pending = pending ++ b ∷ []
 
--- what is pending goes behind what is published, which a receipt then stands for; where nothing is pending, nothing is done
+-- the pending batches follow the published ones, and there is a receipt of all these; where nothing is pending, nothing is done
 abbrev pub publish : {B : Type 0} → List B → Sharing B → Sharing B
 publish [] w = w
 publish (b ∷ bs) w = record w { published = w.published ++ b ∷ bs; pending = []; receipts = w.receipts ++ (w.published ++ b ∷ bs) ∷ [] }
 
--- of what it knows and a receipt, a reader knows the longer from then on; during an entry, or without such a receipt, nothing is done
+-- of its known batches and those of a receipt, a reader knows the longer from then on; during an entry, or without such a receipt, nothing is done
 abbrev pub learn : {B : Type 0} → Option (List B) → Option (List B) → Reader B → Reader B
 learn None (Some receipt) reader = record { known = longer reader.known receipt; entered = None }
 learn None None reader = reader
@@ -33,7 +33,7 @@ abbrev pub enter : {B : Type 0} → List B → Option (List B) → Reader B → 
 enter published None reader = record { known = published; entered = Some published }
 enter published (Some entry) reader = reader
 
--- the entry ends, and what the reader knows stays
+-- the entry ends, and the reader's known batches stay
 abbrev pub leave : {B : Type 0} → Reader B → Reader B
 leave reader = record { known = reader.known; entered = None }
 
@@ -46,13 +46,13 @@ abbrev pub shown : {B : Type 0} → List B → Option (List B) → List (List B)
 shown published None = published ∷ []
 shown published (Some entry) = []
 
--- the batches that a reader is told of by a receipt
+-- the batches that a reader learns of by a receipt
 abbrev pub told : {B : Type 0} → Option (List B) → Option (List B) → List (List B)
 told None (Some receipt) = receipt ∷ []
 told None None = []
 told (Some entry) receipt = []
 
--- what an event shows or tells the reader of a number
+-- the lists that the reader of a number is shown or learns of by an event
 abbrev pub heard_at : {B Q : Type 0} → Sharing B → Event B Q → ℕ → List (List B)
 heard_at w (Enter r) i = if i == r then shown w.published (w.readers i).entered else []
 heard_at w (Learn r k) i = if i == r then told (w.readers i).entered (slice_get w.receipts k) else []
@@ -62,7 +62,7 @@ heard_at w (Answer r q) i = []
 heard_at w (Leave r) i = []
 
 module _ {S B Q : Type 0} (start : S) (batch : S → B → Option S) where
-  -- what one event does
+  -- the effect of one event
   abbrev pub step : Sharing B → Event B Q → Sharing B
   step w (Submit b) = record w { pending = submit b (after batch start (w.published ++ (w.pending ++ b ∷ []))) w.pending }
   step w Publish = publish w.pending w
@@ -71,12 +71,12 @@ module _ {S B Q : Type 0} (start : S) (batch : S → B → Option S) where
   step w (Answer r q) = w
   step w (Leave r) = record w { readers = change r leave w.readers }
 
-  -- what some events do, one after the other
+  -- the effect of some events, one after the other
   abbrev pub run : Sharing B → List (Event B Q) → Sharing B
   run w [] = w
   run w (event ∷ events) = run (step w event) events
 
-  -- all that some events show or tell the reader of a number
+  -- all lists that the reader of a number is shown or learns of by some events
   abbrev pub heard : Sharing B → List (Event B Q) → ℕ → List (List B)
   heard w [] i = []
   heard w (event ∷ events) i = heard_at w event i ++ heard (step w event) events i

@@ -1,4 +1,4 @@
--- What is replied to events (docs/SERVICE.md, "Sharing").
+-- The replies to events (docs/SERVICE.md, "Sharing").
 use Rattle.std.specs.Prelude.{◌≡◌, List, [], ◌∷◌, Option, None, Some, IsSomeAnd}
 use Rattle.sharing.specs.Sharing.{Sharing, after}
 use Rattle.sharing.specs.Event.Event.{Answer}
@@ -9,7 +9,7 @@ module _ {S A B Q : Type 0} (start : S) (batch : S → B → Option S) (answers 
   abbrev pub IsAnswerAfter : Q → A → List B → Type 0
   IsAnswerAfter query answer batches = IsSomeAnd (after batch start batches) (λ state. answers state query answer)
 
-  -- a query is answered by what the reader's entry shows, and without an entry not at all; no other event has an answer
+  -- a query is answered by the batches that the reader's entry shows, and without an entry not at all; no other event has an answer
   abbrev pub IsReply : Sharing B → Event B Q → Option A → Type 0
   IsReply w (Answer r query) (Some answer) = IsSomeAnd (w.readers r).entered (IsAnswerAfter query answer)
   IsReply w (Answer r query) None = (w.readers r).entered ≡ None

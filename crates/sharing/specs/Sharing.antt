@@ -1,12 +1,12 @@
--- What is shared: the batches that are published and pending, receipts, and what each reader knows (docs/SERVICE.md, "Sharing").
+-- A sharing: the batches that are published and pending, receipts, and the readers' known batches (docs/SERVICE.md, "Sharing").
 use Rattle.std.specs.Prelude.{ℕ, nat_lt, if◌then◌else◌, List, [], ◌∷◌, length, Option, None, Some, option_and_then}
 
--- what a reader knows to be published, and the batches that its entry shows, if it has one
+-- the batches that a reader knows to be published, and those that its entry shows, if it has one
 pub record Reader (B : Type 0) : Type 0 where
   pub known : List B
   pub entered : Option (List B)
 
--- all published batches, those that were accepted and wait, the receipts in their order, and the readers by their numbers
+-- all published batches, those that were accepted and are pending, the receipts in their order, and the readers by their numbers
 pub record Sharing (B : Type 0) : Type 0 where
   pub published : List B
   pub pending : List B

@@ -2,9 +2,9 @@
 
 ghost use Rattle.sharing.specs.Law.{AnswersAreRight, Grows, KeepsPromises};
 
-/// What can be shared: the state that it begins in, which batches it accepts, and what it answers.
+/// A machine that can be shared: the state that it begins in, which batches it accepts, and its answers.
 pub trait Machine {
-    /// What batches change.
+    /// The state, which batches change.
     type State;
 
     /// A batch.
@@ -28,8 +28,8 @@ pub trait Machine {
     ghost answers: { Self.State → Self.Query → Self.Answer → Type 0 };
 }
 
-/// Whatever happens, each answer is one in the state after published batches that begin with all that its
-/// reader was shown or told of; what is known begins what is published, and stays known.
+/// Whatever happens, each answer is one in the state after published batches that begin with all that its reader was
+/// shown or learned of; known batches begin the published ones, and stay known.
 pub fn shared<M: Machine>()
     ensures answers { AnswersAreRight M.start M.batch M.answers }
     ensures keeps { KeepsPromises M.Query M.start M.batch }

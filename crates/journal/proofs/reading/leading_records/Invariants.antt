@@ -4,7 +4,7 @@ use Rattle.journal.specs.Record.{records}
 use Rattle.journal.specs.Fault.{texts_of}
 use Rattle.journal.proofs.reading.leading_records.Given as goal
 
--- the records that were read and what is left are all
+-- the records that were read and the bytes left are all
 abbrev pub invariant-loop-batches : goal.invariant-loop-batches
 invariant-loop-batches l = record {
   all : l.bytes ≡ records sha256 l.fingerprint 1 (texts_of l.batches.items) ++ l.rest;

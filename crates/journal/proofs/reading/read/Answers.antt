@@ -7,7 +7,7 @@ use Rattle.journal.specs.Fault.{texts_of}
 use Rattle.journal.proofs.Growing.{length-texts}
 use Rattle.journal.proofs.reading.read.Goals as goal
 
--- a header, records and what stands behind them
+-- a header, records and the bytes after them
 reads : (fingerprint file rest tail : List ℕ) (batches : List (List ℕ)) (count : ℕ) → file ≡ header fingerprint ++ rest → rest ≡ records sha256 fingerprint 1 batches ++ tail
     → count ≡ length batches → (StartsWithNumber sha256 fingerprint (count + 1) tail → ⊥) → Reads sha256 fingerprint file batches tail
 reads fingerprint file rest tail batches count is split counts none = record {

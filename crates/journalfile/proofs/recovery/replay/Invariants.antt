@@ -5,7 +5,7 @@ use Rattle.sharing.specs.Sharing.{after}
 use Rattle.batches.specs.Batch.{accepted}
 use Rattle.journalfile.proofs.recovery.replay.Given as goal
 
--- the batches so far led to the machine's state, and what is left of the bytes follows their records
+-- the batches so far led to the machine's state, and the rest of the bytes follows their records
 abbrev pub invariant-loop-batch : goal.invariant-loop-batch
 invariant-loop-batch l =
     ((batches : List (List ℕ)) × (l.bytes ≡ records sha256 l.fingerprint 1 batches ++ l.rest) × (l.count ≡ length batches)

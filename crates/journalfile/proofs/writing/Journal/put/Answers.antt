@@ -18,7 +18,7 @@ returns-in_default-clause-any_moment g c reliable batches settled =
     started g.L.Log.moment g.L.Log.left_since log P
     (λ f left. inl (subst (λ (l : List ℕ). StandsFor c.args.self.now.fingerprint l batches) (sym (settled.durable f (g.met.L.Log.only_now reliable log f left) ∙ settled.file)) (stands c.args.self.now.fingerprint batches)))
 
--- what a crash may leave of the record that is added stands for the batches, with the new one or without
+-- the bytes that a crash may leave of the added record stand for the batches, with the new one or without it
 outcome : (fingerprint : List ℕ) (garbled may_leave : List ℕ → Type 0) (file bytes : List ℕ) (batches : List (List ℕ)) (batch : List ℕ) (number : ℕ)
     → GarblesNoRecord garbled fingerprint → ((f : List ℕ) → may_leave f → f ≡ file) → file ≡ journal_of sha256 fingerprint batches
     → bytes ≡ record_of sha256 fingerprint (sequence_bytes (number + 1)) batch → number ≡ length batches
@@ -43,7 +43,7 @@ returns-clause-any_moment g c reliable batches settled =
     (outcome c.args.self.now.fingerprint g.L.Log.garbled (g.L.Log.may_leave log) (g.L.Log.content log) c.as_slice.result.now batches c.args.batch.now c.args.self.now.count
     (c.requires.recognised reliable) settled.durable settled.file (c.as_slice.ensures.value ∙ c.in-Ok.ensures.spelled) settled.count)
 
--- the journal of one batch more
+-- the journal with one more batch
 grown : (fingerprint old new bytes : List ℕ) (batches : List (List ℕ)) (batch : List ℕ) (count : ℕ) → new ≡ old ++ bytes → old ≡ journal_of sha256 fingerprint batches → bytes ≡ record_of sha256 fingerprint (sequence_bytes (count + 1)) batch
     → count ≡ length batches → new ≡ journal_of sha256 fingerprint (batches ++ batch ∷ [])
 grown fingerprint old new bytes batches batch count added is spelled counts =
