@@ -1,4 +1,4 @@
--- What a subcommand is after one more argument.
+-- A subcommand with one more argument.
 use Rattle.std.proofs.Common.{◌≡◌, ◌∙◌, ap, ap₂, false, ◌||◌, Result, Ok, Err}
 use Rattle.std.specs.Result.{IfOk}
 use Rattle.clap.specs.Simple.{App, with_rule}

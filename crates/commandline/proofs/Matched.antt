@@ -1,4 +1,4 @@
--- What a subcommand's name and matches say of the rows.
+-- What a subcommand's name and matches mean for the rows.
 use Rattle.std.proofs.Common.{[], ◌≡◌, ◌∙◌, sym, refl, subst, Bool, true, false, ℕ, List, Option, Some, None, Result, Ok, Err, option_map}
 use Rattle.std.specs.Option.{IfSome, ok_or}
 use Rattle.std.specs.Prelude.{Box}
@@ -21,7 +21,7 @@ pub named : {Z : Type 0} (o : Option (Box SubCommand Z)) (n : Text) (rows : List
 named None n rows a b = absurd (cc a)
 named (Some s) n rows a b = cc (a, b)
 
--- what a getter read is what the entry's text gives
+-- the number that a getter read is the one that the entry's text gives
 pub one-read : {E : Type 0} (gives : Text → Result ℕ E → Type 0) (o : Option Text) (r : Option ℕ) (n : ℕ) → r ≡ Some n → (o ≡ None → r ≡ None)
     → ((t : Text) → o ≡ Some t → ReadsOne gives t r) → (t : Text) × (o ≡ Some t) × gives t (Ok n)
 one-read gives None r n is none some = absurd (let bad : Some n ≡ None = sym is ∙ none refl in cc bad)
@@ -38,7 +38,7 @@ not-taken forms line words refusal K same passes none is =
     let P : App → Type 0 = λ a. takes a words ≡ true → K in
     so-not (takes line words) (λ t. none is (subst P same passes t))
 
--- the command line is among those of which the definitions speak
+-- the command line is among those that the definitions cover
 simple : is_simple app ≡ true
 unfolding clap_on_literals
 simple = refl
@@ -54,7 +54,7 @@ parsed forms words m same has = (subst (λ a. HasMatchesOf a words m) same has s
 pub taken : (forms : App) (words : List Text) → forms ≡ app → (is_simple_and_free forms ≡ true → fault_of forms words ≡ []) → fault_of app words ≡ []
 taken forms words same has = subst (λ a. is_simple_and_free a ≡ true → fault_of a words ≡ []) same has free
 
--- what is made of an option meets what its value meets
+-- a result made of an option has the property of the option's value
 pub given : {A E : Type 0} (o : Option A) (e : E) (P : A → Type 0) → IfSome o P → IfOk (ok_or o e) P
 given None e P h = tt
 given (Some x) e P h = h

@@ -1,4 +1,4 @@
--- Which commands arguments that are written out may be.
+-- The commands that arguments that are written out may be.
 use Rattle.std.proofs.Common.{◌≡◌, ◌∙◌, List, [], ◌∷◌, Some, sym, ap, refl, true, false, codes, arith}
 use Rattle.std.proofs.Math.ListN.{get_or}
 use Rattle.clap.proofs.OnLiterals.{clap_on_literals}
@@ -47,7 +47,7 @@ run_explained (Check file explains) h = absurd (cc)
 run_explained (Run file script explains) h = (same _ _ h.1.named, same _ _ h.2, h.1.flag.set refl)
 run_explained (Serve file explains service journal) h = absurd (cc)
 
--- the texts of rows that are known are those that the numbers are of
+-- the texts of known rows are the texts of the numbers
 served-by : (rows : List Row) (service : Service) (texts : OptionTexts) → IsService rows service →
     one_of (codes "port") rows ≡ Some texts.port → one_of (codes "connections") rows ≡ Some texts.connections → one_of (codes "idle") rows ≡ Some texts.idle → one_of (codes "timeout") rows ≡ Some texts.timeout →
     one_of (codes "admin-port") rows ≡ Some texts.admin_port → one_of (codes "workers") rows ≡ Some texts.workers →

@@ -12,11 +12,11 @@ use Rattle.commandline.specs.declared.subcommand.Command.TheVariants.{Session, C
 use Rattle.commandline.specs.declared.arguments.WordsFault.{WordsFault}
 use Rattle.commandline.specs.declared.arguments.WordsFault.TheVariants.{Refused, NoMemory}
 
--- the name of a mapfile, which must be there
+-- the name of a mapfile, which is required
 abbrev pub file_rule : Rule
 file_rule = record (new_rule (codes "FILE")) { required = true }
 
--- the name of a script, which must be there
+-- the name of a script, which is required
 abbrev pub script_rule : Rule
 script_rule = record (new_rule (codes "SCRIPT")) { required = true }
 
@@ -74,15 +74,15 @@ serve_options =
     ∷ record { name = codes "workers"; least = 1; most = 32; default = codes "4" }
     ∷ []
 
--- one of the code
+-- the same for an option of the code
 abbrev pub option_of : NumberOption → ServeOption
 option_of o = record { name = o.name.now; least = o.least; most = o.most; default = o.default.now }
 
--- what the command line takes for an option: its name and a number in its range, or its default where it isn't given
+-- the rule of the command line for an option: its name and a number in its range, or its default where it is missing
 abbrev pub number_rule : ServeOption → Rule
 number_rule o = record (new_rule o.name) { long = Some o.name; value_names = 1; parser = Some (vp.Signed (pos o.least) (pos o.most)); defaults = o.default ∷ [] }
 
--- a subcommand with one option more
+-- a subcommand with one more option
 abbrev pub with_option : App → ServeOption → App
 with_option command o = with_rule command (number_rule o)
 
@@ -102,7 +102,7 @@ logged_app = with_rule ended_app log_rule
 abbrev pub serve_app : App
 serve_app = with_rule logged_app journal_rule
 
--- the program by its name, with which its arguments don't begin, and a version, for which `--version` asks
+-- the program by its name, with which its arguments don't begin, and a version, for `--version`
 abbrev pub program_app : App
 program_app = record { top = record (new_app (codes "mapservd")).top { has_version = true; no_binary_name = true }; subs = [] }
 
@@ -114,7 +114,7 @@ app = with_subcommand (with_subcommand (with_subcommand program_app check_app.to
 abbrev pub IsNumber : ℕ → Text → List Row → ℕ → Type 0
 IsNumber bits name rows n = (t : Text) × (one_of name rows ≡ Some t) × ParsesUnsigned {E = ParseIntError} bits 10 t (Ok n)
 
--- the rows of matches have a number for an option, and it lies in its range
+-- the rows of matches have a number for an option, and it is in its range
 pub record IsInRange (rows : List Row) (o : ServeOption) : Type 0 where
   pub number : ℕ
   pub read : IsNumber 32 o.name rows number
@@ -126,7 +126,7 @@ pub record IsFlag (name : Text) (rows : List Row) (flag : Bool) : Type 0 where
   pub unset : one_of name rows ≡ Some (codes "false") → flag ≡ false
   pub absent : one_of name rows ≡ None → flag ≡ false
 
--- the rows of matches say how a map is served, with numbers in their ranges
+-- the rows of matches have the options of a service, with numbers in their ranges
 pub record IsService (rows : List Row) (service : Service) : Type 0 where
   pub port : IsNumber 16 (codes "port") rows service.port
   pub connections : IsNumber 32 (codes "connections") rows service.connections
@@ -138,12 +138,12 @@ pub record IsService (rows : List Row) (service : Service) : Type 0 where
   pub logs : IsFlag (codes "log") rows service.logs
   pub ranges : All (IsInRange rows) serve_options
 
--- the rows of matches name a mapfile, and say whether its fault is explained
+-- the rows of matches have the name of a mapfile, and whether its fault is explained
 pub record IsOnFile (rows : List Row) (file : Text) (explains : Bool) : Type 0 where
   pub named : first_of (codes "FILE") rows ≡ Some file
   pub flag : IsFlag (codes "explain") rows explains
 
--- a command is what matches say: no subcommand, or the name of one with its files
+-- the command of matches: no subcommand, or the name of one with its files
 abbrev pub IsCommand : Option (Text × List Row) → Command → Type 0
 IsCommand None Session = Unit {0}
 IsCommand None (Check file explains) = ⊥
@@ -180,7 +180,7 @@ Plays map_name script_name explained _ = ⊥
 abbrev pub Reads : ℕ → Text → ℕ → Type 0
 Reads bits text n = ParsesUnsigned {E = ParseIntError} bits 10 text (Ok n)
 
--- the texts of the options of `serve`, whether its flags are there, and the name of its journal
+-- the texts of the options of `serve`, whether its flags are set, and the name of its journal
 pub record OptionTexts : Type 0 where
   pub port : Text
   pub connections : Text
@@ -192,7 +192,7 @@ pub record OptionTexts : Type 0 where
   pub logs : Bool
   pub journal : Option Text
 
--- those of options that aren't given
+-- the texts of missing options
 abbrev pub default_texts : OptionTexts
 default_texts = record {
   port = codes "8080";
@@ -227,9 +227,8 @@ Serves name explained texts _ = ⊥
 abbrev pub May : List Text → Command → Type 0
 May arguments command = IsCommand (subcommand_of app arguments) command
 
--- the law on arguments that are written out: none are a session; `check` has its file; `run` has the mapfile before the script; `serve`
--- has its file, and numbers that aren't given are 8080, 0, 60000, 30, 8081 and 4; each flag is there where it is given, and else not, and so
--- is the journal
+-- the law on arguments that are written out: none are a session; `check` has its file; `run` has the mapfile before the script; `serve` has its file,
+-- and numbers that are missing are 8080, 0, 60000, 30, 8081 and 4; each flag is set where it is given, and else not, and so is the journal
 pub record CommandsAreWritten : Type 0 where
   pub none : (c : Command) → May [] c → IsSession c
   pub check : (c : Command) → May (codes "check" ∷ codes "a.map" ∷ []) c → Checks (codes "a.map") false c
@@ -245,8 +244,8 @@ pub record CommandsAreWritten : Type 0 where
   pub kept : (c : Command) → May (codes "serve" ∷ codes "a.map" ∷ codes "--journal" ∷ codes "b.journal" ∷ []) c → Serves (codes "a.map") false (record default_texts { journal = Some (codes "b.journal") }) c
   pub serve_explained : (c : Command) → May (codes "serve" ∷ codes "a.map" ∷ codes "--explain" ∷ []) c → Serves (codes "a.map") true default_texts c
 
--- the law on arguments that are taken or refused: those of each command are taken; those that lack a file, begin with another word, ask
--- for help or the version, or have a number beyond its range are refused
+-- the law on arguments that are taken or refused: those of each command are taken; those that lack a file, begin with another argument, request help
+-- or the version, or have a number beyond its range are refused
 pub record ArgumentsAreTaken : Type 0 where
   pub taken : (fault_of app [] ≡ []) × (fault_of app (codes "check" ∷ codes "a.map" ∷ []) ≡ []) × (fault_of app (codes "run" ∷ codes "a.map" ∷ codes "b.txt" ∷ []) ≡ [])
   pub explained : (fault_of app (codes "check" ∷ codes "--explain" ∷ codes "a.map" ∷ []) ≡ [])

@@ -14,7 +14,7 @@ use thiserror::Error;
 /// Why arguments are no command.
 #[derive(Debug, Drop, Error)]
 pub enum WordsFault {
-    /// They aren't those of a subcommand, or ask for help.
+    /// They aren't those of a subcommand, or request help.
     #[error("{text}")]
     Refused {
         /// The message, lines that end with LF.
@@ -46,7 +46,7 @@ fn flag_of<'a>(matches: &ArgMatches<'a>, name: &str) -> bool
     matches.get_flag(name)
 }
 
-// Whether the number of an option is there, and lies in its range.
+// Whether the number of an option is there, and is in its range.
 fn is_in_range<'a>(matches: &ArgMatches<'a>, option: &NumberOption<'_>) -> bool
     ensures { result ≡ true → IsInRange (rows_of (found_of matches.now)) (option_of option.now) }
 {
@@ -56,7 +56,7 @@ fn is_in_range<'a>(matches: &ArgMatches<'a>, option: &NumberOption<'_>) -> bool
     }
 }
 
-// Whether those of some options do.
+// Whether the numbers of some options are there, and in their ranges.
 fn are_in_range<'a>(matches: &ArgMatches<'a>, options: &[NumberOption<'_>]) -> bool
     ensures { result ≡ true → All (IsInRange (rows_of (found_of matches.now))) (map option_of options.now) }
 {
@@ -68,7 +68,7 @@ fn are_in_range<'a>(matches: &ArgMatches<'a>, options: &[NumberOption<'_>]) -> b
     true
 }
 
-// How matches say that a map is served. Numbers beyond their ranges don't come.
+// The options of a service by matches. Numbers beyond their ranges don't occur.
 fn service_of<'a>(matches: &ArgMatches<'a>) -> Option<Service>
     ensures { IfSome result (IsService (rows_of (found_of matches.now))) }
 {
@@ -126,7 +126,7 @@ fn refusal(alloc: Global, error: &clap::Error) -> WordsFault
     }
 }
 
-/// The command of the arguments after the program's name. Its errors are that they are those of no subcommand or ask for
+/// The command of the arguments after the program's name. Its errors are that they are those of no subcommand or request
 /// help, with a message, and that memory was refused.
 pub fn command<'a>(alloc: Global, arguments: &'a [&'a str]) -> Result<Command<'a>, WordsFault>
     ensures command { IfOk result (IsCommand (subcommand_of app (map (λ argument. argument.now) arguments.entry.now))) }
@@ -137,7 +137,7 @@ pub fn command<'a>(alloc: Global, arguments: &'a [&'a str]) -> Result<Command<'a
         return Err(WordsFault::NoMemory);
     };
     match commands.try_get_matches_from(arguments) {
-        // matches without an argument that must be there don't come
+        // matches without a required argument don't occur
         Ok(matches) => command_of(&matches).ok_or(WordsFault::NoMemory),
         Err(error) => Err(refusal(alloc, &error)),
     }

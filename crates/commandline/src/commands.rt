@@ -69,7 +69,7 @@ fn argument_of<'a>(alloc: Global, option: &NumberOption<'a>) -> Arg<'a>
         .help(option.help)
 }
 
-// A subcommand with options more.
+// A subcommand with further options.
 fn with_options<'a>(
     alloc: Global,
     form: clap::Command<'a>,
@@ -146,7 +146,7 @@ fn program<'a>(alloc: Global) -> Result<clap::Command<'a>, AllocError>
     Ok(program.about(about).version(VERSION).no_binary_name(true))
 }
 
-// The program so far with one subcommand more, if that was made.
+// The program so far with one more subcommand, if that was made.
 fn with_subcommand<'a>(
     program: clap::Command<'a>,
     form: Result<clap::Command<'a>, AllocError>,

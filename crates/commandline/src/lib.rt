@@ -1,10 +1,10 @@
-//! The command line of the program: what its arguments ask for.
+//! The command line of the program: the command of its arguments.
 //!
-//! Proved: `command` finds the command of the arguments as `clap`'s matches have it (`command`), where the command
-//! line takes them (`taken`, `refused`). What some arguments ask for that are written out is a law (`laws`).
+//! Proved: `command` finds the command of the arguments by `clap`'s matches (`command`), where the command line takes
+//! them (`taken`, `refused`). A law states the commands of some arguments that are written out (`laws`).
 //!
-//! Words: the *arguments* are those after the program's name: there are none, or the first is a *subcommand*, `check`,
-//! `run` or `serve`. A *command* is what they ask for.
+//! Terms: the *arguments* are those after the program's name: there are none, or the first is a *subcommand*, `check`,
+//! `run` or `serve`. They give a *command*.
 #![tactic(auto)]
 
 mod arguments;

@@ -2,21 +2,21 @@ use crate::subcommand::{MAX_IDLE, MAX_TIMEOUT, MAX_WORKERS};
 
 /// An option of `serve`, which is a number.
 pub(crate) struct NumberOption<'a> {
-    /// Its name, which stands behind two hyphens.
+    /// Its name, which is after two hyphens.
     pub name: &'a str,
     /// The least that it may be.
     pub least: u32,
     /// The most that it may be.
     pub most: u32,
-    /// The text of what it is where it isn't given.
+    /// The text of its default.
     pub default: &'a str,
-    /// What the help calls its number.
+    /// The name of its number in the help.
     pub value: &'a str,
-    /// What it means, for the help.
+    /// Its description in the help.
     pub help: &'a str,
 }
 
-/// The options of `serve`, in the order in which its help has them.
+/// The options of `serve`, in the order of its help.
 pub(crate) const SERVE_OPTIONS: [NumberOption<'static>; 6] = [
     NumberOption {
         name: "port",

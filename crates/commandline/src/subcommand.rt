@@ -1,4 +1,4 @@
-/// What the arguments of the program ask for.
+/// The command of the program's arguments.
 #[derive(Clone, Copy)]
 pub enum Command<'a> {
     /// To play a session from standard input. There are no arguments.
@@ -19,13 +19,13 @@ pub enum Command<'a> {
         /// The mapfile's fault is explained, or warnings on its map are printed.
         explains: bool,
     },
-    /// To answer connections on a port, on the map of a mapfile.
+    /// To serve the map of a mapfile on a port.
     Serve {
         /// The name of the mapfile.
         file: &'a str,
         /// The mapfile's fault is explained, or warnings on its map are printed.
         explains: bool,
-        /// How it is served.
+        /// The options of the service.
         service: Service,
         /// The name of the journal that keeps its batches, if they are kept.
         journal: Option<&'a str>,
@@ -41,7 +41,7 @@ pub const MAX_TIMEOUT: u16 = 3_600;
 /// How many workers answer connections at most.
 pub const MAX_WORKERS: u16 = 32;
 
-/// How a map is served.
+/// The options of a service.
 #[derive(Clone, Copy)]
 pub struct Service {
     /// The port, 0 for one that is free.
@@ -52,7 +52,7 @@ pub struct Service {
     pub idle: u16,
     /// How many seconds a head that has begun, and an answer, may take, 1 to `MAX_TIMEOUT`.
     pub timeout: u16,
-    /// The port on which batches are taken, 0 for one that is free.
+    /// The port for batches, 0 for one that is free.
     pub admin_port: u16,
     /// How many workers answer the connections of clients, 1 to `MAX_WORKERS`.
     pub workers: u16,

@@ -1,4 +1,4 @@
--- A line that went out whole.
+-- A line that was sent whole.
 use Rattle.std.proofs.Common.{◌≡◌, ◌||◌, ℕ, Bool, true, false, List, Option, Result, Ok, Err, MatchResult, length, take, arith, take_all}
 use Rattle.std.specs.Io.KnownBytes.{Appends, Keeps}
 use Rattle.std.proofs.KnownBytes.{Appends-kept}
@@ -10,7 +10,7 @@ use Rattle.console.specs.declared.failure.Failure.TheVariants.{MapfileFault, Fil
 pub whole-line : {S : Type 0} (held : S → Option (List ℕ)) (taken : S → ℕ) (a b : S) (c : Option (List ℕ)) (line : List ℕ) → IsSent held taken a line b → Keeps (held b) c → Appends (held a) c line
 whole-line held taken a b c line sent kept = Appends-kept (held a) (held b) c line sent.bytes kept
 
--- it is its own front
+-- it is its own prefix
 pub whole-front : (before after : Option (List ℕ)) (line : List ℕ) → Appends before after line → Appends before after (take (length line) line)
 whole-front before after line bytes = rw (take_all (length line) line (omega arith)) bytes
 
@@ -20,7 +20,7 @@ pub after-flush : {X Y : Type 0} (r : Result X Y) (flushed failed : Bool) (befor
 after-flush (Ok x) flushed failed before was a b h = a
 after-flush (Err y) flushed failed before was a b h = cc
 
--- so a line that went out whole is written, however the flush ended
+-- so a line that was sent whole is written, however the flush ended
 pub gets-whole : (r : Outcome) (a c : WriterState) (line : List ℕ) → Appends a.held c.held line → (is_done r || is_output_failed r) ≡ true → GetsLine r a c line
 gets-whole (Ok done) a c line bytes only = bytes
 gets-whole (Err OutputFailed) a c line bytes only = (length line, whole-front a.held c.held line bytes)

@@ -1,14 +1,14 @@
--- The three streams of the program, and what an outcome leaves of them (docs/SERVICE.md, "The program").
+-- The three streams of the program, and their states after an outcome (docs/SERVICE.md, "The program").
 use Rattle.std.specs.Prelude.{◌≡◌, ◌||◌, ℕ, ◌≤◌, Bool, true, false, List, length, take, Option, Result, Ok, Err}
 use Rattle.std.specs.Io.KnownBytes.{Appends, Keeps}
 use Rattle.console.specs.declared.failure.Failure.{Failure}
 use Rattle.console.specs.declared.failure.Failure.TheVariants.{MapfileFault, FileFailed, WordsRefused, InputFailed, OutputFailed, ListenFailed, SocketFailed, WatchFailed, JournalFault, JournalFailed, NoMemory}
 
--- how the program ends: all that was asked is done, or why not
+-- how the program ends: the command was done, or why not
 abbrev pub Outcome : Type 0
 Outcome = Result (Unit {0}) Failure
 
--- the exit status: 0 where all was done that was asked, else by what failed
+-- the exit status: 0 where the command was done, else by the failure
 abbrev pub status_of : Outcome → ℕ
 status_of (Ok done) = 0
 status_of (Err MapfileFault) = 1
@@ -23,7 +23,7 @@ status_of (Err JournalFault) = 1
 status_of (Err JournalFailed) = 3
 status_of (Err NoMemory) = 4
 
--- an input: what is left of it, where that is known, and whether its reader has failed
+-- an input: the rest of it, where that is known, and whether its reader has failed
 pub record InputState : Type 0 where
   pub left : Option (List ℕ)
   pub failed : Bool
@@ -55,21 +55,21 @@ abbrev pub is_output_failed : Outcome → Bool
 is_output_failed (Err OutputFailed) = true
 is_output_failed _ = false
 
--- the input has failed where that is the outcome, or where it had before
+-- the input has failed where that is the outcome, or where it had failed before
 abbrev pub LeavesInput : Outcome → InputState → InputState → Type 0
 LeavesInput outcome old new = new.failed ≡ (is_input_failed outcome || old.failed)
 
--- so has the output, which is flushed where all was done
+-- the output has failed where that is the outcome, or where it had failed before; it is flushed where all was done
 pub record LeavesOutput (outcome : Outcome) (old new : WriterState) : Type 0 where
   pub failed : new.failed ≡ (is_output_failed outcome || old.failed)
   pub flushed : is_done outcome ≡ true → new.flushed ≡ true
 
--- what an outcome leaves of the input and of the output
+-- the states of the input and of the output after an outcome
 pub record Leaves (outcome : Outcome) (old new : ConsoleState) : Type 0 where
   pub input : LeavesInput outcome old.input new.input
   pub output : LeavesOutput outcome old.output new.output
 
--- a line was reported to a writer: it got all of it and was flushed, or it failed and got its front
+-- a line was reported to a writer: it got all of it and was flushed, or it failed and got a prefix of it
 pub record IsReported (old new : WriterState) (line : List ℕ) : Type 0 where
   pub count : ℕ
   pub bytes : Appends old.held new.held (take count line)
@@ -80,7 +80,7 @@ pub record IsReported (old new : WriterState) (line : List ℕ) : Type 0 where
 abbrev pub HasFront : WriterState → WriterState → List ℕ → Type 0
 HasFront old new line = (count : ℕ) × Appends old.held new.held (take count line)
 
--- the output got a line by the outcome: all of it; or its front, or all of it where the flush failed
+-- the output got a line by the outcome: all of it; or a prefix of it, or all of it where the flush failed
 abbrev pub GetsLine : Outcome → WriterState → WriterState → List ℕ → Type 0
 GetsLine (Ok done) old new line = Appends old.held new.held line
 GetsLine (Err OutputFailed) old new line = HasFront old new line

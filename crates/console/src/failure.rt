@@ -4,7 +4,7 @@ ghost use Rattle.console.specs.Console.{status_of};
 /// Why a port can't be listened on.
 #[derive(Clone, Copy, Debug)]
 pub enum ListenCause {
-    /// Another program listens there.
+    /// Another program listens on it.
     Taken,
     /// The system doesn't allow it.
     NotAllowed,
@@ -12,14 +12,14 @@ pub enum ListenCause {
     Other,
 }
 
-/// Why the program ended without having done all that was asked.
+/// Why the program ended without having done its command.
 #[derive(Clone, Copy, Debug)]
 pub enum Failure {
     /// The mapfile has a fault, which was reported.
     MapfileFault,
     /// A mapfile or a script could not be read, and was reported by its name.
     FileFailed,
-    /// The arguments are no command, or ask for help, and were answered.
+    /// The arguments are no command, or request help, and the message was written.
     WordsRefused,
     /// The reader of the session failed.
     InputFailed,
@@ -29,14 +29,14 @@ pub enum Failure {
     ListenFailed {
         /// The number.
         port: u16,
-        /// Why.
+        /// The cause.
         cause: ListenCause,
     },
     /// A port gave no connection, or a thread could not be started.
     SocketFailed,
-    /// The input with whose end the service ends could not be read.
+    /// The input whose end ends the service could not be read.
     WatchFailed,
-    /// The journal is none, is that of another map, is damaged or has a batch that isn't accepted, which was reported.
+    /// The journal is none, is of another map, is damaged or has a batch that isn't accepted, which was reported.
     JournalFault,
     /// The journal could not be opened, read or written, which was reported.
     JournalFailed,
@@ -46,8 +46,8 @@ pub enum Failure {
 }
 
 impl Failure {
-    /// The exit status of the program that ends with this failure: 1 where what it was given is faulty or can't be read, 2 where its
-    /// arguments were refused, 3 where a stream, a port or a thread failed, and 4 where memory was refused.
+    /// The exit status of the program that ends with this failure: 1 where a file is faulty or can't be read, 2 where its arguments
+    /// were refused, 3 where a stream, a port or a thread failed, and 4 where memory was refused.
     pub fn status(self) -> u8
         ensures { result ≡ status_of (Err self) }
     {

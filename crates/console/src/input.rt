@@ -20,8 +20,8 @@ pub enum ReadFault {
     NoMemory,
 }
 
-/// Reads all of the bytes that are left, up to their end. Its errors are that the reader failed, and that memory
-/// was refused.
+/// Reads all of the bytes that are left, up to their end. Its errors are that the reader failed, and that memory was
+/// refused.
 pub fn read_all<I: Source>(alloc: Global, input: &mut I) -> Result<Vec<u8>, ReadFault>
     ensures bytes { IfOk result (λ bytes. Consumes (I.left input.old) (I.left input.new) bytes.items) }
     ensures end { OnOk result (IsAtEnd (I.left input.new)) }

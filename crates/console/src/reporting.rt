@@ -6,7 +6,7 @@ use crate::failure::Failure;
 use crate::terminal::Writes;
 use streams::{Sink, put_pieces};
 
-/// Reports a line, in pieces. Where it can't be written, the exit status still tells.
+/// Reports a line, in pieces. Where it can't be written, only the exit status reports the failure.
 pub fn report<E: Sink>(errors: &mut E, pieces: &[&[u8]])
     ensures { IsReported (⟦<E as Writes>⟧.state errors.old) (⟦<E as Writes>⟧.state errors.new) (flat_map (λ piece. piece.now) pieces.now) }
 {

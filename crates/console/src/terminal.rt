@@ -1,6 +1,6 @@
 use streams::{Sink, Source};
 
-/// A source as contracts see its state.
+/// A source whose state contracts see.
 pub trait Reads: Source {
     ghost use Rattle.console.specs.Console.{InputState};
 
@@ -12,7 +12,7 @@ impl<I: Source> Reads for I {
     ghost state = { λ s. record { left = I.left s; failed = I.take_failed s } };
 }
 
-/// A sink as contracts see its state.
+/// A sink whose state contracts see.
 pub trait Writes: Sink {
     ghost use Rattle.console.specs.Console.{WriterState};
 
@@ -24,7 +24,7 @@ impl<O: Sink> Writes for O {
     ghost state = { λ s. record { held = O.held s; failed = O.put_failed s; flushed = O.is_flushed s } };
 }
 
-/// The three streams of a program as contracts see them.
+/// The three streams of a program, whose states contracts see.
 pub trait Terminal {
     ghost use Rattle.console.specs.Console.{ConsoleState};
 
@@ -35,11 +35,11 @@ pub trait Terminal {
 /// The three streams of a program.
 #[derive(Drop)]
 pub struct Console<I, O, E> {
-    /// What a session is read from.
+    /// The input, from which a session is read.
     pub input: I,
-    /// Where answers go.
+    /// The output, for answers.
     pub output: O,
-    /// Where faults and warnings are reported.
+    /// The errors, for faults and warnings.
     pub errors: E,
 }
 

@@ -18,7 +18,7 @@ const SCRIPT: &[u8] = b"BATCH 6\nOFF a\nQUERY REQUEST=x\n";
 
 const HEAD: &[u8] = b"GET /?REQUEST=x HTTP/1.0\r\n\r\n";
 
-// Of each layer whether it is on, and how many features it has.
+// For each layer whether it is on, and how many features it has.
 fn layers_text(alloc: Global, map: &Map) -> Result<String, AllocError> {
     let mut text = String::new(alloc);
     for layer in map.get().layers.as_slice() {
@@ -107,7 +107,7 @@ struct Running {
     machine: Machine,
 }
 
-// What a reply says, in a word.
+// The kind of a reply, in a word.
 fn reply_word(reply: &Reply) -> &'static str {
     match reply {
         Reply::Answered(_) => "answered ",
@@ -159,7 +159,7 @@ pub fn script_row(rt: &HostRuntime) -> io::Result<()> {
     println!(rt; "{text}{}", played.is_ok())
 }
 
-/// Answers a connection, and prints what it is sent.
+/// Answers a connection, and prints the response.
 pub fn exchange_row(rt: &HostRuntime) -> io::Result<()> {
     let alloc = rt.alloc();
     let mut machine = plain_machine(alloc)?;

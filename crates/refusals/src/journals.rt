@@ -61,7 +61,7 @@ impl Log for Room {
     }
 }
 
-// A journal of so many batches, and a broken record behind them.
+// A journal of so many batches, and a broken record after them.
 fn journal_bytes(alloc: Global, count: u64) -> Result<Vec<u8>, AllocError> {
     let mut bytes = Vec::with_capacity(alloc, 4_096)?;
     push_header(&mut bytes, &FINGERPRINT)?;

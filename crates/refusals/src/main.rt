@@ -1,8 +1,8 @@
-//! Makes calls that take memory, each on a worked row, and prints what they answer. Standard input names the calls, a
-//! line each. Where a call says that memory was refused, it is made once more, and what it was to change is printed
-//! before that.
+//! Makes calls that take memory, each on a worked row, and prints their answers. Standard input names the calls, a line
+//! each. Where a call reports that memory was refused, it is made once more, and before that the state that it was to
+//! change is printed.
 //!
-//! The lines `>` and `<` stand before and behind each call, so that a library which refuses memory knows when to:
+//! The lines `>` and `<` are before and after each call, so that a library which refuses memory knows when to:
 //! `bench/refusals.py` has one.
 #![tactic(auto)]
 
@@ -32,7 +32,7 @@ const HITS: &[u8] =
 
 const CAPABILITIES: &[u8] = b"REQUEST=GetCapabilities&UPDATESEQUENCE=0";
 
-// What a call of a name answers that changes nothing. Without an answer memory was refused.
+// The answer of a call of this name that changes nothing. Without an answer memory was refused.
 fn answer(rt: &HostRuntime, name: &str) -> io::Result<Option<String>> {
     match name {
         "parse" => parse_row(rt),
@@ -51,7 +51,7 @@ fn answer(rt: &HostRuntime, name: &str) -> io::Result<Option<String>> {
     }
 }
 
-// Makes the call of a name. What waits for readers is handed the handle to wait.
+// Makes the call of this name. A call that waits for readers gets the handle to wait.
 fn play<R: Wait>(waits: &R, rt: &HostRuntime, name: &str) -> io::Result<()> {
     println!(rt; "== {name}")?;
     match name {

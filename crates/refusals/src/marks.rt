@@ -12,7 +12,7 @@ pub fn end(rt: &HostRuntime) -> io::Result<()> {
     println!(rt; "<")
 }
 
-/// Prints what a call answered, and says whether that is an answer.
+/// Prints the answer of a call, and returns whether there is one.
 pub fn tell(rt: &HostRuntime, answer: Option<String>) -> io::Result<bool>
     ensures { IfOk result (λ is_told. is_told ≡ is_some answer) }
 {
@@ -30,14 +30,15 @@ pub fn tell(rt: &HostRuntime, answer: Option<String>) -> io::Result<bool>
 
 /// A call that changes something.
 pub trait Call {
-    /// What it changes, as it is now.
+    /// The state that it changes, as it is now.
     fn state(&self, rt: &HostRuntime) -> io::Result<String>;
 
     /// Makes the call between the marks. Without an answer memory was refused.
     fn call(&mut self, rt: &HostRuntime) -> io::Result<Option<String>>;
 }
 
-/// Makes such a call, and prints what it changes before and after. Where memory was refused it is made once more.
+/// Makes such a call, and prints the state that it changes before and after. Where memory was refused it is made once
+/// more.
 pub fn play_on<C: Call>(rt: &HostRuntime, call: &mut C) -> io::Result<()> {
     println!(rt; "before: {}", call.state(rt)?)?;
     let answer = call.call(rt)?;

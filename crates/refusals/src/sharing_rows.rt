@@ -12,7 +12,7 @@ use std::sync::Wait;
 
 const BATCH: &[u8] = b"OFF a\n";
 
-// What became of a batch.
+// The result of a batch.
 #[derive(Clone, Copy, Debug, PartialEq, Eq)]
 enum Became {
     Published,
@@ -59,7 +59,7 @@ fn seen<S: Sharing>(readers: &mut Vec<Reader<S>>) -> Option<u64> {
     }
 }
 
-// Prints what became of a batch, and what readers are shown then.
+// Prints the result of a batch, and the sequence that readers are shown then.
 fn tell<S: Sharing>(system: &HostRuntime, became: Became, readers: &mut Vec<Reader<S>>) {
     let sequence = seen(readers);
     let _printed = println!(system; "{became:?}, readers see {sequence:?}");
@@ -86,7 +86,7 @@ fn submit_often<S: Sharing, R: Wait>(
     admin
 }
 
-// Shares a machine and submits a batch, and says whether it was shared.
+// Shares a machine and submits a batch, and returns whether it was shared.
 fn submit_shared<S: Sharing, R: Wait>(
     rt: &R,
     system: &HostRuntime,
@@ -117,7 +117,7 @@ pub fn submit_row<R: Wait>(rt: &R, system: &HostRuntime) -> io::Result<()> {
     println!(system; "shared {shared}")
 }
 
-// Shares a machine, and says whether that was done.
+// Shares a machine, and returns whether that was done.
 fn share<S: Sharing, R: Wait>(rt: &R, system: &HostRuntime, blank: Blank, machine: &Machine) -> bool
     requires history { blank.seen.book ≡ S.book }
     requires opening { machine.now ≡ S.opening }
@@ -148,7 +148,7 @@ pub fn share_row<R: Wait>(rt: &R, system: &HostRuntime) -> io::Result<()> {
     println!(system; "{}", if shared { "shared" } else { "NoMemory" })
 }
 
-// What a reader answers.
+// The result of a query to a reader.
 #[derive(Clone, Copy, Debug, PartialEq, Eq)]
 enum Said {
     Answered(usize),
@@ -156,7 +156,7 @@ enum Said {
     Closed,
 }
 
-// Has the first of some readers enter and answer a query, and prints what it says.
+// Has the first of some readers enter and answer a query, and prints the result.
 fn ask<S: Sharing>(system: &HostRuntime, readers: &mut Vec<Reader<S>>) -> Said {
     let Some(reader) = readers.first_mut() else {
         return Said::Closed;
@@ -174,7 +174,8 @@ fn ask<S: Sharing>(system: &HostRuntime, readers: &mut Vec<Reader<S>>) -> Said {
     said
 }
 
-// Shares a machine and asks a reader, and once more where memory was refused. It says whether the machine was shared.
+// Shares a machine and has a reader answer, and once more where memory was refused. It returns whether the machine was
+// shared.
 fn ask_shared<S: Sharing, R: Wait>(
     rt: &R,
     system: &HostRuntime,
@@ -194,7 +195,7 @@ fn ask_shared<S: Sharing, R: Wait>(
     true
 }
 
-/// Asks a reader of a shared map.
+/// Has a reader of a shared map answer.
 pub fn enter_row<R: Wait>(rt: &R, system: &HostRuntime) -> io::Result<()> {
     let machine = plain_machine(system.alloc())?;
     let shared = ask_shared::<Brand, R>(rt, system, Blank::new(), &machine);

@@ -8,7 +8,7 @@ const LETTERS: &[u8] = b"abcdefghijklmnopqrstuvwxyzABCDEFGHIJKLMNOPQRSTUVWXYZ";
 
 const WHITE: [u8; 3] = [255, 255, 255];
 
-// What stands before the first line end, and what after it.
+// The bytes before the first line end, and those after it.
 fn split_line(bytes: &[u8]) -> Option<(&str, &[u8])> {
     let end = bytes.iter().position(|byte| *byte == b'\n')?;
     let (line, rest) = bytes.split_at(end);
@@ -84,7 +84,7 @@ fn mark(colours: &mut Vec<[u8; 3]>, pixel: &[u8]) -> Result<Option<u8>, AllocErr
     }
 }
 
-// Adds a row in letters. It answers whether there were enough of them.
+// Adds a row in letters. Returns whether there were enough of them.
 fn draw_row(
     drawing: &mut String,
     colours: &mut Vec<[u8; 3]>,
@@ -117,9 +117,9 @@ fn draw_rows(drawing: &mut String, alloc: Global, pixels: &Pixels<'_>) -> Result
     Ok(true)
 }
 
-/// A picture in letters: a line with its format and its sides, its rows, and a line for the colour of each letter.
-/// A point is white, and an underline nothing. There is none where it has more than 64 columns or 52 colours, or
-/// where the bytes are no picture.
+/// A picture in letters: a line with its format and its sides, its rows, and a line for the colour of each letter. A
+/// point is white, and an underline nothing. There is none where it has more than 64 columns or 52 colours, or where
+/// the bytes are no picture.
 pub fn drawn(alloc: Global, body: &[u8]) -> Result<Option<String>, AllocError> {
     let Some(pixels) = pixmap(body).or(arbitrary_map(body)) else {
         return Ok(None);

@@ -1,9 +1,8 @@
-//! Plays cases: worked examples that go from a mapfile and a script to what the program answers.
+//! Plays cases: worked examples, each a mapfile, a script and the program's answers.
 //!
-//! The names of the cases come on standard input, a line each. A case is a folder of that name with the files
-//! `map` and `script`, and what the mapfile uses. It is played as `run` of `mapservd` plays it, by the same proved
-//! call. What comes out is written so that a person can read it, and work it out by hand: pictures are drawn in
-//! letters.
+//! The names of the cases come on standard input, a line each. A case is a folder of that name with the files `map` and
+//! `script`, and the files that the mapfile uses. It is played as `run` of `mapservd` plays it, by the same proved
+//! call. The output is written so that a person can read it, and work it out by hand: pictures are drawn in letters.
 #![tactic(auto)]
 
 mod drawing;
@@ -17,8 +16,8 @@ use service::Runtime;
 use std::io::{self, BufWriter, Write};
 use streams::Flagged;
 
-// Plays the case of that name, and writes what came out: the transcript, what was reported of a fault, and the exit
-// status, where it isn't 0.
+// Plays the case of that name, and writes the output: the transcript, the report of a fault, and the exit status, where
+// it isn't 0.
 fn play<R: Runtime, W: Write>(
     rt: &R,
     system: &HostRuntime,

@@ -1,7 +1,7 @@
 use crate::drawing::drawn;
 use std::alloc::{AllocError, Global};
 
-// A transcript as people read it: its pictures are drawn in letters, where that can be.
+// A transcript for people: its pictures are drawn in letters, where that is possible.
 #[derive(Drop)]
 struct ReadableTranscript {
     alloc: Global,
@@ -13,7 +13,7 @@ struct ReadableTranscript {
     lines: String,
 }
 
-// How many bytes the picture has which a line announces.
+// How many bytes the picture has, by the line that announces it.
 fn picture_len(line: &str) -> Option<usize> {
     let (mime, length) = line.strip_prefix("ANSWER ")?.split_once(' ')?;
     if !mime.starts_with("image/") {

@@ -4,7 +4,7 @@ use Rattle.clap.specs.declared.builder.command.Command.TheViews.{out-Command}
 use Rattle.commandline.specs.Arguments.{option_of, with_option}
 use Rattle.commandline.proofs.commands.with_options.Given as goal
 
--- the subcommand so far with the options that are left is the one with all of them
+-- the subcommand so far with the options left is the one with all of them
 abbrev pub invariant-loop-option : goal.invariant-loop-option
 invariant-loop-option l =
     (fold with_option (app_of l.form) (map option_of (drop l.option-index l.options)) ≡ fold with_option (app_of l.fn.form) (map option_of l.options))
