@@ -29,7 +29,7 @@ pub const WHOLE: Way = Way {
     written: 1_000_000,
 };
 
-/// What an exchange led to: its result, what went out in how many calls, and whether reading and writing failed.
+/// The result of an exchange: the bytes that were sent, in how many calls, and whether reading and writing failed.
 #[derive(Drop)]
 pub struct Done {
     pub result: Result<(), EdgeFault>,
@@ -91,7 +91,7 @@ Connection: close\r\n\
 <ServiceException code=\"MissingParameterValue\">REQUEST</ServiceException>\n\
 </ServiceExceptionReport>\n";
 
-// Texts that follow each other.
+// Texts, one after the other.
 fn joined(alloc: Global, texts: &[&[u8]]) -> Result<Vec<u8>, AllocError> {
     let mut all = Vec::new(alloc);
     for text in texts {
@@ -100,7 +100,7 @@ fn joined(alloc: Global, texts: &[&[u8]]) -> Result<Vec<u8>, AllocError> {
     Ok(all)
 }
 
-// Whether all of a response went out, and nothing failed.
+// Whether all of a response was sent, and nothing failed.
 fn is_whole(done: &Done, response: &[u8]) -> bool {
     done.result == Ok(())
         && done.held.as_slice() == response
@@ -133,7 +133,7 @@ fn whole_exchanges(alloc: Global, machine: &mut Machine) -> Result<usize, AllocE
     Ok(count)
 }
 
-// The first read that may fail without a trace, and whether the exchange is whole then.
+// The first read whose failure changes nothing, and whether the exchange is whole then.
 fn first_read_too_late(alloc: Global, machine: &mut Machine) -> Result<(usize, bool), AllocError> {
     for failing_read in 1..=100 {
         let way = Way {
@@ -149,7 +149,7 @@ fn first_read_too_late(alloc: Global, machine: &mut Machine) -> Result<(usize, b
     Ok((0, false))
 }
 
-// How many bytes must go out for an exchange not to be cut there, and whether it is whole then.
+// How many bytes have to be sent for an exchange not to be cut there, and whether it is whole then.
 fn first_room_enough(alloc: Global, machine: &mut Machine) -> Result<(usize, bool), AllocError> {
     for written in 0..=RESPONSE.len() {
         let way = Way { written, ..WHOLE };
@@ -164,7 +164,7 @@ fn first_room_enough(alloc: Global, machine: &mut Machine) -> Result<(usize, boo
     Ok((0, false))
 }
 
-// How many exchanges of two heads are whole that come in three pieces, for each pair of places where they are cut.
+// How many exchanges of two heads are whole that come in three pieces, for each pair of positions where they are cut.
 fn whole_pairs(alloc: Global, machine: &mut Machine) -> Result<usize, AllocError> {
     let stream = joined(alloc, &[HEAD, LAST])?;
     let expected = joined(alloc, &[KEPT, RESPONSE])?;
@@ -207,7 +207,7 @@ fn answered_of_many(alloc: Global, machine: &mut Machine) -> Result<(usize, bool
     Ok((count.saturating_add(usize::from(is_last)), is_last))
 }
 
-// In how many calls of the writer two answers leave, and one of 5,000 bytes with its head.
+// In how many calls of the writer two answers are sent, and one of 5,000 bytes with its head.
 fn calls_of_writes(alloc: Global, machine: &mut Machine) -> Result<(usize, usize), AllocError> {
     let stream = joined(alloc, &[HEAD, LAST])?;
     let way = Way {
@@ -225,7 +225,7 @@ fn calls_of_writes(alloc: Global, machine: &mut Machine) -> Result<(usize, usize
     Ok((done.calls, usize::MAX.wrapping_sub(writer.inner().calls)))
 }
 
-// What is told of the exchanges of a name.
+// The text of the exchanges of a name.
 fn told_of_cuts(alloc: Global, machine: &mut Machine, name: &str) -> Result<String, AllocError> {
     match name {
         "pieces" => {
@@ -245,7 +245,7 @@ fn rows_of_cuts(alloc: Global, row: &str) -> Result<String, AllocError> {
     told_of_cuts(alloc, &mut machine(alloc)?, row)
 }
 
-// What is told, `|` and of which exchanges.
+// The text, `|` and the name of its exchanges.
 const CUTS: &str = "\
 # the bytes of the head and of the response, and how many of 41 by 4 exchanges are whole
 40 298 164|pieces

@@ -1,5 +1,5 @@
-//! Tests of the map machine and of connections, by their public calls alone: each test checks a
-//! value that was worked by hand, or that no clause can say.
+//! Tests of the map machine and of connections, by their public calls alone: each test checks a value that was worked
+//! by hand, or that no clause can state.
 #![tactic(auto)]
 
 #[cfg(test)]

@@ -27,7 +27,7 @@ fn append(alloc: Global, batch: &mut String, count: usize) -> Result<(), AllocEr
     Ok(())
 }
 
-// What becomes of a batch at a sequence, and the sequence after it.
+// The result of a batch at a sequence, and the sequence after it.
 fn told_of_batch(alloc: Global, sequence: u64, batch: &[u8]) -> Result<String, AllocError> {
     let mut machine = machine(alloc, sequence)?;
     let told = match machine.batch(batch) {
@@ -40,7 +40,7 @@ fn told_of_batch(alloc: Global, sequence: u64, batch: &[u8]) -> Result<String, A
     format!(in alloc; "{told}, then {}", machine.sequence())
 }
 
-// What is told of a batch of commands that append points: at a sequence, how many each.
+// The result of a batch of commands that append points: at a sequence, how many each.
 const APPENDS: &str = "\
 published 1, then 1=0
 published 43, then 43=42 1
@@ -72,7 +72,7 @@ fn points_are_appended_up_to_the_most_of_a_layer(rt: HostRuntime) -> Result<(), 
     check_rows(rt.alloc(), APPENDS, '=', 9, told_of_appends)
 }
 
-// What is told of a batch of spaces: at a sequence, how many bytes it has beyond the most.
+// The result of a batch of spaces: at a sequence, how many bytes it has beyond the most.
 const LENGTHS: &str = "\
 refused 1 6, then 3=3 0
 refused 0 7, then 3=3 1

@@ -34,14 +34,14 @@ fn class(alloc: Global) -> Result<Class, AllocError>
     }))
 }
 
-// The place of that many degrees east and north, of which there are a few.
+// The point of that many degrees east and north, of which there are a few.
 fn place(x: i8, y: i8) -> World {
     let east = Coordinate::new(Micro::new(i64::from(x) * 1_000_000));
     let north = Coordinate::new(Micro::new(i64::from(y) * 1_000_000));
     World::new(east, north)
 }
 
-// A square of two degrees round the place without longitude and latitude.
+// A square of two degrees around the point of longitude and latitude 0.
 fn square(alloc: Global) -> Result<Feature, AllocError>
     ensures { IfOk result (λ feature. feature.values ≡ []) }
 {
@@ -98,7 +98,7 @@ fn bound(text: &str) -> Option<Option<Micro>> {
     }
 }
 
-// The parts of a row: the first bound, the second, and how the query goes on.
+// The parts of a row: the first bound, the second, and the rest of the query.
 fn parts(row: &str) -> Option<(Option<Micro>, Option<Micro>, &str)> {
     let (min, rest) = row.split_once(' ')?;
     let (max, query) = rest.split_once(' ')?;
@@ -123,7 +123,7 @@ fn red_of(machine: &Machine, query: &[u8]) -> Result<Option<u8>, AllocError> {
     Ok(answer.body.as_slice().get(11).copied())
 }
 
-// The same on the map of the layer with these bounds, where the query goes on so.
+// The same on the map of the layer with these bounds, with the rest of the query.
 fn red_at(
     alloc: Global,
     min: Option<Micro>,
@@ -137,7 +137,7 @@ fn red_at(
     red_of(&machine, query.as_str().as_bytes())
 }
 
-// What is told of a row: the first pixel's red.
+// The text of a row: the first pixel's red.
 fn told(alloc: Global, row: &str) -> Result<String, AllocError> {
     let Some((min, max, query)) = parts(row) else {
         return String::from_str(alloc, "malformed");

@@ -3,7 +3,7 @@ use std::alloc::{AllocError, Global};
 use streams::{PutFailed, TakeFailed, WriteFault};
 use test_tables::{TableFault, check_rows};
 
-// What is told, `|` and the crate that tells it.
+// A message, `|` and its crate.
 const MESSAGES: &str = "\
 the reader failed, the writer failed, the writer failed after 98 bytes|mapmachine
 the server is busy, the reader failed after 279 bytes were written, the writer failed after 98 bytes|httpedge

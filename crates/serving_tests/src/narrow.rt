@@ -89,7 +89,7 @@ pub(crate) struct Cut<'a> {
 }
 
 impl Cut<'_> {
-    // Where the next piece ends.
+    // The end of the next piece.
     fn end(&self) -> usize {
         for cut in self.cuts {
             if cut > self.at {

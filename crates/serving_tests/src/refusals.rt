@@ -7,7 +7,7 @@ use std::alloc::{AllocError, Global};
 use streams::Flagged;
 use test_tables::{TableFault, check_rows};
 
-// Who is asked, and is busy. It counts the queries.
+// An answerer that is busy. It counts the queries.
 #[derive(Drop)]
 struct Closed {
     asked: usize,
@@ -25,8 +25,8 @@ impl Asks for Closed {
     }
 }
 
-// How often it was asked, the result, whether reading and writing failed, and the response, `|` and a stream. CR
-// is written `^` and LF `~`.
+// How many queries it got, the result, whether reading and writing failed, and the response, `|` and a stream. CR is
+// written `^` and LF `~`.
 const REFUSALS: &str = "\
 0 Ok(()) false false |
 0 Ok(()) false false HTTP/1.1 400 Bad Request^~Content-Length: 0^~Connection: close^~^~|GET /wms HTTP/1.1^~Host: x^~^
@@ -42,7 +42,7 @@ const REFUSALS: &str = "\
 0 Ok(()) false false HTTP/1.1 400 Bad Request^~Content-Length: 0^~Connection: close^~^~|GET /wms HTTP/1.1^~Content-Length: 5^~^~hello
 0 Ok(()) false false HTTP/1.1 400 Bad Request^~Content-Length: 0^~Connection: close^~^~|POST /x HTTP/1.1^~Transfer-Encoding: chunked^~^~GET /wms HTTP/1.1^~^~";
 
-// A text as rows write it.
+// A text in the form of rows.
 fn written(alloc: Global, bytes: &[u8]) -> Result<String, AllocError> {
     let text = str::from_utf8(bytes).unwrap_or("bytes that are no text");
     let text = text.replace(alloc, '\r', "^")?;
@@ -78,7 +78,7 @@ fn streams_are_refused_without_asking_and_busy_is_told(rt: HostRuntime) -> Resul
     check_rows(rt.alloc(), REFUSALS, '|', 10, rows_of_refusals)
 }
 
-// What is told of an exchange whose reader fails after so many reads.
+// The text of an exchange whose reader fails after so many reads.
 fn told_of_reads(
     alloc: Global,
     stream: &[u8],
@@ -125,9 +125,9 @@ fn rows_of_reads(alloc: Global, row: &str) -> Result<String, AllocError> {
     told_of_reads(alloc, &stream, at_once, calls)
 }
 
-// How often it was read, how many reads wouldn't have failed yet, the result, whether reading failed, and the
-// status that went out, `|`, then how many bytes come at once, after how many reads the reader fails, how many
-// bytes follow a text, and the text. CR is written `^` and LF `~`.
+// How often it was read, how many reads wouldn't have failed yet, the result, whether reading failed, and the status
+// that was sent, `|`, then how many bytes come at once, after how many reads the reader fails, how many bytes follow a
+// text, and the text. CR is written `^` and LF `~`.
 const READS: &str = "\
 # a whole head that ends the connection, in one piece: a further read would fail
 1 0 Ok(()) false 503|1000 1 0 GET /wms HTTP/1.0^~Host: x^~^~
@@ -163,7 +163,7 @@ fn streams_are_read_up_to_what_decides(rt: HostRuntime) -> Result<(), TableFault
     check_rows(rt.alloc(), READS, '|', 19, rows_of_reads)
 }
 
-// What an outcome is written as.
+// The text of an outcome.
 fn response(alloc: Global, outcome: &Outcome, closing: bool) -> Result<String, AllocError> {
     let mut writer = Flagged::new(Vec::new(alloc));
     match respond(outcome, closing, &mut writer) {
@@ -172,7 +172,7 @@ fn response(alloc: Global, outcome: &Outcome, closing: bool) -> Result<String, A
     }
 }
 
-// What a picture of one pixel is written as.
+// The text of a picture of one pixel.
 fn picture(alloc: Global) -> Result<String, AllocError> {
     let mut body = Vec::new(alloc);
     body.extend_from_slice(b"P6\n1 1\n255\n\x0a\x14\x1e")?;
@@ -183,14 +183,14 @@ fn picture(alloc: Global) -> Result<String, AllocError> {
     response(alloc, &outcome, true)
 }
 
-// The status of a refusal, and what it is written as.
+// The status of a refusal, and its text.
 fn refused(alloc: Global, refusal: Refusal) -> Result<String, AllocError> {
     let closing = matches!(refusal, Refusal::BadRequest);
     let response = response(alloc, &Outcome::Refused(refusal), closing)?;
     format!(in alloc; "{}: {response}", refusal.status())
 }
 
-// Responses, behind their status where it is a refusal, `|` and the outcomes.
+// Responses, after their status where it is a refusal, `|` and the outcomes.
 const RESPONSES: &str = "\
 HTTP/1.1 200 OK^~Content-Type: image/x-portable-pixmap^~Content-Length: 14^~Connection: close^~^~P6~1 1~255~~\x14\x1e|picture
 400 Bad Request: HTTP/1.1 400 Bad Request^~Content-Length: 0^~Connection: close^~^~|BadRequest

@@ -4,7 +4,7 @@ use httpedge::{Conn, Decision, Refusal};
 use std::alloc::{AllocError, Global};
 use test_tables::{TableFault, check_rows};
 
-// A status and a query as a row tells them: an empty query is `-`.
+// A status and a query in the form of a row: an empty query is `-`.
 fn asked(alloc: Global, query: &[u8]) -> Result<String, AllocError> {
     match str::from_utf8(query) {
         Ok("") => String::from_str(alloc, "200 -"),
@@ -13,7 +13,7 @@ fn asked(alloc: Global, query: &[u8]) -> Result<String, AllocError> {
     }
 }
 
-// What is decided, as a row tells it, and whether it ends the connection, which a bad request does.
+// The decision, in the form of a row, and whether it ends the connection, which a bad request does.
 fn decided(
     alloc: Global,
     decision: Decision,
@@ -31,7 +31,7 @@ fn decided(
     }
 }
 
-// What a stream asks for first that comes in these pieces, up to its end, as a row tells it.
+// The first request of a stream that comes in these pieces, up to its end, in the form of a row.
 fn meaning(alloc: Global, pieces: &[&[u8]]) -> Result<String, AllocError> {
     let mut conn = Conn::new(alloc)?;
     for piece in pieces {
@@ -76,7 +76,7 @@ fn stream_of(alloc: Global, text: &str) -> Result<Vec<u8>, AllocError> {
     Ok(text.into_bytes())
 }
 
-// Statuses, with the query that is asked, `>` and their streams.
+// Statuses, with the query, `>` and their streams.
 const STREAMS: &str = "\
 200 ->GET_/wms_HTTP/1.1|Host:_x||
 200 a=b>GET_/wms?a=b_HTTP/1.1|Host:_x||
@@ -140,8 +140,7 @@ const STREAMS: &str = "\
 200 a=b>GET_/wms?a=b_HTTP/1.1|####|
 400>GET_/wms?a=b_HTTP/1.1|####x:||";
 
-// What a stream means that comes a byte at a time, and what it means otherwise where it is cut in two, if
-// it does.
+// The meaning of a stream that comes a byte at a time, and its meaning where it is cut in two, if that is another.
 fn rows_of_streams(alloc: Global, row: &str) -> Result<String, AllocError> {
     let stream = stream_of(alloc, row)?;
     let told = meaning_by_bytes(alloc, &stream)?;
@@ -159,8 +158,8 @@ fn streams_mean_what_their_heads_say(rt: HostRuntime) -> Result<(), TableFault> 
     check_rows(rt.alloc(), STREAMS, '>', 57, rows_of_streams)
 }
 
-// How many bytes, the beginning of what they mean in two pieces and a byte at a time, `>`, then what is sent
-// before so many bytes `a`, their number, what is sent after them, and how long the first piece is.
+// How many bytes, the first of their meaning in two pieces and a byte at a time, `>`, then the text before so many
+// bytes `a`, their number, the text after them, and how long the first piece is.
 const LENGTHS: &str = "\
 # heads, which have 22 bytes without their query
 16384 200 a 200 a>GET_/wms? 16362 _HTTP/1.1|| 8192
@@ -168,7 +167,7 @@ const LENGTHS: &str = "\
 # bytes without a head
 16385 400 400>a 16383 a 1";
 
-// The first five bytes of what is told, of which there may be fewer.
+// The first five bytes of a text, of which there may be fewer.
 fn front(told: &str) -> &str {
     told.get(..5).unwrap_or(told)
 }
@@ -177,7 +176,7 @@ fn number(word: &str) -> usize {
     word.parse::<usize>().unwrap_or(0)
 }
 
-// What comes before the bytes of a row, their number, what comes after them, and where the stream is cut.
+// The text before the bytes of a row, their number, the text after them, and where the stream is cut.
 fn parts(row: &str) -> Option<(&str, usize, &str, usize)> {
     let (before, rest) = row.split_once(' ')?;
     let (count, rest) = rest.split_once(' ')?;
@@ -185,7 +184,7 @@ fn parts(row: &str) -> Option<(&str, usize, &str, usize)> {
     Some((before, number(count), after, number(cut)))
 }
 
-// What is told of a stream in two pieces and a byte at a time.
+// The meanings of a stream in two pieces and a byte at a time.
 fn told_of_long(alloc: Global, stream: &[u8], cut: usize) -> Result<String, AllocError> {
     let len = stream.len();
     let whole = meaning_of_two(alloc, stream, cut.min(len))?;
@@ -208,7 +207,7 @@ fn at_most_16384_bytes_are_a_head(rt: HostRuntime) -> Result<(), TableFault> {
     check_rows(rt.alloc(), LENGTHS, '>', 3, rows_of_lengths)
 }
 
-// What a piece leads to, a head after it, the end and a head after that, `>` and the piece.
+// The results of a piece, a head after it, the end and a head after that, `>` and the piece.
 const DECISIONS: &str = "\
 19 Some(Refused(MethodNotAllowed)) 0 Some(Refused(MethodNotAllowed)) Some(Refused(MethodNotAllowed)) 0 Some(Refused(MethodNotAllowed))>POST_/_HTTP/1.1||
 19 Some(Refused(NotFound)) 0 Some(Refused(NotFound)) Some(Refused(NotFound)) 0 Some(Refused(NotFound))>GET_/x_HTTP/1.1||
@@ -238,7 +237,7 @@ fn decisions_stay(rt: HostRuntime) -> Result<(), TableFault> {
     check_rows(rt.alloc(), DECISIONS, '>', 6, rows_of_decisions)
 }
 
-// What a piece behind a first head leads to, `>` and the piece.
+// The result of a piece after a first head, `>` and the piece.
 const BEHIND: &str = "\
 # bytes of another protocol are refused at once, however long the first head was
 3 Some(Refused(BadRequest))>\x16\x03\x01
@@ -261,7 +260,7 @@ fn what_is_no_head_is_refused_behind_another(rt: HostRuntime) -> Result<(), Tabl
     check_rows(rt.alloc(), BEHIND, '>', 4, rows_behind)
 }
 
-// What the end after a piece leads to, what a head after it, whether the head is forgotten, and what a head leads to
+// The result of the end after a piece, that of a head after it, whether the head is forgotten, and the result of a head
 // then, `>` and the piece.
 const ENDS: &str = "\
 None Some(Ask) true Some(Refused(NotFound))>

@@ -21,17 +21,17 @@ Content-Length: 215\r\n\
 <ServiceException code=\"MissingParameterValue\">REQUEST</ServiceException>\n\
 </ServiceExceptionReport>\n";
 
-/// How a connection ended: what its client got, and which fault it had.
+/// How a connection ended: the bytes that its client got, and its fault.
 #[derive(Drop)]
 pub struct Ended {
     held: Vec<u8>,
     fault: Option<EdgeFault>,
 }
 
-// Where that is told.
+// Where the end is put.
 type Place = Arc<OnceLock<Ended>, Global>;
 
-/// What a client gets, and where its end is told.
+/// The bytes that a client gets, and where its end is put.
 #[derive(Drop)]
 pub struct Told {
     going: Going,
@@ -97,7 +97,7 @@ impl Connection for Call {
     }
 }
 
-/// Connections that come one after the other, and where their ends are told.
+/// Connections that come one after the other, and where their ends are put.
 #[derive(Drop)]
 pub struct Calls {
     alloc: Global,
@@ -141,8 +141,8 @@ impl Calls {
         self.waiting.len()
     }
 
-    /// What became of the connection of a number, counted from 1: `kept` where the client got the answer of the head, or what it
-    /// got else, and the fault.
+    /// The end of the connection of a number, counted from 1: `kept` where the client got the answer of the head, or the bytes
+    /// that it got else, and the fault.
     pub fn end_of(&self, number: usize) -> Result<String, AllocError> {
         let alloc = self.alloc;
         let place = self.places.get(number.wrapping_sub(1));

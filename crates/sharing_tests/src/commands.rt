@@ -20,7 +20,7 @@ struct Pipe {
     failed: bool,
 }
 
-// One on which these bytes come, so many at once. Its reader may fail after them, and its writer takes so many.
+// A connection on which these bytes come, so many at once. Its reader may fail after them, and its writer takes so many.
 fn pipe_of(
     alloc: Global,
     bytes: &[u8],
@@ -35,7 +35,7 @@ fn pipe_of(
     })
 }
 
-// Serves them, one after the other.
+// Serves connections, one after the other.
 fn serve_pipes<S: Sharing, R: Wait>(
     rt: &R,
     alloc: Global,
@@ -51,7 +51,7 @@ fn serve_pipes<S: Sharing, R: Wait>(
     admin
 }
 
-// Shares a map, and serves them. It says whether the map was shared.
+// Shares a map, and serves connections. Returns whether the map was shared.
 fn share<S: Sharing, R: Wait>(
     rt: &R,
     alloc: Global,
@@ -83,7 +83,7 @@ fn administered<R: Wait>(
     Ok(pipes)
 }
 
-// What came of a connection: its lines, how many bytes were not read, and whether its writer failed.
+// The end of a connection: its lines, how many bytes were not read, and whether its writer failed.
 fn end_of(alloc: Global, pipe: &Pipe) -> Result<String, AllocError> {
     let lines = shown(alloc, &pipe.writer.inner().held)?;
     let left = match pipe.reader.inner().left() {
@@ -93,7 +93,7 @@ fn end_of(alloc: Global, pipe: &Pipe) -> Result<String, AllocError> {
     format!(in alloc; "{lines}{left}{}", if pipe.failed { " failed" } else { "" })
 }
 
-// The same of all, with slashes between them.
+// The ends of all connections, with slashes between them.
 fn ends_of(alloc: Global, pipes: &[Pipe]) -> Result<String, AllocError> {
     let mut text = String::new(alloc);
     for (number, pipe) in pipes.iter().enumerate() {
@@ -120,7 +120,7 @@ fn pipes_of(alloc: Global, row: &str, at_once: usize) -> Result<Vec<Pipe>, Alloc
     Ok(pipes)
 }
 
-// What came of the connections of a row whose bytes come so many at once.
+// The ends of the connections of a row whose bytes come so many at once.
 fn told_in_pieces<R: Wait>(
     rt: &R,
     alloc: Global,
@@ -131,7 +131,7 @@ fn told_in_pieces<R: Wait>(
     ends_of(alloc, &pipes)
 }
 
-// The same, if it is the same for pieces of each of some lengths.
+// The same ends, if they are the same for pieces of each of some lengths.
 fn told<R: Wait>(rt: &R, alloc: Global, row: &str) -> Result<String, AllocError> {
     let whole = told_in_pieces(rt, alloc, row, 10_000)?;
     for at_once in [1, 2, 7] {
@@ -143,8 +143,8 @@ fn told<R: Wait>(rt: &R, alloc: Global, row: &str) -> Result<String, AllocError>
     Ok(whole)
 }
 
-// The lines of connections on one administrator, how many bytes of each were not read, `|` and what was sent. LF is written `~`,
-// and slashes stand between connections, which come one after the other. A reader fails at `!`, and ends else.
+// The lines of connections on one administrator, how many bytes of each were not read, `|` and the bytes that were sent. LF is
+// written `~`, and slashes are between connections, which come one after the other. A reader fails at `!`, and ends else.
 const COMMANDS: &str = "\
 PUBLISHED 1~REFUSED 1 2~IDLE~MALFORMED~|BATCH 6~OFF a~BATCH 6~ON zz~RETRY~HELLO~
 PUBLISHED 1~/PUBLISHED 2~IDLE~/REFUSED 1 1~PUBLISHED 3~|BATCH 6~OFF a~/BATCH 5~ON a~RETRY~/BATCH 1~~BATCH 0~
@@ -211,10 +211,10 @@ fn commands_are_told_of_in_lines(rt: HostRuntime) -> Result<(), TableFault> {
 
 const SENT: &[u8] = b"BATCH 6\nOFF a\nBATCH 6\nON zz\nRETRY\nHELLO\n";
 
-// What is written of it, 39 bytes.
+// The lines that are written of it, 39 bytes.
 const WRITTEN: &str = "PUBLISHED 1~REFUSED 1 2~IDLE~MALFORMED~";
 
-// How many bytes of it are not read, where the writer fails after so many: those behind the command whose line is cut. The line
+// How many bytes of it are not read, where the writer fails after so many: those after the command whose line is cut. The line
 // of the first command ends at 12, and 14 bytes are read for it.
 fn left_after(room: usize) -> usize {
     match room {
@@ -225,7 +225,7 @@ fn left_after(room: usize) -> usize {
     }
 }
 
-// What came of it where the writer takes so many bytes, and then of an empty batch on a further connection.
+// The end of it where the writer takes so many bytes, and then of an empty batch on a further connection.
 fn cut<R: Wait>(rt: &R, alloc: Global, room: usize) -> Result<String, AllocError> {
     let mut pipes = Vec::new(alloc);
     pipes.push(pipe_of(alloc, SENT, 7, false, room)?)?;
@@ -233,7 +233,7 @@ fn cut<R: Wait>(rt: &R, alloc: Global, room: usize) -> Result<String, AllocError
     ends_of(alloc, &administered(rt, alloc, pipes)?)
 }
 
-// What should come of it: the batch was submitted before anything was written of it.
+// The expected end of it: the batch was submitted before anything was written.
 fn expected_cut(alloc: Global, room: usize) -> Result<String, AllocError> {
     let front = WRITTEN.get(..room).unwrap_or(WRITTEN);
     let left = match left_after(room) {
@@ -244,7 +244,7 @@ fn expected_cut(alloc: Global, room: usize) -> Result<String, AllocError> {
     format!(in alloc; "{front}{left}{failed}/PUBLISHED 2~")
 }
 
-// The first number of bytes after which a failing writer doesn't end a connection right, up to this one.
+// The first number of bytes after which a failing writer doesn't end a connection as expected, up to this one.
 fn told_of_cuts<R: Wait>(rt: &R, alloc: Global, row: &str) -> Result<String, AllocError> {
     let last = row.parse().unwrap_or(0);
     for room in 0..=last {
@@ -272,7 +272,7 @@ fn long(alloc: Global, line: &str, count: usize, rest: &str) -> Result<Vec<u8>, 
     Ok(bytes)
 }
 
-// What came of a batch: how many bytes it announces, and how many `x` come before a further command.
+// The end of a batch: how many bytes it announces, and how many `x` come before a further command.
 fn told_of_large<R: Wait>(rt: &R, alloc: Global, row: &str) -> Result<String, AllocError> {
     let (announced, count) = row.split_once(' ').unwrap_or(("", ""));
     let line = format!(in alloc; "BATCH {announced}\n")?;

@@ -10,7 +10,7 @@ use std::marker::Brand;
 use std::sync::Wait;
 use test_tables::{TableFault, check_rows};
 
-// How many readers a map is shared by, if it is, where so many are asked for.
+// How many readers share a map, if it is shared, where so many are requested.
 fn opened<S: Sharing, R: Wait>(
     rt: &R,
     alloc: Global,
@@ -31,7 +31,7 @@ fn opened<S: Sharing, R: Wait>(
     }
 }
 
-// What is told where so many readers are asked for.
+// How many readers a map has where so many are requested, or the error.
 fn told_of_count<R: Wait>(rt: &R, alloc: Global, row: &str) -> Result<String, AllocError> {
     let machine = machine(alloc)?;
     let count = row.parse().unwrap_or(99);
@@ -41,7 +41,7 @@ fn told_of_count<R: Wait>(rt: &R, alloc: Global, row: &str) -> Result<String, Al
     }
 }
 
-// How many readers there are, `|` and how many were asked for.
+// How many readers there are, `|` and how many were requested.
 const COUNTS: &str = "\
 a map is shared by 1 to 32 readers|0
 1|1
@@ -58,7 +58,7 @@ fn a_map_has_1_to_32_readers(rt: HostRuntime) -> Result<(), TableFault> {
 const QUERY: &[u8] =
     b"VERSION=1.3.0&REQUEST=GetMap&LAYERS=a&STYLES=&CRS=CRS:84&BBOX=0,0,4,4&WIDTH=4&HEIGHT=4&FORMAT=image/x-portable-pixmap";
 
-// What a reader answers the query with: `p` is a picture, `n` that the layer isn't defined, and `b` that it is busy.
+// The answer of a reader to the query: `p` is a picture, `n` that the layer isn't defined, and `b` that it is busy.
 fn answered<S: Sharing>(reader: &mut Reader<S>) -> char {
     let Ok(answer) = reader.answer(QUERY) else {
         return 'b';
@@ -71,7 +71,7 @@ fn answered<S: Sharing>(reader: &mut Reader<S>) -> char {
     }
 }
 
-// What two readers answer at the opening, after a batch, of which the first learns, and after the end.
+// The answers of two readers at the opening, after a batch, of which the first learns, and after the end.
 fn switched<S: Sharing, R: Wait>(
     rt: &R,
     alloc: Global,
@@ -103,7 +103,7 @@ fn in_pairs(alloc: Global, [a, b, c, d, e, f]: [char; 6]) -> Result<String, Allo
     format!(in alloc; "{a}{b} {c}{d} {e}{f}")
 }
 
-// The same of a map with the layer, in one text, where this is the line of the batch.
+// The answers in one text, for a map with the layer, where this is the line of the batch.
 fn told_of_switch<R: Wait>(rt: &R, alloc: Global, row: &str) -> Result<String, AllocError> {
     let machine = machine(alloc)?;
     let mut batch = Vec::from_slice(alloc, row.as_bytes())?;

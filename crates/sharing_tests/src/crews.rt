@@ -9,10 +9,10 @@ use std::thread::Threads;
 use test_tables::{TableFault, check_rows};
 use workers::{OpenGate, work};
 
-// Queries in brackets, in the order in which they were asked.
+// Queries in brackets, in the order in which they came.
 type Asked = Arc<Mutex<String>, Global>;
 
-// A machine that tells which queries it is asked.
+// A machine that notes its queries.
 #[derive(Drop)]
 struct Member<R: Wait + Drop> {
     rt: R,
@@ -20,7 +20,7 @@ struct Member<R: Wait + Drop> {
     asked: Asked,
 }
 
-// Tells of a query.
+// Notes a query.
 fn tell(asked: &mut String, query: &[u8]) -> Result<(), AllocError> {
     asked.push('[')?;
     asked.push_str(str::from_utf8(query).unwrap_or("?"))?;
@@ -41,7 +41,7 @@ impl<R: Wait + Drop> Asks for Member<R> {
     }
 }
 
-// Members, and what each is asked.
+// Members, and the queries of each.
 #[derive(Drop)]
 struct Crew<R: Wait + Drop> {
     members: Vec<Member<R>>,
@@ -68,7 +68,7 @@ fn crew_of_three<R: AllocGlobal + Wait + Copy + Drop>(rt: &R) -> Result<Crew<R>,
     Ok(crew)
 }
 
-// What each was asked, with spaces between them.
+// The queries of each, with spaces between them.
 fn told_of_asked<R: AllocGlobal + Wait>(rt: &R, all: &[Asked]) -> Result<String, AllocError> {
     let mut text = String::new(rt.alloc());
     for asked in all {
@@ -111,7 +111,7 @@ fn fourteen(alloc: Global, at_once: usize) -> Result<Calls, AllocError> {
     Ok(calls)
 }
 
-// What became of so many connections, a line each, and what the members were asked.
+// The ends of so many connections, a line each, and the queries of the members.
 fn worked<R>(rt: &R, mut calls: Calls, count: usize) -> Result<String, AllocError>
 where
     R: AllocGlobal + Wait + Threads + Send + Copy + Drop + 'static,
@@ -129,7 +129,7 @@ where
 
 const NONE: &str = "true:   ";
 
-// Member 1 is asked for the first connection, member 2 for the eighth, and member 0 for the ninth.
+// Member 1 answers the first connection, member 2 the eighth, and member 0 the ninth.
 const FOURTEEN: &str = "true: [9] [] [8]
 1 kept
 2 HTTP/1.1 400 Bad Request^~Content-Length: 0^~Connection: close^~^~
@@ -146,7 +146,7 @@ const FOURTEEN: &str = "true: [9] [] [8]
 13 HTTP/1.1 405 Method Not Allowed^~Allow: GET^~Content-Length: 0^~^~
 14 HTTP/1.1 404 Not Found^~Content-Length: 0^~^~";
 
-// What is told of fourteen connections whose bytes come so many at once, up to a number, if it isn't what is expected.
+// The ends of fourteen connections whose bytes come so many at once, up to a number, if they aren't the expected ones.
 fn told_of_rounds<R>(rt: &R, alloc: Global, row: &str) -> Result<String, AllocError>
 where
     R: AllocGlobal + Wait + Threads + Send + Copy + Drop + 'static,
@@ -173,7 +173,7 @@ fn connections_go_to_their_workers(rt: HostRuntime) -> Result<(), TableFault> {
     )
 }
 
-// Whether nobody to be asked is refused, and how many of two connections still wait then.
+// Whether a call without members is refused, and how many of two connections still wait then.
 fn told_of_nobody<R>(rt: &R) -> Result<String, AllocError>
 where
     R: AllocGlobal + Wait + Threads + Send + Copy + Drop + 'static,

@@ -36,7 +36,7 @@ impl Gate for Held {
     fn answered(&self, _number: u64) {}
 }
 
-// Connections of which the first four come by themselves, and the others once all of these are held.
+// Connections of which the first four come at once, and the others once all of these are held.
 #[derive(Drop)]
 struct Crowd {
     rt: HostRuntime,
@@ -97,7 +97,7 @@ fn ends_of(alloc: Global, calls: &Calls, count: usize) -> Result<String, AllocEr
     format!(in alloc; "{kept} kept, busy:{busy}")
 }
 
-// What becomes of so many connections, of which the first four are held by four workers until all have come.
+// The ends of so many connections, of which the first four are held by four workers until all have come.
 fn outcome_of_crowd<R>(rt: &R, system: &HostRuntime, row: &str) -> Result<String, AllocError>
 where
     R: AllocGlobal + Wait + Threads + Send + Copy + Drop + 'static,
@@ -121,7 +121,7 @@ where
     format!(in alloc; "{} {ends}", done.is_ok())
 }
 
-// What waits is answered, however much of it there is.
+// Waiting connections are answered, however many there are.
 const CROWDS: &str = "\
 true 4 kept, busy:|4
 true 9 kept, busy:|9

@@ -1,5 +1,6 @@
 //! Tests of the shared map, of its administration and of workers, by their public calls alone. Each test checks a value
-//! that was worked by hand, or that no clause can say. None depends on which thread runs when, and each ends by itself.
+//! that was worked by hand, or that no clause can state. None depends on which thread runs when, and each ends without
+//! help.
 #![tactic(auto)]
 
 #[cfg(test)]

@@ -43,7 +43,7 @@ impl Gate for Meeting {
     }
 }
 
-// Serves connections by two readers of the map of a machine, and says whether that could be done.
+// Serves connections by two readers of the map of a machine, and returns whether that was possible.
 fn served<S, R, G>(
     rt: &R,
     blank: Blank,
@@ -68,8 +68,8 @@ where
     }
 }
 
-// What becomes of two connections of two readers, of which the first is held at the gate: whether they were served, whether
-// the first saw that the second was answered, and both.
+// The ends of two connections of two readers, of which the first is held at the gate: whether they were served, whether the
+// first saw that the second was answered, and both.
 fn told_of_meeting<R>(rt: &R, system: &HostRuntime) -> Result<String, AllocError>
 where
     R: AllocGlobal + Wait + Threads + Send + Copy + Drop + 'static,

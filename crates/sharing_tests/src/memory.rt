@@ -43,7 +43,7 @@ impl Read for Coming {
 /// A writer in memory, which fails where it holds so many bytes.
 #[derive(Drop)]
 pub struct Going {
-    /// What it holds.
+    /// The bytes that it holds.
     pub held: Vec<u8>,
     room: usize,
 }

@@ -33,7 +33,7 @@ fn learned<S: Sharing>(reader: &mut Reader<S>, submitted: Submitted<S>) -> u64 {
     sequence
 }
 
-// What happens to two readers, by the sequences that are told.
+// The course of two readers, by the sequences that they see or learn.
 fn play<S: Sharing, R: Wait>(
     rt: &R,
     alloc: Global,
@@ -71,8 +71,8 @@ fn play<S: Sharing, R: Wait>(
     ])
 }
 
-// A map that was opened after five batches has one published by the administrator: the reader that is told of it
-// sees it, and so does the other. Then nothing is pending, and after the end no reader enters.
+// A map that was opened after five batches gets one more, which the administrator publishes: the reader that learns of
+// it sees it, and so does the other. Then nothing is pending, and after the end no reader enters.
 #[test]
 fn readers_see_what_is_published(rt: HostRuntime) -> Result<(), Fail> {
     let alloc: Global = rt.alloc();

@@ -7,8 +7,8 @@ use turns::{
     ConnectionTable, Next, OpenConnection, ReadOutcome, Timeouts, Transport, WriteOutcome,
 };
 
-/// A client in memory: what it sends, and what it got. Each call moves as many bytes as its pace says, in turn, and
-/// those after the last as many as the last; where that is 0, the call would wait.
+/// A client in memory: the bytes that it sends, and those that it got. Each call moves as many bytes as its pace has,
+/// in turn, and those after the last as many as the last; where that is 0, the call would wait.
 #[derive(Drop)]
 pub struct Client {
     incoming: Vec<u8>,
@@ -18,12 +18,12 @@ pub struct Client {
     reads: usize,
     writing: &'static [usize],
     writes: usize,
-    /// What it got.
+    /// The bytes that it got.
     pub out: Vec<u8>,
 }
 
 impl Client {
-    /// One that sends this, and then waits, or has sent all.
+    /// A client that sends these bytes, and then waits, or has sent all.
     pub fn new(alloc: Global, sends: &[u8], ends: bool) -> Result<Self, AllocError> {
         Ok(Client {
             incoming: Vec::from_slice(alloc, sends)?,
@@ -121,7 +121,7 @@ impl Transport for Client {
 /// It answers each query with its own bytes, and so many dots.
 #[derive(Drop)]
 pub struct Echo {
-    /// Where bodies are made.
+    /// The allocator of bodies.
     pub alloc: Global,
     /// How many dots follow the query.
     pub dots: usize,
@@ -149,7 +149,7 @@ impl Asks for Echo {
     }
 }
 
-/// What nobody has to be woken by.
+/// The waker of a wait that never has to end early.
 #[derive(Drop)]
 pub struct NoWaker;
 
@@ -166,7 +166,7 @@ pub const TIMEOUTS: Timeouts = Timeouts {
     drain: 2_000,
 };
 
-/// A client comes to the first free slot, if one is.
+/// A client comes to the first free slot, if there is one.
 pub fn enter(
     table: &mut ConnectionTable<Client>,
     alloc: Global,
@@ -183,8 +183,8 @@ pub fn enter(
     Ok(Some(slot))
 }
 
-/// Serves until no slot has a turn, for so many turns at most. Whoever waits for its client to take bytes has a turn
-/// again where `pushes`.
+/// Serves until no slot has a turn, for so many turns at most. With `pushes` a connection that waits for its client to
+/// take bytes has a turn again.
 pub fn serve_all(
     table: &mut ConnectionTable<Client>,
     asks: &mut Echo,

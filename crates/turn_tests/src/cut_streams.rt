@@ -3,7 +3,7 @@ use std::alloc::Global;
 use std::test::Fail;
 use turns::ConnectionTable;
 
-// Two requests, the second of which closes, and bytes behind them.
+// Two requests, the second of which closes, and bytes after them.
 const TWO: &[u8] = b"GET /?a HTTP/1.1\r\n\r\nGET /?b HTTP/1.1\r\nConnection: close\r\n\r\nmore";
 
 const ANSWERS: &[u8] = b"HTTP/1.1 200 OK\r\nContent-Type: text/plain\r\nContent-Length: 1\r\n\r\na\
@@ -75,8 +75,8 @@ const PACES: [&[usize]; 59] = [
     &[19, 0, 0, 36, 1, 95],
 ];
 
-// What four clients got whose bytes are cut in a way, one after the other: one that never ends its head, two that ask,
-// and one that leaves within its head.
+// The bytes that four clients got whose streams are cut in a way, one after the other: one that never ends its head,
+// two that send a query, and one that leaves within its head.
 fn got(alloc: Global, pace: &'static [usize], got: &mut Vec<u8>) -> Result<(), Fail> {
     let mut table = ConnectionTable::new(alloc, 4, TIMEOUTS, 1)?;
     let mut echo = Echo { alloc, dots: 0 };

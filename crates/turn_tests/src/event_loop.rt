@@ -13,10 +13,10 @@ use std::test::Fail;
 use std::thread::{self, Threads};
 use std::time::Duration;
 
-// Queries in brackets, in the order in which they were asked.
+// Queries in brackets, in the order in which they came.
 type Asked = Arc<Mutex<String>, Global>;
 
-// It notes which queries it is asked, and answers each with nothing.
+// An answerer that notes its queries, and answers each with nothing.
 #[derive(Drop)]
 struct Noting<R: Wait + Drop> {
     rt: R,
@@ -40,7 +40,7 @@ impl<R: Wait + Drop> Asks for Noting<R> {
     }
 }
 
-// Clients in memory never have to wait: there is nothing to be told of.
+// Clients in memory never have to wait: there is nothing to report.
 #[derive(Drop)]
 struct Idle {
     rt: HostRuntime,
@@ -65,7 +65,7 @@ impl Poller<Client> for Idle {
     }
 }
 
-// Three workers with 4 slots each, and what each is asked.
+// Three workers with 4 slots each, and the queries of each.
 fn crew_of_three<R: AllocGlobal + Clock + Wait + Threads + Send + Copy + Drop + 'static>(
     rt: &R,
     system: &HostRuntime,
@@ -87,13 +87,13 @@ fn crew_of_three<R: AllocGlobal + Clock + Wait + Threads + Send + Copy + Drop + 
     Ok((crew, all))
 }
 
-// A client that asks with this number, and sends no more.
+// A client that sends a query with this number, and no more.
 fn asking(alloc: Global, number: u64) -> Result<Client, AllocError> {
     let head = format!(in alloc; "GET /?{number} HTTP/1.1\r\n\r\n")?;
     Client::new(alloc, head.as_str().as_bytes(), true)
 }
 
-// What each was asked, with bars behind it.
+// The queries of each, with bars after them.
 fn told_of_asked<R: AllocGlobal + Wait>(rt: &R, all: &[Asked]) -> Result<String, AllocError> {
     let mut text = String::new(rt.alloc());
     for asked in all {
@@ -103,7 +103,7 @@ fn told_of_asked<R: AllocGlobal + Wait>(rt: &R, all: &[Asked]) -> Result<String,
     Ok(text)
 }
 
-// What three workers are asked by seven connections.
+// The queries that seven connections have for three workers.
 fn asked_of<R: AllocGlobal + Clock + Wait + Threads + Send + Copy + Drop + 'static>(
     rt: &R,
     system: &HostRuntime,

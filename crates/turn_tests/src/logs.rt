@@ -1,4 +1,4 @@
-//! What is logged of connections in memory.
+//! The log of connections in memory.
 
 use crate::clients::{Client, Echo, NoWaker};
 use accesslog::{
@@ -14,7 +14,7 @@ use std::thread::{self, Threads};
 use std::time::Duration;
 use turns::Timeouts;
 
-// A client of whose early end nothing is noted.
+// A client whose early end isn't noted.
 impl EndsEarly for Client {
     fn note_end(&mut self, _cause: Cause) {}
 }
@@ -27,7 +27,7 @@ fn add(text: &mut String, line: Option<Vec<u8>>) -> Result<(), AllocError> {
     }
 }
 
-// Two heads that came at once, in the fifth millisecond: what is logged of their answers, in the twelfth and in the twentieth.
+// Two heads that came at once, in the fifth millisecond: the log of their answers, in the twelfth and in the twentieth.
 fn logged_of_two(alloc: Global) -> Result<String, AllocError> {
     let mut record = Record::new(alloc, 7);
     let mut text = String::new(alloc);
@@ -86,7 +86,7 @@ fn ends_and_commands_are_logged_by_their_words(rt: HostRuntime) -> Result<(), Fa
     Ok(())
 }
 
-// How many lines a queue keeps of two more than it has places for, behind the line on the others.
+// How many lines a queue keeps where two more come than it has room for, after the line on the others.
 fn kept_of_many<R: AllocGlobal + Clock + Wait + Copy + Drop>(
     rt: &R,
 ) -> Result<(String, usize), Fail> {
@@ -115,7 +115,7 @@ fn lines_without_a_place_are_dropped_and_counted(rt: HostRuntime) -> Result<(), 
     Ok(())
 }
 
-// Nothing of clients in memory has to be waited for but time.
+// A poller of clients in memory, which waits only for time to pass.
 #[derive(Drop)]
 struct Passing {
     rt: HostRuntime,
@@ -158,7 +158,7 @@ const SLOW: Timeouts = Timeouts {
     drain: 1,
 };
 
-// What is logged of a client that is served by one worker to its end.
+// The log of a client that one worker serves to its end.
 fn logged_of<R: AllocGlobal + Clock + Wait + Threads + Send + Copy + Drop + 'static>(
     rt: &R,
     system: &HostRuntime,

@@ -1,4 +1,4 @@
-//! A worker that stops while an answer goes out.
+//! A worker that stops while an answer is sent.
 
 use crate::clients::{Echo, NoWaker, TIMEOUTS};
 use accesslog::{Cause, EndsEarly};
@@ -15,7 +15,7 @@ type Taken = Arc<Mutex<Vec<u8>>, Global>;
 
 const HEAD: &[u8] = b"GET /wms?q HTTP/1.1\r\n\r\n";
 
-// A client that asks, takes seven bytes of its answer, and the others in its 51st call.
+// A client that sends a query, takes seven bytes of its answer, and the others in its 51st call.
 #[derive(Drop)]
 struct Reluctant<R: Wait + Drop> {
     rt: R,
@@ -70,7 +70,7 @@ impl<R: Wait + Drop> EndsEarly for Reluctant<R> {
     fn note_end(&mut self, _cause: Cause) {}
 }
 
-// Each millisecond it says that the client at slot 0 may go on.
+// Each millisecond it reports that the client at slot 0 may go on.
 #[derive(Drop)]
 struct Nudging {
     rt: HostRuntime,
@@ -111,7 +111,8 @@ fn wait_for_bytes<R: Wait>(rt: &R, system: &HostRuntime, taken: &Taken) {
     }
 }
 
-// What the client has once its worker has stopped, which is asked to where the first bytes are there.
+// The bytes that the client has once its worker has stopped. The worker gets the request to stop when the first bytes
+// are there.
 fn taken_of<R: AllocGlobal + Clock + Wait + Threads + Send + Copy + Drop + 'static>(
     rt: &R,
     system: &HostRuntime,

@@ -5,7 +5,7 @@ use turns::ConnectionTable;
 
 const HEAD: &[u8] = b"GET /?a HTTP/1.1\r\n\r\n";
 
-// A table whose one connection was opened at 1,000, and what asks are answered by: 100,000 bytes and a head.
+// A table whose one connection was opened at 1,000, and the answerer: 100,000 bytes and a head.
 fn opened(alloc: Global, client: Client) -> Result<(ConnectionTable<Client>, Echo), Fail> {
     let mut table = ConnectionTable::new(alloc, 1, TIMEOUTS, 1_000_000)?;
     enter(&mut table, alloc, client, 1_000)?;
@@ -71,8 +71,8 @@ fn bytes_that_are_taken_prolong_an_answer(rt: HostRuntime) -> Result<(), Fail> {
     Ok(())
 }
 
-// 70 bytes of the head went out at 1,100, and 32,000 of the body at 4,000: 32,070 bytes are 2,004 milliseconds at 16 bytes
-// each, behind the 5,000 of the grace.
+// 70 bytes of the head were sent at 1,100, and 32,000 of the body at 4,000: 32,070 bytes are 2,004 milliseconds at 16
+// bytes each, after the 5,000 of the grace.
 #[test]
 fn a_slow_reader_has_the_grace_and_the_time_of_its_bytes(rt: HostRuntime) -> Result<(), Fail> {
     let alloc = rt.alloc();
