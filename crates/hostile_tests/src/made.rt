@@ -1,7 +1,7 @@
 use crate::tally::Tally;
 use std::alloc::{AllocError, Global};
 
-// How many sources are made by lot, and how many bytes each has.
+// How many random sources are made, and how many bytes each has.
 const SEEDS: u32 = 8;
 
 const LENGTH: usize = 4_096;
@@ -21,7 +21,7 @@ fn next(state: &mut u32) -> u32 {
     *state / 65_536
 }
 
-// Bytes by lot.
+// Random bytes.
 fn drawn(alloc: Global, seed: u32) -> Result<Vec<u8>, AllocError> {
     let mut state = seed;
     let mut bytes = Vec::new(alloc);
@@ -31,7 +31,7 @@ fn drawn(alloc: Global, seed: u32) -> Result<Vec<u8>, AllocError> {
     Ok(bytes)
 }
 
-// Lines of the source by lot.
+// Random lines of the source.
 fn of_lines(alloc: Global, source: &[u8], seed: u32) -> Result<Vec<u8>, AllocError> {
     let mut lines = Vec::new(alloc);
     for line in source.split(|byte| *byte == b'\n') {
@@ -53,8 +53,8 @@ fn of_lines(alloc: Global, source: &[u8], seed: u32) -> Result<Vec<u8>, AllocErr
     Ok(bytes)
 }
 
-/// What comes of all that is made of a source: `prefixes`, sources that are `drawn` or of its `lines`, or the source with
-/// each byte replaced by the one of that number.
+/// The tally of the inputs that are made of a source: `prefixes`, sources that are `drawn` or of its `lines`, or the
+/// source with each byte replaced by the one of that number.
 pub fn tally_of<F: Fn(Global, &[u8], &mut Tally) -> Result<(), AllocError>>(
     alloc: Global,
     source: &[u8],

@@ -20,7 +20,7 @@ fn add_batch(alloc: Global, bytes: &[u8], tally: &mut Tally) -> Result<(), Alloc
     Ok(())
 }
 
-// The outcome of what is decided first, where anything is.
+// The outcome of the first decision, if there is one.
 fn decided(step: Option<Decision>) -> u8 {
     match step {
         Some(Decision::Ask) => 0,

@@ -8,7 +8,7 @@ pub struct Tally {
 }
 
 impl Tally {
-    /// That of no input.
+    /// The tally of no input.
     pub fn new() -> Self {
         Tally {
             counts: [0; 11],

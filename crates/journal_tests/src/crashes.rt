@@ -1,4 +1,4 @@
-// A service over a tape that stops at each byte, and what a crash leaves of it.
+// A service over a tape that stops at each byte, and the bytes that a crash leaves of it.
 
 use crate::maps::machine;
 use crate::tape::Tape;
@@ -25,7 +25,7 @@ fn journal_of(alloc: Global, count: usize) -> Result<Vec<u8>, AllocError> {
     Ok(bytes)
 }
 
-// How many batches a start finds in some bytes; 99 stands for a fault.
+// How many batches a start finds in some bytes; 99 is a fault.
 fn found(alloc: Global, bytes: &[u8]) -> Result<u64, AllocError> {
     let mut tape = Tape::new(alloc, bytes.to_vec(alloc)?, 0);
     let mut machine = machine(alloc, NAME)?;
@@ -35,7 +35,7 @@ fn found(alloc: Global, bytes: &[u8]) -> Result<u64, AllocError> {
     }
 }
 
-// Starts on a tape, and keeps a batch. It says whether that was done.
+// Starts on a tape, and keeps a batch. Returns whether that was done.
 fn keep(alloc: Global, tape: Tape, batch: &[u8]) -> Result<(Tape, bool), AllocError> {
     let mut tape = tape;
     let mut machine = machine(alloc, NAME)?;

@@ -1,6 +1,6 @@
 //! Tests of journals, by their public calls alone, and a log in memory that stops at any byte.
 //!
-//! `Tape` is proved to be a reliable log, so that there is one. It stands outside of `cfg(test)`, since its proofs do.
+//! `Tape` is proved to be a reliable log, so that there is one. It is outside of `cfg(test)`, since its proofs are.
 #![tactic(auto)]
 
 mod tape;

@@ -3,8 +3,7 @@ use crate::texts::{QUERY, SQUARE, SQUARE_MAP, columns};
 use std::alloc::{AllocError, Global};
 use test_tables::{TableFault, check_all, check_rows};
 
-// What a session writes of a service exception. The document has 187 bytes beside the code and the
-// name of the parameter.
+// The text of a service exception in a session. The document has 187 bytes beside the code and the name of the parameter.
 fn exception(alloc: Global, code: &str, parameter: &str) -> Result<String, AllocError> {
     let length = code
         .len()
@@ -19,8 +18,7 @@ fn exception(alloc: Global, code: &str, parameter: &str) -> Result<String, Alloc
     )
 }
 
-// What a session writes of a picture of 4 by 4 pixels that is drawn in rows, `#` for the colour and
-// `.` for the background.
+// The text of a picture of 4 by 4 pixels in a session. The picture is drawn in rows, `#` for the colour and `.` for the background.
 fn drawn(alloc: Global, rows: &str) -> Result<String, AllocError> {
     let mut body = Vec::from_slice(alloc, b"P6\n4 4\n255\n")?;
     for pixel in rows.bytes() {
@@ -38,8 +36,7 @@ fn drawn(alloc: Global, rows: &str) -> Result<String, AllocError> {
     Ok(text)
 }
 
-// What a session writes of an answer: a picture that is drawn in rows, or an exception by its code and
-// the name of its parameter.
+// The text of an answer in a session: a picture that is drawn in rows, or an exception by its code and the name of its parameter.
 fn answer(alloc: Global, told: &str) -> Result<String, AllocError> {
     match told.split_once(' ') {
         Some((code, parameter)) if !told.starts_with(['.', '#']) => {
@@ -89,13 +86,12 @@ fn sessions_answer_their_queries(rt: HostRuntime) -> Result<(), TableFault> {
     check_all(rt.alloc(), ANSWERS, 22, is_answered)
 }
 
-// Layers up to their feature's points, scripts of one query, and what is written of them, worked by hand: the square by itself; with a
-// name of a parameter in lower case; with a second pair of a name; a layer with two classes, the second
-// of which would paint it in 40 50 60, in 4 by 2 pixels. The pixel centres of these two rows are at the
-// heights of the square's upper and lower edge: the upper edge covers them, the lower one doesn't. Before
-// these a picture of 7 by 1 pixels, whose 32 bytes fill one line. Then
-// classes by their rules, of a feature whose items are empty, and of one whose item is `b` or `c`; and by
-// bounds on the scale, which is 397,569,610.7.
+// Layers up to their feature's points, scripts of one query, and the text that is written of them, worked by hand: the square alone;
+// with a name of a parameter in lower case; with a second pair of a name; a layer with two classes, the second of which would paint it
+// in 40 50 60, in 4 by 2 pixels. The pixel centres of these two rows are at the heights of the square's upper and lower edge: the
+// upper edge covers them, the lower one doesn't. Before these a picture of 7 by 1 pixels, whose 32 bytes fill one line. Then classes
+// by their rules, of a feature whose items are empty, and of one whose item is `b` or `c`; and by bounds on the scale, which is
+// 397,569,610.7.
 const WRITTEN: &str = "\
 CLASS STYLE COLOR 10 20 30 END END FEATURE|VERSION=1.3.0&REQUEST=GetMap&LAYERS=a&STYLES=&CRS=CRS:84&BBOX=0,0,4,4&WIDTH=4&HEIGHT=4&FORMAT=image/x-portable-pixmap|59 50360a3420340a3235350affffffffffffffffffffffffffffff0a141e0a141e ffffffffffff0a141e0a141effffffffffffffffffffffffffffff\n\
 CLASS STYLE COLOR 10 20 30 END END FEATURE|VERSION=1.3.0&REQUEST=GetMap&layers=a&STYLES=&CRS=CRS:84&BBOX=0,0,4,4&WIDTH=4&HEIGHT=4&FORMAT=image/x-portable-pixmap|59 50360a3420340a3235350affffffffffffffffffffffffffffff0a141e0a141e ffffffffffff0a141e0a141effffffffffffffffffffffffffffff\n\
@@ -133,8 +129,8 @@ fn pictures_are_written_as_worked(rt: HostRuntime) -> Result<(), TableFault> {
     check_all(rt.alloc(), WRITTEN, 15, is_written)
 }
 
-// The layer, the query, and the arbitrary map: 65 bytes of header, and four bytes a pixel. The square is red, and
-// round it lie white, a colour, and nothing.
+// The layer, the query, and the arbitrary map: 65 bytes of header, and four bytes a pixel. The square is red, and around it are white,
+// a colour, and nothing.
 const MAPS: &str = "\
 CLASS STYLE COLOR 255 0 0 END END FEATURE|VERSION=1.3.0&REQUEST=GetMap&LAYERS=a&STYLES=&CRS=CRS:84&BBOX=0,0,4,4&WIDTH=4&HEIGHT=4&FORMAT=image/x-portable-arbitrarymap|129 50370a574944544820340a48454947485420340a444550544820340a4d415856 414c203235350a5455504c54595045205247425f414c5048410a454e44484452 0affffffffffffffffffffffffffffffffffffffffff0000ffff0000ffffffff ffffffffffff0000ffff0000ffffffffffffffffffffffffffffffffffffffff ff\n\
 CLASS STYLE COLOR 255 0 0 END END FEATURE|VERSION=1.3.0&REQUEST=GetMap&LAYERS=a&STYLES=&CRS=CRS:84&BBOX=0,0,4,4&WIDTH=4&HEIGHT=4&FORMAT=image/x-portable-arbitrarymap&TRANSPARENT=FALSE&BGCOLOR=0x28323C|129 50370a574944544820340a48454947485420340a444550544820340a4d415856 414c203235350a5455504c54595045205247425f414c5048410a454e44484452 0a28323cff28323cff28323cff28323cff28323cffff0000ffff0000ff28323c ff28323cffff0000ffff0000ff28323cff28323cff28323cff28323cff28323c ff\n\
@@ -162,7 +158,7 @@ const SAMPLES: &str = "\
 1536 1535 0 ff\n\
 1000 1200 1 14";
 
-// The same of a picture with nothing round the square.
+// The same of a picture with nothing around the square.
 const MAP_SAMPLES: &str = "\
 512 512 0 0a\n\
 512 512 1 14\n\
@@ -174,8 +170,8 @@ const MAP_SAMPLES: &str = "\
 1536 1535 3 00\n\
 1000 1200 1 14";
 
-// How a picture is written: the first lines of its text, how many bytes stand before its pixels, how many a pixel
-// has, what its query ends in, and samples of it.
+// The form of a picture: the first lines of its text, how many bytes are before its pixels, how many a pixel has, the end of its
+// query, and samples of it.
 struct Form {
     front: &'static str,
     header: usize,
@@ -206,8 +202,7 @@ const MAP: Form = Form {
     samples: MAP_SAMPLES,
 };
 
-// Whether the text of a picture of 2,048 by 2,048 pixels has the digits of a row where they stand. A
-// malformed row has no answer.
+// Whether the text of a picture of 2,048 by 2,048 pixels has the digits of a row at their position. A malformed row has no answer.
 fn has_sample(text: &str, form: &Form, row: &str) -> Option<bool> {
     let mut columns = row.split(' ');
     let column: usize = columns.next()?.parse().ok()?;
@@ -229,7 +224,7 @@ const LARGEST: &str = "\
 0 done 25559115 true 8=pixmap
 0 done 34078911 true 9=map";
 
-// What is told of the text of a picture in a form.
+// The length, the header and the samples of the text of a picture in a form.
 fn told_of_picture(alloc: Global, form: &str) -> Result<String, AllocError> {
     let form = match form {
         "pixmap" => &PIXMAP,

@@ -9,10 +9,10 @@ use std::test::Fail;
 use std::time::Duration;
 use std::{str, thread};
 
-// The two ports of a service, once they are told.
+// The two ports of a service, once they are known.
 type Told = Arc<OnceLock<(u16, u16)>, Global>;
 
-// A writer that tells where the ports are, when it is flushed.
+// A writer that notes the ports in the addresses, when it is flushed.
 #[derive(Drop)]
 struct Line {
     written: Vec<u8>,
@@ -34,7 +34,7 @@ impl Write for Line {
     }
 }
 
-// The ports, which are waited for, ten seconds at most.
+// Waits for the ports, ten seconds at most.
 fn wait_for(rt: &HostRuntime, ports: &Told) -> io::Result<(u16, u16)> {
     for _ in 0..10_000 {
         if let Some(ports) = ports.get() {
@@ -45,7 +45,7 @@ fn wait_for(rt: &HostRuntime, ports: &Told) -> io::Result<(u16, u16)> {
     Err(io::Error::from(io::ErrorKind::TimedOut))
 }
 
-// What a GetMap of the square is answered with.
+// The answer to a GetMap of the square.
 fn picture(rt: &HostRuntime, port: u16) -> io::Result<Vec<u8>> {
     let head = format!(in rt.alloc(); "GET /wms?{QUERY} HTTP/1.1\r\nConnection: close\r\n\r\n")?;
     let mut stream = connected(rt, port)?;
@@ -55,8 +55,8 @@ fn picture(rt: &HostRuntime, port: u16) -> io::Result<Vec<u8>> {
     Ok(answer)
 }
 
-// The length of the first answer and the hexadecimal digits of its body, what the administrator is told before the second one is
-// asked for, that answer, and what the administrator is told then. The layer is switched off between the two answers.
+// The length of the first answer and the hexadecimal digits of its body, the lines that the administrator gets before the second
+// request, the answer to that, and the lines that the administrator gets then. The layer is switched off between the two answers.
 fn converse(rt: &HostRuntime, ports: &Told) -> io::Result<String> {
     let (clients, administration) = wait_for(rt, ports)?;
     let before = picture(rt, clients)?;
@@ -96,7 +96,7 @@ Connection: close\r\n\
 <ServiceException code=\"LayerNotDefined\">LAYERS</ServiceException>\n\
 </ServiceExceptionReport>\n IDLE\n";
 
-// Where the ports will be told, for two threads.
+// Where the ports are noted, for two threads.
 fn untold(alloc: Global) -> Result<(Told, Told), AllocError> {
     let ports = Arc::new(alloc, OnceLock::new())?;
     let theirs = Arc::try_clone(&ports)?;

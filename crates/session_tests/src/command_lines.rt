@@ -3,12 +3,12 @@ use commandline::{Command, Service, WordsFault, command};
 use std::alloc::{AllocError, Global};
 use test_tables::{TableFault, check_all, check_rows};
 
-// What a command says of its flag.
+// The text of a command's flag.
 fn ending(explains: bool) -> &'static str {
     if explains { " in words" } else { "" }
 }
 
-// What a service says of its flags.
+// The text of a service's flags.
 fn flags_of(service: Service) -> &'static str {
     match (service.until_input_ends, service.logs) {
         (true, true) => " until its input ends with a log",
@@ -18,7 +18,7 @@ fn flags_of(service: Service) -> &'static str {
     }
 }
 
-// What a service has beside its port and its connections.
+// The options of a service beside its port and its connections.
 fn rest_of(alloc: Global, service: Service) -> Result<String, AllocError> {
     format!(in alloc;
         ", idle {}, timeout {}, batches on {} and {} workers{}",
@@ -30,7 +30,7 @@ fn rest_of(alloc: Global, service: Service) -> Result<String, AllocError> {
     )
 }
 
-// Where batches are kept.
+// The journal that keeps batches.
 fn kept_in(alloc: Global, journal: Option<&str>) -> Result<String, AllocError> {
     match journal {
         Some(path) => format!(in alloc; " kept in {path}"),
@@ -38,7 +38,7 @@ fn kept_in(alloc: Global, journal: Option<&str>) -> Result<String, AllocError> {
     }
 }
 
-// What some arguments ask for, or why they were refused.
+// The command of some arguments, or why they were refused.
 fn described(alloc: Global, arguments: &[&str]) -> Result<String, AllocError> {
     match command(alloc, arguments) {
         Ok(Command::Session) => String::from_str(alloc, "a session"),
@@ -72,7 +72,7 @@ fn described(alloc: Global, arguments: &[&str]) -> Result<String, AllocError> {
     }
 }
 
-// Arguments with spaces between them, and what they ask for or the message on them, with `~` for a line feed.
+// Arguments with spaces between them, and their command or the message on them, with `~` for a line feed.
 const ARGUMENTS: &str = "\
 |a session
 check m.map|check m.map
@@ -130,7 +130,7 @@ serve --help|Serve the map over HTTP on 127.0.0.1~~Usage: mapservd serve [OPTION
 -V|mapservd 2026-11-27, proved by logic dac8208d650f15bf~
 check --version|error: unexpected argument '--version' found~~  tip: to pass '--version' as a value, use '-- --version'~~Usage: mapservd check [OPTIONS] <FILE>~~For more information, try '--help'.~";
 
-// Whether arguments ask for the command of their row.
+// Whether arguments give the command of their row.
 fn is_command(alloc: Global, row: &str) -> Result<bool, AllocError> {
     let (line, expected, _) = columns(row);
     let expected = expected.replace(alloc, '~', "\n")?;

@@ -6,9 +6,9 @@ use std::alloc::{AllocError, Global};
 use test_tables::{TableFault, check_rows};
 use workers::serve_connection;
 
-// What becomes of a connection, whether its reader and its writer failed, whether the writer holds the first
-// bytes of the response, and how many. Then the calls of the reader and of the writer that fail, where each
-// moves one byte: the head has 40, the response 298.
+// The end of a connection, whether its reader and its writer failed, whether the writer holds the first bytes of the
+// response, and how many. Then the calls of the reader and of the writer that fail, where each moves one byte: the head
+// has 40, the response 298.
 const FAILING: &str = "\
 the reader failed after 0 bytes were written, true false true 0=0 -
 the reader failed after 0 bytes were written, true false true 0=39 -
@@ -42,7 +42,7 @@ fn told_of(
     )
 }
 
-// What becomes of a connection whose streams fail at the calls of a row.
+// The end of a connection whose streams fail at the calls of a row.
 fn told(alloc: Global, calls: &str) -> Result<String, AllocError> {
     let (reading, writing) = calls.split_once(' ').unwrap_or(("", ""));
     let mut machine = opened(alloc, "MAP END")?;

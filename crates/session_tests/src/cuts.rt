@@ -15,8 +15,8 @@ pub fn opened(alloc: Global, map: &str) -> Result<Machine, AllocError> {
     }
 }
 
-// Whether a call that writes a text ended right with a writer that took so many bytes, one by one, and then
-// failed: it holds the first bytes, and their number is told.
+// Whether a call that writes a text ended as expected with a writer that took so many bytes, one by one, and then
+// failed: it holds the first bytes, and the error has their number.
 fn is_cut(
     outcome: Result<(), WriteFault>,
     sink: Flagged<Memory<'_>>,
@@ -35,8 +35,8 @@ fn is_cut(
         && Some(sink.into_inner().held.as_slice()) == whole.as_bytes().get(..count)
 }
 
-// The text of a summary that is written, and the first number of bytes after which a failing writer doesn't
-// end it right, of so many.
+// The text of a summary that is written, and the first number of bytes after which a failing writer doesn't end it as
+// expected, of so many.
 fn told_of_summary(alloc: Global, rooms: &str) -> Result<String, AllocError> {
     let Ok(map) = parse(alloc, SOME_MAP.as_bytes(), &Files::new(alloc)) else {
         return Err(AllocError);
@@ -55,8 +55,8 @@ fn summaries_are_written_up_to_a_failure(rt: HostRuntime) -> Result<(), TableFau
     check_rows(rt.alloc(), "None=30", '=', 1, told_of_summary)
 }
 
-// The first number of bytes after which a failing writer doesn't end a script of the square and of an
-// exception right, of so many. The picture has 154 bytes and the exception 235.
+// The first number of bytes after which a failing writer doesn't end a script of the square and of an exception as
+// expected, of so many. The picture has 154 bytes and the exception 235.
 fn told_of_script(alloc: Global, rooms: &str) -> Result<String, AllocError> {
     let mut machine = opened(alloc, SQUARE_MAP)?;
     let wrong = first_wrong(alloc, &mut machine, rooms.parse().unwrap_or(0));

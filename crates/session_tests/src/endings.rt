@@ -10,7 +10,7 @@ use test_tables::{TableFault, check_all, check_rows};
 // A stream in memory.
 type Stream<'a> = Flagged<Memory<'a>>;
 
-// Does what a form says with its job and its script, or with the session that is the input.
+// Performs a form with its job and its script, or with the session that is the input.
 fn performed(
     alloc: Global,
     form: &str,
@@ -25,7 +25,7 @@ fn performed(
     }
 }
 
-/// The exit status, and what failed.
+/// The exit status, and the failure.
 pub fn end_of(alloc: Global, outcome: Result<(), Failure>) -> Result<String, AllocError> {
     match outcome {
         Ok(()) => String::from_str(alloc, "0 done"),
@@ -41,10 +41,10 @@ fn call_of(failing: Option<(usize, usize)>, stream: usize) -> Option<usize> {
     }
 }
 
-/// What becomes of a form over two texts, its mapfile or session and its script, with streams that move so
-/// many bytes at once: its exit status with what failed, and what the two writers hold, with bars between them;
-/// and how often its first input, its output and its errors were called. Of these three streams one call
-/// may fail, that of this number.
+/// The end of a form over two texts, its mapfile or session and its script, with streams that move so many bytes at
+/// once: its exit status with the failure, and the bytes that the two writers hold, with bars between them; and how
+/// often its first input, its output and its errors were called. Of these three streams one call may fail, that of this
+/// number.
 pub fn ended(
     alloc: Global,
     form: &str,
@@ -89,16 +89,16 @@ pub fn ended(
     Ok((text, [read, output.calls, errors.calls]))
 }
 
-/// Whether all that is written of a script is this.
+/// Whether the text that is written of a script is this.
 pub fn is_played(alloc: Global, map: &str, script: &str, text: &str) -> Result<bool, AllocError> {
     let (found, _) = ended(alloc, "run", (map, script), 100_000, None)?;
     let expected = format!(in alloc; "0 done|{text}|")?;
     Ok(found.as_str() == expected.as_str())
 }
 
-// Forms with their mapfile and their script, then the exit status with what failed, the output and the
-// errors. `!` is a file that can't be read, `*` the map of 2 layers, `@` the exception of a query without
-// parameters. A mapfile and a script have several faults where the first is to be told.
+// Forms with their mapfile and their script, then the exit status with the failure, the output and the errors. `!` is a
+// file that can't be read, `*` the map of 2 layers, `@` the exception of a query without parameters. Some mapfiles and
+// scripts have several faults, of which the first is to be reported.
 const FORMS: &str = "\
 check|MAP END||0 done|ok 0 layers 0 features~|
 check|*||0 done|ok 2 layers 3 features~|
@@ -224,7 +224,7 @@ fn statuses(alloc: Global, failures: [Failure; 3]) -> Result<String, AllocError>
     )
 }
 
-// What is told of a row's failures or faults.
+// The text of a row's failures or faults.
 fn told(alloc: Global, row: &str) -> Result<String, AllocError> {
     match row {
         "some" => statuses(

@@ -11,8 +11,8 @@ use std::sync::Arc;
 use std::sync::atomic::Ordering;
 use test_tables::{TableFault, check_all, check_rows};
 
-// Words with spaces between them, the letters of port 81 and of port 82, and how the program ends: its exit status with what
-// failed, the connections of clients that were answered and those that weren't read, those of administrators that were told that
+// Arguments with spaces between them, the letters of port 81 and of port 82, and how the program ends: its exit status with the
+// failure, the connections of clients that were answered and those that weren't read, those of administrators that got the line that
 // nothing is pending, how often a port was woken, the output, and the errors. `~` is a line feed, `@` the exception of a query without
 // parameters. The session is `MAP END`.
 const WORDS: &str = "\
@@ -61,7 +61,7 @@ serve a.map --port 81 --admin-port 82 --until-input-ends|w w|0 done 0 0 0 1|list
 serve a.map --port 81 --admin-port 82 --connections 2|cc rf|0 done 2 0 1 0|listening a port another port~|
 serve a.map --port 81 --admin-port 82 --connections 2|cc|0 done 2 0 0 0|listening a port another port~|";
 
-/// The words of a line, as the program gets them.
+/// The arguments of a line, as the program gets them.
 pub fn words_of(alloc: Global, line: &str) -> Result<Vec<String>, AllocError> {
     let mut words = Vec::new(alloc);
     for word in line.split_whitespace() {
@@ -135,7 +135,7 @@ fn words_are_answered_with_the_files_of_a_host(rt: HostRuntime) -> Result<(), Ta
     check_all(rt.alloc(), WORDS, 41, |_, line| is_ended(&rt, &rt, line))
 }
 
-// What becomes of words that can't be read, and what is said of them.
+// The end of a program whose arguments can't be read, and the message on them.
 fn told<R: Runtime>(rt: &R, system: &HostRuntime, row: &str) -> Result<String, AllocError> {
     let unread = match row {
         "text" => ArgumentsUnread::NoText,
@@ -155,7 +155,7 @@ fn words_that_cant_be_read_are_refused(rt: HostRuntime) -> Result<(), TableFault
     check_rows(rt.alloc(), UNREAD, '=', 2, |_, row| told(&rt, &rt, row))
 }
 
-// What is said where the output fails at its first call.
+// The message where the output fails at its first call.
 fn said_of_output<R: Runtime>(
     rt: &R,
     system: &HostRuntime,

@@ -1,6 +1,6 @@
-//! Tests of what the program does for its words: of its command line, its sessions, the files that it reads,
-//! its ports and its host, by public calls alone. Each test checks a value that was worked by hand, or that no clause
-//! can say.
+//! Tests of what the program does for its arguments: of its command line, its sessions, the files that it reads, its
+//! ports and its host, by public calls alone. Each test checks a value that was worked by hand, or that no clause can
+//! state.
 #![tactic(auto)]
 
 #[cfg(test)]

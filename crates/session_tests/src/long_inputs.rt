@@ -14,8 +14,8 @@ fn long_query(alloc: Global) -> Result<String, AllocError> {
     QUERY.replace(alloc, "BBOX=0", bbox.as_str())
 }
 
-// Whether a script of 300 queries, a long one and a row's last command has what is written of them: the
-// row's fault, where there is such a command.
+// Whether a script of 300 queries, a long one and a row's last command has the expected text: the row's fault, where
+// there is such a command.
 fn is_long_told(alloc: Global, row: &str) -> Result<bool, AllocError> {
     let (last, fault, _) = columns(row);
     let turns = spelt(alloc, "QUERY ^~QUERY a~QUERY a~")?.repeat(alloc, 100)?;
@@ -101,13 +101,13 @@ fn machines_run_over_many_events(rt: HostRuntime) -> Result<(), TableFault> {
 const TURN: &str =
     "# %%\n\n#%%\n  # a comment of some length, so that the mapfile has twenty megabytes #\n   \t           #\n";
 
-// Rests of sessions, and how they end.
+// The rests of sessions, and how they end.
 const RESTS: &str = "\
 $%%~QUERY ^~|0 done|#|
 MAP~FOO END~|1 MapfileFault||fault line 1000002 kind 2~";
 
-// Whether a session ends so whose mapfile has 20,000,000 bytes and a million lines that describe nothing,
-// and then goes on as its row says.
+// Whether a session whose mapfile has 20,000,000 bytes, a million lines that describe nothing, and then the rest of its
+// row ends as its row has it.
 fn is_large(alloc: Global, row: &str) -> Result<bool, AllocError> {
     let row = spelt(alloc, row)?;
     let (rest, expected) = row.split_once('|').unwrap_or(("", "no row"));

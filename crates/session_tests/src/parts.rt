@@ -28,7 +28,7 @@ fn sessions_part_at_their_first_such_line(rt: HostRuntime) -> Result<(), TableFa
     check_all(rt.alloc(), SESSIONS, 9, is_parted)
 }
 
-// What stands before the names of files, and their paths.
+// Parents of files, and their paths.
 const PARENTS: &str = "\
 =m.map
 maps/=maps/m.map
@@ -45,7 +45,7 @@ fn a_file_is_in_the_folder_before_its_name(rt: HostRuntime) -> Result<(), TableF
     check_rows(rt.alloc(), PARENTS, '=', 5, parent)
 }
 
-// The paths of names, what stands before the names of a folder's files, and the names.
+// The paths of names, the parent of a folder's files, and the names.
 const PATHS: &str = "\
 maps/a.ppm=maps/|a.ppm
 a.ppm=|a.ppm

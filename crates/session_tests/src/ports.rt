@@ -14,7 +14,7 @@ use streams::Flagged;
 /// A head without a query that ends its connection, of 40 bytes.
 pub const LAST: &str = "GET /wms HTTP/1.1\r\nConnection: close\r\n\r\n";
 
-// One that doesn't, of 30 bytes.
+// A head that doesn't end its connection, of 30 bytes.
 const HEAD: &str = "GET /wms HTTP/1.1\r\nHost: x\r\n\r\n";
 
 /// The response to the first, of 298 bytes: 83 of a head, and the document of a query without REQUEST.
@@ -28,7 +28,7 @@ Connection: close\r\n\
 <ServiceException code=\"MissingParameterValue\">REQUEST</ServiceException>\n\
 </ServiceExceptionReport>\n";
 
-// A writer that is told where two ports are. When it is flushed it opens a connection to each and closes them, and then one to
+// A writer that gets the addresses of two ports. When it is flushed it opens a connection to each and closes them, and then one to
 // each for each of some texts, of which that to the second closes at once. They wait until the ports answer them.
 #[derive(Drop)]
 struct Clients<'a> {
@@ -38,7 +38,7 @@ struct Clients<'a> {
     streams: Vec<TcpStream>,
 }
 
-/// The ports of the addresses that are all that stands on a line after its first word.
+/// The ports of the addresses that are all of a line after its first word.
 pub fn ports_of(line: &[u8]) -> Option<(u16, u16)> {
     let line = str::from_utf8(line).ok()?;
     let addresses = line
@@ -54,7 +54,7 @@ pub fn connected(rt: &HostRuntime, port: u16) -> io::Result<TcpStream> {
 }
 
 impl Clients<'_> {
-    // Sends the pieces of a text, which bars part. It closes its writing side, but not where the last piece is `stays`.
+    // Sends the pieces of a text, which bars separate. It closes its sending side, but not where the last piece is `stays`.
     fn ask(&mut self, port: u16, text: &str) -> io::Result<()> {
         let mut stream = connected(self.rt, port)?;
         let (text, stays) = match text.strip_suffix("|stays") {
@@ -92,7 +92,7 @@ impl Write for Clients<'_> {
     }
 }
 
-// A head of 4,096 bytes. So many are read at once, and what comes after them stands unread when they are answered.
+// A head of 4,096 bytes. So many are read at once, and the bytes after them are unread when the head is answered.
 fn long_head(rt: &HostRuntime) -> io::Result<String> {
     let mut head = String::from_str(rt.alloc(), "GET /wms?")?;
     for _ in 0..4_055 {
@@ -116,7 +116,7 @@ pub fn service(ports: (u16, u16), workers: u16, connections: u32) -> Service {
     }
 }
 
-/// Serves a map at ports of the machine, with that output, which is given back.
+/// Serves a map at ports of the machine, with that output, which is returned.
 pub fn served<R: Runtime, W: Write + Drop>(
     rt: &R,
     system: &HostRuntime,
@@ -134,7 +134,7 @@ pub fn served<R: Runtime, W: Write + Drop>(
     (ending.outcome(), output.into_inner())
 }
 
-// How the connections of some texts are answered by one worker: whether all were, and all that came back.
+// How the connections of some texts are answered by one worker: whether all were, and all bytes that came back.
 fn answered<R: Runtime>(
     rt: &R,
     system: &HostRuntime,
@@ -211,7 +211,8 @@ fn a_client_that_stays_is_left(rt: HostRuntime) -> Result<(), Fail> {
     Ok(())
 }
 
-// Whether serving ended since a port is taken, which of the two, and how many bytes were written, where these ports are asked for.
+// Whether serving ended because a port is taken, which of the two, and how many bytes were written, where these ports are
+// requested.
 fn told_of_taken<R: Runtime>(
     rt: &R,
     system: &HostRuntime,

@@ -1,4 +1,4 @@
-//! A host in memory: its files, and ports at which letters happen.
+//! A host in memory: its files, and ports with letters for their events.
 
 ghost use Rattle.std.specs.Prelude.{◌≡◌, IfSome, None};
 
@@ -21,11 +21,11 @@ use streams::Flagged;
 use turns::{ReadOutcome, Transport, WriteOutcome};
 use workers::{NothingLeft, Opens, Sides};
 
-// Where the port of clients is.
+// The address of the port of clients.
 const CLIENTS: &str = "a port";
 
-/// How many connections of clients were answered, how many were given up since nothing could be read, how many of
-/// administrators were told that nothing is pending, and how often the wait at a port was ended.
+/// How many connections of clients were answered, how many were given up because nothing could be read, how many of administrators got the line that
+/// nothing is pending, and how often the wait at a port was ended.
 #[derive(Drop)]
 pub struct Counts {
     /// Connections that were answered.
@@ -38,15 +38,15 @@ pub struct Counts {
     pub woken: AtomicU64,
     /// Ends of a wait for a client.
     pub stopped: AtomicU64,
-    /// The sum of the sequences that administrators were told, of 1 and 2.
+    /// The sum of the sequences that administrators got, of 1 and 2.
     pub published: AtomicU64,
-    /// How often administrators were told that a batch isn't kept.
+    /// How often administrators got the line that a batch isn't kept.
     pub failed: AtomicU64,
     /// How many bytes were added to journals.
     pub kept: AtomicU64,
 }
 
-// What a client gets, and where it is counted.
+// The bytes that a client gets, and the counts of its end.
 #[derive(Drop)]
 pub struct Counted {
     memory: Memory<'static>,
@@ -103,7 +103,7 @@ impl Opens for Call {
 
     type Closed = NothingLeft;
 
-    // What is sent is what its reader has.
+    // The text that is sent is what its reader has.
     ghost opens = { λ call sides. IfSome sides (λ both. both.0.inner.left.now ≡ call.sent.now) };
 
     ghost closes = { λ _ _ _ _. Unit {0} };
@@ -190,13 +190,13 @@ impl IntoTransport<Client> for Call {
     }
 }
 
-/// A poller of connections whose calls never have to wait: there is nothing to be told of.
+/// A poller of connections whose calls never have to wait: there is nothing to report.
 #[derive(Drop)]
 pub struct Idle {
     rt: HostRuntime,
 }
 
-/// What ends its wait, of a millisecond.
+/// The waker of its wait, of a millisecond.
 #[derive(Drop)]
 pub struct NoWaker;
 
@@ -223,14 +223,14 @@ impl Poller<Client> for Idle {
     }
 }
 
-/// What ends a wait at the port of an address, which is counted.
+/// The waker of a wait at the port of an address, which is counted.
 #[derive(Drop)]
 pub struct Waker {
     address: &'static str,
     counts: Arc<Counts, Global>,
 }
 
-// What is counted at the port of an address.
+// The count of the port of an address.
 fn ends_at<'a>(counts: &'a Counts, address: &str) -> &'a AtomicU64 {
     if address == CLIENTS {
         &counts.stopped
@@ -245,13 +245,13 @@ impl Wakes for Waker {
     }
 }
 
-/// A port at which letters happen: `c` is a connection on which a head is sent, `r` one on which `RETRY` is, `b` one with an empty batch, `x` one whose
-/// reader fails, `w` a call that waits until the port is woken, for ten seconds at most, and gives a connection of `RETRY`
-/// then, and any other a call that fails, as do all after the last letter. A port whose letters begin with `-` can't be woken.
+/// A port with letters for its events: `c` is a connection on which a head is sent, `r` one on which `RETRY` is, `b` one with an empty batch, `x` one
+/// whose reader fails, `w` a call that waits until the port is woken, for ten seconds at most, and then gives a connection of `RETRY`. Any other
+/// letter is a call that fails, as do all calls after the last letter. A port whose letters begin with `-` can't be woken.
 #[derive(Drop)]
 pub struct Letters {
     rt: HostRuntime,
-    /// Where it is.
+    /// Its address.
     pub address: &'static str,
     letters: Vec<u8>,
     at: usize,
@@ -259,7 +259,7 @@ pub struct Letters {
 }
 
 impl Letters {
-    // Waits until the port is woken, and says whether it was.
+    // Waits until the port is woken, and returns whether it was.
     fn waits(&self) -> bool {
         for _ in 0..10_000 {
             if ends_at(&self.counts, self.address).load(Ordering::SeqCst) > 0 {
@@ -328,15 +328,15 @@ const FILES: [(&str, &str); 6] = [
 /// A host with those files, the folder `maps`, and `locked.map`, which may not be read. Its ports 81 and 82 have these letters; no other can be listened on.
 #[derive(Drop)]
 pub struct Shelf<'a> {
-    /// What it runs on.
+    /// Its runtime.
     pub rt: HostRuntime,
-    /// Where it takes memory.
+    /// Its allocator.
     pub alloc: Global,
     /// The letters of port 81.
     pub clients: &'a str,
     /// The letters of port 82.
     pub administration: &'a str,
-    /// What is counted.
+    /// Its counts.
     pub counts: Arc<Counts, Global>,
 }
 
@@ -386,7 +386,7 @@ impl Files for Shelf<'_> {
     }
 }
 
-// That a port can't be listened on.
+// The error that a port can't be listened on.
 fn refused<P>(cause: ListenCause) -> Result<P, ListenFailed> {
     Err(ListenFailed { cause })
 }
@@ -433,7 +433,7 @@ impl Host for Shelf<'_> {
         Some(Idle { rt: self.rt })
     }
 
-    // One that has ended.
+    // An input that has ended.
     fn input(&self) -> io::Result<Memory<'static>> {
         Ok(stream_of(self.alloc, "", 7, None).into_inner())
     }

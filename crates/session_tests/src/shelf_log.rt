@@ -47,7 +47,7 @@ impl Log for ShelfLog {
         }
     }
 
-    // What was appended is counted.
+    // The appended bytes are counted.
     fn append(&mut self, bytes: &[u8]) -> Result<(), LogFailed> {
         if !self.takes_more || self.held.extend_from_slice(bytes).is_err() {
             return Err(LogFailed);
@@ -81,7 +81,7 @@ const FIRST: &str =
 const SECOND: &str =
     "c00000000000000002b3d651f9d9c81d3624d674c33564274f04161e2b4784365c22ca5f26fa15fb89c0";
 
-// The beginning of such a record.
+// The first bytes of such a record.
 const TORN: &str = "c000000000000000024f";
 
 // A record of number 1, of the batch `OFF a` and an LF.
@@ -100,7 +100,7 @@ fn add(held: &mut Vec<u8>, alloc: Global, digits: &str) -> bool {
     }
 }
 
-// Adds what the journal of a path has.
+// Adds the bytes of the journal of a path.
 fn add_journal(held: &mut Vec<u8>, alloc: Global, path: &str) -> Result<(), OpenFault> {
     let is_made = match path {
         "kept.journal" => add(held, alloc, EMPTY) && add(held, alloc, FIRST),

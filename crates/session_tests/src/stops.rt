@@ -3,8 +3,8 @@ use crate::texts::{columns, spelt};
 use std::alloc::{AllocError, Global};
 use test_tables::{TableFault, check_all};
 
-// Forms, the number of their output's call that fails, of those that write 5 bytes at most and of the flush
-// after them, and what becomes of it. The line of `check` has five such calls, the fault of a script three.
+// Forms, the number of their output's call that fails, of those that write 5 bytes at most and of the flush after them,
+// and the end. The line of `check` has five such calls, the fault of a script three.
 const FAILING: &str = "\
 check|0|3 OutputFailed||
 check|3|3 OutputFailed|ok 0 layers 0 f|
@@ -32,14 +32,14 @@ fn outputs_that_fail_end_a_form(rt: HostRuntime) -> Result<(), TableFault> {
     check_all(rt.alloc(), FAILING, 11, is_failed)
 }
 
-// Whether some text is the front of another, and not all of it before the last call.
+// Whether some text is a prefix of another, and not all of it before the last call.
 fn is_front(held: &str, text: &str, is_last: bool) -> bool {
     text.starts_with(held) && (is_last || held.len() < text.len())
 }
 
-// Whether a session of which a call of a stream failed ended so, with what it would have written by itself:
-// a reader that fails leaves nothing written, a writer that fails holds the first bytes of its text, and
-// the other writer got nothing.
+// Whether a session of which a call of a stream failed ended as expected, by the text that it writes without a failure:
+// a reader that fails leaves nothing written, a writer that fails holds the first bytes of its text, and the other
+// writer got nothing.
 fn is_stop(found: &str, stream: usize, whole: &str, is_last: bool) -> bool {
     let (end, output, errors) = columns(found);
     let (_, all_output, all_errors) = columns(whole);
@@ -54,7 +54,7 @@ fn is_stop(found: &str, stream: usize, whole: &str, is_last: bool) -> bool {
     }
 }
 
-// Whether a session ends right where any call of that one of its streams fails.
+// Whether a session ends as expected where any call of that one of its streams fails.
 fn is_stopped(
     alloc: Global,
     session: &str,
@@ -72,7 +72,7 @@ fn is_stopped(
     Ok(true)
 }
 
-// Whether the session of a row ends right where any call of one of its three streams fails.
+// Whether the session of a row ends as expected where any call of one of its three streams fails.
 fn is_stopped_anywhere(alloc: Global, line: &str) -> Result<bool, AllocError> {
     let row = spelt(alloc, line)?;
     let (_, session, rest) = columns(row.as_str());

@@ -21,16 +21,16 @@ ffffffffffff0a141e0a141effffffffffffffffffffffffffffff\n";
 pub const SOME_MAP: &str =
     "MAP LAYER NAME a TYPE POLYGON FEATURE POINTS 1 2 END END FEATURE POINTS 3 4 5 6 END END END LAYER NAME b TYPE POLYGON FEATURE POINTS 7 8 END END END END";
 
-/// What a session writes of a query without parameters. The document has 187 bytes beside the code and the
-/// name of the parameter, so 215.
+/// The text of a query without parameters in a session. The document has 187 bytes beside the code and the name of the
+/// parameter, so 215.
 pub const NO_REQUEST: &str = "ANSWER text/xml 215\n\
 <?xml version=\"1.0\" encoding=\"UTF-8\"?>\n\
 <ServiceExceptionReport version=\"1.3.0\" xmlns=\"http://www.opengis.net/ogc\">\n\
 <ServiceException code=\"MissingParameterValue\">REQUEST</ServiceException>\n\
 </ServiceExceptionReport>\n";
 
-// What letters of a row stand for, in the order in which they are replaced. The mapfile of a symbol's file
-// has the file's name between `<` and `>`, and draws a point at the pixel 2, 1 with it.
+// The texts of the letters of a row, in the order in which they are replaced. The mapfile of a symbol's file has the
+// file's name between `<` and `>`, and draws a point at the pixel 2, 1 with it.
 const LETTERS: [(char, &str); 8] = [
     ('<', "MAP\nSYMBOL NAME s\nTYPE PIXMAP\nIMAGE "),
     (
@@ -46,7 +46,7 @@ const LETTERS: [(char, &str); 8] = [
     ('~', "\n"),
 ];
 
-/// A row in which all letters stand for themselves.
+/// A row in which each letter is replaced by its text.
 pub fn spelt(alloc: Global, row: &str) -> Result<String, AllocError> {
     let mut text = String::from_str(alloc, row)?;
     for (letter, meaning) in LETTERS {

@@ -17,7 +17,7 @@ struct Times<'a> {
     waits: Cell<u64>,
     is_shut: Cell<bool>,
     calls: Cell<u32>,
-    // What becomes of the calls: `signalled` where a signal interrupts the first, `stands` where they move nothing.
+    // The way of the calls: `signalled` where a signal interrupts the first, `stands` where they move nothing.
     way: &'a str,
 }
 
@@ -87,7 +87,7 @@ impl OpenStream for Slow<'_> {
     }
 }
 
-// What moves a byte at each call, or says that it failed: a reader, a writer, or an answer and the read after it.
+// A reader, a writer, or an answer and the read after it: moves a byte at each call, or reports that it failed.
 trait Moves {
     fn moves(&mut self) -> bool;
 }
@@ -110,8 +110,8 @@ impl<R: Moves, W: Moves> Moves for (R, W) {
     }
 }
 
-// What is told of a reader or a writer up to its first failure: for how many seconds the calls of the stream that moved a
-// byte might wait, and how many calls there were.
+// The calls of a reader or a writer up to its first failure: for how many seconds the calls of the stream that moved a byte might wait,
+// and how many calls there were.
 fn told_of_calls<M: Moves>(
     alloc: Global,
     times: &Times<'_>,
@@ -130,9 +130,8 @@ fn told_of_calls<M: Moves>(
     Ok(told)
 }
 
-// What is told of a stream whose first call comes 5 seconds after the time of its head began. The row has how many
-// seconds each call takes, and what becomes of the calls. An idle connection has 7 seconds, a head and an answer that
-// stands still 30.
+// The calls of a stream whose first call comes 5 seconds after the time of its head began. The row has how many seconds each call takes,
+// and the way of the calls. An idle connection has 7 seconds, a head and an answer that stands still 30.
 const WAITS: &str = "\
 25 5 in 2=read 20
 25 15 5 in 3=read 10
