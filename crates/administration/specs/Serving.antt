@@ -16,7 +16,7 @@ abbrev pub ArePublished : State → List (List ℕ) → ℕ → Batches → Type
 ArePublished opening batches sequence new =
     (new ≡ record { published = batches; pending = [] }) × (sequence ≡ opening.sequence + length batches)
 
--- the result of a command. A batch is accepted after all batches before it, and published with all that is pending, or held; or it is refused with
+-- the result of a command. A batch is accepted after all batches before it, and published with all that is pending, or held. Or it is refused with
 -- its first fault there, or out of memory. Pending batches are published or held, if there are any. A command that is refused, held or malformed
 -- publishes nothing
 abbrev pub HasDone : State → Batches → Command → Done → Batches → Type 0
@@ -72,8 +72,8 @@ abbrev pub IsServed : List Command → List ℕ → Option (List ℕ) → Bool �
 IsServed commands rest left failed =
     (list_any is_malformed commands ≡ true) ⊎ ((first_command rest ≡ None) × (IsAtEnd left ⊎ (failed ≡ true)))
 
--- the writer failed: all commands before the last are done and all of their lines were sent, and none of them is malformed, since nothing is read
--- after a malformed one; the last is done, too, and only a prefix of its line was sent
+-- the writer failed. All commands before the last are done and all of their lines were sent. None of them is malformed, since nothing is read after a
+-- malformed one. The last is done, too, and only a prefix of its line was sent
 pub record IsStopped {O : Type 0} (opening : State) (before after : Option (List ℕ)) (held : O → Option (List ℕ)) (taken : O → ℕ) (old : Batches) (first : O) (new : Batches) (last : O) : Type 0 where
   pub commands : List Command
   pub lines : List ℕ

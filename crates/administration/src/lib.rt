@@ -1,7 +1,7 @@
 //! The administration of a shared map over a stream: a client's commands come in, and a line reports the result of each.
 //!
 //! Proved: `administer` reads commands up to the client's end, to one that is malformed or to a fault, does one after the other, and
-//! writes their lines in order (`served`); where the writer fails, the command whose line it was is done all the same (`stopped`).
+//! writes their lines in order (`served`). Where the writer fails, the command whose line it was is done all the same (`stopped`).
 //! Nothing is read after a command before its line is written.
 //!
 //! Terms: a *command* is a line, and the bytes of a batch where the line announces them. A *line* ends with an LF. One that has no LF

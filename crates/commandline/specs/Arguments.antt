@@ -227,8 +227,8 @@ Serves name explained texts _ = ⊥
 abbrev pub May : List Text → Command → Type 0
 May arguments command = IsCommand (subcommand_of app arguments) command
 
--- the law on arguments that are written out: none are a session; `check` has its file; `run` has the mapfile before the script; `serve` has its file,
--- and numbers that are missing are 8080, 0, 60000, 30, 8081 and 4; each flag is set where it is given, and else not, and so is the journal
+-- the law on arguments that are written out. None are a session, `check` has its file, and `run` has the mapfile before the script. `serve` has its
+-- file, and numbers that are missing are 8080, 0, 60000, 30, 8081 and 4. Each flag is set where it is given, and else not, and so is the journal
 pub record CommandsAreWritten : Type 0 where
   pub none : (c : Command) → May [] c → IsSession c
   pub check : (c : Command) → May (codes "check" ∷ codes "a.map" ∷ []) c → Checks (codes "a.map") false c
@@ -244,7 +244,7 @@ pub record CommandsAreWritten : Type 0 where
   pub kept : (c : Command) → May (codes "serve" ∷ codes "a.map" ∷ codes "--journal" ∷ codes "b.journal" ∷ []) c → Serves (codes "a.map") false (record default_texts { journal = Some (codes "b.journal") }) c
   pub serve_explained : (c : Command) → May (codes "serve" ∷ codes "a.map" ∷ codes "--explain" ∷ []) c → Serves (codes "a.map") true default_texts c
 
--- the law on arguments that are taken or refused: those of each command are taken; those that lack a file, begin with another argument, request help
+-- the law on arguments that are taken or refused. Those of each command are taken. Those that lack a file, begin with another argument, request help
 -- or the version, or have a number beyond its range are refused
 pub record ArgumentsAreTaken : Type 0 where
   pub taken : (fault_of app [] ≡ []) × (fault_of app (codes "check" ∷ codes "a.map" ∷ []) ≡ []) × (fault_of app (codes "run" ∷ codes "a.map" ∷ codes "b.txt" ∷ []) ≡ [])

@@ -46,8 +46,8 @@ pub enum Failure {
 }
 
 impl Failure {
-    /// The exit status of the program that ends with this failure: 1 where a file is faulty or can't be read, 2 where its arguments
-    /// were refused, 3 where a stream, a port or a thread failed, and 4 where memory was refused.
+    /// The exit status of the program that ends with this failure. It is 1 where a file is faulty or can't be read, 2 where its
+    /// arguments were refused, 3 where a stream, a port or a thread failed, and 4 where memory was refused.
     pub fn status(self) -> u8
         ensures { result ≡ status_of (Err self) }
     {

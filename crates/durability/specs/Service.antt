@@ -37,8 +37,8 @@ module _ {S : Type 0} (accepted : S → List ℕ → Option S) (fingerprint : Li
       StandsFor fingerprint file batches
       ⊎ (IsSome (after accepted start (batches ++ batch ∷ [])) × StandsFor fingerprint file (batches ++ batch ∷ []))
 
-  -- the possible results of a batch: it is refused or out of memory, and nothing has changed; or it is accepted after all batches before it, and
-  -- published with them or pending; or the log fails or a crash comes first, and the file is left with it or without it
+  -- the possible results of a batch. It is refused or out of memory, and nothing has changed. Or it is accepted after all batches before it, and
+  -- published with them or pending. Or the log fails or a crash comes first, and the file is left with it or without it
   abbrev pub IsSubmitted : List (List ℕ) → List (List ℕ) → List ℕ → List (List (List ℕ)) → Service → Type 0
   IsSubmitted batches shown batch published new =
       ArePending batches shown published new
@@ -46,7 +46,7 @@ module _ {S : Type 0} (accepted : S → List ℕ → Option S) (fingerprint : Li
       × (ArePublished (batches ++ batch ∷ []) published new ⊎ ArePending (batches ++ batch ∷ []) shown published new))
       ⊎ ((file : List ℕ) × MayBeLeft batches batch file × HasStopped file published new))
 
-  -- the possible results of a start: it publishes the batches that the file stands for; or it stops again, by a fault or a crash, and the file is
+  -- the possible results of a start. It publishes the batches that the file stands for. Or it stops again, by a fault or a crash, and the file is
   -- left as it was or stands for the same batches
   abbrev pub IsStarted : List ℕ → List (List (List ℕ)) → Service → Type 0
   IsStarted file published new =

@@ -10,8 +10,8 @@ use Rattle.httpedge.specs.declared.conn.TheConstants.{REQUESTS}
 use Rattle.httpedge.specs.declared.edge.EdgeFault.{EdgeFault}
 use Rattle.httpedge.specs.declared.edge.EdgeFault.TheVariants.{Read, Write}
 
--- a connection that has so many requests left needs a further read: the bytes that came are heads that don't end it, and then bytes
--- that begin with no head and are fewer than a head may have
+-- a connection that has so many requests left needs a further read. The bytes that came are heads that don't end it, and then fewer bytes than a head
+-- may have, which begin with no head
 unfoldable pub Wants : ℕ → List ℕ → Type 0
 Wants zero came = ⊥
 Wants (suc n) came = LeavesOpen came ⊎ ((meaning : Meaning) × (after : List ℕ) × IsTurn (n == 0) came (Further meaning after) × Wants n after)

@@ -134,8 +134,8 @@ fn answer_end<W: Sink, A: Asks>(
 /// Answers a stream: reads, and answers each head as soon as it is whole, up to the end or to a head that ends the
 /// connection. The connection is new.
 ///
-/// After a fault of the reader all answers to the bytes read were sent, `written` bytes in all; where the writer
-/// fails, exactly the first `written` bytes of the answers were sent.
+/// After a fault of the reader all answers to the bytes read were sent, `written` bytes in all. Where the writer fails,
+/// exactly the first `written` bytes of the answers were sent.
 ///
 /// It reads only while no whole head is unanswered and none has ended the connection (`reads`). It reads at most
 /// 16,384,000 times (`most`), since each read but the last gives a byte, and there are 1,000 heads at most. Only the

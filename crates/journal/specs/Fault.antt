@@ -12,8 +12,8 @@ use Rattle.journal.specs.declared.reading.ReadFault.TheVariants as fault
 abbrev pub texts_of : List (Vec ℕ Global) → List (List ℕ)
 texts_of texts = map (λ text. text.items) texts
 
--- a file has this fault: it doesn't begin with the signature, or not with the header of the map; or after some records, as many as in the fault, the
--- next one is missing, but a record follows later; or memory was refused
+-- a file has this fault. It doesn't begin with the signature, or not with the header of the map. Or after some records, as many as in the fault, the
+-- next one is missing, but a record follows later. Or memory was refused
 abbrev pub IsFault : List ℕ → List ℕ → ReadFault → Type 0
 IsFault fingerprint file (fault.Header header_fault.NotAJournal) = (rest : List ℕ) → file ≡ signature ++ rest → ⊥
 IsFault fingerprint file (fault.Header header_fault.OtherMap) = (rest : List ℕ) → file ≡ header fingerprint ++ rest → ⊥

@@ -14,7 +14,7 @@ use Rattle.journalfile.specs.declared.recovery.ReplayFault.{ReplayFault}
 use Rattle.journalfile.specs.declared.recovery.ReplayFault.TheVariants as replay_fault
 
 module _ (fingerprint : List ℕ) where
-  -- some bytes begin with the records of some batches, as many as the count, which led from one state to another; the rest follows them, and doesn't
+  -- some bytes begin with the records of some batches, as many as the count, which led from one state to another. The rest follows them, and doesn't
   -- begin with the next record
   abbrev pub IsReplayed : List ℕ → State → ℕ → List ℕ → State → Type 0
   IsReplayed bytes old count rest new =

@@ -1,6 +1,6 @@
 //! A journal on a log that outlives a crash, and a map machine that is brought back by it.
 //!
-//! Proved, of any log that is reliable: `Journal::put` keeps a batch at `Ok` (clause `kept`), and a crash at any moment of the call
+//! Proved, of any log that is reliable: `Journal::put` keeps a batch at `Ok` (clause `kept`). A crash at any moment of the call
 //! leaves the batches with it or without it (`any_moment`). `recover` brings a map machine to the state after just the batches of
 //! the log (`recovered`) or returns why it doesn't (`fault`). It opens each file that stands for accepted batches (`opens`), and
 //! may itself be interrupted at any moment (`any_moment`).

@@ -1,10 +1,10 @@
 //! The program. Without arguments it plays a session from standard input: a mapfile, a line of two percent signs, and a
-//! script, whose transcript it writes. `check FILE` reads a mapfile and counts the layers and features of its map, `run
-//! FILE SCRIPT` plays a script on the map of a mapfile, `serve FILE` answers connections on a port, and takes batches on
+//! script, whose transcript it writes. `check FILE` reads a mapfile and counts the layers and features of its map. `run
+//! FILE SCRIPT` plays a script on the map of a mapfile. `serve FILE` answers connections on a port, and takes batches on
 //! another. With `--explain` each reports a fault of the mapfile with a message, and the warnings on its map.
 //!
 //! The proofs are in the crates below: `answer` of `program` performs the command of the arguments, with the files and the
-//! ports of a host, and makes the `Ending` that `main` returns. Here the arguments, the streams and the host are those of
+//! ports of a host. It makes the `Ending` that `main` returns. Here the arguments, the streams and the host are those of
 //! the machine that the program runs on. No proof covers the bytes that they had or got.
 #![tactic(auto)]
 

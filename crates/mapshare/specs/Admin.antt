@@ -41,8 +41,8 @@ abbrev pub IsFaultOf : State → Batches → List ℕ → BatchError → Type 0
 IsFaultOf opening batches batch (batch_error.Fault fault) = IsRefused opening batches batch fault
 IsFaultOf opening batches batch batch_error.NoMemory = Unit {0}
 
--- the result of submitting a batch: it was accepted, and published with all that was pending, or is pending; or it was refused with its first fault,
--- or out of memory, and nothing has changed
+-- the result of submitting a batch. It was accepted, and published with all that was pending, or it is pending itself. Or it was refused with its
+-- first fault, or out of memory, and nothing has changed
 abbrev pub HasSubmitted : {S : Type 0} → State → Batches → List ℕ → Submitted S → Batches → Type 0
 HasSubmitted opening old batch (submitted.Published receipt) new = IsAccepted opening (with_batch batch old) × IsPublished (with_batch batch old) receipt new
 HasSubmitted opening old batch submitted.Held new = IsAccepted opening (with_batch batch old) × (new ≡ with_batch batch old)

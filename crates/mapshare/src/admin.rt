@@ -285,7 +285,7 @@ impl<S: Sharing> Admin<S> {
         }
     }
 
-    /// Submits a batch as `submit` does, and keeps it between its check and its publishing: one that is accepted is kept before
+    /// Submits a batch as `submit` does, and keeps it between its check and its publishing. One that is accepted is kept before
     /// anything is published or reported, and one that isn't accepted is never kept.
     ///
     /// The error is that the batch may be kept or not, and that nothing was published. Nothing may be submitted after it.

@@ -2,11 +2,11 @@
 //!
 //! Proved: `laws::shared` holds of the map machine, whatever state it is opened in and whatever an administrator and
 //! readers do. Each answer is one of the machine after published batches, accepted one after the other, which begin with
-//! all that its reader was shown or learned of. The running calls keep the rows of that law: `Admin::submit` accepts a
+//! all that its reader was shown or learned of. The running calls keep the rows of that law. `Admin::submit` accepts a
 //! batch after all that were accepted, refuses it with its first fault there, and publishes all that is pending or holds
-//! it (`submitted`); `Admin::retry` reports that nothing is pending exactly where that is so (`idle`, `retried`);
-//! `Reader::learn` takes the longer of two lists of which one begins the other (`one`, `kept`, `told`); the entry of
-//! `Reader::enter` begins with all that the reader knew (`known`), and the reader then knows it (`knows`);
+//! it (`submitted`). `Admin::retry` reports that nothing is pending exactly where that is so (`idle`, `retried`).
+//! `Reader::learn` takes the longer of two lists of which one begins the other (`one`, `kept`, `told`). The entry of
+//! `Reader::enter` begins with all that the reader knew (`known`), and the reader then knows it (`knows`).
 //! `Entered::answer` is an answer of the machine after just the batches that the entry shows. No clause joins the calls
 //! of two threads; the law is about lists of events.
 //!
@@ -14,7 +14,7 @@
 //! for a reader that still reads the older copy.
 //!
 //! `layers_cross` and `machine_crosses` require that layers and a map machine may be sent to other threads and read from
-//! them, which is proved of each type that they are made of. `reader_crosses` requires that a reader may be sent to
+//! them. That is proved of each type that they are made of. `reader_crosses` requires that a reader may be sent to
 //! another thread.
 //!
 //! Terms: a *receipt* has all batches that were published when it was made. A reader *knows* batches that are published

@@ -20,8 +20,8 @@ use Rattle.console.specs.declared.failure.Failure.TheVariants as failure
 use Rattle.program.specs.declared.keeping.JournalFault.{JournalFault}
 use Rattle.program.specs.declared.keeping.JournalFault.TheVariants as fault
 
--- the known properties of the journals of a host: which logs it gives for a path, whether they are reliable, which bytes they have, and which bytes a
--- crash may leave of them
+-- the known properties of the journals of a host: which logs it gives for a path, whether they are reliable, their bytes, and the bytes that a crash
+-- may leave of them
 pub record JournalView (L : Type 0) : Type 1 where
   pub gives : List ℕ → L → Type 0
   pub reliable : Type 0

@@ -10,8 +10,8 @@ abbrev pub batch_of : Option ℕ → List ℕ → Option (Event × List ℕ)
 batch_of None rest = None
 batch_of (Some count) rest = if nat_lt (length rest) count then None else Some (Batch (take count rest), drop count rest)
 
--- the command of a line that some bytes follow, and the bytes after it: the line of a query is its keyword, a space and the query, and that of a
--- batch its keyword, a space and the count of its bytes
+-- the command of a line that some bytes follow, and the bytes after it. The line of a query is its keyword, a space and the query. The line of a
+-- batch is its keyword, a space and the count of its bytes
 abbrev pub command_of : List ℕ → List ℕ → Option (Event × List ℕ)
 command_of line rest =
     if starts_with nat_eq line (codes "QUERY ") then Some (Query (drop 6 line), rest)

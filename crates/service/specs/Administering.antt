@@ -24,9 +24,9 @@ has_kept (Ok done) = true
 has_kept (Err PutFailed) = true
 has_kept (Err KeepFailed) = false
 
--- an administrator's commands were done and answered: all up to the end of them, or up to a line that wasn't written, of which so many bytes were
--- sent with those before; or up to a batch that the keeper of batches failed to keep. `left` and `failed` are of a reader, `held` and `taken` of a
--- writer
+-- an administrator's commands were done and answered: all up to their end, to a line that wasn't written, or to a batch that the keeper failed to
+-- keep. Of a line that wasn't written so many bytes were sent, with those of the lines before. `left` and `failed` are of a reader, `held` and
+-- `taken` of a writer
 abbrev pub Administers : {R W : Type 0} → State → (R → Option (List ℕ)) → (R → Bool) → (W → Option (List ℕ)) → (W → ℕ) → Bool → Option EdgeFault → Attended R W Batches → Attended R W Batches → Type 0
 Administers opening left failed held taken true None old new =
     (commands : List Command) × (lines rest : List ℕ)

@@ -38,7 +38,7 @@ pub fn drain<R: Source>(reader: &mut R)
 }
 
 /// Ends an exchange, with its fault or none. After an answer it closes the sending side, so that the client sees the end,
-/// and reads what the client still sends: with unread bytes the system would drop answers that the client hasn't read yet.
+/// and reads what the client still sends. With unread bytes the system would drop answers that the client hasn't read yet.
 /// After a fault there is nothing to save.
 pub fn hang_up<R: Source, C: Closing>(reader: &mut R, writer: &mut C, fault: Option<EdgeFault>)
     ensures shut { fault ≡ None → C.is_shut writer.new ≡ true }

@@ -7,9 +7,9 @@ use mapmachine::Machine;
 use std::marker::Model;
 use std::snapshot::Snapshot;
 
-/// A service: the map of a machine that it served, the ports of clients and of administration, its options, the keeper of its
-/// batches as it began, and how it ended. Only `serve_by_threads` makes one, so a caller who has one knows which map, which ports
-/// and which keeper that call was given. That it started a thread for each port is tested.
+/// A service: the map of a machine that it served, its two ports, its options, the keeper of its batches as it began, and how it
+/// ended. Only `serve_by_threads` makes one, so a caller who has one knows which map, which ports and which keeper that call was
+/// given. That it started a thread for each port is tested.
 #[derive(Drop)]
 pub struct Served<P, K> {
     machine: Snapshot<Machine>,

@@ -1,4 +1,4 @@
-//! Tests of the map machine and of connections, by their public calls alone: each test checks a value that was worked
+//! Tests of the map machine and of connections, by their public calls alone. Each test checks a value that was worked
 //! by hand, or that no clause can state.
 #![tactic(auto)]
 

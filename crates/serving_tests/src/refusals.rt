@@ -126,8 +126,8 @@ fn rows_of_reads(alloc: Global, row: &str) -> Result<String, AllocError> {
 }
 
 // How often it was read, how many reads wouldn't have failed yet, the result, whether reading failed, and the status
-// that was sent, `|`, then how many bytes come at once, after how many reads the reader fails, how many bytes follow a
-// text, and the text. CR is written `^` and LF `~`.
+// that was sent. After the `|`: how many bytes come at once, after how many reads the reader fails, how many bytes
+// follow a text, and the text. CR is written `^` and LF `~`.
 const READS: &str = "\
 # a whole head that ends the connection, in one piece: a further read would fail
 1 0 Ok(()) false 503|1000 1 0 GET /wms HTTP/1.0^~Host: x^~^~

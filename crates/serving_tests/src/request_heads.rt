@@ -158,7 +158,7 @@ fn streams_mean_what_their_heads_say(rt: HostRuntime) -> Result<(), TableFault> 
     check_rows(rt.alloc(), STREAMS, '>', 57, rows_of_streams)
 }
 
-// How many bytes, the first of their meaning in two pieces and a byte at a time, `>`, then the text before so many
+// How many bytes, the first of their meaning in two pieces and a byte at a time. After the `>`: the text before so many
 // bytes `a`, their number, the text after them, and how long the first piece is.
 const LENGTHS: &str = "\
 # heads, which have 22 bytes without their query

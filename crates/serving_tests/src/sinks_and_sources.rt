@@ -22,9 +22,9 @@ fn flags(stream: &Flagged<Narrow<'_>>) -> (bool, bool) {
     (stream.put_failed(), stream.take_failed())
 }
 
-// The outcome, both flags, how many bytes were written, how many the writer holds and whether they are the first, `|`,
-// then how many bytes are put, how many are taken at once in how many calls, and whether the writer fails then or takes
-// no bytes.
+// The outcome, both flags, how many bytes were written, how many the writer holds and whether they are the first. After
+// the `|`: how many bytes are put, how many are taken at once in how many calls, and whether the writer fails then or
+// takes no bytes.
 const PUTS: &str = "\
 Ok(()) (false, false) 100000 100000 true|100000 200000 1 fails
 Ok(()) (false, false) 100000 100000 true|100000 70000 2 fails
@@ -80,8 +80,8 @@ fn sinks_take_all_or_say_where_they_failed(rt: HostRuntime) -> Result<(), TableF
     check_rows(rt.alloc(), PUTS, '|', 16, rows_of_puts)
 }
 
-// The outcome, the flag of writing, how many bytes of three pieces were written, and those that the writer holds, `|`,
-// then how many calls of 3 bytes at once it takes, and whether it fails then or takes no bytes.
+// The outcome, the flag of writing, how many bytes of three pieces were written, and those that the writer holds. After
+// the `|`: how many calls of 3 bytes at once it takes, and whether it fails then or takes no bytes.
 const PIECES: &str = "\
 Err(PutFailed) true 0 |0 fails
 Err(PutFailed) true 3 abc|1 fails
@@ -112,8 +112,8 @@ fn pieces_go_out_up_to_a_failure(rt: HostRuntime) -> Result<(), TableFault> {
 }
 
 // The result of a read without room. Then of each of four calls the position in the bytes, the result, whether those
-// bytes come next, and the flag of reading. Then how many bytes are held at the end, `|`, how many bytes there are, and
-// how many are given at once in how many calls.
+// bytes come next, and the flag of reading. Then how many bytes are held at the end. After the `|`: how many bytes
+// there are, and how many are given at once in how many calls.
 const TAKES: &str = "\
 Ok(0); 0 Ok(70000) true false; 70000 Ok(30000) true false; 100000 Ok(0) true false; 100000 Err(TakeFailed) true true; 0|100000 70000 4 fails";
 
@@ -210,8 +210,8 @@ fn rows_of_flags(alloc: Global, row: &str) -> Result<String, AllocError> {
     told_of_calls(alloc, &mut Flagged::new(inner), name)
 }
 
-// The results of calls, with both flags, `|`, then after how many calls the stream fails, for how many it goes on then,
-// and what is called.
+// The results of calls, with both flags. After the `|`: after how many calls the stream fails, for how many it goes on
+// then, and what is called.
 const STAYING: &str = "\
 # a put, the flags then, a take, a put, a put of no bytes, a flush and the flags
 Err(PutFailed) (true, false), Ok(2) Ok(2) Ok(0) Ok(()) (true, false)|0 4 writing

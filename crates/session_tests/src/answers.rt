@@ -71,8 +71,8 @@ POINTS 1 1 3 1 3 3 1 3 END|STYLES=default,default|InvalidParameterValue STYLES\n
 POINTS 1 1 3 1 3 3 1 3 END|STYLES=x|StyleNotDefined STYLES\n\
 POINTS 1 1 3 1 3 3 1 3 END|REQUEST=getmap|OperationNotSupported REQUEST";
 
-/// Whether a row of rings, of pairs and of an answer has the answer of its query: the rings are those of the
-/// one feature of a layer `a` in the colour 10 20 30.
+/// Whether a row of rings, of pairs and of an answer has the answer of its query. The rings are those of the one feature of a layer
+/// `a` in the colour 10 20 30.
 pub fn is_answered(alloc: Global, row: &str) -> Result<bool, AllocError> {
     let (rings, pairs, told) = columns(row);
     let map = SQUARE_MAP.replace(alloc, SQUARE, rings)?;
@@ -86,12 +86,12 @@ fn sessions_answer_their_queries(rt: HostRuntime) -> Result<(), TableFault> {
     check_all(rt.alloc(), ANSWERS, 22, is_answered)
 }
 
-// Layers up to their feature's points, scripts of one query, and the text that is written of them, worked by hand: the square alone;
-// with a name of a parameter in lower case; with a second pair of a name; a layer with two classes, the second of which would paint it
-// in 40 50 60, in 4 by 2 pixels. The pixel centres of these two rows are at the heights of the square's upper and lower edge: the
-// upper edge covers them, the lower one doesn't. Before these a picture of 7 by 1 pixels, whose 32 bytes fill one line. Then classes
-// by their rules, of a feature whose items are empty, and of one whose item is `b` or `c`; and by bounds on the scale, which is
-// 397,569,610.7.
+// Layers up to their feature's points, scripts of one query, and the text that is written of them, worked by hand. First the square
+// alone, with a name of a parameter in lower case, and with a second pair of a name. Then a layer with two classes, the second of
+// which would paint it in 40 50 60, in 4 by 2 pixels. The pixel centres of these two rows are at the heights of the square's upper and
+// lower edge: the upper edge covers them, the lower one doesn't. Before these a picture of 7 by 1 pixels, whose 32 bytes fill one
+// line. Then classes by their rules, of a feature whose items are empty, and of one whose item is `b` or `c`; and by bounds on the
+// scale, which is 397,569,610.7.
 const WRITTEN: &str = "\
 CLASS STYLE COLOR 10 20 30 END END FEATURE|VERSION=1.3.0&REQUEST=GetMap&LAYERS=a&STYLES=&CRS=CRS:84&BBOX=0,0,4,4&WIDTH=4&HEIGHT=4&FORMAT=image/x-portable-pixmap|59 50360a3420340a3235350affffffffffffffffffffffffffffff0a141e0a141e ffffffffffff0a141e0a141effffffffffffffffffffffffffffff\n\
 CLASS STYLE COLOR 10 20 30 END END FEATURE|VERSION=1.3.0&REQUEST=GetMap&layers=a&STYLES=&CRS=CRS:84&BBOX=0,0,4,4&WIDTH=4&HEIGHT=4&FORMAT=image/x-portable-pixmap|59 50360a3420340a3235350affffffffffffffffffffffffffffff0a141e0a141e ffffffffffff0a141e0a141effffffffffffffffffffffffffffff\n\
@@ -217,9 +217,9 @@ fn has_sample(text: &str, form: &Form, row: &str) -> Option<bool> {
     Some(there.starts_with(columns.next()?.as_bytes()))
 }
 
-// The largest pictures: how the session ended, the length of the text, whether that begins with the header,
-// and how many of the samples it has. 17 bytes of header and 2,048 times 2,048 pixels are 12,582,929 bytes
-// in 393,217 lines, 71 and four bytes a pixel are 16,777,287 in 524,291.
+// The largest pictures: how the session ended, the length of the text, whether that begins with the header, and how many of the
+// samples it has. A pixmap has 17 bytes of header and 2,048 times 2,048 pixels, 12,582,929 bytes in 393,217 lines. An arbitrary map
+// has 71 bytes and four a pixel, 16,777,287 bytes in 524,291 lines.
 const LARGEST: &str = "\
 0 done 25559115 true 8=pixmap
 0 done 34078911 true 9=map";

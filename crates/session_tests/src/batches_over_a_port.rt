@@ -55,8 +55,8 @@ fn picture(rt: &HostRuntime, port: u16) -> io::Result<Vec<u8>> {
     Ok(answer)
 }
 
-// The length of the first answer and the hexadecimal digits of its body, the lines that the administrator gets before the second
-// request, the answer to that, and the lines that the administrator gets then. The layer is switched off between the two answers.
+// The length of the first answer and the hexadecimal digits of its body, and the lines that the administrator gets before the second
+// request. Then the answer to that, and the lines that the administrator gets then. The layer is switched off between the two answers.
 fn converse(rt: &HostRuntime, ports: &Told) -> io::Result<String> {
     let (clients, administration) = wait_for(rt, ports)?;
     let before = picture(rt, clients)?;

@@ -16,7 +16,7 @@ pub fn opened(alloc: Global, map: &str) -> Result<Machine, AllocError> {
 }
 
 // Whether a call that writes a text ended as expected with a writer that took so many bytes, one by one, and then
-// failed: it holds the first bytes, and the error has their number.
+// failed. The writer holds the first bytes, and the error has their number.
 fn is_cut(
     outcome: Result<(), WriteFault>,
     sink: Flagged<Memory<'_>>,

@@ -42,9 +42,9 @@ fn call_of(failing: Option<(usize, usize)>, stream: usize) -> Option<usize> {
 }
 
 /// The end of a form over two texts, its mapfile or session and its script, with streams that move so many bytes at
-/// once: its exit status with the failure, and the bytes that the two writers hold, with bars between them; and how
-/// often its first input, its output and its errors were called. Of these three streams one call may fail, that of this
-/// number.
+/// once. It has the exit status with the failure, and the bytes that the two writers hold, with bars between them, and
+/// how often its first input, its output and its errors were called. Of these three streams one call may fail, that of
+/// this number.
 pub fn ended(
     alloc: Global,
     form: &str,

@@ -11,10 +11,10 @@ use std::sync::Arc;
 use std::sync::atomic::Ordering;
 use test_tables::{TableFault, check_all, check_rows};
 
-// Arguments with spaces between them, the letters of port 81 and of port 82, and how the program ends: its exit status with the
-// failure, the connections of clients that were answered and those that weren't read, those of administrators that got the line that
-// nothing is pending, how often a port was woken, the output, and the errors. `~` is a line feed, `@` the exception of a query without
-// parameters. The session is `MAP END`.
+// Arguments with spaces between them, the letters of port 81 and of port 82, and how the program ends. The end has the exit status
+// with the failure, the connections of clients that were answered and those that weren't read, and those of administrators that got
+// the line that nothing is pending. Then it has how often a port was woken, the output, and the errors. `~` is a line feed, `@` the
+// exception of a query without parameters. The session is `MAP END`.
 const WORDS: &str = "\
 ||0 done 0 0 0 0||
 check a.map||0 done 0 0 0 0|ok 0 layers 0 features~|

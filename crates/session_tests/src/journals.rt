@@ -14,9 +14,9 @@ use std::sync::Arc;
 use std::sync::atomic::Ordering;
 use test_tables::{TableFault, check_all};
 
-// Arguments with spaces between them, the letters of the ports, and how the program ends: its exit status with the failure, the sum of the
-// sequences that were published, how often administrators got the line that a batch isn't kept, how many bytes were added to the journal,
-// the output, and the errors. `~` is a line feed. A record of an empty batch has 42 bytes.
+// Arguments with spaces between them, the letters of the ports, and how the program ends. The end has the exit status with the failure,
+// the sum of the sequences that were published, and how often administrators got the line that a batch isn't kept. Then it has how many
+// bytes were added to the journal, the output, and the errors. `~` is a line feed. A record of an empty batch has 42 bytes.
 const JOURNALS: &str = "\
 serve a.map --port 81 --admin-port 82 --connections 1 --journal fresh.journal|c b|0 done 1 0 42|listening a port another port~|
 serve a.map --port 81 --admin-port 82 --connections 2 --journal fresh.journal|cc bb|0 done 3 0 84|listening a port another port~|

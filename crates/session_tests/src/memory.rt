@@ -83,8 +83,8 @@ impl Write for Memory<'_> {
     }
 }
 
-/// A folder of four files: a pixmap of two columns and one row, in the colours 10 20 30 and 255 0 255, one that is
-/// no pixmap, a table of one point, and one whose second row has no latitude.
+/// A folder of four files. They are a pixmap of two columns and one row, in the colours 10 20 30 and 255 0 255, one
+/// that is no pixmap, a table of one point, and one whose second row has no latitude.
 #[derive(Drop)]
 pub struct SomeFiles;
 

@@ -24,8 +24,8 @@ use workers::{NothingLeft, Opens, Sides};
 // The address of the port of clients.
 const CLIENTS: &str = "a port";
 
-/// How many connections of clients were answered, how many were given up because nothing could be read, how many of administrators got the line that
-/// nothing is pending, and how often the wait at a port was ended.
+/// How many connections of clients were answered, and how many were given up because nothing could be read. How many of administrators got the line
+/// that nothing is pending, and how often the wait at a port was ended.
 #[derive(Drop)]
 pub struct Counts {
     /// Connections that were answered.
@@ -245,9 +245,9 @@ impl Wakes for Waker {
     }
 }
 
-/// A port with letters for its events: `c` is a connection on which a head is sent, `r` one on which `RETRY` is, `b` one with an empty batch, `x` one
-/// whose reader fails, `w` a call that waits until the port is woken, for ten seconds at most, and then gives a connection of `RETRY`. Any other
-/// letter is a call that fails, as do all calls after the last letter. A port whose letters begin with `-` can't be woken.
+/// A port with letters for its events. `c` is a connection on which a head is sent, `r` one on which `RETRY` is, `b` one with an empty batch, and `x`
+/// one whose reader fails. `w` is a call that waits until the port is woken, for ten seconds at most, and then gives a connection of `RETRY`. Any
+/// other letter is a call that fails, as do all calls after the last letter. A port whose letters begin with `-` can't be woken.
 #[derive(Drop)]
 pub struct Letters {
     rt: HostRuntime,

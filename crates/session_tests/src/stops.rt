@@ -37,8 +37,8 @@ fn is_front(held: &str, text: &str, is_last: bool) -> bool {
     text.starts_with(held) && (is_last || held.len() < text.len())
 }
 
-// Whether a session of which a call of a stream failed ended as expected, by the text that it writes without a failure:
-// a reader that fails leaves nothing written, a writer that fails holds the first bytes of its text, and the other
+// Whether a session of which a call of a stream failed ended as expected, by the text that it writes without a failure.
+// A reader that fails leaves nothing written. A writer that fails holds the first bytes of its text, and the other
 // writer got nothing.
 fn is_stop(found: &str, stream: usize, whole: &str, is_last: bool) -> bool {
     let (end, output, errors) = columns(found);

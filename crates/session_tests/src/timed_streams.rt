@@ -110,8 +110,8 @@ impl<R: Moves, W: Moves> Moves for (R, W) {
     }
 }
 
-// The calls of a reader or a writer up to its first failure: for how many seconds the calls of the stream that moved a byte might wait,
-// and how many calls there were.
+// The calls of a reader or a writer up to its first failure: how many seconds each call that moved a byte might wait, and how many calls
+// there were.
 fn told_of_calls<M: Moves>(
     alloc: Global,
     times: &Times<'_>,

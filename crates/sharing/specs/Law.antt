@@ -22,8 +22,8 @@ module _ {S A B Q : Type 0} (start : S) (batch : S → B → Option S) (answers 
       → AreReplies start batch answers opened (before ++ Answer r query ∷ later) (given ++ Some answer ∷ rest)
       → IsRight (run start batch opened before).published (heard start batch opened before r) query answer
 
--- there is a state after all published and pending batches; known batches and those of receipts begin the published ones; each list that a reader was
--- shown or learned of begins its known batches; and an entry has a state
+-- there is a state after all published and pending batches, and an entry has a state. Known batches and those of receipts begin the published ones.
+-- Each list that a reader was shown or learned of begins its known batches
 pub record IsKept {S B Q : Type 0} (start : S) (batch : S → B → Option S) (w : Sharing B) (events : List (Event B Q)) : Type 0 where
   pub accepted : IsSome (after batch start (w.published ++ w.pending))
   pub known : (r : ℕ) → IsPrefix (w.readers r).known w.published

@@ -29,7 +29,7 @@ pub trait Machine {
 }
 
 /// Whatever happens, each answer is one in the state after published batches that begin with all that its reader was
-/// shown or learned of; known batches begin the published ones, and stay known.
+/// shown or learned of. Known batches begin the published ones, and stay known.
 pub fn shared<M: Machine>()
     ensures answers { AnswersAreRight M.start M.batch M.answers }
     ensures keeps { KeepsPromises M.Query M.start M.batch }

@@ -55,8 +55,7 @@ pub record HasReadMapfile (gives : Giving) (before after : Option (List ℕ)) (m
   pub is_map : ComesTo gives mapfile (Ok map)
   pub uses : is_map.files ≡ files
 
--- the report on a fault: its line, and then the message on it, with the name of the mapfile and the fault's line before the message; or its line
--- alone, where there is no message
+-- the report on a fault: its line, and then, if there is one, the message on it. Before the message are the name of the mapfile and the fault's line
 abbrev pub explained_fault : List ℕ → Fault → Option (List ℕ) → List ℕ
 explained_fault name fault None = mapfile_fault fault.line (number_of fault.kind)
 explained_fault name fault (Some words) =
@@ -87,8 +86,8 @@ pub record ReportsWarnings (explains : Bool) (name : List ℕ) (map : MapFields)
   pub reported : IsReported old new (warning_lines name map) ⊎ IsUnreported old new
   pub unasked : explains ≡ false → IsUnreported old new
 
--- the part of the line of a map that the output got, by the outcome: all of it; or exactly its first so many bytes, or all of them where the flush
--- failed
+-- the part of the line of a map that the output got, by the outcome. It got all of it, or exactly its first so many bytes, or all of them where the
+-- flush failed
 abbrev pub WritesSummary : Outcome → MapFields → Option (List ℕ) → Option (List ℕ) → Type 0
 WritesSummary (Ok done) map before after = Appends before after (summary_line map)
 WritesSummary (Err OutputFailed) map before after =
@@ -154,8 +153,8 @@ pub record ReportsScript (explains : Bool) (name : List ℕ) (script : ReadFile)
   pub warned : IsWarned explains name map old
   pub reported : IsReported warned.errors new (file_fault explains script)
 
--- a file that was not read was reported. It is the mapfile: its reader has failed, and that of the script stayed as it was (`untouched`); or it is
--- the script: its reader has failed, and that of the mapfile has not
+-- a file that was not read was reported. If it is the mapfile, its reader has failed, and that of the script stayed as it was (`untouched`). If it is
+-- the script, its reader has failed, and that of the mapfile has not
 abbrev pub ReportsUnread : Bool → ReadFile → ReadFile → WriterState → WriterState → InputState → InputState → InputState → Type 0 → Type 0
 ReportsUnread explains mapfile script old new mapfile_before mapfile_after script_after untouched =
     (IsReported old new (file_fault explains mapfile) × (mapfile_after.failed ≡ true) × untouched)

@@ -29,8 +29,8 @@ pub record IsSilent (old new : ConsoleState) : Type 0 where
 abbrev pub opened : MapFields → State
 opened map = record { map = map; sequence = 0 }
 
--- the bytes that the output got of a script that was played from a state to another, by the outcome: all that there were to write; or exactly the
--- first so many of them, or all of them where the flush failed
+-- the bytes that the output got of a script that was played from a state to another, by the outcome. It got all that there were to write, or exactly
+-- the first so many of them, or all of them where the flush failed
 abbrev pub Ends : Outcome → State → List ℕ → State → Option (List ℕ) → Option (List ℕ) → Type 0
 Ends (Ok done) old script new before after = HasPlayed old script new before after
 Ends (Err OutputFailed) old script new before after =

@@ -25,8 +25,9 @@ pub fn write_summary<O: Sink>(map: &Map, output: &mut O) -> Result<(), Failure>
 }
 
 /// Reads a mapfile up to its end, and writes the line of its map to the output, or reports its fault, or its name if it
-/// can't be read. Where the job has `explains`, a fault is reported with a message, or why the file can't be read, and
-/// after the line of the map the warnings on it, unless memory is refused for these.
+/// can't be read. Where the job has `explains`, a fault is reported with a message, or the cause why the file can't be
+/// read. The warnings on the map are reported after its line. A message or warnings for which memory is refused are
+/// left out.
 pub fn check<F: Folder, I: Source + HasCause, J: Source, O: Sink, E: Sink>(
     alloc: Global,
     job: &mut Job<'_, F, I>,

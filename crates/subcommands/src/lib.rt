@@ -1,11 +1,11 @@
 //! The subcommands of the program, over its three streams: it plays sessions, checks mapfiles, and runs scripts on
 //! their maps.
 //!
-//! Proved: `session` reads its input up to the end and returns what was written: the whole transcript of the map
-//! machine's replies, or exactly the first bytes of it, or the fault of the mapfile (`plays`). `check` and `run` do the
-//! same for the files that they read, and for the messages and warnings that are reported (`checks`, `runs`).
-//! `split_session` splits a session at its first line of two percent signs. `summary` returns how many bytes were
-//! written where the writer fails.
+//! Proved: `session` reads its input up to the end. Its result names the text that was written: the whole transcript of
+//! the map machine's replies, or exactly the first bytes of it, or the fault of the mapfile (`plays`). `check` and
+//! `run` do the same for the files that they read, and for the messages and warnings that are reported (`checks`,
+//! `runs`). `split_session` splits a session at its first line of two percent signs. `summary` returns how many bytes
+//! were written where the writer fails.
 #![tactic(auto)]
 
 mod checking;

@@ -15,8 +15,9 @@ use streams::{Sink, Source};
 
 /// Reads a mapfile up to its end, and then a script, and plays it: the transcript goes to the output. Or it reports the
 /// fault of the mapfile, or the name of the first file that can't be read. Where the mapfile gives no map, the script
-/// isn't read. Where the job has `explains`, a fault is reported with a message, or why a file can't be read, and the
-/// warnings on the map before the script is read, unless memory is refused for these.
+/// isn't read. Where the job has `explains`, a fault is reported with a message, or the cause why a file can't be read.
+/// The warnings on the map are reported before the script is read. A message or warnings for which memory is refused
+/// are left out.
 pub fn run<F: Folder, I: Source + HasCause, S: Source + HasCause, J: Source, O: Sink, E: Sink>(
     alloc: Global,
     job: &mut Job<'_, F, I>,

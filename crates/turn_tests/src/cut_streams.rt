@@ -75,8 +75,8 @@ const PACES: [&[usize]; 59] = [
     &[19, 0, 0, 36, 1, 95],
 ];
 
-// The bytes that four clients got whose streams are cut in a way, one after the other: one that never ends its head,
-// two that send a query, and one that leaves within its head.
+// The bytes that four clients got whose streams are cut in a way, one after the other. The clients are one that never
+// ends its head, two that send a query, and one that leaves within its head.
 fn got(alloc: Global, pace: &'static [usize], got: &mut Vec<u8>) -> Result<(), Fail> {
     let mut table = ConnectionTable::new(alloc, 4, TIMEOUTS, 1)?;
     let mut echo = Echo { alloc, dots: 0 };

@@ -1,4 +1,4 @@
-//! Tests of the turns of connections, and of the event loop over them, by their public calls alone: each test checks a value that was worked by hand,
+//! Tests of the turns of connections, and of the event loop over them, by their public calls alone. Each test checks a value that was worked by hand,
 //! or that no clause can state.
 #![tactic(auto)]
 

@@ -11,8 +11,8 @@ use Rattle.turns.specs.declared.times.Phase.TheVariants.{Opened, Idle, Head, Ans
 abbrev pub capped : ℕ → ℕ
 capped number = min number (2 ^ 64 - 1)
 
--- when the time of a phase is over. An answer's time is over where no byte of it was taken for the timeout, and where all of it takes longer than the
--- grace and the time of its bytes at the least rate
+-- when the time of a phase is over. An answer's time is over where no byte of it was taken for the timeout. It is over, too, where all of it takes
+-- longer than the grace and the time of its bytes at the least rate
 abbrev pub deadline : Timeouts → Phase → ℕ
 deadline timeouts (Opened since) = capped (since + timeouts.timeout)
 deadline timeouts (Idle since) = capped (since + timeouts.idle)

@@ -1,15 +1,15 @@
 //! Turns: how a worker serves many connections, none of which holds another up.
 //!
 //! A `ConnectionTable` has the connections of a worker. Each turn of one is at most one read, one query and one write, by
-//! calls of its `Transport` that never wait, and the slot that has waited longest is next. The caller waits for events (as
+//! calls of its `Transport` that never wait. The slot that has waited longest is next. The caller waits for events (as
 //! `epoll` gives them), reports each by `wake`, and calls `serve_next` for the turns.
 //!
 //! Proved: `ConnectionTable::serve_next` serves the first of the queue (`first`), whose bytes and queries go on as its
 //! session does (`own`), and changes no other connection (`others`). A connection has no further turn only where a read or a
 //! write would have waited, or where no query may be answered (`IsNext`, `turns`, `waits`). Responses that are to be sent
 //! have at most `room` bytes and one response more (ghost field `bounded`). A connection leaves where its time is over
-//! (`close_overdue`), and before that in two cases alone: where another comes and no slot or no descriptor is free
-//! (`close_for_slot`, `close_for_descriptor`), and where responses fill their room (`close_for_room`); a worker that ends has
+//! (`close_overdue`). It leaves before that in two cases alone: where another comes and no slot or no descriptor is free
+//! (`close_for_slot`, `close_for_descriptor`), and where responses fill their room (`close_for_room`). A worker that ends has
 //! `close_unanswered`. A slot in the queue has its turn before any slot that had one has another (`laws::fair`).
 //!
 //! Terms: a *turn* is what is done for a connection at once. A *slot* is the number of a connection in its table. The *phase*

@@ -10,7 +10,7 @@ use std::alloc::{AllocError, Global};
 
 /// The connections of a worker, each at a slot, and which of them has the next turn.
 ///
-/// The responses that are to be sent to them have at most `room` bytes and one response more (`bounded`): a query is
+/// The responses that are to be sent to them have at most `room` bytes and one response more (`bounded`). A query is
 /// answered only while they have less than `room` bytes. Where there is room and a connection waits for it, some connection
 /// has a turn (`admitted`). No call but `close_overdue`, `close_unanswered`, `close_for_slot`, `close_for_descriptor` and
 /// `close_for_room` removes a connection from its slot.

@@ -60,9 +60,9 @@ pub trait Connection {
 }
 
 /// Answers one connection: all of its requests, one after the other. Where there is no memory for a head, nothing is read,
-/// and the client gets the answer that the server is busy; else it is read no further than `exchange` does. After a fault of
-/// the reader all answers to the bytes read were sent; where the writer fails, exactly the first `written` bytes of the
-/// answers were sent.
+/// and the client gets the answer that the server is busy. Else the connection is read no further than `exchange` does.
+/// After a fault of the reader all answers to the bytes read were sent; where the writer fails, exactly the first `written`
+/// bytes of the answers were sent.
 pub fn serve_connection<R: Source, W: Sink, A: Asks>(
     alloc: Global,
     asks: &mut A,
