@@ -17,7 +17,7 @@ use Rattle.administration.specs.declared.done.Done.TheVariants as done
 use Rattle.administration.specs.declared.reading.ReadCommand.TheVariants as asked
 use Rattle.administration.proofs.Steps.{HasCome, all-done}
 
--- what was submitted was done
+-- a submitted batch is done
 pub submitted_done : {S : Type 0} (opening : State) (old : Batches) (batch : List ℕ) (what : Submitted S) (new : Batches) → HasSubmitted opening old batch what new → HasDone opening old (Submit batch) (done_of opening what) new
 submitted_done opening old batch (submitted.Published receipt) new is =
     (is.0, (is.1.1 ∙ ap (λ (l : List (List ℕ)). record { published = l; pending = [] }) is.1.0, ap (λ (l : List (List ℕ)). opening.sequence + length l) is.1.0))

@@ -22,7 +22,7 @@ pub open-short : (p : Progress) → IsOpen p → length (came_of p) < 16384
 open-short (Open came) opened = opened.1
 open-short (Decided closes decided query) opened = absurd opened
 
--- what isn't some is none
+-- an option that isn't some is none
 pub none-by : {X : Type 0} (o : Option X) → ((x : X) → o ≡ Some x → ⊥) → o ≡ None
 none-by None other = refl
 none-by (Some x) other = absurd (other x refl)

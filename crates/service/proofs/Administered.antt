@@ -75,7 +75,7 @@ module _ {A B : Type 0} (within : A → B) (held : B → Option (List ℕ)) (tak
   administered opening left failed (Err KeepFailed) reader rest old new first last written ok stopped ended count =
       failed-within opening (left reader) (left rest) old first new last (ended refl)
 
--- what was accepted is kept, unless the keeper of batches failed
+-- the accepted batches are kept, unless the keeper failed
 pub kept-of : (served : Result (Unit {0}) AdministerFault) (P : Type 0) → MatchResult served (λ _. P) (λ why. why ≡ PutFailed → P) → has_kept served ≡ true → P
 kept-of (Ok done) P is e = is
 kept-of (Err PutFailed) P is e = is refl

@@ -26,7 +26,7 @@ is_service_failure JournalFailed = true
 is_service_failure NoMemory = true
 is_service_failure failure = false
 
--- so it ended
+-- an outcome is such a failure
 abbrev pub fails_service : Outcome → Bool
 fails_service (Ok done) = false
 fails_service (Err failure) = is_service_failure failure

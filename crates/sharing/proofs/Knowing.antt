@@ -57,7 +57,7 @@ pub one_goes : {B : Type 0} (published : List B) (old new : Reader B) (lists : L
 one_goes published old new lists true f g = g
 one_goes published old new lists false f g = stays published old f
 
--- so it is for a reader that gets no list
+-- the same for a reader that gets no list
 pub one_leaves : {B : Type 0} (published : List B) (old new : Reader B) (b : Bool) → Fits published old → Goes published old new []
     → Goes published old (if b then new else old) []
 one_leaves published old new true f g = g

@@ -69,7 +69,7 @@ of-map gives mapfile tree files map read are is = (
   refl,
 )
 
--- so it was read from these bytes
+-- the map was read from these bytes
 pub has-mapfile : (gives : Giving) (before after : Option (List ℕ)) (source bytes : List ℕ) (files : List FileBytes) (map : MapFields) →
     HasReadFile before after bytes → source ≡ bytes → ((comes : ComesTo gives source (Ok map)) × (comes.files ≡ files)) → HasReadMapfile gives before after bytes files map
 has-mapfile gives before after source bytes files map read same has =
