@@ -66,7 +66,7 @@ fn add_answers<R: Wait>(
     Ok(())
 }
 
-fn told<R: Wait>(rt: &R, alloc: Global, way: &str) -> Result<String, AllocError> {
+fn result_of_row<R: Wait>(rt: &R, alloc: Global, way: &str) -> Result<String, AllocError> {
     tally_of(alloc, ADMINISTRATOR, way, |alloc, bytes, tally| {
         add_answers(rt, alloc, bytes, tally)
     })
@@ -75,6 +75,6 @@ fn told<R: Wait>(rt: &R, alloc: Global, way: &str) -> Result<String, AllocError>
 #[test]
 fn administrators_have_their_lines(rt: HostRuntime) -> Result<(), TableFault> {
     check_rows(rt.alloc(), ADMINISTRATOR_ROWS, '=', 7, |alloc, way| {
-        told(&rt, alloc, way)
+        result_of_row(&rt, alloc, way)
     })
 }

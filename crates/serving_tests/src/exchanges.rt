@@ -226,7 +226,7 @@ fn calls_of_writes(alloc: Global, machine: &mut Machine) -> Result<(usize, usize
 }
 
 // The text of the exchanges of a name.
-fn told_of_cuts(alloc: Global, machine: &mut Machine, name: &str) -> Result<String, AllocError> {
+fn result_of_cuts(alloc: Global, machine: &mut Machine, name: &str) -> Result<String, AllocError> {
     match name {
         "pieces" => {
             let count = whole_exchanges(alloc, machine)?;
@@ -242,7 +242,7 @@ fn told_of_cuts(alloc: Global, machine: &mut Machine, name: &str) -> Result<Stri
 }
 
 fn rows_of_cuts(alloc: Global, row: &str) -> Result<String, AllocError> {
-    told_of_cuts(alloc, &mut machine(alloc)?, row)
+    result_of_cuts(alloc, &mut machine(alloc)?, row)
 }
 
 // The text, `|` and the name of its exchanges.

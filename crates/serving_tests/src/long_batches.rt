@@ -28,7 +28,7 @@ fn append(alloc: Global, batch: &mut String, count: usize) -> Result<(), AllocEr
 }
 
 // The result of a batch at a sequence, and the sequence after it.
-fn told_of_batch(alloc: Global, sequence: u64, batch: &[u8]) -> Result<String, AllocError> {
+fn result_of_batch(alloc: Global, sequence: u64, batch: &[u8]) -> Result<String, AllocError> {
     let mut machine = machine(alloc, sequence)?;
     let told = match machine.batch(batch) {
         Ok(number) => format!(in alloc; "published {number}")?,
@@ -52,7 +52,7 @@ published 18446744073709551615, then 18446744073709551615=18446744073709551614
 refused 0 8, then 18446744073709551615=18446744073709551615
 refused 0 8, then 18446744073709551615=18446744073709551615 1";
 
-fn told_of_appends(alloc: Global, row: &str) -> Result<String, AllocError> {
+fn result_of_appends(alloc: Global, row: &str) -> Result<String, AllocError> {
     let (sequence, counts) = row.split_once(' ').unwrap_or((row, ""));
     let mut batch = String::new(alloc);
     for count in counts.split(' ') {
@@ -60,7 +60,7 @@ fn told_of_appends(alloc: Global, row: &str) -> Result<String, AllocError> {
             append(alloc, &mut batch, count)?;
         }
     }
-    told_of_batch(
+    result_of_batch(
         alloc,
         sequence.parse().unwrap_or(0),
         batch.as_str().as_bytes(),
@@ -69,7 +69,7 @@ fn told_of_appends(alloc: Global, row: &str) -> Result<String, AllocError> {
 
 #[test]
 fn points_are_appended_up_to_the_most_of_a_layer(rt: HostRuntime) -> Result<(), TableFault> {
-    check_rows(rt.alloc(), APPENDS, '=', 9, told_of_appends)
+    check_rows(rt.alloc(), APPENDS, '=', 9, result_of_appends)
 }
 
 // The result of a batch of spaces: at a sequence, how many bytes it has beyond the most.
@@ -78,21 +78,21 @@ refused 1 6, then 3=3 0
 refused 0 7, then 3=3 1
 refused 0 7, then 18446744073709551615=18446744073709551615 1";
 
-fn told_of_length(alloc: Global, row: &str) -> Result<String, AllocError> {
+fn result_of_length(alloc: Global, row: &str) -> Result<String, AllocError> {
     let (sequence, more) = row.split_once(' ').unwrap_or((row, ""));
     let count = MAX_BATCH.saturating_add(more.parse().unwrap_or(0));
     let batch = vec![in alloc; b' '; count]?;
-    told_of_batch(alloc, sequence.parse().unwrap_or(0), &batch)
+    result_of_batch(alloc, sequence.parse().unwrap_or(0), &batch)
 }
 
 #[test]
 fn a_batch_has_at_most_so_many_bytes(rt: HostRuntime) -> Result<(), TableFault> {
     assert_eq!(rt; MAX_BATCH, 4_194_304);
-    check_rows(rt.alloc(), LENGTHS, '=', 3, told_of_length)
+    check_rows(rt.alloc(), LENGTHS, '=', 3, result_of_length)
 }
 
 // The sequences of a machine and of its copy, where the copy was changed, and then of both where the first was too.
-fn told_of_copy(alloc: Global) -> Result<(u64, u64, u64, u64), AllocError> {
+fn result_of_copy(alloc: Global) -> Result<(u64, u64, u64, u64), AllocError> {
     let mut first = machine(alloc, 5)?;
     let mut copy = first.copy()?;
     let _ = copy.batch(b"OFF p\nON p\n");
@@ -104,6 +104,6 @@ fn told_of_copy(alloc: Global) -> Result<(u64, u64, u64, u64), AllocError> {
 
 #[test]
 fn a_copy_is_changed_by_itself(rt: HostRuntime) {
-    let told = told_of_copy(rt.alloc());
+    let told = result_of_copy(rt.alloc());
     assert!(rt; matches!(told, Ok((5, 6, 7, 6))));
 }

@@ -138,7 +138,7 @@ fn red_at(
 }
 
 // The text of a row: the first pixel's red.
-fn told(alloc: Global, row: &str) -> Result<String, AllocError> {
+fn result_of_row(alloc: Global, row: &str) -> Result<String, AllocError> {
     let Some((min, max, query)) = parts(row) else {
         return String::from_str(alloc, "malformed");
     };
@@ -150,5 +150,5 @@ fn told(alloc: Global, row: &str) -> Result<String, AllocError> {
 
 #[test]
 fn layers_are_seen_at_worked_scales(rt: HostRuntime) -> Result<(), TableFault> {
-    check_rows(rt.alloc(), PICTURES, ' ', 6, told)
+    check_rows(rt.alloc(), PICTURES, ' ', 6, result_of_row)
 }

@@ -79,7 +79,7 @@ fn streams_are_refused_without_asking_and_busy_is_told(rt: HostRuntime) -> Resul
 }
 
 // The text of an exchange whose reader fails after so many reads.
-fn told_of_reads(
+fn result_of_reads(
     alloc: Global,
     stream: &[u8],
     at_once: usize,
@@ -122,7 +122,7 @@ fn rows_of_reads(alloc: Global, row: &str) -> Result<String, AllocError> {
         return String::from_str(alloc, "malformed");
     };
     let stream = stream(alloc, text, more.min(20_000))?;
-    told_of_reads(alloc, &stream, at_once, calls)
+    result_of_reads(alloc, &stream, at_once, calls)
 }
 
 // How often it was read, how many reads wouldn't have failed yet, the result, whether reading failed, and the status

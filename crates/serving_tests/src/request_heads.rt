@@ -185,7 +185,7 @@ fn parts(row: &str) -> Option<(&str, usize, &str, usize)> {
 }
 
 // The meanings of a stream in two pieces and a byte at a time.
-fn told_of_long(alloc: Global, stream: &[u8], cut: usize) -> Result<String, AllocError> {
+fn result_of_long(alloc: Global, stream: &[u8], cut: usize) -> Result<String, AllocError> {
     let len = stream.len();
     let whole = meaning_of_two(alloc, stream, cut.min(len))?;
     let bytes = meaning_by_bytes(alloc, stream)?;
@@ -199,7 +199,7 @@ fn rows_of_lengths(alloc: Global, row: &str) -> Result<String, AllocError> {
     let middle = "a".repeat(alloc, count.min(20_000))?;
     let text = format!(in alloc; "{before}{middle}{after}")?;
     let stream = stream_of(alloc, text.as_str())?;
-    told_of_long(alloc, &stream, cut)
+    result_of_long(alloc, &stream, cut)
 }
 
 #[test]

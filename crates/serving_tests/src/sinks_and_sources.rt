@@ -53,7 +53,7 @@ fn put_of(row: &str) -> Option<(usize, usize, usize, bool)> {
 }
 
 // The result of putting the bytes into a writer.
-fn told_of_put(alloc: Global, bytes: &[u8], writer: Narrow<'_>) -> Result<String, AllocError> {
+fn result_of_put(alloc: Global, bytes: &[u8], writer: Narrow<'_>) -> Result<String, AllocError> {
     let mut sink = Flagged::new(writer);
     let outcome = put_all(&mut sink, bytes);
     let held = sink.inner().held.as_slice();
@@ -72,7 +72,7 @@ fn rows_of_puts(alloc: Global, row: &str) -> Result<String, AllocError> {
     let bytes = pattern(alloc, len.min(200_000))?;
     let mut writer = holding_nothing(alloc, &[], at_once, calls);
     writer.fails = fails;
-    told_of_put(alloc, &bytes, writer)
+    result_of_put(alloc, &bytes, writer)
 }
 
 #[test]
@@ -117,7 +117,7 @@ fn pieces_go_out_up_to_a_failure(rt: HostRuntime) -> Result<(), TableFault> {
 const TAKES: &str = "\
 Ok(0); 0 Ok(70000) true false; 70000 Ok(30000) true false; 100000 Ok(0) true false; 100000 Err(TakeFailed) true true; 0|100000 70000 4 fails";
 
-fn told_of_takes(
+fn result_of_takes(
     alloc: Global,
     source: &mut Flagged<Narrow<'_>>,
     bytes: &[u8],
@@ -145,7 +145,7 @@ fn rows_of_takes(alloc: Global, row: &str) -> Result<String, AllocError> {
     };
     let bytes = pattern(alloc, len.min(200_000))?;
     let mut source = Flagged::new(holding_nothing(alloc, &bytes, at_once, calls));
-    told_of_takes(alloc, &mut source, &bytes)
+    result_of_takes(alloc, &mut source, &bytes)
 }
 
 #[test]
@@ -153,7 +153,10 @@ fn sources_give_bytes_up_to_their_end(rt: HostRuntime) -> Result<(), TableFault>
     check_rows(rt.alloc(), TAKES, '|', 1, rows_of_takes)
 }
 
-fn told_of_writing(alloc: Global, stream: &mut Flagged<Narrow<'_>>) -> Result<String, AllocError> {
+fn result_of_writing(
+    alloc: Global,
+    stream: &mut Flagged<Narrow<'_>>,
+) -> Result<String, AllocError> {
     let first = stream.put(b"square");
     let set = flags(stream);
     let taken = stream.take(&mut [0; 4]);
@@ -164,7 +167,10 @@ fn told_of_writing(alloc: Global, stream: &mut Flagged<Narrow<'_>>) -> Result<St
     format!(in alloc; "{first:?} {set:?}, {taken:?} {put:?} {nothing:?} {flushed:?} {left:?}")
 }
 
-fn told_of_reading(alloc: Global, stream: &mut Flagged<Narrow<'_>>) -> Result<String, AllocError> {
+fn result_of_reading(
+    alloc: Global,
+    stream: &mut Flagged<Narrow<'_>>,
+) -> Result<String, AllocError> {
     let first = stream.take(&mut [0; 4]);
     let put = stream.put(b"square");
     let second = stream.take(&mut [0; 4]);
@@ -174,14 +180,14 @@ fn told_of_reading(alloc: Global, stream: &mut Flagged<Narrow<'_>>) -> Result<St
 }
 
 // The text of the calls of a name.
-fn told_of_calls(
+fn result_of_calls(
     alloc: Global,
     stream: &mut Flagged<Narrow<'_>>,
     name: &str,
 ) -> Result<String, AllocError> {
     match name {
-        "writing" => told_of_writing(alloc, stream),
-        "reading" => told_of_reading(alloc, stream),
+        "writing" => result_of_writing(alloc, stream),
+        "reading" => result_of_reading(alloc, stream),
         "no bytes" => {
             let put = stream.put(b"");
             format!(in alloc; "{put:?} {:?}", flags(stream))
@@ -207,7 +213,7 @@ fn rows_of_flags(alloc: Global, row: &str) -> Result<String, AllocError> {
     };
     let mut inner = holding_nothing(alloc, b"nine left", 2, calls);
     inner.calls_after = calls_after;
-    told_of_calls(alloc, &mut Flagged::new(inner), name)
+    result_of_calls(alloc, &mut Flagged::new(inner), name)
 }
 
 // The results of calls, with both flags. After the `|`: after how many calls the stream fails, for how many it goes on

@@ -225,7 +225,7 @@ const LARGEST: &str = "\
 0 done 34078911 true 9=map";
 
 // The length, the header and the samples of the text of a picture in a form.
-fn told_of_picture(alloc: Global, form: &str) -> Result<String, AllocError> {
+fn result_of_picture(alloc: Global, form: &str) -> Result<String, AllocError> {
     let form = match form {
         "pixmap" => &PIXMAP,
         _ => &MAP,
@@ -247,5 +247,5 @@ fn told_of_picture(alloc: Global, form: &str) -> Result<String, AllocError> {
 
 #[test]
 fn largest_pictures_are_written_whole(rt: HostRuntime) -> Result<(), TableFault> {
-    check_rows(rt.alloc(), LARGEST, '=', 2, told_of_picture)
+    check_rows(rt.alloc(), LARGEST, '=', 2, result_of_picture)
 }

@@ -18,7 +18,7 @@ the writer failed after 100 bytes, false true true 100=- 100
 the writer failed after 297 bytes, false true true 297=- 297
 served, false false true 298=- 298";
 
-fn told_of(
+fn result_of_streams(
     alloc: Global,
     machine: &mut Machine,
     reading: Option<usize>,
@@ -43,10 +43,10 @@ fn told_of(
 }
 
 // The end of a connection whose streams fail at the calls of a row.
-fn told(alloc: Global, calls: &str) -> Result<String, AllocError> {
+fn result_of_row(alloc: Global, calls: &str) -> Result<String, AllocError> {
     let (reading, writing) = calls.split_once(' ').unwrap_or(("", ""));
     let mut machine = opened(alloc, "MAP END")?;
-    let told = told_of(
+    let told = result_of_streams(
         alloc,
         &mut machine,
         reading.parse().ok(),
@@ -58,5 +58,5 @@ fn told(alloc: Global, calls: &str) -> Result<String, AllocError> {
 
 #[test]
 fn streams_that_fail_end_a_connection(rt: HostRuntime) -> Result<(), TableFault> {
-    check_rows(rt.alloc(), FAILING, '=', 7, told)
+    check_rows(rt.alloc(), FAILING, '=', 7, result_of_row)
 }

@@ -37,7 +37,7 @@ fn is_cut(
 
 // The text of a summary that is written, and the first number of bytes after which a failing writer doesn't end it as
 // expected, of so many.
-fn told_of_summary(alloc: Global, rooms: &str) -> Result<String, AllocError> {
+fn result_of_summary(alloc: Global, rooms: &str) -> Result<String, AllocError> {
     let Ok(map) = parse(alloc, SOME_MAP.as_bytes(), &Files::new(alloc)) else {
         return Err(AllocError);
     };
@@ -52,12 +52,12 @@ fn told_of_summary(alloc: Global, rooms: &str) -> Result<String, AllocError> {
 
 #[test]
 fn summaries_are_written_up_to_a_failure(rt: HostRuntime) -> Result<(), TableFault> {
-    check_rows(rt.alloc(), "None=30", '=', 1, told_of_summary)
+    check_rows(rt.alloc(), "None=30", '=', 1, result_of_summary)
 }
 
 // The first number of bytes after which a failing writer doesn't end a script of the square and of an exception as
 // expected, of so many. The picture has 154 bytes and the exception 235.
-fn told_of_script(alloc: Global, rooms: &str) -> Result<String, AllocError> {
+fn result_of_script(alloc: Global, rooms: &str) -> Result<String, AllocError> {
     let mut machine = opened(alloc, SQUARE_MAP)?;
     let wrong = first_wrong(alloc, &mut machine, rooms.parse().unwrap_or(0));
     drop(machine);
@@ -84,5 +84,5 @@ fn first_wrong(
 
 #[test]
 fn writers_that_fail_hold_the_first_bytes(rt: HostRuntime) -> Result<(), TableFault> {
-    check_rows(rt.alloc(), "None=400", '=', 1, told_of_script)
+    check_rows(rt.alloc(), "None=400", '=', 1, result_of_script)
 }

@@ -225,7 +225,7 @@ fn statuses(alloc: Global, failures: [Failure; 3]) -> Result<String, AllocError>
 }
 
 // The text of a row's failures or faults.
-fn told(alloc: Global, row: &str) -> Result<String, AllocError> {
+fn result_of_row(alloc: Global, row: &str) -> Result<String, AllocError> {
     match row {
         "some" => statuses(
             alloc,
@@ -265,5 +265,5 @@ fn told(alloc: Global, row: &str) -> Result<String, AllocError> {
 
 #[test]
 fn statuses_are_those_of_the_profile(rt: HostRuntime) -> Result<(), TableFault> {
-    check_rows(rt.alloc(), TOLD, '=', 5, told)
+    check_rows(rt.alloc(), TOLD, '=', 5, result_of_row)
 }

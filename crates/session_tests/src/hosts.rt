@@ -71,7 +71,7 @@ pub fn words_of(alloc: Global, line: &str) -> Result<Vec<String>, AllocError> {
 }
 
 // The four numbers.
-fn told_of_counts(alloc: Global, counts: &Counts) -> Result<String, AllocError> {
+fn result_of_counts(alloc: Global, counts: &Counts) -> Result<String, AllocError> {
     let (answered, unread) = (&counts.answered, &counts.unread);
     let (idle, woken) = (&counts.idle, &counts.woken);
     format!(in alloc;
@@ -111,7 +111,7 @@ fn ended<R: Runtime>(
     };
     let ending = program.answer(words, &mut console);
     let end = end_of(alloc, ending.outcome())?;
-    let counts = told_of_counts(alloc, &counts)?;
+    let counts = result_of_counts(alloc, &counts)?;
     let (output, errors) = (console.output.into_inner(), console.errors.into_inner());
     format!(in alloc;
         "{end} {counts}|{}|{}",
@@ -136,7 +136,11 @@ fn words_are_answered_with_the_files_of_a_host(rt: HostRuntime) -> Result<(), Ta
 }
 
 // The end of a program whose arguments can't be read, and the message on them.
-fn told<R: Runtime>(rt: &R, system: &HostRuntime, row: &str) -> Result<String, AllocError> {
+fn result_of_row<R: Runtime>(
+    rt: &R,
+    system: &HostRuntime,
+    row: &str,
+) -> Result<String, AllocError> {
     let unread = match row {
         "text" => ArgumentsUnread::NoText,
         _ => ArgumentsUnread::NoMemory,
@@ -152,7 +156,13 @@ out of memory: 4 NoMemory 0 0 0 0||=memory";
 
 #[test]
 fn words_that_cant_be_read_are_refused(rt: HostRuntime) -> Result<(), TableFault> {
-    check_rows(rt.alloc(), UNREAD, '=', 2, |_, row| told(&rt, &rt, row))
+    check_rows(
+        rt.alloc(),
+        UNREAD,
+        '=',
+        2,
+        |_, row| result_of_row(&rt, &rt, row),
+    )
 }
 
 // The message where the output fails at its first call.

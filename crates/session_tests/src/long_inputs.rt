@@ -16,7 +16,7 @@ fn long_query(alloc: Global) -> Result<String, AllocError> {
 
 // Whether a script of 300 queries, a long one and a row's last command has the expected text: the row's fault, where
 // there is such a command.
-fn is_long_told(alloc: Global, row: &str) -> Result<bool, AllocError> {
+fn is_long_script(alloc: Global, row: &str) -> Result<bool, AllocError> {
     let (last, fault, _) = columns(row);
     let turns = spelt(alloc, "QUERY ^~QUERY a~QUERY a~")?.repeat(alloc, 100)?;
     let long = long_query(alloc)?;
@@ -32,7 +32,7 @@ fn is_long_told(alloc: Global, row: &str) -> Result<bool, AllocError> {
 
 #[test]
 fn long_scripts_are_played_to_their_end(rt: HostRuntime) -> Result<(), TableFault> {
-    check_all(rt.alloc(), "|\nQUERY b|fault script 302", 2, is_long_told)
+    check_all(rt.alloc(), "|\nQUERY b|fault script 302", 2, is_long_script)
 }
 
 // How often the square is a ring of one feature, and the picture.
@@ -79,7 +79,7 @@ fn is_reply(reply: &Reply, number: usize) -> bool {
 }
 
 // How many replies there are to so many pairs of events, how many of them are right, and the sequence.
-fn told_of_replies(alloc: Global, count: &str) -> Result<String, AllocError> {
+fn result_of_replies(alloc: Global, count: &str) -> Result<String, AllocError> {
     let (replies, sequence) = replies(alloc, count.parse().unwrap_or(0))?;
     let mut right = 0_usize;
     for (number, reply) in replies.as_slice().iter().enumerate() {
@@ -94,7 +94,7 @@ fn told_of_replies(alloc: Global, count: &str) -> Result<String, AllocError> {
 
 #[test]
 fn machines_run_over_many_events(rt: HostRuntime) -> Result<(), TableFault> {
-    check_rows(rt.alloc(), "300 300 0=150", '=', 1, told_of_replies)
+    check_rows(rt.alloc(), "300 300 0=150", '=', 1, result_of_replies)
 }
 
 // Comments, blank lines and lines that are nearly those of two percent signs: 100 bytes, 5 lines.

@@ -213,7 +213,7 @@ fn a_client_that_stays_is_left(rt: HostRuntime) -> Result<(), Fail> {
 
 // Whether serving ended because a port is taken, which of the two, and how many bytes were written, where these ports are
 // requested.
-fn told_of_taken<R: Runtime>(
+fn result_of_taken<R: Runtime>(
     rt: &R,
     system: &HostRuntime,
     ports: (u16, u16),
@@ -239,7 +239,7 @@ fn a_port_that_is_taken_is_told(rt: HostRuntime) -> Result<(), Fail> {
     let listener = TcpListener::bind(&rt, (Ipv4Addr::LOCALHOST, 0))?;
     let port = listener.local_addr()?.port();
     for ports in [(port, 0), (0, port)] {
-        assert_eq!(rt; told_of_taken(&rt, &rt, ports)?, (Some(port), 0));
+        assert_eq!(rt; result_of_taken(&rt, &rt, ports)?, (Some(port), 0));
     }
     drop(listener);
     Ok(())

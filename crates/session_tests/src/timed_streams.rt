@@ -112,7 +112,7 @@ impl<R: Moves, W: Moves> Moves for (R, W) {
 
 // The calls of a reader or a writer up to its first failure: how many seconds each call that moved a byte might wait, and how many calls
 // there were.
-fn told_of_calls<M: Moves>(
+fn result_of_calls<M: Moves>(
     alloc: Global,
     times: &Times<'_>,
     side: &mut M,
@@ -196,27 +196,27 @@ fn sides<'a>(
     ))
 }
 
-fn told(alloc: Global, row: &str) -> Result<String, AllocError> {
+fn result_of_row(alloc: Global, row: &str) -> Result<String, AllocError> {
     let (call, rest) = row.split_once(' ').unwrap_or(("", ""));
     let (takes, way) = rest.split_once(' ').unwrap_or((rest, ""));
     let times = times_of(takes.parse().unwrap_or(0), way);
     let mut both = sides(alloc, &times)?;
     match call {
-        "read" => told_of_calls(alloc, &times, &mut both.0),
-        "write" => told_of_calls(alloc, &times, &mut both.1),
+        "read" => result_of_calls(alloc, &times, &mut both.0),
+        "write" => result_of_calls(alloc, &times, &mut both.1),
         "rest" => {
             let _ = both.1.write(&[]);
             times.calls.set(0);
             times.now.set(12);
-            told_of_calls(alloc, &times, &mut both.0)
+            result_of_calls(alloc, &times, &mut both.0)
         }
-        _ => told_of_calls(alloc, &times, &mut both),
+        _ => result_of_calls(alloc, &times, &mut both),
     }
 }
 
 #[test]
 fn calls_wait_for_what_is_left_of_a_time(rt: HostRuntime) -> Result<(), TableFault> {
-    check_rows(rt.alloc(), WAITS, '=', 16, told)
+    check_rows(rt.alloc(), WAITS, '=', 16, result_of_row)
 }
 
 // For how long two reads may wait of a client that may be silent for 9 seconds: 5 and 24 seconds after its first head began, which has 30.

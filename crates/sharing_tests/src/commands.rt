@@ -121,7 +121,7 @@ fn pipes_of(alloc: Global, row: &str, at_once: usize) -> Result<Vec<Pipe>, Alloc
 }
 
 // The ends of the connections of a row whose bytes come so many at once.
-fn told_in_pieces<R: Wait>(
+fn result_in_pieces<R: Wait>(
     rt: &R,
     alloc: Global,
     row: &str,
@@ -132,10 +132,10 @@ fn told_in_pieces<R: Wait>(
 }
 
 // The same ends, if they are the same for pieces of each of some lengths.
-fn told<R: Wait>(rt: &R, alloc: Global, row: &str) -> Result<String, AllocError> {
-    let whole = told_in_pieces(rt, alloc, row, 10_000)?;
+fn result_of_row<R: Wait>(rt: &R, alloc: Global, row: &str) -> Result<String, AllocError> {
+    let whole = result_in_pieces(rt, alloc, row, 10_000)?;
     for at_once in [1, 2, 7] {
-        let found = told_in_pieces(rt, alloc, row, at_once)?;
+        let found = result_in_pieces(rt, alloc, row, at_once)?;
         if found.as_str() != whole.as_str() {
             return format!(in alloc; "{at_once} at once: {found}");
         }
@@ -205,7 +205,7 @@ PUBLISHED 1~IDLE~|BATCH 6~OFF a~RETRY~BAT!
 #[test]
 fn commands_are_told_of_in_lines(rt: HostRuntime) -> Result<(), TableFault> {
     check_rows(rt.alloc(), COMMANDS, '|', 49, |alloc, row| {
-        told(&rt, alloc, row)
+        result_of_row(&rt, alloc, row)
     })
 }
 
@@ -245,7 +245,7 @@ fn expected_cut(alloc: Global, room: usize) -> Result<String, AllocError> {
 }
 
 // The first number of bytes after which a failing writer doesn't end a connection as expected, up to this one.
-fn told_of_cuts<R: Wait>(rt: &R, alloc: Global, row: &str) -> Result<String, AllocError> {
+fn result_of_cuts<R: Wait>(rt: &R, alloc: Global, row: &str) -> Result<String, AllocError> {
     let last = row.parse().unwrap_or(0);
     for room in 0..=last {
         let found = cut(rt, alloc, room)?;
@@ -259,7 +259,7 @@ fn told_of_cuts<R: Wait>(rt: &R, alloc: Global, row: &str) -> Result<String, All
 #[test]
 fn a_batch_whose_line_is_cut_stays_submitted(rt: HostRuntime) -> Result<(), TableFault> {
     check_rows(rt.alloc(), "right up to 40|40", '|', 1, |alloc, row| {
-        told_of_cuts(&rt, alloc, row)
+        result_of_cuts(&rt, alloc, row)
     })
 }
 
@@ -273,7 +273,7 @@ fn long(alloc: Global, line: &str, count: usize, rest: &str) -> Result<Vec<u8>, 
 }
 
 // The end of a batch: how many bytes it announces, and how many `x` come before a further command.
-fn told_of_large<R: Wait>(rt: &R, alloc: Global, row: &str) -> Result<String, AllocError> {
+fn result_of_large<R: Wait>(rt: &R, alloc: Global, row: &str) -> Result<String, AllocError> {
     let (announced, count) = row.split_once(' ').unwrap_or(("", ""));
     let line = format!(in alloc; "BATCH {announced}\n")?;
     let bytes = long(alloc, line.as_str(), count.parse().unwrap_or(0), "RETRY\n")?;
@@ -294,6 +294,6 @@ MALFORMED~ 16 left|4194305 10";
 #[test]
 fn the_largest_batch_is_read(rt: HostRuntime) -> Result<(), TableFault> {
     check_rows(rt.alloc(), LARGE, '|', 2, |alloc, row| {
-        told_of_large(&rt, alloc, row)
+        result_of_large(&rt, alloc, row)
     })
 }

@@ -69,7 +69,7 @@ fn crew_of_three<R: AllocGlobal + Wait + Copy + Drop>(rt: &R) -> Result<Crew<R>,
 }
 
 // The queries of each, with spaces between them.
-fn told_of_asked<R: AllocGlobal + Wait>(rt: &R, all: &[Asked]) -> Result<String, AllocError> {
+fn queries_text<R: AllocGlobal + Wait>(rt: &R, all: &[Asked]) -> Result<String, AllocError> {
     let mut text = String::new(rt.alloc());
     for asked in all {
         let asked = asked.lock(rt);
@@ -120,7 +120,7 @@ where
     let Crew { members, asked } = crew_of_three(rt)?;
     let gate = Arc::new(alloc, OpenGate)?;
     let done = work(rt, alloc, members, &mut calls, &gate);
-    let mut text = format!(in alloc; "{}:{}", done.is_ok(), told_of_asked(rt, &asked)?)?;
+    let mut text = format!(in alloc; "{}:{}", done.is_ok(), queries_text(rt, &asked)?)?;
     for number in 1..=count {
         text = format!(in alloc; "{text}\n{number} {}", calls.end_of(number)?)?;
     }
@@ -147,7 +147,7 @@ const FOURTEEN: &str = "true: [9] [] [8]
 14 HTTP/1.1 404 Not Found^~Content-Length: 0^~^~";
 
 // The ends of fourteen connections whose bytes come so many at once, up to a number, if they aren't the expected ones.
-fn told_of_rounds<R>(rt: &R, alloc: Global, row: &str) -> Result<String, AllocError>
+fn result_of_rounds<R>(rt: &R, alloc: Global, row: &str) -> Result<String, AllocError>
 where
     R: AllocGlobal + Wait + Threads + Send + Copy + Drop + 'static,
 {
@@ -169,7 +169,7 @@ fn connections_go_to_their_workers(rt: HostRuntime) -> Result<(), TableFault> {
         "right up to 30, true|30",
         '|',
         1,
-        |alloc, row| { told_of_rounds(&rt, alloc, row) },
+        |alloc, row| { result_of_rounds(&rt, alloc, row) },
     )
 }
 

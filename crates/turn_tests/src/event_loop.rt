@@ -94,7 +94,7 @@ fn asking(alloc: Global, number: u64) -> Result<Client, AllocError> {
 }
 
 // The queries of each, with bars after them.
-fn told_of_asked<R: AllocGlobal + Wait>(rt: &R, all: &[Asked]) -> Result<String, AllocError> {
+fn queries_text<R: AllocGlobal + Wait>(rt: &R, all: &[Asked]) -> Result<String, AllocError> {
     let mut text = String::new(rt.alloc());
     for asked in all {
         let asked = asked.lock(rt);
@@ -114,7 +114,7 @@ fn asked_of<R: AllocGlobal + Clock + Wait + Threads + Send + Copy + Drop + 'stat
         crew.hand_over(rt, client);
     }
     crew.end(rt, Ending::Finishes);
-    Ok(told_of_asked(rt, &all)?)
+    Ok(queries_text(rt, &all)?)
 }
 
 #[test]
