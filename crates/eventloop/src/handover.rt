@@ -82,7 +82,7 @@ impl<T: Drop, W: Wakes> Handover<T, W> {
         !self.state.lock(rt).transports.is_empty()
     }
 
-    /// The worker ends, in one way or the other. One that stops isn't changed to finish.
+    /// The worker ends, in one way or the other. A worker that stops never goes back to finishing.
     pub fn end<R: Wait>(&self, rt: &R, ending: Ending) {
         let mut state = self.state.lock(rt);
         if state.ending != Ending::Stops {

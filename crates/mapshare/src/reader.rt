@@ -20,8 +20,8 @@ pub enum Closed {
     /// There is no map to enter: the administrator has closed, or an entry that was leaked has the reader's part. No
     /// clause says when the two copies give a map.
     NoGuard,
-    /// The published map lacks a batch of which the reader learned by a receipt. A reader that knows no more than its
-    /// last entry showed never gets this.
+    /// The copy of the map that the reader would enter lacks a batch of which the reader learned by a receipt. A reader
+    /// that knows no more than its last entry showed never gets this.
     Behind,
 }
 

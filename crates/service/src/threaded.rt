@@ -317,7 +317,7 @@ where
 
 /// Serves the map of a machine and keeps its accepted batches, by threads. One thread accepts the connections of clients, one for each worker serves
 /// its connections in turns, and the calling one serves administrators. Once the map is shared, and before the first connection, it writes the
-/// addresses of the ports to the output. So the caller of the program knows when to connect.
+/// addresses of the ports to the output. So the user or script that started the program knows when to connect.
 pub fn serve_by_threads<R: Runtime, N: Network, K: Keeps + Drop, O: Sink>(
     rt: &R,
     kept: Kept<K>,
