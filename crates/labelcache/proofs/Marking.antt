@@ -1,4 +1,4 @@
--- What marked cells keep, and what marks another.
+-- What marked cells keep, and what marking another adds.
 use Rattle.std.proofs.Common.{◌≡◌, ℕ, ◌<◌, Bool, true, false, cond, refl, sym, ◌∙◌, ap, ⊎_elim, inl, inr, arith}
 use Rattle.std.proofs.lemmas.Bool.{false≢true}
 use Rattle.std.proofs.lemmas.Map.Lookups.{exact_pairs, exact_unsigned}
@@ -19,7 +19,7 @@ equal-from Greater h = absurd (false≢true h)
 abbrev pub key_of : Cell → ℕ × (ℕ × ℕ)
 key_of cell = (cell.level, (cell.column, cell.row))
 
--- two cells that the order doesn't tell apart are one
+-- two cells that are equal in the order are the same
 same-cell : (a b : Cell) → cell_cmp (key_of a) (key_of b) ≡ Equal → b ≡ a
 same-cell a b h =
     let e : key_of a ≡ key_of b = exact_pairs nat_cmp (λ x y. ordering_then (nat_cmp x.0 y.0) (nat_cmp x.1 y.1)) exact_unsigned
@@ -39,7 +39,7 @@ pub marks-more : (old new : BTreeSet (ℕ × (ℕ × ℕ))) (cell q : Cell) → 
     has old q ≡ true → has new q ≡ true
 marks-more old new cell q u h = stays (is_at (cell_cmp (key_of cell)) (key_of q)) (has old q) (has new q) (u.0 (key_of q)) h
 
--- and only the cell more
+-- and only that cell is marked besides
 pub marks-only : (old new : BTreeSet (ℕ × (ℕ × ℕ))) (cell q : Cell) → UpdatesBy cell_cmp (cell_cmp (key_of cell)) old new true →
     has new q ≡ true → (has old q ≡ true) ⊎ (q ≡ cell)
 marks-only old new cell q u h = ⊎_elim
@@ -47,6 +47,6 @@ marks-only old new cell q u h = ⊎_elim
     (λ (e : is_at (cell_cmp (key_of cell)) (key_of q) ≡ true). inr (same-cell cell q (equal-from (cell_cmp (key_of cell) (key_of q)) e)))
     (either (is_at (cell_cmp (key_of cell)) (key_of q)) (has old q) (has new q) (u.0 (key_of q)) h)
 
--- a cell of the lowest level is none of a higher one
+-- a cell of the lowest level is not one of a higher level
 pub level-of : (a b : Cell) (level : ℕ) → a ≡ b → a.level ≡ 0 → b.level ≡ level → 0 < level → ⊥
 level-of a b level e low is some = let f : a.level ≡ b.level = ap (λ (c : Cell). c.level) e in absurd (omega (arith, f, low, is, some))

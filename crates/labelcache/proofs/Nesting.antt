@@ -1,4 +1,4 @@
--- Cells within cells, and how far those are that they have.
+-- Cells within cells, and how far the points are that they contain.
 use Rattle.std.proofs.Common.{◌≡◌, ℕ, suc, ◌+◌, ◌-◌, ◌*◌, ◌/◌, ◌%◌, ◌^◌, ◌<◌, ◌≤◌, sym, ◌∙◌, ap, subst, ⊎_elim, inl, inr, arith}
 use Rattle.std.proofs.Math.Nat.{div-mul-le_self, lt-div-mul-add, mod-lt, mul_assoc, mul_comm, one-le-pow, pow-suc}
 use Rattle.std.proofs.lemmas.Bool.{cases_lt}
@@ -9,18 +9,18 @@ use Rattle.labelcache.specs.Cells.{cell_of, child_of}
 use Rattle.labelcache.specs.declared.cells.Cell.{Cell}
 use Rattle.labelcache.specs.declared.cells.GridPoint.{GridPoint}
 
--- a side has a pixel at least
+-- a side has at least one pixel
 pub side-some : (level : ℕ) → 1 ≤ 2 ^ level
 side-some level = one-le-pow level 2 (omega arith)
 
--- a position is one of its cell's
+-- a column or row is one of its cell's
 pub cell-from : (x level : ℕ) → x / 2 ^ level * 2 ^ level ≤ x
 cell-from x level = div-mul-le_self x (2 ^ level)
 
 pub cell-to : (x level : ℕ) → x < x / 2 ^ level * 2 ^ level + 2 ^ level
 cell-to x level = lt-div-mul-add (side-some level)
 
--- lesser sides of a right angle have a lesser distance
+-- shorter legs of a right angle give a shorter distance
 pub nearer : (a b x y d : ℕ) → a ≤ x → b ≤ y → square x + square y < d → square a + square b < d
 nearer a b x y d h k lt = let m = mul-le a a x x h h in let n = mul-le b b y y k k in omega (arith, m, n, lt)
 
@@ -75,7 +75,7 @@ child-within c a level most some le h =
     let whole : (c + 1) * 2 * s ≤ most = rw (double, product) at h in
     omega (arith, less, whole)
 
--- no more cells stand before it than pixels
+-- there are no more cells before it than pixels
 pub index-below : (c level most : ℕ) → (c + 1) * 2 ^ level ≤ most → c ≤ most
 index-below c level most h =
     let m : (c + 1) * 1 ≤ (c + 1) * 2 ^ level = mul-le (c + 1) 1 (c + 1) (2 ^ level) (omega arith) (side-some level) in

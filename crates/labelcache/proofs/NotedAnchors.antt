@@ -1,4 +1,4 @@
--- Anchors that are noted by the cells that have them.
+-- Anchors that are kept by the cells that contain them.
 use Rattle.std.proofs.Common.{◌≡◌, ℕ, ◌^◌, ◌<◌, List, [], ◌∷◌, ◌++◌, ℤ, subst, ap, ◌∙◌, ⊎_elim, arith}
 use Rattle.std.proofs.lemmas.Int.{ints}
 use Rattle.std.proofs.lemmas.List.Elements.{All-push, All-weaker}
@@ -32,7 +32,7 @@ point-near c p d h k near = rw (apart-offset c.i p.i h.column k.column, apart-of
 pub place-near : (c p : PixelValue) (d : ℕ) → IsAnchor c → IsAnchor p → IsPointNear (point_of c) d (point_of p) → IsAnchorNear c d p
 place-near c p d h k near = rw (apart-offset c.i p.i h.column k.column, apart-offset c.j p.j h.row k.row) at near
 
--- an element that is read with a default has what holds of all
+-- what holds for all elements holds for an element that is read with a default
 all-at : {X : Type 0} (P : X → Type 0) (xs : List X) → All P xs → (a : Any (λ x. Unit {0}) xs) → P a.1
 all-at P xs all a = subst P a.3 (all a.0 a.1 a.2)
 
@@ -40,7 +40,7 @@ moved : (s : GridPoint) (d x y column row : ℕ) → x ≡ column → y ≡ row 
     IsPointNear s d (record { column = column; row = row })
 moved s d x y column row e f near = rw (e, f) at near
 
--- what is found by cells is an anchor that is near
+-- a point that is found by cells is an anchor that is near
 pub found-place : (marked : BTreeSet (ℕ × (ℕ × ℕ))) (anchors : List PixelValue) (c : PixelValue) (d : ℕ) → AreNoted marked anchors → IsAnchor c →
     HasNearPoint marked (point_of c) d → Any (IsAnchorNear c d) anchors
 found-place marked anchors c d noted h found =
@@ -51,7 +51,7 @@ found-place marked anchors c d noted h found =
     let row : found.cell.row ≡ offset p.j = ap (λ (cell : Cell). cell.row) a.4 ∙ omega arith in
     (a.0, a.1, a.2, a.3, place-near c p d h k (moved (point_of c) d found.cell.column found.cell.row (offset p.i) (offset p.j) column row found.near))
 
--- what marks a point keeps what was noted
+-- marking a point keeps the anchors that were kept before
 pub noted-grows : (old new : BTreeSet (ℕ × (ℕ × ℕ))) (anchors : List PixelValue) → AreNoted old anchors →
     ((q : Cell) → IsTrue (has old q) → IsTrue (has new q)) →
     ((q : Cell) → q.level ≡ 0 → IsTrue (has new q) → IsTrue (has old q)) → AreNoted new anchors
@@ -61,7 +61,7 @@ noted-grows old new anchors noted grows only = record {
   only = λ cell low is. noted.only cell low (only cell low is);
 }
 
--- and with the anchor of the point
+-- and adds the anchor of the point
 pub noted-more : (old new : BTreeSet (ℕ × (ℕ × ℕ))) (anchors : List PixelValue) (anchor : PixelValue) → AreNoted old anchors → IsAnchor anchor →
     ((q : Cell) → IsTrue (has old q) → IsTrue (has new q)) → IsMarked new (point_of anchor) →
     ((q : Cell) → q.level ≡ 0 → IsTrue (has new q) → IsTrue (has old q) ⊎ (q ≡ cell_of 0 (point_of anchor))) → AreNoted new (anchors ++ anchor ∷ [])

@@ -1,4 +1,4 @@
--- The anchors that are noted of texts, where one is added.
+-- The anchors that are kept of texts, where one is added.
 use Rattle.std.proofs.Common.{◌≡◌, ℕ, Bool, true, false, cond, List, [], ◌∷◌, ◌++◌, map, Option, Some, Result, Ok, Err, OnOk, OnErr, refl, ap, sym, ◌∙◌, rules, if◌then◌else◌}
 use Rattle.std.proofs.lemmas.Map.Text.{btree_map_updates_text}
 use Rattle.std.proofs.lemmas.Slice.Eq.{bytes_eq-Decides}
@@ -14,7 +14,7 @@ use Rattle.geom.specs.Device.{PixelValue}
 use Rattle.labelcache.specs.Anchors.{AreKept, anchors_of, anchors_with}
 use Rattle.labelcache.specs.Candidate.{CandidateValue}
 
--- what follows from what is said of a success, or of an error
+-- what follows from the facts of a success, or from those of an error
 pub ok-then : {A E : Type 0} {P Q : Type 0} (r : Result A E) → (P → Q) → OnOk r P → OnOk r Q
 ok-then (Ok a) h p = h p
 ok-then (Err e) h p = p
@@ -42,7 +42,7 @@ same-step : (b : Bool) (old new : Option (List PixelValue)) (ps : List PixelValu
 same-step true old new ps e h = ap noted e ∙ h refl
 same-step false old new ps e h = ap noted e
 
--- a text has an anchor more, and the others have what they had
+-- a text has one more anchor, and the others have what they had
 pub noted-more : {Y : Type 0} (m n : BTreeMap (String Y) (List PixelValue)) (bs : List ℕ) (ps new : List PixelValue) (anchor : PixelValue) →
     UpdatesBy string_cmp (λ k. slice_cmp nat_cmp bs (string_bytes k)) m n (Some new) → new ≡ ps ++ anchor ∷ [] → ps ≡ anchors_of m bs →
     (q : List ℕ) → anchors_of n q ≡ (if bytes_eq bs q then anchors_of m q ++ anchor ∷ [] else anchors_of m q)
@@ -51,7 +51,7 @@ noted-more m n bs ps new anchor u is e q =
     (btree_map_updates_text bs m n (Some new) u q ∙ ap (λ (v : List PixelValue). cond (bytes_eq bs q) (Some v) (get_by_text m q)) is)
     (λ h. rw (← same-text bs q h) e)
 
--- what is written again changes nothing
+-- writing the same value again changes nothing
 pub noted-same : {Y : Type 0} (m n : BTreeMap (String Y) (List PixelValue)) (bs : List ℕ) (ps : List PixelValue) →
     UpdatesBy string_cmp (λ k. slice_cmp nat_cmp bs (string_bytes k)) m n (Some ps) → ps ≡ anchors_of m bs →
     (q : List ℕ) → anchors_of n q ≡ anchors_of m q
@@ -81,7 +81,7 @@ with-more q (x ∷ placed) c =
     with-step (bytes_eq x.text q) (bytes_eq c.text q) x (filter (λ (o : CandidateValue). bytes_eq o.text q) (placed ++ c ∷ []))
     (filter (λ (o : CandidateValue). bytes_eq o.text q) placed) c.anchor (with-more q placed c)
 
--- what is noted goes on with a candidate more
+-- the kept anchors match the candidates with one more
 pub kept-more : {Y : Type 0} (m n : BTreeMap (String Y) (List PixelValue)) (placed : List CandidateValue) (c : CandidateValue) → AreKept m placed →
     ((q : List ℕ) → anchors_of n q ≡ (if bytes_eq c.text q then anchors_of m q ++ c.anchor ∷ [] else anchors_of m q)) → AreKept n (placed ++ c ∷ [])
 kept-more m n placed c kept h q =

@@ -15,7 +15,7 @@ use Rattle.labelcache.specs.Candidate.{CandidateValue, square, squared_distance}
 pub any-weaker : {X : Type 0} (P Q : X → Type 0) (xs : List X) → ((x : X) → P x → Q x) → Any P xs → Any Q xs
 any-weaker P Q xs h a = (a.0, a.1, a.2, a.3, h a.1 a.4)
 
--- what is tested of those that pass a filter
+-- what is tested for those that pass a filter
 filtered-step : {X Y : Type 0} (b : Bool) (p : Y → Bool) (f : X → Y) (x : X) (ys : List X) (r : Bool) →
     list_any p (map f ys) ≡ r → list_any p (map f (cond b (x ∷ ys) ys)) ≡ ((b && p (f x)) || r)
 filtered-step true p f x ys r e = ap (λ (q : Bool). p (f x) || q) e
@@ -36,7 +36,7 @@ tested-near : (c other : CandidateValue) →
     (bytes_eq other.text c.text && nat_lt (squared_distance c.anchor other.anchor) (square c.label.mindistance)) ≡ true → IsNear c other
 tested-near c other h = record { text = search (rules, bytes_eq-Decides, h); near = search (rules, h) }
 
--- a candidate is near where an anchor of its text is, and the other way round
+-- a candidate is near exactly where an anchor of its text is
 pub near-place : (c : CandidateValue) (placed : List CandidateValue) → Any (IsNear c) placed →
     Any (IsAnchorNear c.anchor c.label.mindistance) (anchors_with c.text placed)
 near-place c placed a =
@@ -60,11 +60,11 @@ place-near c placed a =
     any-weaker (λ other. (test other && p (anchor other)) ≡ true) (IsNear c) placed (tested-near c)
     (Any-from_list_any (λ (other : CandidateValue). test other && p (anchor other)) placed (sym (any-filtered test anchor p placed) ∙ one))
 
--- none of no anchors is near
+-- an empty list has no near anchor
 pub none-any : {X : Type 0} {P : X → Type 0} → Any P [] → ⊥
 none-any a = absurd (omega (arith, a.2))
 
--- what holds of one of some holds of one of them and another
+-- what holds for one element of a list holds for one of the list with another element
 pub any-append : {X : Type 0} (P : X → Type 0) (xs : List X) (y : X) → Any P xs → Any P (xs ++ y ∷ [])
 any-append P xs y a =
     (a.0, a.1, omega (arith, a.2, length-append xs (y ∷ [])), get_or_append_left xs (y ∷ []) a.1 a.0 a.2 ∙ a.3, a.4)

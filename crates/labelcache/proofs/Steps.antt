@@ -1,4 +1,4 @@
--- The labels that are placed so far, as the order of trial comes down.
+-- The labels that are placed so far, as the order of trial goes on.
 use Rattle.std.proofs.Common.{◌≡◌, ℕ, ◌+◌, ◌<◌, ◌≤◌, List, [], ◌∷◌, ◌++◌, length, get_or, Some, refl, sym, ◌∙◌, ap, subst, inl, inr, arith}
 use Rattle.std.proofs.lemmas.Bool.{cases_lt, cases_eq}
 use Rattle.std.proofs.lemmas.List.{get_or_append_left, length-append}
@@ -17,7 +17,7 @@ use Rattle.labelcache.specs.Placing.{PlacingValue, IsFar, Fits, FitsNowhere, Add
 use Rattle.labelcache.proofs.Trying.{tried-irrefl, tried-asym}
 use Rattle.labelcache.proofs.Unique.{passes-move}
 
--- a label is of a candidate
+-- each label has a candidate
 abbrev pub IsOf : List CandidateValue → Placed → CandidateValue → Type 0
 IsOf cs label other = slice_get cs label.number ≡ Some other
 
@@ -27,7 +27,7 @@ not-less a b n = elim (cases_lt a b) [ inl h ↦ absurd (n h) | inr h ↦ h ]
 not-both : (a b : ℕ) → a < b → b ≤ a → ⊥
 not-both a b h k = omega arith
 
--- candidates that aren't near are apart, and the other way round
+-- candidates are apart exactly where they aren't near
 pub far-apart : (cs : List CandidateValue) (c : CandidateValue) (labels : List Placed) (others : List CandidateValue) → AllZip (IsOf cs) labels others →
     IsFar c others → All (IsApart cs c) labels
 far-apart cs c [] [] z f = All-nil (IsApart cs c)
@@ -50,7 +50,7 @@ apart-far cs c (l ∷ ls) (o ∷ os) z a =
     (λ near. not-both (squared_distance c.anchor o.anchor) (square c.label.mindistance) near.near (All-head (IsApart cs c) l ls a o z.0 near.text))
     (apart-far cs c ls os z.1 (All-tail (IsApart cs c) l ls a))
 
--- one more label and its candidate
+-- one more label, with its candidate
 zip-push : (cs : List CandidateValue) (labels : List Placed) (others : List CandidateValue) (l : Placed) (o : CandidateValue) → AllZip (IsOf cs) labels others → IsOf cs l o →
     AllZip (IsOf cs) (labels ++ l ∷ []) (others ++ o ∷ [])
 zip-push cs [] [] l o z h = (h, record {})
@@ -62,7 +62,7 @@ zip-push cs (x ∷ xs) (y ∷ ys) l o z h = (z.0, zip-push cs xs ys l o z.1 h)
 abbrev pub AllBefore : List CandidateValue → List Placed → ℕ → Type 0
 AllBefore cs labels n = All (λ label. IsTriedBefore cs label.number n) labels
 
--- against labels that are all tried before, to fit is to pass
+-- where all labels are tried before the candidate, fitting is passing
 pub fits-passes : (s : Setting) (old : PlacingValue) (n : ℕ) (c : CandidateValue) (at : PixelValue) → AllZip (IsOf s.candidates) old.labels old.candidates →
     Fits s.page old c at → Passes s old.labels n c at
 fits-passes s old n c at z f = record {
@@ -78,7 +78,7 @@ passes-fits s old n c at z before p = record {
   far = λ e. apart-far s.candidates c old.labels old.candidates z (λ k d h. p.apart e k d h (before k d h));
 }
 
--- a label more that isn't tried before a number changes nothing for it
+-- one more label that isn't tried before a number changes nothing for it
 pub passes-more : (s : Setting) (labels : List Placed) (l : Placed) (n : ℕ) (c : CandidateValue) (at : PixelValue) → (IsTriedBefore s.candidates l.number n → ⊥) →
     Passes s labels n c at → Passes s (labels ++ l ∷ []) n c at
 passes-more s labels l n c at not p = record {
@@ -87,7 +87,7 @@ passes-more s labels l n c at not p = record {
   apart = λ e. All-push (λ label. IsTriedBefore s.candidates label.number n → IsApart s.candidates c label) labels l (p.apart e) (λ t. absurd (not t));
 }
 
--- an element of a list stands in the longer one
+-- an element of a list is in the longer one
 kept : (labels : List Placed) (l x : Placed) (i : ℕ) → slice_get labels i ≡ Some x → slice_get (labels ++ l ∷ []) i ≡ Some x
 kept labels l x i is =
     let w = slice_get_within labels i x is in
@@ -96,7 +96,7 @@ kept labels l x i is =
 pub passes-less : (s : Setting) (labels : List Placed) (l : Placed) (n : ℕ) (c : CandidateValue) (at : PixelValue) → Passes s (labels ++ l ∷ []) n c at → Passes s labels n c at
 passes-less s labels l n c at p = passes-move s (labels ++ l ∷ []) labels n c at (λ i x is t. kept labels l x i is) p
 
--- the first of which P holds is the first of which Q does
+-- the first for which P holds is the first for which Q does
 pub first-map : {X : Type 0} (P Q : X → Type 0) (xs : List X) (x : X) → ((z : X) → P z → Q z) → ((z : X) → Q z → P z) → IsFirst P xs x → IsFirst Q xs x
 first-map P Q xs x to from f = record {
   index = f.index;
@@ -105,14 +105,14 @@ first-map P Q xs x to from f = record {
   none = λ i y lt is h. f.none i y lt is (from y h);
 }
 
--- what is reached stays reached
+-- a number that is reached stays reached
 reached-more : (cs : List CandidateValue) (p n m : ℕ) → IsReached cs p (n + 1) m → IsReached cs p n m
 reached-more cs p n m r = elim r [
   | inl h ↦ inl h
   | inr h ↦ inr (h.0, omega (arith, h.1))
 ]
 
--- and what is reached then, if it isn't the number itself, was reached before
+-- and a number that is reached then was reached before, if it isn't the number itself
 reached-other : (cs : List CandidateValue) (p n m : ℕ) → IsReached cs p n m → (m ≡ n → ⊥) → IsReached cs p (n + 1) m
 reached-other cs p n m r other = elim r [
   | inl h ↦ inl h
@@ -126,7 +126,7 @@ all-before s p n x t e k d h = elim (t.reached k d h) [
   | inr r ↦ inr (r.0 ∙ sym e, omega (arith, r.1))
 ]
 
--- a number without a label, if it has the priority, is shut out
+-- a number of the priority that has no label is shut out
 pub come-down : (s : Setting) (p n : ℕ) (x : PlacingValue) → IsPlacedTo s p (n + 1) x →
     ((c : CandidateValue) → slice_get s.candidates n ≡ Some c → priority_of s.candidates n ≡ p → IsShutOut s x.labels n c) → IsPlacedTo s p n x
 come-down s p n x t shut = record {
@@ -143,7 +143,7 @@ come-down s p n x t shut = record {
   candidates = t.candidates;
 }
 
--- a candidate that has no place
+-- a candidate that fits nowhere
 pub step-leaves : (s : Setting) (p n : ℕ) (c : CandidateValue) (x : PlacingValue) → IsPlacedTo s p (n + 1) x → slice_get s.candidates n ≡ Some c →
     FitsNowhere s.page x c → IsPlacedTo s p n x
 step-leaves s p n c x t is none = come-down s p n x t (λ c' is' e i at there passes.
@@ -254,7 +254,7 @@ ends s x within t = record {
       t.left_out m c is (inl (omega (arith, least.0, priority-is s.candidates m c is))) none;
 }
 
--- what trying a candidate makes of the labels
+-- how a tried candidate changes the labels
 pub step-tries : (s : Setting) (p n : ℕ) (c : CandidateValue) (old new : PlacingValue) → IsPlacedTo s p (n + 1) old → slice_get s.candidates n ≡ Some c →
     c.label.priority ≡ p → Tries s.page n c old new → IsPlacedTo s p n new
 step-tries s p n c old new t is e tries = elim tries [

@@ -1,4 +1,4 @@
--- There is one placement at most.
+-- There is at most one placement.
 use Rattle.std.proofs.Common.{◌≡◌, ℕ, zero, suc, ◌<◌, ◌≤◌, List, [], ◌∷◌, get_or, Option, None, Some, refl, sym, ◌∙◌, ap, inl, inr, ⊎_elim, arith}
 use Rattle.std.proofs.lemmas.Bool.{cases_lt, cases_eq}
 use Rattle.std.proofs.lemmas.Option.{none-some, same_Some, slice_get_within, slice_get-get_or, get_or_from_slice_get}
@@ -10,7 +10,7 @@ use Rattle.labelcache.specs.LabelBox.{corners, taken_at}
 use Rattle.labelcache.specs.Placement.{Setting, Passes, IsFirst, HasNone, IsPlacement, HasOnePlacement}
 use Rattle.labelcache.proofs.Trying.{tried-irrefl, tried-asym, tried-cases, tried-trans}
 
--- lists whose elements are the same are the same
+-- lists with the same elements are the same
 pub same-list : {X : Type 0} (xs ys : List X) → ((i : ℕ) → slice_get xs i ≡ slice_get ys i) → xs ≡ ys
 same-list [] [] h = refl
 same-list [] (y ∷ ys) h = absurd (none-some y (h 0))
@@ -20,7 +20,7 @@ same-list (x ∷ xs) (y ∷ ys) h =
     let r : xs ≡ ys = same-list xs ys (λ i. h (suc i)) in
     rw (e, r) refl
 
--- the first element of which P holds is the first of which Q does, where both hold of the same ones
+-- the first element for which P holds is the first for which Q does, where both hold for the same ones
 pub first-same : {X : Type 0} (P Q : X → Type 0) (xs : List X) (x y : X) → ((z : X) → P z → Q z) → ((z : X) → Q z → P z) → IsFirst P xs x → IsFirst Q xs y → x ≡ y
 first-same P Q xs x y to from f g = elim (cases_lt f.index g.index) [
   | inl lt ↦ absurd (g.none f.index x lt f.is (to x f.holds))
@@ -30,7 +30,7 @@ first-same P Q xs x y to from f g = elim (cases_lt f.index g.index) [
   ]
 ]
 
--- what passes against some labels passes against others, if those of them that count are among the first
+-- what passes against some labels passes against others, if the relevant ones of these are among the first
 pub passes-move : (s : Setting) (a b : List Placed) (n : ℕ) (c : CandidateValue) (at : PixelValue) →
     ((i : ℕ) (l : Placed) → slice_get b i ≡ Some l → IsTriedBefore s.candidates l.number n → slice_get a i ≡ Some l) →
     Passes s a n c at → Passes s b n c at
@@ -55,7 +55,7 @@ order-at s a i k l x p lt is there =
     let q = p.order i k x lt (slice_get_within a k x there) in
     rw (get_or_from_slice_get a i l x is, get_or_from_slice_get a k x x there) at q
 
--- a label isn't the first one that another placement lacks
+-- a label isn't the first one that is missing in another placement
 pub no-extra : (s : Setting) (a b : List Placed) (k : ℕ) (x : Placed) → IsPlacement s a → IsPlacement s b → slice_get a k ≡ Some x →
     ((i : ℕ) → i < k → slice_get a i ≡ slice_get b i) → ((i : ℕ) (l : Placed) → k ≤ i → slice_get b i ≡ Some l → IsTriedBefore s.candidates x.number l.number) → ⊥
 no-extra s a b k x p q there agree later =
@@ -75,7 +75,7 @@ no-extra s a b k x p q there agree later =
     (cases_lt i k)) st.first.holds in
     q.left_out x.number st.candidate st.is none st.first.index x.at st.first.is passes
 
--- two labels of one candidate, behind the same labels, are the same
+-- two labels of one candidate that follow the same labels are the same
 pub same-label : (s : Setting) (a b : List Placed) (k : ℕ) (x y : Placed) → IsPlacement s a → IsPlacement s b → slice_get a k ≡ Some x → slice_get b k ≡ Some y →
     ((i : ℕ) → i < k → slice_get a i ≡ slice_get b i) → x.number ≡ y.number → x ≡ y
 same-label s a b k x y p q there there' agree e =

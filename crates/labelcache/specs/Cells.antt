@@ -13,11 +13,11 @@ use Rattle.labelcache.specs.declared.cells.GridPoint.{GridPoint}
 abbrev pub offset : ℤ → ℕ
 offset position = unsigned_abs (position +ℤ pos (2 ^ 32))
 
--- the point of a place
+-- the point of an anchor
 abbrev pub point_of : PixelValue → GridPoint
 point_of p = record { column = offset p.i; row = offset p.j }
 
--- the cell of a level that has a point
+-- the cell of a level that contains a point
 abbrev pub cell_of : ℕ → GridPoint → Cell
 cell_of level point = record { level = level; column = point.column / 2 ^ level; row = point.row / 2 ^ level }
 
@@ -30,7 +30,7 @@ pub record IsWithin (point : GridPoint) : Type 0 where
   pub column : point.column < 2 ^ 33
   pub row : point.row < 2 ^ 33
 
--- a cell lies among such columns and rows
+-- a cell lies within such columns and rows
 pub record IsCell (cell : Cell) : Type 0 where
   pub column : (cell.column + 1) * 2 ^ cell.level ≤ 2 ^ 33
   pub row : (cell.row + 1) * 2 ^ cell.level ≤ 2 ^ 33
@@ -51,18 +51,18 @@ cell_cmp a b = ordering_then (nat_cmp a.0 b.0) (ordering_then (nat_cmp a.1.0 b.1
 abbrev pub has : BTreeSet (ℕ × (ℕ × ℕ)) → Cell → Bool
 has marked cell = contains cell_cmp marked (cell.level, (cell.column, cell.row))
 
--- the cells of all levels that have a point are marked
+-- the cells of all levels that contain a point are marked
 abbrev pub IsMarked : BTreeSet (ℕ × (ℕ × ℕ)) → GridPoint → Type 0
 IsMarked marked point = (level : ℕ) → level ≤ 33 → IsTrue (has marked (cell_of level point))
 
--- the cell that has one point alone is marked, and that point is nearer to another than a distance
+-- a cell of the lowest level is marked, and its one point is nearer to another than a distance
 pub record HasNearPoint (marked : BTreeSet (ℕ × (ℕ × ℕ))) (point : GridPoint) (distance : ℕ) : Type 0 where
   pub cell : Cell
   pub lowest : cell.level ≡ 0
   pub is : IsTrue (has marked cell)
   pub near : IsPointNear point distance (record { column = cell.column; row = cell.row })
 
--- anchors are noted: all cells that have one are marked, and of the cells of one point no others
+-- anchors are kept: all cells that contain one are marked, and no other cell of the lowest level is
 pub record AreNoted (marked : BTreeSet (ℕ × (ℕ × ℕ))) (anchors : List PixelValue) : Type 0 where
   pub sizes : All IsAnchor anchors
   pub each : All (λ p. IsMarked marked (point_of p)) anchors

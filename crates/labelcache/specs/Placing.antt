@@ -1,4 +1,4 @@
--- The labels that are placed so far, and what one candidate more makes of them: the account of the code.
+-- The labels that are placed so far, and what one more candidate changes: the account of the code.
 use Rattle.std.specs.Prelude.{◌≡◌, ℕ, ◌<◌, ◌≤◌, false, List, [], ◌∷◌, ◌++◌, Some, slice_get, All, ◌⊎◌}
 use Rattle.std.specs.List.{AllPairs, AllZip}
 use Rattle.geom.specs.Device.{PixelValue}
@@ -15,34 +15,34 @@ pub record PlacingValue : Type 0 where
   pub labels : List Placed
   pub candidates : List CandidateValue
 
--- a box may be taken, by the tests of a label on the picture and against the labels so far
+-- a label may take a box: its tests pass on the picture and against the labels so far
 pub record IsFree (page : PageValue) (label : LabelFields) (labels : List Placed) (taken : PixelBoxValue) : Type 0 where
   pub shown : label.partials ≡ false → IsInside taken page.width page.height
   pub clear : label.force ≡ false → All (IsClear taken) labels
 
--- a candidate's text may stand at a pixel, by its box there
+-- a candidate's box is free where its text's corner is a pixel
 abbrev pub IsFreeAt : PageValue → List Placed → CandidateValue → PixelValue → Type 0
 IsFreeAt page labels c at = IsFree page c.label labels (taken_at page.font c at)
 
--- the first of some pixels where it may stand, with the box there
+-- the first of some corners where the box is free, with the box there
 pub record IsFirstFree (page : PageValue) (labels : List Placed) (c : CandidateValue) (pixels : List PixelValue) (at : PixelValue) (taken : PixelBoxValue) : Type 0 where
   pub first : IsFirst (IsFreeAt page labels c) pixels at
   pub box : taken ≡ taken_at page.font c at
 
--- it may stand at none of them
+-- the box is free at none of them
 abbrev pub HasNoFree : PageValue → List Placed → CandidateValue → List PixelValue → Type 0
 HasNoFree page labels c pixels = (i : ℕ) (at : PixelValue) → slice_get pixels i ≡ Some at → IsFreeAt page labels c at → ⊥
 
--- no candidate of a label so far has the same text too near
+-- no candidate of a label so far has the same text and an anchor that is too near
 abbrev pub IsFar : CandidateValue → List CandidateValue → Type 0
 IsFar c others = All (λ other. IsNear c other → ⊥) others
 
--- a candidate's text may stand at a pixel
+-- a candidate's text may have its corner at a pixel
 pub record Fits (page : PageValue) (old : PlacingValue) (c : CandidateValue) (at : PixelValue) : Type 0 where
   pub free : IsFreeAt page old.labels c at
   pub far : c.label.force ≡ false → IsFar c old.candidates
 
--- the first of its corners where it fits, with the box there; or it fits at none
+-- the first of its corners where it fits, with the box there; or it fits nowhere
 pub record IsFirstFit (page : PageValue) (old : PlacingValue) (c : CandidateValue) (at : PixelValue) (taken : PixelBoxValue) : Type 0 where
   pub first : IsFirst (Fits page old c) (corners page.font c) at
   pub box : taken ≡ taken_at page.font c at
@@ -50,7 +50,7 @@ pub record IsFirstFit (page : PageValue) (old : PlacingValue) (c : CandidateValu
 abbrev pub FitsNowhere : PageValue → PlacingValue → CandidateValue → Type 0
 FitsNowhere page old c = (i : ℕ) (at : PixelValue) → slice_get (corners page.font c) i ≡ Some at → Fits page old c at → ⊥
 
--- a label of the candidate is added, at its first place
+-- a label of the candidate is added, at the first corner where it fits
 pub record Adds (page : PageValue) (n : ℕ) (c : CandidateValue) (old new : PlacingValue) : Type 0 where
   pub label : Placed
   pub number : label.number ≡ n
@@ -58,7 +58,7 @@ pub record Adds (page : PageValue) (n : ℕ) (c : CandidateValue) (old new : Pla
   pub labels : new.labels ≡ old.labels ++ label ∷ []
   pub candidates : new.candidates ≡ old.candidates ++ c ∷ []
 
--- or there is none, and all stays
+-- or it fits nowhere, and all stays
 pub record Leaves (page : PageValue) (c : CandidateValue) (old new : PlacingValue) : Type 0 where
   pub none : FitsNowhere page old c
   pub same : new ≡ old
@@ -66,7 +66,7 @@ pub record Leaves (page : PageValue) (c : CandidateValue) (old new : PlacingValu
 abbrev pub Tries : PageValue → ℕ → CandidateValue → PlacingValue → PlacingValue → Type 0
 Tries page n c old new = Adds page n c old new ⊎ Leaves page c old new
 
--- a number is reached by the order of trial, where it has come down to number n of a priority
+-- the order of trial, which has come down to number n of a priority, has reached a number
 abbrev pub IsReached : List CandidateValue → ℕ → ℕ → ℕ → Type 0
 IsReached candidates priority n m = (priority < priority_of candidates m) ⊎ ((priority_of candidates m ≡ priority) × (n ≤ m))
 

@@ -11,11 +11,11 @@ use mapdefs::Font;
 use std::alloc::{AllocError, Global};
 use std::marker::Model;
 
-// How many characters have their advances at hand: those of ASCII.
+// How many characters have their advances stored: those of ASCII.
 const AT_HAND: u32 = 128;
 
-/// A font, with the advances of its first characters at hand. Texts are measured without a search for each of
-/// their characters.
+/// A font, with the advances of its first characters stored. Texts of ASCII are measured without a search for their
+/// characters.
 #[derive(Drop)]
 pub struct Advances<'a> {
     font: &'a Font,

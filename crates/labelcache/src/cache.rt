@@ -9,8 +9,8 @@ use mapdefs::Font;
 use std::alloc::{AllocError, Global};
 use std::marker::Model;
 
-/// A label that is placed: the number of its candidate, the upper left pixel of its text, and the box that
-/// it takes.
+/// A label that is placed: the number of its candidate, the corner of its text, and the box that it
+/// takes.
 #[derive(Clone, Copy)]
 pub struct Placed {
     pub number: usize,
@@ -65,7 +65,7 @@ impl Cache<'_> {
 
     /// The placement of the candidates on a picture of that width and height, with the font.
     ///
-    /// It takes memory for the labels, for what tests ask of them, and for some advances of the font.
+    /// It takes memory for the labels, for the indices that tests query, and for some advances of the font.
     pub fn place(
         &self,
         alloc: Global,

@@ -8,7 +8,7 @@ use geom::Pixel;
 use std::alloc::{AllocError, Global};
 use std::collections::BTreeSet;
 
-// The level of the cell that has all anchors: its sides have 2^33 pixels.
+// The level of the cell that contains all anchors. Its sides have 2^33 pixels.
 const TOP: u8 = 33;
 
 /// A column and a row of an anchor, counted from 2^32 before the picture's first.
@@ -26,10 +26,10 @@ pub struct Cell {
     pub row: u64,
 }
 
-/// The cells that are marked: of each a level, a column and a row.
+/// The cells that are marked, each by its level, column and row.
 pub type Marked = BTreeSet<(u8, (u64, u64))>;
 
-// A column or a row, counted from 2^32 before the first.
+// A column or a row of an anchor, counted from 2^32 before the picture's first.
 fn offset(position: i64) -> u64
     requires { IsBelow (2 ^ 32) position }
     ensures value { result ≡ offset position }
@@ -38,7 +38,7 @@ fn offset(position: i64) -> u64
     (position + 4_294_967_296).unsigned_abs()
 }
 
-/// The point of an anchor.
+/// The point of an anchor: its column and its row as they are counted in cells.
 pub fn point_of(anchor: Pixel) -> GridPoint
     requires { IsAnchor anchor }
     ensures value { result ≡ point_of anchor }
@@ -50,7 +50,7 @@ pub fn point_of(anchor: Pixel) -> GridPoint
     }
 }
 
-// The cell of a level that has a point.
+// The cell of a level that contains a point.
 fn cell_of(level: u8, point: GridPoint) -> Cell
     requires { level ≤ 33 }
     ensures { result ≡ cell_of level point }
@@ -93,9 +93,10 @@ fn mark_cell(marked: &mut Marked, cell: Cell) -> Result<(), AllocError>
     }
 }
 
-/// Marks the cells of all levels that have a point. Where memory is refused no further point is marked.
+/// Marks the cells of all levels that contain a point. Where memory is refused, no further cell of the lowest level
+/// is marked.
 ///
-/// The cell of the point alone is the last.
+/// The cell of the lowest level, which has that point alone, is marked last.
 pub fn mark_point(marked: &mut Marked, point: GridPoint) -> Result<(), AllocError>
     ensures grows { (q : Cell) → IsTrue (has marked.old q) → IsTrue (has marked.new q) }
     ensures done { OnOk result (IsMarked marked.new point) }
@@ -106,7 +107,7 @@ pub fn mark_point(marked: &mut Marked, point: GridPoint) -> Result<(), AllocErro
     mark_cell(marked, cell_of(0, point))
 }
 
-// Marks the cells of all levels but the lowest that have a point.
+// Marks the cells of all levels but the lowest that contain a point.
 fn mark_above(marked: &mut Marked, point: GridPoint) -> Result<(), AllocError>
     ensures grows { (q : Cell) → IsTrue (has marked.old q) → IsTrue (has marked.new q) }
     ensures done { OnOk result ((level : ℕ) → 0 < level → level ≤ 33 → IsTrue (has marked.new (cell_of level point))) }
@@ -130,7 +131,7 @@ fn side_of(level: u8) -> u64
     2_u64.pow(u32::from(level))
 }
 
-// How far a position is from the nearest of so many positions from the first on.
+// How far a column or row is from the nearest of so many from the first on.
 fn gap(first: u64, side: u64, at: u64) -> u64
     requires side { 1 ≤ side }
     requires end { first + side ≤ 2 ^ 34 }
@@ -147,7 +148,7 @@ fn gap(first: u64, side: u64, at: u64) -> u64
     }
 }
 
-// Whether a cell may have a point that is nearer to another than a distance.
+// Whether a cell may contain a point that is nearer to another than a distance.
 fn may_be_near(cell: Cell, point: GridPoint, distance: u16) -> bool
     requires level { cell.level ≤ 33 }
     requires cell { IsCell cell }
@@ -168,8 +169,8 @@ fn has(marked: &Marked, cell: Cell) -> bool
     marked.contains(&(cell.level, (cell.column, cell.row)))
 }
 
-// Whether a cell has a marked point that is nearer to another than a distance. Cells that are too far are passed by
-// with all that they have.
+// Whether a cell contains a marked point that is nearer to another than a distance. A cell that is too far is skipped
+// with all that it contains.
 fn finds(marked: &Marked, cell: Cell, point: GridPoint, distance: u16) -> bool
     requires level { cell.level ≤ 33 }
     requires cell { IsCell cell }

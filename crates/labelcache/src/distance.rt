@@ -1,7 +1,7 @@
 ghost use Rattle.std.specs.Prelude.{◌+◌, ◌*◌, ◌<◌, ◌↔◌, IsTrue};
 ghost use Rattle.labelcache.specs.Candidate.{square};
 
-/// Whether a distance across and one down come to less than a distance.
+/// Whether the distance of two pixels that are so far apart across and down is less than a distance.
 #[tactic(auto, using(crate::proofs::Squares::far_across, crate::proofs::Squares::far_down))]
 pub fn is_within(across: u64, down: u64, distance: u16) -> bool
     ensures { IsTrue result ↔ (square across + square down < square distance) }

@@ -9,8 +9,8 @@ use std::alloc::{AllocError, Global};
 use std::collections::BTreeSet;
 use std::marker::Model;
 
-/// Anchors in the order in which they were added. A near one is looked for in cells within cells, so that it doesn't
-/// matter how many there are and where.
+/// Anchors in the order in which they were added. A near one is searched for in cells within cells, so a search is
+/// short however many there are and wherever they lie.
 #[derive(Drop)]
 pub struct MarkedAnchors {
     anchors: Vec<Pixel>,
@@ -30,7 +30,7 @@ impl Model for MarkedAnchors {
 }
 
 impl MarkedAnchors {
-    /// None. It takes no memory.
+    /// No anchors. It takes no memory.
     pub fn new(alloc: Global) -> Self
         ensures { result ≡ [] }
     {
@@ -52,7 +52,7 @@ impl MarkedAnchors {
         Ok(())
     }
 
-    /// Whether one of them is nearer to an anchor than a distance.
+    /// Whether one of the anchors is nearer to another than a distance.
     pub fn has_near(&self, anchor: Pixel, distance: u16) -> bool
         requires { IsAnchor anchor }
         ensures { IsTrue result ↔ Any (IsAnchorNear anchor distance) self.now }

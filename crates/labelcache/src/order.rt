@@ -11,14 +11,14 @@ use crate::trial::try_candidate;
 use mapdefs::MAX_PRIORITY;
 use std::alloc::{AllocError, Global};
 
-/// How far the order of trial has come: a number of a priority.
+/// How far the order of trial has come: to a number of a priority.
 #[derive(Clone, Copy)]
 pub struct Turn {
     pub priority: u8,
     pub number: usize,
 }
 
-// Tries the candidate of a number, if it has the priority.
+// Tries the candidate of a number, if the candidate has the priority.
 fn place_number<'a>(
     placing: &mut Placing<'a>,
     page: &Page<'_>,
@@ -37,7 +37,7 @@ fn place_number<'a>(
     Ok(())
 }
 
-// Tries the candidates of a priority, by falling numbers.
+// Tries the candidates of a priority, by falling number.
 fn place_priority<'a>(
     placing: &mut Placing<'a>,
     page: &Page<'_>,

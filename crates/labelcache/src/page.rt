@@ -26,7 +26,7 @@ impl<'a> Model for Page<'a> {
 }
 
 impl<'a> Page<'a> {
-    /// The page of that width, height and font.
+    /// The page with that width, height and font.
     pub fn new(
         alloc: Global,
         width: PictureSide,
@@ -42,14 +42,14 @@ impl<'a> Page<'a> {
         })
     }
 
-    /// How many columns the picture has.
+    /// The width of the picture, in columns.
     pub fn width(&self) -> PictureSide
         ensures { result ≡ self.now.width }
     {
         self.width
     }
 
-    /// How many rows it has.
+    /// The height of the picture, in rows.
     pub fn height(&self) -> PictureSide
         ensures { result ≡ self.now.height }
     {

@@ -10,7 +10,7 @@ use geom::{PictureSide, PxBox};
 use std::alloc::{AllocError, Global};
 use std::marker::Model;
 
-/// The labels that are placed so far, with what tests ask of them.
+/// The labels that are placed so far. Their boxes and anchors are kept again in the indices that tests query.
 #[derive(Drop)]
 pub struct Placing<'a> {
     labels: Vec<Placed>,
@@ -42,7 +42,7 @@ impl<'a> Placing<'a> {
         })
     }
 
-    /// Adds a label of that candidate. Where memory is refused the candidate may stay without its label.
+    /// Adds a label of that candidate. Where memory is refused, the candidate may be added without its label.
     pub fn add(&mut self, label: Placed, candidate: Candidate<'a>) -> Result<(), AllocError>
         ensures labels { OnOk result (self.new.labels ≡ self.old.labels ++ label ∷ []) }
         ensures candidates { OnOk result (self.new.candidates ≡ self.old.candidates ++ candidate.entry ∷ []) }
@@ -68,14 +68,14 @@ impl<'a> Placing<'a> {
         labels
     }
 
-    /// Whether a box shares no pixel with those of the labels.
+    /// Whether a box shares no pixel with the boxes of the labels.
     pub fn is_clear(&self, taken: PxBox) -> bool
         ensures { IsTrue result ↔ All (IsClear taken) self.now.labels }
     {
         !self.boxes.hits(taken)
     }
 
-    /// Whether no label of the same text is nearer to a candidate's anchor than its label allows.
+    /// Whether each label of the same text is at least as far from a candidate's anchor as the candidate's label requires.
     pub fn is_far(&self, candidate: &Candidate<'_>) -> bool
         ensures { IsTrue result ↔ IsFar candidate.now self.now.candidates }
     {

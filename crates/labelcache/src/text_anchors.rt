@@ -10,7 +10,7 @@ use geom::Pixel;
 use std::alloc::{AllocError, Global};
 use std::marker::Model;
 
-// How many anchors of a text are asked one by one, for which no cell is marked. Most texts have one.
+// How many anchors of a text are compared one by one. No cell is marked for them. Most texts have one anchor.
 const FEW: usize = 16;
 
 /// The anchors of the labels of one text, in the order in which they were added: the first few, and the others.
@@ -33,7 +33,7 @@ impl Model for TextAnchors {
 }
 
 impl TextAnchors {
-    /// None. It takes no memory.
+    /// No anchors. It takes no memory.
     pub fn new(alloc: Global) -> Self
         ensures { result ≡ [] }
     {
@@ -56,7 +56,7 @@ impl TextAnchors {
         self.others.add(anchor)
     }
 
-    /// Whether one of them is nearer to an anchor than a distance.
+    /// Whether one of the anchors is nearer to another than a distance.
     pub fn has_near(&self, anchor: Pixel, distance: u16) -> bool
         requires { IsAnchor anchor }
         ensures { IsTrue result ↔ Any (IsAnchorNear anchor distance) self.now }

@@ -13,14 +13,14 @@ use geom::{Pixel, PxBox};
 use mapdefs::{LabelFields, Position};
 use std::alloc::AllocError;
 
-/// Where a text stands, and the box that it takes there.
+/// The corner of a text, and the box that its label takes there.
 #[derive(Clone, Copy)]
 pub struct Fit {
     pub at: Pixel,
     pub taken: PxBox,
 }
 
-// The fit of a candidate, whose text has that size, at a position.
+// The fit at a position of a candidate whose text has that size.
 fn fit_at(page: &Page<'_>, candidate: &Candidate<'_>, size: TextSize, position: Position) -> Fit
     requires { size ≡ size_of page.now.font candidate.now.text }
     ensures at { result.at ≡ corner_at candidate.now.anchor (size_of page.now.font candidate.now.text) position }
@@ -31,14 +31,14 @@ fn fit_at(page: &Page<'_>, candidate: &Candidate<'_>, size: TextSize, position: 
     Fit { at, taken }
 }
 
-// Whether a box lies in the picture, or need not.
+// Whether a box lies in the picture, or the label may be cut at its border.
 fn is_shown(page: &Page<'_>, label: &LabelFields, taken: PxBox) -> bool
     ensures { IsTrue result ↔ (label.now.partials ≡ false → IsInside taken page.now.width page.now.height) }
 {
     label.partials || taken.inside(page.width(), page.height())
 }
 
-// Whether it is clear of the labels so far, or need not.
+// Whether a box is clear of the labels so far, or the label is forced.
 fn is_clear(placing: &Placing<'_>, label: &LabelFields, taken: PxBox) -> bool
     ensures { IsTrue result ↔ (label.now.force ≡ false → All (IsClear taken) placing.now.labels) }
 {
@@ -52,7 +52,7 @@ fn is_free(placing: &Placing<'_>, page: &Page<'_>, label: &LabelFields, taken: P
     is_shown(page, label, taken) && is_clear(placing, label, taken)
 }
 
-// The first of some positions where a candidate's text is free.
+// The first of some positions where a candidate's text is free, with its corner there and the box that it takes.
 fn first_free(
     placing: &Placing<'_>,
     page: &Page<'_>,
@@ -74,7 +74,7 @@ fn first_free(
     None
 }
 
-// The first of the positions that one stands for where a candidate's text is free.
+// The first position where a candidate's text is free: of the automatic ones, or of the one that is given.
 fn first_position(
     placing: &Placing<'_>,
     page: &Page<'_>,
@@ -90,15 +90,15 @@ fn first_position(
     }
 }
 
-// Whether a candidate keeps its distance to the labels so far, or need not.
+// Whether a candidate keeps its distance to the labels so far, or its label is forced.
 fn is_far(placing: &Placing<'_>, candidate: &Candidate<'_>) -> bool
     ensures { IsTrue result ↔ (candidate.now.label.force ≡ false → IsFar candidate.now placing.now.candidates) }
 {
     candidate.label().force || placing.is_far(candidate)
 }
 
-// The first of a candidate's corners where it fits, with the box that it takes there. Its distance doesn't
-// depend on the place, so it is tested once.
+// The first of a candidate's corners where it fits, with the box that it takes there. The distance doesn't depend
+// on the corner, so it is tested once.
 fn first_fit(placing: &Placing<'_>, page: &Page<'_>, candidate: &Candidate<'_>) -> Option<Fit>
     ensures some { IfSome result (λ fit. IsFirstFit page.now placing.now candidate.now fit.at fit.taken) }
     ensures none { IfNone result (FitsNowhere page.now placing.now candidate.now) }
@@ -112,7 +112,7 @@ fn first_fit(placing: &Placing<'_>, page: &Page<'_>, candidate: &Candidate<'_>) 
     }
 }
 
-/// Tries the candidate of that number against the labels so far: adds its label, if it has a place.
+/// Tries the candidate of that number against the labels so far. If it fits somewhere, its label is added.
 pub fn try_candidate<'a>(
     placing: &mut Placing<'a>,
     page: &Page<'_>,
