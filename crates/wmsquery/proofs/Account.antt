@@ -43,7 +43,7 @@ viewport_order = parameter.Crs ∷ parameter.Bbox ∷ parameter.Width ∷ parame
 abbrev output_order : List Parameter
 output_order = parameter.Format ∷ parameter.Transparent ∷ parameter.Bgcolor ∷ []
 
--- and those that GetFeatureInfo has behind them
+-- and those that GetFeatureInfo has after them
 abbrev asked_order : List Parameter
 asked_order = parameter.QueryLayers ∷ parameter.InfoFormat ∷ []
 
@@ -221,7 +221,7 @@ module _ (map : MapFields) (sequence : ℕ) (t : Texts) where
 
   -- ---- the whole
 
-  -- the fault of what is read of the whole, and the request that it is
+  -- the fault of reading the whole, and its request
   record IsOwn (o : Operation) (r : Result Request WmsFault) : Type 0 where
     pub fault : result_err r ≡ first_fault refused (order o)
     pub value : IfOk r (IsRequestOf map t)
@@ -266,7 +266,7 @@ module _ (map : MapFields) (sequence : ℕ) (t : Texts) where
       let rest = option_map_or order (result_ok (operation_in t)) [] in
       stretches refused front rest ∙ ap (λ g. or_later g (first_fault refused rest)) (sym operation-fault ∙ ap result_err e)
 
-  -- and else the operation is known, and the fault is that of its own parameters
+  -- else the operation is known, and the fault is that of its own parameters
   known : (o : Operation) → operation_read t ≡ Ok o → operation_in t ≡ Ok o
   known o e =
       let service = steps (checked parameter.Service (service_of (given t parameter.Service))) _ o e in
@@ -280,7 +280,7 @@ module _ (map : MapFields) (sequence : ℕ) (t : Texts) where
       ∙ ap (λ g. or_later g (first_fault refused rest)) (sym operation-fault ∙ ap result_err e)
       ∙ ap (first_fault refused) is
 
-  -- what is read of the whole is what is meant
+  -- reading the whole gives what the query means
   meant-of : (o : Operation) (r : Result Request WmsFault) → operation_read t ≡ Ok o → IsOwn o r → IsMeaningOf map sequence t r
   meant-of o (Ok q) e is = (own-fault o e ∙ sym is.fault, is.value)
   meant-of o (Err f) e is = own-fault o e ∙ sym is.fault
@@ -299,7 +299,7 @@ module _ (map : MapFields) (sequence : ℕ) (t : Texts) where
   meant : (r : Result Request WmsFault) → request_read map sequence t ≡ r → IsMeaningOf map sequence t r
   meant r is = by-operation _ r refl is
 
-  -- a request that is read is the one that is meant
+  -- a request that is read is the one that the query means
   pub request-meant : (result : Result Request QueryError) →
       MatchResult result (λ r. request_read map sequence t ≡ Ok r) (IsErrorOf (request_read map sequence t)) → IfOk result (λ r. IsMeaningOf map sequence t (Ok r))
   request-meant (Ok r) is = meant (Ok r) is

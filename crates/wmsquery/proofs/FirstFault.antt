@@ -26,14 +26,14 @@ accepted-both refusal (p ∷ ps) qs hp hq = (hp.0, accepted-both refusal ps qs h
 pub none-both : (refusal : Parameter → Option Code) (ps qs : List Parameter) → AreAccepted refusal ps → AreAccepted refusal qs → first_fault refusal (ps ++ qs) ≡ None
 none-both refusal ps qs hp hq = none-refused refusal (ps ++ qs) (accepted-both refusal ps qs hp hq)
 
--- a value that is looked at first, and then what is done with it
+-- a value that is checked first, and what follows with it
 pub checked-then : {X Y : Type 0} (refusal : Parameter → Option Code) (p : Parameter) (ps : List Parameter) (x : Result X Code) (k : X → Result Y WmsFault) →
     refusal p ≡ result_err x → ((v : X) → x ≡ Ok v → result_err (k v) ≡ first_fault refusal ps) →
     result_err (and_then (checked p x) k) ≡ first_fault refusal (p ∷ ps)
 checked-then refusal p ps (Ok v) k e rest = rw e (rest v refl)
 checked-then refusal p ps (Err code) k e rest = rw e refl
 
--- a value that is looked at last
+-- a value that is checked last
 pub checked-last : {X : Type 0} (refusal : Parameter → Option Code) (p : Parameter) (x : Result X Code) →
     refusal p ≡ result_err x → result_err (checked p x) ≡ first_fault refusal (p ∷ [])
 checked-last refusal p (Ok v) e = rw e refl
@@ -56,7 +56,7 @@ stretches refusal [] qs = refl
 stretches refusal (p ∷ ps) qs =
     ap (first_of p (refusal p)) (stretches refusal ps qs) ∙ first_of-later p (refusal p) (first_fault refusal ps) (first_fault refusal qs)
 
--- a stretch of parameters that is looked at first, and then what is done with what it gives
+-- a stretch of parameters that is checked first, and what follows with its values
 pub stretch-then : {X Y : Type 0} (refusal : Parameter → Option Code) (ps qs : List Parameter) (x : Result X WmsFault) (k : X → Result Y WmsFault) →
     result_err x ≡ first_fault refusal ps → ((v : X) → x ≡ Ok v → result_err (k v) ≡ first_fault refusal qs) →
     result_err (and_then x k) ≡ first_fault refusal (ps ++ qs)

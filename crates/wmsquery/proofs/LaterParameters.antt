@@ -1,4 +1,4 @@
--- What stands after the parameter of the fault changes nothing.
+-- What comes after the parameter at fault changes nothing.
 use Rattle.std.proofs.Common.{ℕ, ◌≡◌, ◌∙◌, ◌⊎◌, List, length, [], ◌∷◌, ◌++◌, All, Option, None, Some, ap, refl, sym, subst, inl, inr}
 use Rattle.std.proofs.lemmas.List.Elements.{All-nil, All-cons, All-head, All-tail}
 use Rattle.std.specs.Option.{option_map_or, option_and_then}
@@ -16,7 +16,7 @@ use Rattle.wmsquery.specs.Pairs.{Texts, pairs_of, texts_of, some_text, names_of}
 use Rattle.wmsquery.specs.Query.{operation_in, refusal, looked_at}
 use Rattle.wmsquery.specs.Values.{and_then, service_of, operation_of, version_of, layers_of, styles_of, system_of, area_of, side_of, format_of, transparent_of, background_of, asked_of, info_format_of, feature_count_of, pixel_of, sequence_of}
 
--- ---- what the refusal of a parameter looks at
+-- ---- on what the refusal of a parameter depends
 
 -- the parameters on whose texts the refusal of a parameter depends, besides its own
 abbrev bases : Parameter → List Parameter
@@ -38,7 +38,7 @@ abbrev AreAmong : List Parameter → List Parameter → Type 0
 AreAmong [] qs = Unit {0}
 AreAmong (p ∷ ps) qs = Among p qs × AreAmong ps qs
 
--- each of some parameters has its bases among those before it, and among those that are seen already
+-- each of some parameters has its bases among those before it and those that were seen already
 abbrev IsClosed : List Parameter → List Parameter → Type 0
 IsClosed seen [] = Unit {0}
 IsClosed seen (p ∷ ps) = AreAmong (bases p) (p ∷ seen) × IsClosed (p ∷ seen) ps
@@ -106,7 +106,7 @@ found-refuses : (refuses : Parameter → Option Code) (ps : List Parameter) (f :
 found-refuses refuses [] f e = absurd (cc)
 found-refuses refuses (p ∷ ps) f e = found-first refuses p (refuses p) (first_fault refuses ps) f refl (found-refuses refuses ps f) e
 
--- the fault of a parameter doesn't depend on what comes later
+-- the fault of a parameter doesn't depend on those that come later
 last-one : (p : Parameter) (r : Option Code) (later other : Option WmsFault) (f : WmsFault) →
     (later ≡ Some f → r ≡ Some f.code) → first_of p r later ≡ Some f → first_of p r other ≡ Some f
 last-one p (Some code) later other f sound e = e
@@ -115,13 +115,13 @@ last-one p None later other f sound e = absurd (none-some f.code (sound e))
     none-some : (code : Code) → None ≡ Some code → ⊥
     none-some code e = cc
 
--- where the parameters behind one have the same fault, it has
+-- where the parameters after one have the same fault, it has the same fault, too
 next-one : (p : Parameter) (r : Option Code) (a b : Option WmsFault) (f : WmsFault) → (a ≡ Some f → b ≡ Some f) → first_of p r a ≡ Some f → first_of p r b ≡ Some f
 next-one p (Some code) a b f rest e = e
 next-one p None a b f rest e = rest e
 
 module _ (map : MapFields) (sequence : ℕ) (t u : Texts) where
-  -- texts that are the same up to the parameter of the fault have the same fault
+  -- texts that are the same up to the parameter at fault have the same fault
   fault-same : (seen before : List Parameter) (f : WmsFault) (after later : List Parameter) → All (Same t u) seen →
       IsClosed seen (before ++ f.parameter ∷ after) → All (Same t u) (before ++ f.parameter ∷ []) →
       first_fault (refusal map sequence t) (before ++ f.parameter ∷ after) ≡ Some f → first_fault (refusal map sequence u) (before ++ f.parameter ∷ later) ≡ Some f
@@ -143,7 +143,7 @@ module _ (map : MapFields) (sequence : ℕ) (t u : Texts) where
 
 -- ---- the order of a query
 
--- each parameter of an order stands behind its bases
+-- each parameter of an order comes after its bases
 order-closed : (o : Option Operation) → IsClosed [] (parameter.Service ∷ parameter.Request ∷ option_map_or order o [])
 order-closed None = (tt, (tt, tt))
 order-closed (Some operation.Capabilities) = (tt, (tt, (tt, tt)))
@@ -156,12 +156,12 @@ order-closed (Some operation.Information) =
 abbrev own : Texts → List Parameter
 own t = option_map_or order (result_ok (operation_in t)) []
 
--- what stands behind the parameter of the fault in the other query
+-- what comes after the parameter at fault in the other query
 record IsOrderOf (u : Texts) (before : List Parameter) (p : Parameter) : Type 0 where
   pub later : List Parameter
   pub is : looked_at u ≡ before ++ p ∷ later
 
--- up to the parameter of the fault both queries have the same order
+-- up to the parameter at fault both queries have the same order
 other-order : (t u : Texts) (before : List Parameter) (p : Parameter) (after : List Parameter) → looked_at t ≡ before ++ p ∷ after →
     All (Same t u) (before ++ p ∷ []) → IsOrderOf u before p
 other-order t u [] p after e same =
@@ -179,7 +179,7 @@ other-order t u (a ∷ b ∷ more) p after e same =
     ap (λ x. parameter.Service ∷ parameter.Request ∷ option_map_or order (result_ok (operation_of (option_and_then some_text x))) []) (sym request) in
     record { later = after; is = order ∙ e }
 
--- what comes later changes nothing
+-- later parameters change nothing
 pub later-changes-nothing : LaterChangesNothing
 later-changes-nothing map sequence a b f before after e same first =
     let t = texts_of (pairs_of a) in

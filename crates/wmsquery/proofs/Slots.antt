@@ -1,4 +1,4 @@
--- The texts in the slots so far, and the pairs that are left.
+-- The texts in the slots so far, and the pairs that remain.
 use Rattle.std.proofs.Common.{◌≡◌, ◌≢◌, ◌∙◌, ◌<◌, ◌⊎◌, ℕ, Bool, true, false, List, [], ◌∷◌, length, get_or, set, map, find, Option, None, Some, refl, sym, subst, ap, inl, inr, lit<, replicate, if◌then◌else◌}
 use Rattle.std.proofs.Math.Bool.{true≢false}
 use Rattle.std.proofs.lemmas.List.{get_or-set_same, get_or-set_other, length-set}
@@ -28,9 +28,9 @@ either : (b : Bool) → (b ≡ true) ⊎ (b ≡ false)
 either true = inl refl
 either false = inr refl
 
--- ---- a name is that of one parameter
+-- ---- a name is that of one parameter at most
 
--- the parameter of a name in lower case
+-- the parameter with a name in lower case
 abbrev lower_named : List ℕ → Option Parameter
 lower_named name = find (λ p. bytes_eq name (str_to_ascii_lowercase (parameter_text p))) parameters
 
@@ -92,7 +92,7 @@ own-slot parameter.Column = refl
 own-slot parameter.Row = refl
 own-slot parameter.UpdateSequence = refl
 
--- a slot is that of one parameter
+-- a slot belongs to one parameter at most
 slot-one : (p q : Parameter) → slot_of p ≡ slot_of q → p ≡ q
 slot-one p q e = sym (own-slot p) ∙ ap (λ i. get_or parameters i parameter.Service) e ∙ own-slot q
 
@@ -139,7 +139,7 @@ kept-unnamed slots name value q (Some p) e other =
     kept-other slots value p q (is_none (kept slots p)) (λ same.
     true≢false (sym passes ∙ ap (λ r. str_eq_ignore_ascii_case name (parameter_text r)) (sym (slot-one q p same)) ∙ other))
 
--- a pair that is kept need not be left
+-- a pair that was kept need not remain
 kept-pair : (slots : List (Option (List ℕ))) (pair : Pair) (rest : List Pair) → length slots ≡ COUNT → (q : Parameter) →
     or_later (kept (with_pair slots pair.name pair.value) q) (texts_of rest q) ≡ or_later (kept slots q) (texts_of (pair ∷ rest) q)
 kept-pair slots pair rest count q =
@@ -151,14 +151,14 @@ kept-pair slots pair rest count q =
           rw other (ap (λ t. or_later t (texts_of rest q)) (kept-unnamed slots pair.name pair.value q (parameter_named pair.name) refl other))
     ]
 
--- ---- what is kept and what is left
+-- ---- what is kept and what remains
 
--- the slots have the texts, but for the pairs that are left
+-- the slots have the texts, but for the pairs that remain
 pub record HaveTexts (slots : List (Option (List ℕ))) (left : List Pair) (t : Texts) : Type 0 where
   pub count : length slots ≡ COUNT
   pub texts : (p : Parameter) → or_later (kept slots p) (texts_of left p) ≡ t p
 
--- at first all are left
+-- at first all pairs remain
 pub none-kept : (pairs : List Pair) → HaveTexts (replicate COUNT None) pairs (texts_of pairs)
 none-kept pairs = record { count = refl; texts = all-left pairs }
   where
@@ -191,7 +191,7 @@ same-count slots value (Some p) = either-count (is_none (kept slots p))
     either-count true = length-set slots (slot_of p) (Some value)
     either-count false = refl
 
--- the pairs that are left begin with the next
+-- the pairs that remain begin with the next one
 left-first : (left more : List (List ℕ × List ℕ)) (n v name value : List ℕ) → left ≡ (n, v) ∷ more → DecodesTo n name → DecodesTo v value →
     map pair_of left ≡ record { name = name; value = value } ∷ map pair_of more
 unfolding text_of
@@ -207,6 +207,6 @@ next-kept slots left more n v name value t e named valued have =
           ∙ ap (λ pairs. or_later (kept slots p) (texts_of pairs p)) (sym (left-first left more n v name value e named valued)) ∙ have.texts p;
     }
 
--- at last none is left
+-- at last none remains
 pub all-kept : (slots : List (Option (List ℕ))) (t : Texts) → HaveTexts slots [] t → (p : Parameter) → kept slots p ≡ t p
 all-kept slots t have p = sym (or-none (kept slots p)) ∙ have.texts p

@@ -1,4 +1,4 @@
--- What a value in steps says of its steps.
+-- What the value of a computation in steps says of its steps.
 use Rattle.std.proofs.Common.{◌≡◌, Result, Ok, Err, refl}
 use Rattle.wmsquery.specs.declared.fault.Code.{Code}
 use Rattle.wmsquery.specs.declared.fault.Parameter.{Parameter}
@@ -6,7 +6,7 @@ use Rattle.wmsquery.specs.declared.fault.WmsFault.{WmsFault}
 use Rattle.wmsquery.specs.Reading.{checked}
 use Rattle.wmsquery.specs.Values.{and_then}
 
--- where there is a value at the end, there is one of the first step, and what is made of it
+-- where there is a value at the end, the first step has a value, and the rest makes the value at the end from it
 pub record HasSteps {X Y E : Type 0} (x : Result X E) (k : X → Result Y E) (y : Y) : Type 0 where
   pub first : X
   pub is : x ≡ Ok first

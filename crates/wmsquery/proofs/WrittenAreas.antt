@@ -1,4 +1,4 @@
--- Boxes and colours that are written out are read again.
+-- Boxes and colours that are written out are read back.
 use Rattle.std.proofs.Common.{ok_or, ◌≡◌, ◌≢◌, ℕ, zero, suc, ℤ, pos, negsuc, ◌/◌, ◌^◌, ◌<◌, ◌<ℤ◌, ◌&&◌, true, int_lt, List, [], ◌∷◌, All, Some, Ok, ap, refl, ◌∙◌, arith}
 use Rattle.std.proofs.lemmas.Bool.{and_from, lt-ltb}
 use Rattle.std.proofs.lemmas.List.Elements.{All-nil, All-cons, All-append, All-weaker}
@@ -53,7 +53,7 @@ digits-plain (d ∷ ds) h =
     let range = digit-range d (digits-cons d ds h).0 in
     All-cons IsNumberByte d ds (record { ascii = omega (arith, range); no_comma = λ e. omega (arith, range, e) }) (digits-plain ds (digits-cons d ds h).1)
 
--- and so are those of a number that is written out
+-- and so are those that a number is written with
 size-plain : (n : ℕ) → n < 2 ^ 64 → All IsNumberByte (written_size n)
 size-plain n small =
     All-append IsNumberByte (decimal (n / 1000000)) (46 ∷ six_digits n) (digits-plain _ (numeral (n / 1000000) (omega arith)).digits)
@@ -78,7 +78,7 @@ four-parts a b c d ha hb hc hd =
     (All-cons Plain (written b) (written c ∷ written d ∷ []) (coordinate-commas b hb)
     (All-cons Plain (written c) (written d ∷ []) (coordinate-commas c hc) (All-cons Plain (written d) [] (coordinate-commas d hd) (All-nil Plain))))
 
--- four coordinates are the box of them
+-- four coordinates make the box with these sides
 four-box : (crs : Crs) (a b c d : ℤ) → IsCoordinate a → IsCoordinate b → IsCoordinate c → IsCoordinate d →
     box_of_parts crs (parts (with_commas (written a ∷ written b ∷ written c ∷ written d ∷ []))) ≡ with_area (box_in crs a b c d)
 four-box crs a b c d ha hb hc hd = ap (box_of_parts crs) (four-parts a b c d ha hb hc hd) ∙ four-read crs a b c d ha hb hc hd

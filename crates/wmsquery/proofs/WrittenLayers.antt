@@ -1,4 +1,4 @@
--- Layers that are named are those that the names mean.
+-- The layers that a request names are those that the names mean.
 use Rattle.std.proofs.Common.{zero, ◌<◌, Contains, Option, Err, get_or, subst, ok_or, ◌≡◌, ◌≢◌, ℕ, suc, ◌==◌, ◌≤◌, ◌++◌, Bool, true, false, ◌⊎◌, nat_lt, nat_le, List, [], ◌∷◌, All, length, Some, None, Ok, ap, refl, sym, ◌∙◌, inl, inr, arith, cond, length-append, slice_get}
 use Rattle.std.proofs.lemmas.Bool.{le-leb, lt-ltb, ne_eqb}
 use Rattle.std.proofs.lemmas.List.Elements.{All-nil, All-cons, All-head, All-tail}
@@ -27,7 +27,7 @@ same-name a b e = elim (either (is_same_name a b)) [ inl same ↦ same | inr oth
 other-name : (a b : List ℕ) → a ≢ b → is_same_name a b ≡ false
 other-name a b ne = elim (either (is_same_name a b)) [ inl same ↦ absurd (ne (same_text a b (sym same))) | inr other ↦ other ]
 
--- the first layer of a name stands after those of other names
+-- the first layer with a name comes after layers with other names
 first-stands : (name : List ℕ) (before : List LayerFields) (layer : LayerFields) (after : List LayerFields) →
     layer.name ≡ name → All (λ (other : LayerFields). other.name ≢ name) before →
     position_or_len (λ (l : LayerFields). is_same_name l.name name) (before ++ layer ∷ after) ≡ length before
@@ -37,7 +37,7 @@ first-stands name (l ∷ ls) layer after e others =
     let rest = All-tail (λ (other : LayerFields). other.name ≢ name) l ls others in
     rw (other-name l.name name one) (omega (arith, first-stands name ls layer after e rest))
 
--- the element after a front stands at the front's length
+-- the element after a prefix is at the index of the prefix's length
 get-after : {X : Type 0} (before : List X) (x : X) (after : List X) → slice_get (before ++ x ∷ after) (length before) ≡ Some x
 get-after [] x after = refl
 get-after (y ∷ ys) x after = get-after ys x after
@@ -59,7 +59,7 @@ layer-there map index name is =
     ∙ ap (slice_get (is.before ++ is.layer ∷ is.after)) (sym is.at)
     ∙ get-after is.before is.layer is.after
 
--- a name that is not empty means what its first layer says
+-- a name that is not empty means what the first layer with it says
 named-some : (map : MapFields) (index : ℕ) (name : List ℕ) → 1 ≤ length name → IsNamed map index name → layer_named map name ≡ Some index
 named-some map index [] some is = absurd (omega arith)
 named-some map index (b ∷ bs) some is =
@@ -68,7 +68,7 @@ named-some map index (b ∷ bs) some is =
     ∙ ap (λ l. option_map_or shown l None) (layer-there map index (b ∷ bs) is)
     ∙ ap (λ t. cond t (Some index) None) is.on
 
--- the index of a name that is defined
+-- the index of the layer with a name that is defined
 defined-is : (map : MapFields) (index : ℕ) (name : List ℕ) → IsNamed map index name → defined map name ≡ Ok index
 defined-is map index name is = ap (λ found. ok_or found code.LayerNotDefined) (named-some map index name is.some is)
 
@@ -122,7 +122,7 @@ one-name map index a b p q =
     let same : Some p.layer ≡ Some q.layer = sym (layer-there map index a p) ∙ layer-there map index b q in
     sym p.named ∙ ap (λ (o : Option LayerFields). option_map_or (λ (l : LayerFields). l.name) o []) same ∙ q.named
 
--- the name at each place is that of the layer at the index there
+-- the name at each index is that of the layer that the list of indices has there
 named-at : (map : MapFields) (indices : List ℕ) (names : List (List ℕ)) → AreNamed map indices names → (k : ℕ) (i : ℕ) (n : List ℕ) → k < length indices →
     IsNamed map (get_or indices k i) (get_or names k n)
 named-at map [] [] are k i n h = absurd (omega (arith, h))
@@ -131,7 +131,7 @@ named-at map (j ∷ js) [] are k i n h = absurd are
 named-at map (j ∷ js) (m ∷ ms) are zero i n h = are.0
 named-at map (j ∷ js) (m ∷ ms) are (suc k) i n h = named-at map js ms are.1 k i n (omega (arith, h))
 
--- a layer that is among others has its name among theirs
+-- a layer that is among others has its name among their names
 among-names : (map : MapFields) (indices : List ℕ) (names : List (List ℕ)) (index : ℕ) (name : List ℕ) → AreNamed map indices names →
     IsNamed map index name → Contains indices index → is_among name names ≡ true
 among-names map indices names index name are is (k, l, here) =
@@ -139,7 +139,7 @@ among-names map indices names index name are is (k, l, here) =
     let same = same-name name (get_or names k []) (one-name map index name (get_or names k []) is there) in
     list_any_at (is_same_name name) names k [] (omega (arith, l, same-count map indices names are)) same
 
--- so it may be asked for, where it is queryable
+-- so its features may be requested, where it is queryable
 asked-is : (map : MapFields) (names : List (List ℕ)) (index : ℕ) (name : List ℕ) → IsNamed map index name → is_among name names ≡ true →
     is_queryable map index ≡ true → asked map names name ≡ Ok index
 asked-is map names index name is among queryable =

@@ -17,7 +17,7 @@ pub record IsTextPair (pair : List ℕ × List ℕ) : Type 0 where
 abbrev pub plain_pair : List ℕ × List ℕ → Pair
 plain_pair pair = record { name = pair.0; value = pair.1 }
 
--- and with a replacement character for what is not UTF-8
+-- and with a replacement character for each sequence of bytes that is not UTF-8
 abbrev lossy_pair : List ℕ × List ℕ → Pair
 lossy_pair pair = record { name = utf8_lossy pair.0; value = utf8_lossy pair.1 }
 

@@ -83,7 +83,7 @@ texts-none = record { all = All-nil IsTextPair }
 texts-more : {name value : List ℕ} {rest : List (List ℕ × List ℕ)} → IsText name → IsText value → AreTexts rest → AreTexts ((name, value) ∷ rest)
 texts-more {name} {value} {rest} n v others = record { all = All-cons IsTextPair (name, value) rest (text-pair name value n v) others.all }
 
--- the name of a format is text, and what says of a background
+-- the name of a format is text, and so are the parameters of a background
 format-is-text : (format : Format) → IsText (format_text format)
 format-is-text Pixmap = tested-text _ refl
 format-is-text ArbitraryMap = tested-text _ refl
@@ -132,7 +132,7 @@ all-texts map crs names queried (request.Information r) is =
 
 -- ---- the values
 
--- a text that is not empty is given
+-- a text that is not empty counts as one that the query has
 some-given : (text : List ℕ) → 1 ≤ length text → some_text text ≡ Some text
 some-given [] h = absurd (omega arith)
 some-given (b ∷ bs) h = refl
@@ -155,7 +155,7 @@ bbox-some : (crs : Crs) (area : Area) → 1 ≤ length (bbox_text crs area)
 bbox-some Crs84 area = omega (arith, length-append (written area.minx) (44 ∷ with_commas (written area.miny ∷ written area.maxx ∷ written area.maxy ∷ [])))
 bbox-some Epsg4326 area = omega (arith, length-append (written area.miny) (44 ∷ with_commas (written area.minx ∷ written area.maxy ∷ written area.maxx ∷ [])))
 
--- the name of an operation is given, and means that operation
+-- the name of an operation is not empty, and means that operation
 name-some : (o : Operation) → some_text (name_of o) ≡ Some (name_of o)
 unfolding name_of
 name-some operation.Capabilities = refl
@@ -168,7 +168,7 @@ operation-written operation.Capabilities = refl
 operation-written operation.Map = refl
 operation-written operation.Information = refl
 
--- the name of a system is given, and means that system
+-- the name of a system is not empty, and means that system
 crs-some : (crs : Crs) → some_text (crs_text crs) ≡ Some (crs_text crs)
 crs-some Crs84 = refl
 crs-some Epsg4326 = refl
@@ -186,7 +186,7 @@ format-written : (o : Operation) (format : Format) → format_of o (Some (format
 format-written o Pixmap = refl
 format-written o ArbitraryMap = refl
 
--- and what says of a background
+-- and so are the parameters of a background
 transparent-some : (background : Option Rgb) → some_text (transparent_text background) ≡ Some (transparent_text background)
 transparent-some None = refl
 transparent-some (Some colour) = refl
@@ -299,7 +299,7 @@ module _ (map : MapFields) (sequence : ℕ) (crs : Crs) (o : Operation) (names :
   values-are : HasValues map t r
   values-are = record { chosen = layers-are; area = area-is; width = width-is; height = height-is; format = format-is; background = background-is }
 
--- ---- what stands behind SERVICE and REQUEST
+-- ---- what comes after SERVICE and REQUEST
 
 -- where the operation is known, and none of its parameters is refused, there is no fault
 no-fault : (map : MapFields) (sequence : ℕ) (t : Texts) (o : Operation) → service_of (given t parameter.Service) ≡ Ok tt → operation_in t ≡ Ok o →

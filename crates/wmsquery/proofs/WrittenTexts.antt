@@ -33,7 +33,7 @@ ascii-tested (b ∷ bs) h =
     let parts = and_parts (nat_lt b 128) (list_all (λ c. nat_lt c 128) bs) h in
     All-cons IsAsciiByte b bs (ltb-true b 128 parts.0) (ascii-tested bs parts.1)
 
--- and text
+-- and are text
 pub tested-text : (bs : List ℕ) → list_all (λ b. nat_lt b 128) bs ≡ true → IsText bs
 tested-text bs h = ascii-text bs (ascii-tested bs h)
 

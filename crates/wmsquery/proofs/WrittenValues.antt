@@ -1,4 +1,4 @@
--- Values that are written out are read again.
+-- Values that are written out are read back.
 use Rattle.std.proofs.Common.{◌==◌, ◌≤◌, min, nat_lt, ok_or, ◌≡◌, ◌≢◌, ℕ, ◌^◌, ◌<◌, ◌&&◌, true, false, nat_le, List, [], ◌∷◌, All, Some, None, Ok, ap, refl, ◌∙◌, arith, cond}
 use Rattle.std.proofs.lemmas.Bool.{and_from, le-leb, lt-ltb, ne_eqb}
 use Rattle.std.proofs.lemmas.List.Elements.{All-head, All-tail, All-weaker}
@@ -51,7 +51,7 @@ pixel-written side n few within =
 commas-none : (text : List ℕ) → All (λ b. b ≢ 44) text → All (λ b. is_comma b ≡ false) text
 commas-none text h = All-weaker (λ b. b ≢ 44) (λ b. is_comma b ≡ false) (λ b ne. ne_eqb b 44 ne) text h
 
--- texts without commas are what stands between the commas
+-- texts without commas are the parts between the commas
 pub split-joined : (text : List ℕ) (texts : List (List ℕ)) → All (λ b. b ≢ 44) text → All (All (λ b. b ≢ 44)) texts →
     slice_split is_comma (join_with_byte 44 (text ∷ texts)) ≡ text ∷ texts
 split-joined text [] one others = slice_split_none is_comma text (commas-none text one)

@@ -25,7 +25,7 @@ pub record HasValues (map : MapFields) (t : Texts) (r : MapRequest) : Type 0 whe
   pub format : format_in t ≡ Ok r.format
   pub background : background_in t ≡ Ok r.background
 
--- the request for feature information has them, too
+-- so has the request for feature information
 pub record HasInformation (m : MapFields) (t : Texts) (r : InformationRequest) : Type 0 where
   pub map : HasValues m t r.map
   pub asked : asked_in m t ≡ Ok r.asked
@@ -39,7 +39,7 @@ IsRequestOf map t request.Capabilities = operation_in t ≡ Ok operation.Capabil
 IsRequestOf map t (request.Map r) = (operation_in t ≡ Ok operation.Map) × HasValues map t r
 IsRequestOf map t (request.Information r) = (operation_in t ≡ Ok operation.Information) × HasInformation map t r
 
--- texts of parameters mean a request of a map at a sequence where none is refused, and else the fault of the first that is
+-- texts of parameters mean a request of a map at a sequence where none is refused, else the fault of the first refused one
 abbrev pub IsMeaningOf : MapFields → ℕ → Texts → Result Request WmsFault → Type 0
 IsMeaningOf map sequence t (Ok r) = (first_fault (refusal map sequence t) (looked_at t) ≡ None) × IsRequestOf map t r
 IsMeaningOf map sequence t (Err f) = first_fault (refusal map sequence t) (looked_at t) ≡ Some f
@@ -48,12 +48,12 @@ IsMeaningOf map sequence t (Err f) = first_fault (refusal map sequence t) (looke
 abbrev pub IsMeaning : MapFields → ℕ → List ℕ → Result Request WmsFault → Type 0
 IsMeaning map sequence query meant = IsMeaningOf map sequence (texts_of (pairs_of query)) meant
 
--- an error is the fault that texts mean, or that memory was refused
+-- an error is the fault that the texts mean, or refused memory
 abbrev pub IsMeaningErrorOf : MapFields → ℕ → Texts → QueryError → Type 0
 IsMeaningErrorOf map sequence t (Fault f) = IsMeaningOf map sequence t (Err f)
 IsMeaningErrorOf map sequence t NoMemory = Unit {0}
 
--- an error is the fault that a query means, or that memory was refused
+-- an error is the fault that the query means, or refused memory
 abbrev pub IsMeaningError : MapFields → ℕ → List ℕ → QueryError → Type 0
 IsMeaningError map sequence query e = IsMeaningErrorOf map sequence (texts_of (pairs_of query)) e
 
@@ -61,7 +61,7 @@ IsMeaningError map sequence query e = IsMeaningErrorOf map sequence (texts_of (p
 abbrev pub HaveSameText : List ℕ → List ℕ → Parameter → Type 0
 HaveSameText a b p = texts_of (pairs_of a) p ≡ texts_of (pairs_of b) p
 
--- the law that what stands after the parameter of the fault, in the order of refusal, changes nothing: a query
+-- the law that what comes after the parameter at fault, in the order of refusal, changes nothing: a query
 -- that gives each parameter up to that one the same text means the same fault
 abbrev pub LaterChangesNothing : Type 0
 LaterChangesNothing = (map : MapFields) (sequence : ℕ) (a b : List ℕ) (f : WmsFault) (before after : List Parameter) →

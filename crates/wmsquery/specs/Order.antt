@@ -13,17 +13,17 @@ map_order =
     parameter.Version ∷ parameter.Layers ∷ parameter.Styles ∷ parameter.Crs ∷ parameter.Bbox ∷ parameter.Width ∷ parameter.Height
     ∷ parameter.Format ∷ parameter.Transparent ∷ parameter.Bgcolor ∷ []
 
--- those that GetFeatureInfo has behind them
+-- the parameters that GetFeatureInfo has after these
 abbrev pub information_order : List Parameter
 information_order = parameter.QueryLayers ∷ parameter.InfoFormat ∷ parameter.FeatureCount ∷ parameter.Column ∷ parameter.Row ∷ []
 
--- the parameters of an operation, behind SERVICE and REQUEST
+-- the parameters of an operation, after SERVICE and REQUEST
 abbrev pub order : Operation → List Parameter
 order operation.Capabilities = parameter.UpdateSequence ∷ []
 order operation.Map = map_order
 order operation.Information = map_order ++ information_order
 
--- the fault of a parameter that is refused, else that of those behind it
+-- the fault of a parameter that is refused, else the fault of those after it
 abbrev pub first_of : Parameter → Option Code → Option WmsFault → Option WmsFault
 first_of p (Some code) later = Some (record { code = code; parameter = p })
 first_of p None later = later

@@ -13,7 +13,7 @@ pub record Pair : Type 0 where
   pub name : List ℕ
   pub value : List ℕ
 
--- the text that a name or a value stands for: decoded, with a replacement character for what is not UTF-8
+-- the text that a name or a value stands for: decoded, with a replacement character for each sequence that is not UTF-8
 unfoldable pub text_of : List ℕ → List ℕ
 text_of bytes = utf8_lossy (decode bytes)
 
@@ -25,7 +25,7 @@ pair_of pair = record { name = text_of pair.0; value = text_of pair.1 }
 abbrev pub pairs_of : List ℕ → List Pair
 pairs_of query = map pair_of (raw_pairs query)
 
--- the value of the first pair of a name, which is read without case
+-- the value of the first pair with a name, which is compared without case
 abbrev pub value_of : List ℕ → List Pair → Option (List ℕ)
 value_of name pairs = option_map (λ (pair : Pair). pair.value) (find (λ (pair : Pair). str_eq_ignore_ascii_case pair.name name) pairs)
 
@@ -33,7 +33,7 @@ value_of name pairs = option_map (λ (pair : Pair). pair.value) (find (λ (pair 
 abbrev pub Texts : Type 0
 Texts = Parameter → Option (List ℕ)
 
--- the text of a parameter is the value of the first pair of its name
+-- the text of a parameter is the value of the first pair with its name
 abbrev pub texts_of : List Pair → Texts
 texts_of pairs p = value_of (parameter_text p) pairs
 
@@ -50,7 +50,7 @@ given texts p = option_and_then some_text (texts p)
 abbrev pub is_comma : ℕ → Bool
 is_comma b = b == 44
 
--- the names of a list, between commas
+-- the names of a list with commas between them
 abbrev pub names_in : List ℕ → List (List ℕ)
 names_in text = slice_split is_comma text
 

@@ -34,7 +34,7 @@ styles_in t = and_then (operation_in t) (λ o. styles_of o (length (layer_names 
 abbrev pub format_in : Texts → Result Format Code
 format_in t = and_then (operation_in t) (λ o. format_of o (given t parameter.Format))
 
--- what FORMAT, TRANSPARENT and BGCOLOR give where nothing is painted
+-- the background that FORMAT, TRANSPARENT and BGCOLOR mean
 abbrev pub background_in : Texts → Result (Option Rgb) Code
 background_in t =
     and_then (format_in t) (λ format.
@@ -42,7 +42,7 @@ background_in t =
     and_then (background_of (given t parameter.Bgcolor)) (λ colour.
     Ok (background_for format transparent colour))))
 
--- the layers of LAYERS that QUERY_LAYERS asks for
+-- the layers that QUERY_LAYERS lists, which are among those of LAYERS
 abbrev pub asked_in : MapFields → Texts → Result (List ℕ) Code
 asked_in map t = asked_of map (layer_names t) (names_of (given t parameter.QueryLayers))
 
@@ -54,7 +54,7 @@ column_in t = and_then (side_of (given t parameter.Width)) (λ width. pixel_of w
 abbrev pub row_in : Texts → Result ℕ Code
 row_in t = and_then (side_of (given t parameter.Height)) (λ height. pixel_of height (given t parameter.Row))
 
--- the code that refuses a parameter of a query of a map at a sequence, if one does
+-- the code that refuses a parameter of a query of a map at a sequence, if there is one
 abbrev pub refusal : MapFields → ℕ → Texts → Parameter → Option Code
 refusal map sequence t parameter.Service = result_err (service_of (given t parameter.Service))
 refusal map sequence t parameter.Request = result_err (operation_in t)

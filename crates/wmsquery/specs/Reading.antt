@@ -1,4 +1,4 @@
--- The reader's own account of a query: it goes from parameter to parameter, and stops at the first that is refused.
+-- The reader's own account of a query: it checks one parameter after another, and stops at the first that is refused.
 use Rattle.std.specs.Prelude.{◌≡◌, ℕ, List, length, Result, Ok, Err}
 use Rattle.operations.specs.declared.operation.Operation.TheVariants as operation
 use Rattle.operations.specs.declared.operation.Operation.{Operation}
@@ -25,7 +25,7 @@ abbrev pub checked : {X : Type 0} → Parameter → Result X Code → Result X W
 checked p (Ok x) = Ok x
 checked p (Err code) = Err (record { code = code; parameter = p })
 
--- an error is the fault that was found, or that memory was refused
+-- an error is the fault that was found, or refused memory
 abbrev pub IsErrorOf : {X : Type 0} → Result X WmsFault → QueryError → Type 0
 IsErrorOf found (Fault f) = found ≡ Err f
 IsErrorOf found NoMemory = Unit {0}
@@ -69,14 +69,14 @@ map_read map o t =
     and_then (output_read o t) (λ output.
     Ok (record { chosen = chosen; area = viewport.area; width = viewport.width; height = viewport.height; format = output.format; background = output.background }))))
 
--- the layers that are asked for features
+-- the layers whose features are requested
 abbrev pub asked_read : MapFields → Texts → Result (List ℕ) WmsFault
 asked_read map t =
     and_then (checked parameter.QueryLayers (asked_in map t)) (λ asked.
     and_then (checked parameter.InfoFormat (info_format_of (given t parameter.InfoFormat))) (λ _.
     Ok asked))
 
--- where features are looked for in a picture of these sides, and how many
+-- where features are searched for in a picture of these sides, and how many
 abbrev pub pixel_read : ℕ → ℕ → Texts → Result QueriedPixel WmsFault
 pixel_read width height t =
     and_then (checked parameter.FeatureCount (feature_count_of (given t parameter.FeatureCount))) (λ count.

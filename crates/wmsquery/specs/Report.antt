@@ -41,11 +41,11 @@ parameter_text parameter.Column = codes "I"
 parameter_text parameter.Row = codes "J"
 parameter_text parameter.UpdateSequence = codes "UPDATESEQUENCE"
 
--- what stands before the code
+-- the document before the code
 unfoldable pub report_head : List ℕ
 report_head = codes "<?xml version=\"1.0\" encoding=\"UTF-8\"?>\n<ServiceExceptionReport version=\"1.3.0\" xmlns=\"http://www.opengis.net/ogc\">\n<ServiceException code=\""
 
--- what stands after the parameter's name
+-- the document after the parameter's name
 unfoldable pub report_tail : List ℕ
 report_tail = codes "</ServiceException>\n</ServiceExceptionReport>\n"
 

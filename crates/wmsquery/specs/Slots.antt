@@ -10,11 +10,11 @@ use Rattle.wmsquery.specs.Order.{order}
 use Rattle.wmsquery.specs.Pairs.{Texts}
 use Rattle.wmsquery.specs.Report.{parameter_text}
 
--- all parameters that are looked at
+-- all parameters that the server reads
 abbrev pub parameters : List Parameter
 parameters = parameter.Service ∷ parameter.Request ∷ order operation.Information ++ order operation.Capabilities
 
--- the parameter of a name, which is read without case
+-- the parameter with a name, which is compared without case
 abbrev pub parameter_named : List ℕ → Option Parameter
 parameter_named name = find (λ p. str_eq_ignore_ascii_case name (parameter_text p)) parameters
 

@@ -26,16 +26,16 @@ use Rattle.wmsquery.specs.declared.request.Format.{Format}
 use Rattle.wmsquery.specs.declared.request.Format.TheVariants.{Pixmap, ArbitraryMap}
 use Rattle.wmsquery.specs.Pairs.{names_in}
 
--- going on with a value, where there is one
+-- the next step with a value, where there is one
 abbrev pub and_then : {X Y E : Type 0} → Result X E → (X → Result Y E) → Result Y E
 and_then (Ok x) f = f x
 and_then (Err refusal) f = Err refusal
 
--- a parameter has to be given
+-- a parameter is required
 abbrev pub required : {X : Type 0} → Option X → Result X Code
 required text = ok_or text code.MissingParameterValue
 
--- a text that has to be this one
+-- a text other than this one is refused
 abbrev pub fixed : List ℕ → Code → List ℕ → Result (Unit {0}) Code
 fixed wanted refusal text = if is_same_name text wanted then Ok tt else Err refusal
 
@@ -59,14 +59,14 @@ operation_of text = and_then (required text) (λ name. ok_or (operation_named na
 abbrev pub version_of : Option (List ℕ) → Result (Unit {0}) Code
 version_of text = and_then (required text) (fixed (codes "1.3.0") code.InvalidParameterValue)
 
--- a layer is defined where the map has one of its name that is switched on, and the name is not empty
+-- a layer is defined where the map has one with its name that is switched on, and the name is not empty
 abbrev pub layer_named : MapFields → List ℕ → Option ℕ
 layer_named map [] = None
 layer_named map (b ∷ bs) =
     option_and_then (λ index. option_map_or (λ (layer : LayerFields). if layer.on then Some index else None) (slice_get map.layers index) None)
     (index_of (b ∷ bs) map.layers)
 
--- one name at least has to be listed, and at most `MAX_NAMES`
+-- at least one name has to be listed, and at most `MAX_NAMES`
 abbrev pub listed : ℕ → Result (Unit {0}) Code
 listed count = if count == 0 then Err code.MissingParameterValue else (if nat_le count MAX_NAMES then Ok tt else Err code.InvalidParameterValue)
 
@@ -75,7 +75,7 @@ abbrev pub indices_of : (List ℕ → Result ℕ Code) → List (List ℕ) → R
 indices_of index_of [] = Ok []
 indices_of index_of (name ∷ names) = and_then (index_of name) (λ index. and_then (indices_of index_of names) (λ indices. Ok (index ∷ indices)))
 
--- the index of the layer of a name, which has to be defined
+-- the index of the layer with a name, which has to be defined
 abbrev pub defined : MapFields → List ℕ → Result ℕ Code
 defined map name = ok_or (layer_named map name) code.LayerNotDefined
 
@@ -88,7 +88,7 @@ abbrev pub is_default : List ℕ → Bool
 is_default [] = true
 is_default (b ∷ bs) = is_same_name (b ∷ bs) (codes "default")
 
--- an entry for each layer, each the default
+-- STYLES has an entry for each layer, and each entry is the default
 abbrev pub style_list : ℕ → List (List ℕ) → Result (Unit {0}) Code
 style_list count entries =
     if not (length entries == count) then Err code.InvalidParameterValue
@@ -99,7 +99,7 @@ abbrev pub styles_listed : ℕ → List ℕ → Result (Unit {0}) Code
 styles_listed count [] = Ok tt
 styles_listed count (b ∷ bs) = style_list count (names_in (b ∷ bs))
 
--- what stands for a parameter of GetMap that is absent: GetFeatureInfo needs it not
+-- the default of a parameter of GetMap that is missing: GetFeatureInfo doesn't require it
 abbrev pub absent : {X : Type 0} → Operation → X → Result X Code
 absent operation.Information default = Ok default
 absent operation.Map default = Err code.MissingParameterValue
@@ -122,7 +122,7 @@ area_of crs text = and_then (required text) (λ box. ok_or (result_ok (box_of_pa
 abbrev pub side_of : Option (List ℕ) → Result ℕ Code
 side_of text = and_then (required text) (λ digits. ok_or (option_and_then picture_side (number_in digits)) code.InvalidParameterValue)
 
--- the format of a name: portable pixmaps, or portable arbitrary maps
+-- the format with a name: portable pixmaps, or portable arbitrary maps
 abbrev pub format_named : List ℕ → Result Format Code
 format_named name =
     if is_same_name name (codes "image/x-portable-pixmap") then Ok Pixmap
@@ -151,7 +151,7 @@ abbrev pub background_of : Option (List ℕ) → Result Rgb Code
 background_of None = Ok (record { red = 255; green = 255; blue = 255 })
 background_of (Some text) = ok_or (colour_of text) code.InvalidParameterValue
 
--- where nothing is painted there is nothing, if the format can show that and TRANSPARENT asks for it, else the colour of BGCOLOR
+-- the background is none if the format can be transparent and TRANSPARENT is TRUE, else the colour of BGCOLOR
 abbrev pub background_for : Format → Bool → Rgb → Option Rgb
 background_for ArbitraryMap true colour = None
 background_for ArbitraryMap false colour = Some colour
@@ -161,11 +161,11 @@ background_for Pixmap transparent colour = Some colour
 abbrev pub is_among : List ℕ → List (List ℕ) → Bool
 is_among name names = list_any (is_same_name name) names
 
--- the layer at an index may be asked for features
+-- the features of the layer at an index may be requested
 abbrev pub is_queryable : MapFields → ℕ → Bool
 is_queryable map index = option_map_or (λ (layer : LayerFields). layer.queryable) (slice_get map.layers index) false
 
--- the index of the layer of a name that is asked for: defined, among the names of LAYERS, and queryable
+-- the index of the layer with a name of QUERY_LAYERS: defined, among the names of LAYERS, and queryable
 abbrev pub asked : MapFields → List (List ℕ) → List ℕ → Result ℕ Code
 asked map names name =
     and_then (defined map name) (λ index.
@@ -179,7 +179,7 @@ asked_of map names queried = and_then (listed (length queried)) (λ _. indices_o
 abbrev pub info_format_of : Option (List ℕ) → Result (Unit {0}) Code
 info_format_of text = and_then (required text) (fixed (codes "text/plain") code.InvalidFormat)
 
--- a count of features: not 0, and at most as many as a layer may have
+-- a count of features: 0 is refused, and a count above the most that a layer may have counts as that
 abbrev pub count_within : ℕ → Option ℕ
 count_within n = if n == 0 then None else Some (min n MAX_FEATURES)
 
@@ -188,7 +188,7 @@ abbrev pub feature_count_of : Option (List ℕ) → Result ℕ Code
 feature_count_of None = Ok 1
 feature_count_of (Some digits) = ok_or (option_and_then count_within (number_in digits)) code.InvalidParameterValue
 
--- the index, if it is that of one of so many pixels
+-- the index, if it is below so many
 abbrev pub index_below : ℕ → ℕ → Option ℕ
 index_below side n = if nat_lt n side then Some n else None
 

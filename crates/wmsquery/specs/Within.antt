@@ -1,4 +1,4 @@
--- What each request keeps of its map, and of the limits (docs/WMS.md, "Queries").
+-- How each request stays within its map and the limits (docs/WMS.md, "Queries").
 use Rattle.std.specs.Prelude.{ℕ, ◌≤◌, ◌<◌, All}
 use Rattle.geom.specs.World.{IsExtent}
 use Rattle.mapdefs.specs.declared.limits.TheConstants.{MAX_FEATURES}
@@ -12,7 +12,7 @@ pub record IsMapWithin (layers : ℕ) (r : MapRequest) : Type 0 where
   pub chosen : All (λ index. index < layers) r.chosen
   pub extent : IsExtent r.area
 
--- so are the layers that are asked for features; their count is one that a layer may have, and the pixel is in the picture
+-- so are the layers whose features are requested; their count is one that a layer may have, and the pixel is in the picture
 pub record IsInformationWithin (layers : ℕ) (r : InformationRequest) : Type 0 where
   pub map : IsMapWithin layers r.map
   pub asked : All (λ index. index < layers) r.asked
@@ -21,7 +21,7 @@ pub record IsInformationWithin (layers : ℕ) (r : InformationRequest) : Type 0 
   pub column : r.column < r.map.width
   pub row : r.row < r.map.height
 
--- the same of any request
+-- the same for any request
 abbrev pub IsWithin : ℕ → Request → Type 0
 IsWithin layers request.Capabilities = Unit {0}
 IsWithin layers (request.Map r) = IsMapWithin layers r

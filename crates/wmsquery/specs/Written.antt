@@ -75,7 +75,7 @@ picture_pairs crs o names picture =
     ∷ (codes "BGCOLOR", background_text picture.background)
     ∷ []
 
--- the parameters that say which features are asked for, of the layers of some names
+-- the parameters that say which features are requested, of the layers with some names
 abbrev pub feature_pairs : List (List ℕ) → InformationRequest → List (List ℕ × List ℕ)
 feature_pairs queried information =
     (codes "QUERY_LAYERS", with_commas queried)
@@ -85,7 +85,7 @@ feature_pairs queried information =
     ∷ (codes "J", decimal information.row)
     ∷ []
 
--- the parameters of a request, for the layers of some names and for those of others, which are asked for features, in a system
+-- the parameters of a request in a system, for the layers with some names, and for those with others, whose features are requested
 abbrev pub written_pairs : Crs → List (List ℕ) → List (List ℕ) → Request → List (List ℕ × List ℕ)
 written_pairs crs names queried request.Capabilities = (codes "REQUEST", name_of operation.Capabilities) ∷ []
 written_pairs crs names queried (request.Map picture) = picture_pairs crs operation.Map names picture
@@ -124,7 +124,7 @@ pub record IsColour (colour : Rgb) : Type 0 where
   pub green : colour.green < 256
   pub blue : colour.blue < 256
 
--- a background is a colour, or in an arbitrary map nothing
+-- a background is a colour, or in an arbitrary map none
 abbrev pub IsBackground : Format → Option Rgb → Type 0
 IsBackground format (Some colour) = IsColour colour
 IsBackground ArbitraryMap None = Unit {0}

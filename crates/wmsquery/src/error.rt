@@ -4,7 +4,7 @@ use crate::fault::WmsFault;
 use std::alloc::AllocError;
 use thiserror::Error;
 
-/// Why a query has no request.
+/// Why a query makes no request.
 #[derive(Clone, Copy, Debug, Error)]
 pub enum QueryError {
     /// A parameter is at fault.

@@ -5,11 +5,11 @@ use crate::fault::{Code, Parameter, WmsFault};
 use mapdefs::Items;
 use std::alloc::{AllocError, Global};
 
-// What stands before the code of a report.
+// The document before the code.
 const HEAD: &str =
     "<?xml version=\"1.0\" encoding=\"UTF-8\"?>\n<ServiceExceptionReport version=\"1.3.0\" xmlns=\"http://www.opengis.net/ogc\">\n<ServiceException code=\"";
 
-// What stands after the name of the parameter.
+// The document after the name of the parameter.
 const TAIL: &str = "</ServiceException>\n</ServiceExceptionReport>\n";
 
 impl Code {
@@ -61,7 +61,7 @@ impl Parameter {
     }
 }
 
-// The front of a report.
+// The document before the code.
 #[tactic(auto, unfolding(crate::specs::Report::report_head))]
 fn head() -> &'static str
     ensures { result.now ≡ report_head }
@@ -69,7 +69,7 @@ fn head() -> &'static str
     HEAD
 }
 
-// The end of a report.
+// The document after the name of the parameter.
 #[tactic(auto, unfolding(crate::specs::Report::report_tail))]
 fn tail() -> &'static str
     ensures { result.now ≡ report_tail }
@@ -84,7 +84,7 @@ fn add(bytes: &mut Vec<u8>, text: &str) -> Result<(), AllocError>
     bytes.extend_from_slice(text.as_bytes())
 }
 
-/// The document of a service exception. The error is that memory was refused.
+/// The document of a service exception. The error says that memory was refused.
 pub fn report(alloc: Global, fault: WmsFault) -> Result<Items<u8>, AllocError>
     ensures { IfOk result (λ document. document ≡ report fault) }
 {

@@ -3,10 +3,10 @@ ghost use Rattle.wmsquery.specs.Reading.{checked};
 
 use thiserror::Error;
 
-/// The parameters of a query that are looked at.
+/// The parameters of a query that the server reads.
 #[derive(Clone, Copy, Debug)]
 pub enum Parameter {
-    /// SERVICE, which is `WMS` where it is given.
+    /// SERVICE, which is `WMS` where the query has it.
     Service,
     /// REQUEST: the name of an operation.
     Request,
@@ -14,7 +14,7 @@ pub enum Parameter {
     Version,
     /// LAYERS: the names of layers.
     Layers,
-    /// STYLES: an entry for each layer, or none at all.
+    /// STYLES: an entry for each layer, or empty.
     Styles,
     /// CRS: the name of a coordinate reference system.
     Crs,
@@ -24,21 +24,21 @@ pub enum Parameter {
     Width,
     /// HEIGHT: the picture's height in pixels.
     Height,
-    /// FORMAT: that of the picture.
+    /// FORMAT: the format of the picture.
     Format,
-    /// TRANSPARENT: whether a picture has nothing where nothing is painted, if its format can show that.
+    /// TRANSPARENT: whether a picture is transparent where nothing is painted, if its format can be.
     Transparent,
     /// BGCOLOR: the colour of the background.
     Bgcolor,
-    /// QUERY_LAYERS: the names of the layers that are asked for features.
+    /// QUERY_LAYERS: the names of the layers whose features are requested.
     QueryLayers,
-    /// INFO_FORMAT: that of feature information.
+    /// INFO_FORMAT: the format of feature information.
     InfoFormat,
-    /// FEATURE_COUNT: how many features of a layer are told at most.
+    /// FEATURE_COUNT: the most features of a layer in the answer.
     FeatureCount,
-    /// I: the column of the pixel near which features are looked for.
+    /// I: the column of the pixel near which features are searched for.
     Column,
-    /// J: its row.
+    /// J: the row of that pixel.
     Row,
     /// UPDATESEQUENCE: the sequence of the capabilities document that the client has.
     UpdateSequence,
@@ -47,27 +47,27 @@ pub enum Parameter {
 /// The codes of service exceptions.
 #[derive(Clone, Copy, Debug)]
 pub enum Code {
-    /// A parameter that has to be there is missing.
+    /// A required parameter is missing.
     MissingParameterValue,
-    /// A value isn't one of its parameter.
+    /// A value isn't one that its parameter may have.
     InvalidParameterValue,
     /// REQUEST names no operation.
     OperationNotSupported,
-    /// A name is that of no layer, or of one that is switched off.
+    /// A name is not that of a layer, or is that of a layer that is switched off.
     LayerNotDefined,
     /// STYLES names a style other than the default.
     StyleNotDefined,
-    /// CRS names a system that isn't known.
+    /// CRS names an unknown system.
     InvalidCrs,
-    /// A format is asked for that there isn't.
+    /// FORMAT or INFO_FORMAT names an unknown format.
     InvalidFormat,
-    /// QUERY_LAYERS names a layer that may not be asked for features.
+    /// QUERY_LAYERS names a layer that is not queryable.
     LayerNotQueryable,
-    /// I or J isn't that of a pixel of the picture.
+    /// I or J isn't the index of a column or row of the picture.
     InvalidPoint,
     /// The client has the capabilities document of the present sequence.
     CurrentUpdateSequence,
-    /// UPDATESEQUENCE is no number, or that of a sequence to come.
+    /// UPDATESEQUENCE is no number, or a later sequence than the present one.
     InvalidUpdateSequence,
 }
 

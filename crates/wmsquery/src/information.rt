@@ -17,7 +17,7 @@ use mapdefs::{Items, Map};
 use operations::Operation;
 use std::alloc::Global;
 
-/// The pixel near which features are looked for, and how many of a layer are told at most.
+/// The pixel near which features are searched for, and the most features of a layer in the answer.
 #[derive(Clone, Copy)]
 pub struct QueriedPixel {
     pub count: u32,
@@ -25,7 +25,7 @@ pub struct QueriedPixel {
     pub row: u32,
 }
 
-// The layers that are asked for features. `names` are those of LAYERS.
+// The layers whose features are requested. `names` are the names that LAYERS lists.
 fn read_asked(
     alloc: Global,
     texts: &ParameterTexts,
@@ -66,7 +66,7 @@ fn read_pixel(
     Ok(QueriedPixel { count, column, row })
 }
 
-/// The feature information that is asked for. `names` are those of LAYERS.
+/// The request for feature information. `names` are the names that LAYERS lists.
 pub fn read_information(
     alloc: Global,
     texts: &ParameterTexts,

@@ -4,7 +4,7 @@ ghost use Rattle.wmsquery.specs.Meaning.{LaterChangesNothing, MeaningIsOne};
 ghost use Rattle.wmsquery.specs.Written.{WrittenIsMeant};
 
 /// A query means the fault of its first parameter that is refused, whatever the parameters say that come
-/// later in the order of refusal: one that gives each parameter up to that of the fault the same text means
+/// later in the order of refusal. A query that gives the same texts to the parameters up to that one means
 /// the same fault.
 pub fn later_parameters_change_nothing()
     ensures { LaterChangesNothing }

@@ -15,7 +15,7 @@ use std::alloc::{AllocError, Global};
 /// The most names of LAYERS, and of QUERY_LAYERS.
 pub const MAX_NAMES: usize = 64;
 
-// The names of a list, between commas.
+// The names of a list with commas between them.
 fn names_in(alloc: Global, text: &str) -> Result<Vec<&str>, AllocError>
     ensures { IfOk result (λ found. each (λ x. x.now) found.items ≡ names_in text.now) }
 {
@@ -32,7 +32,7 @@ pub fn names_of(alloc: Global, text: Option<&str>) -> Result<Vec<&str>, AllocErr
     }
 }
 
-// The index of the layer of a name, where it is switched on.
+// The index of the layer with a name, where the layer is switched on.
 fn layer_named(map: &Map, name: &str) -> Option<usize>
     ensures value { result ≡ layer_named map.now name.now }
     ensures within { IfSome result (λ index. index < length map.now.layers) }
@@ -49,7 +49,7 @@ fn layer_named(map: &Map, name: &str) -> Option<usize>
     }
 }
 
-// Whether so many names may be listed.
+// Refuses a count of names that may not be listed.
 fn listed(count: usize) -> Result<(), Code>
     ensures { result ≡ listed count }
 {
@@ -60,7 +60,7 @@ fn listed(count: usize) -> Result<(), Code>
     }
 }
 
-// The index of the layer of a name, which has to be defined.
+// The index of the layer with a name, which has to be defined.
 fn defined(map: &Map, name: &str) -> Result<usize, Code>
     ensures value { result ≡ defined map.now name.now }
     ensures within { IfOk result (λ index. index < length map.now.layers) }
@@ -68,7 +68,7 @@ fn defined(map: &Map, name: &str) -> Result<usize, Code>
     layer_named(map, name).ok_or(Code::LayerNotDefined)
 }
 
-// The indices of the layers of some names.
+// The indices of the layers with some names.
 fn indices(alloc: Global, map: &Map, names: &[&str]) -> Result<Items<usize>, QueryError>
     ensures value { MatchResult result
         (λ found. indices_of (defined map.now) (each (λ x. x.now) names.now) ≡ Ok found)
@@ -94,14 +94,14 @@ pub fn layers(alloc: Global, map: &Map, names: &[&str]) -> Result<Items<usize>, 
     indices(alloc, map, names)
 }
 
-// Whether an entry of STYLES is the default.
+// Whether an entry of STYLES is the default style.
 fn is_default(entry: &str) -> bool
     ensures { result ≡ is_default entry.now }
 {
     entry.is_empty() || entry == "default"
 }
 
-// Whether all entries of STYLES are the default.
+// Whether all entries of STYLES are the default style.
 fn are_default(entries: &[&str]) -> bool
     ensures { result ≡ list_all is_default (each (λ x. x.now) entries.now) }
 {
@@ -126,7 +126,7 @@ fn style_list(count: usize, entries: &[&str]) -> Result<(), Code>
     }
 }
 
-/// What stands for a parameter of GetMap that is absent, if the operation needs it not.
+/// The default of a parameter of GetMap that is missing, if the operation doesn't require it.
 pub fn absent<T: Drop>(operation: Operation, default: T) -> Result<T, Code>
     ensures { result ≡ absent operation default }
 {
@@ -167,7 +167,7 @@ fn is_among(name: &str, names: &[&str]) -> bool
     false
 }
 
-// Whether the layer at an index may be asked for features.
+// Whether the features of the layer at an index may be requested.
 fn is_queryable(map: &Map, index: usize) -> bool
     ensures { result ≡ is_queryable map.now index }
 {
@@ -177,7 +177,7 @@ fn is_queryable(map: &Map, index: usize) -> bool
     }
 }
 
-// The index of the layer of a name that is asked for features. `names` are those of LAYERS.
+// The index of the layer with a name that QUERY_LAYERS lists. `names` are the names that LAYERS lists.
 fn asked(map: &Map, names: &[&str], name: &str) -> Result<usize, Code>
     ensures value { result ≡ asked map.now (each (λ x. x.now) names.now) name.now }
     ensures within { IfOk result (λ index. index < length map.now.layers) }
@@ -192,7 +192,7 @@ fn asked(map: &Map, names: &[&str], name: &str) -> Result<usize, Code>
     }
 }
 
-// The indices of the layers of some names that are asked for features.
+// The indices of the layers with names that QUERY_LAYERS lists. `names` are the names that LAYERS lists.
 fn asked_indices(
     alloc: Global,
     map: &Map,
@@ -212,7 +212,7 @@ fn asked_indices(
     Ok(found)
 }
 
-/// The indices of the layers that QUERY_LAYERS lists. `names` are those of LAYERS.
+/// The indices of the layers that QUERY_LAYERS lists. `names` are the names that LAYERS lists.
 pub fn asked_layers(
     alloc: Global,
     map: &Map,

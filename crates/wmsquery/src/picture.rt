@@ -24,14 +24,14 @@ pub struct Viewport {
     pub height: PictureSide,
 }
 
-/// The format of a picture, and what it has where nothing is painted.
+/// The format of a picture, and its background: a colour, or nothing.
 #[derive(Clone, Copy)]
 pub struct Output {
     pub format: Format,
     pub background: Option<Rgb>,
 }
 
-// The layers of a picture. `names` are those of LAYERS.
+// The layers of a picture. `names` are the names that LAYERS lists.
 fn read_layers(
     alloc: Global,
     operation: Operation,
@@ -85,7 +85,7 @@ fn read_output(operation: Operation, texts: &ParameterTexts) -> Result<Output, W
     })
 }
 
-/// The picture that is asked for, or whose features are. `names` are those of LAYERS.
+/// The request for a picture, or for the picture whose features are requested. `names` are the names that LAYERS lists.
 pub fn read_map(
     alloc: Global,
     operation: Operation,

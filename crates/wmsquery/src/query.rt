@@ -16,7 +16,7 @@ use mapdefs::Map;
 use operations::Operation;
 use std::alloc::Global;
 
-// The operation that is asked for.
+// The operation that is requested.
 fn read_operation(texts: &ParameterTexts) -> Result<Operation, WmsFault>
     ensures { result ≡ operation_read (kept texts.now) }
 {
@@ -27,7 +27,7 @@ fn read_operation(texts: &ParameterTexts) -> Result<Operation, WmsFault>
     )
 }
 
-// The request of the texts of parameters.
+// The request that the texts of the parameters make.
 fn read_texts(
     alloc: Global,
     texts: &ParameterTexts,
@@ -58,10 +58,10 @@ fn read_texts(
     }
 }
 
-/// The request that a query makes of the map, after so many published batches.
+/// The request that a query makes of the map at a sequence, which counts the published batches.
 ///
-/// The first parameter at fault by the order of refusal is the error; where memory is refused it is
-/// `NoMemory`. The map stays as it is.
+/// The error is the first parameter at fault by the order of refusal, or `NoMemory` where memory is
+/// refused. The map stays as it is.
 pub fn read(alloc: Global, query: &[u8], map: &Map, sequence: u64) -> Result<Request, QueryError>
     ensures request { IfOk result (λ r. IsMeaning map.now sequence query.now (Ok r)) }
     ensures fault { IfErr result (IsMeaningError map.now sequence query.now) }

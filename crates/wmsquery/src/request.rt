@@ -4,9 +4,9 @@ use mapdefs::{Items, Rgb};
 /// The format of a picture.
 #[derive(Clone, Copy)]
 pub enum Format {
-    /// Netpbm's portable pixmap, in which each pixel has a colour.
+    /// Netpbm's portable pixmap (PPM), in which each pixel has a colour.
     Pixmap,
-    /// Netpbm's portable arbitrary map, in which a pixel may have nothing.
+    /// Netpbm's portable arbitrary map (PAM), in which a pixel may be transparent.
     ArbitraryMap,
 }
 
@@ -23,7 +23,7 @@ pub struct MapRequest {
     pub height: PictureSide,
     /// The format of the picture.
     pub format: Format,
-    /// The colour of the picture where nothing is painted, or nothing.
+    /// The colour where nothing is painted, or none: there the picture is transparent.
     pub background: Option<Rgb>,
 }
 
@@ -32,9 +32,9 @@ pub struct MapRequest {
 pub struct InformationRequest {
     /// The picture.
     pub map: MapRequest,
-    /// The indices of the layers that are asked for features, in the order in which they are told.
+    /// The indices of the layers whose features are requested, in the order of the answer.
     pub asked: Items<usize>,
-    /// How many features of a layer are told at most.
+    /// The most features of a layer in the answer.
     pub count: u32,
     /// The column of the pixel, counted from 0.
     pub column: u32,
@@ -42,7 +42,7 @@ pub struct InformationRequest {
     pub row: u32,
 }
 
-/// What a query asks for.
+/// The request that a query makes.
 #[derive(Drop)]
 pub enum Request {
     /// The capabilities document.

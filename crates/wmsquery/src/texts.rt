@@ -13,7 +13,7 @@ use std::marker::Model;
 // How many parameters there are.
 const COUNT: usize = 18;
 
-// All of them, each at the index of its slot.
+// All parameters, each at the index of its slot.
 const PARAMETERS: [Parameter; COUNT] = [
     Parameter::Service,
     Parameter::Request,
@@ -44,7 +44,7 @@ impl Parameter {
         self as usize
     }
 
-    // The parameter of a name, which is read without case.
+    // The parameter with a name, which is compared without case.
     fn named(name: &str) -> Option<Parameter>
         ensures { result ≡ parameter_named name.now }
     {
@@ -62,8 +62,8 @@ fn some_text(text: &str) -> Option<&str>
     if text.is_empty() { None } else { Some(text) }
 }
 
-/// The texts of a query's parameters, each in a slot of its own, which is empty where the query has no
-/// pair of the name.
+/// The texts of a query's parameters, each in a slot of its own. A slot is empty where the query has no
+/// pair with the name.
 #[derive(Drop)]
 pub struct ParameterTexts {
     slots: [Option<Text>; COUNT],
@@ -90,7 +90,7 @@ impl ParameterTexts {
         }
     }
 
-    // Keeps the value of a pair, if it is the first of a parameter.
+    // Keeps the value of a pair, if it is the first with its parameter's name.
     fn keep(&mut self, alloc: Global, name: &str, value: &str) -> Result<(), AllocError>
         ensures { OnOk result (self.new ≡ with_pair self.old name.now value.now) }
     {
@@ -116,7 +116,7 @@ impl ParameterTexts {
         Ok(texts)
     }
 
-    /// The text of a parameter: the value of the first pair of its name, which is read without case.
+    /// The text of a parameter: the value of the first pair with its name, which is compared without case.
     pub fn text(&self, parameter: Parameter) -> Option<&str>
         ensures { option_copied result ≡ kept self.now parameter }
     {

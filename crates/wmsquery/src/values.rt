@@ -15,14 +15,14 @@ use hex::FromHex;
 use mapdefs::{MAX_FEATURES, Rgb};
 use operations::Operation;
 
-// The number that digits alone are; what is more than 2^64 counts as 2^64, which is past every limit.
+// The number that a text of digits alone stands for. A number above 2^64 counts as 2^64, which is past every limit.
 fn read_number(text: &str) -> Option<u128>
     ensures { result ≡ option_map (up_to (2 ^ 64)) (number_in text.now) }
 {
     read_digits(text.as_bytes(), 1 << 64)
 }
 
-// A text that has to be this one.
+// Refuses a text other than this one.
 fn fixed(wanted: &str, refusal: Code, text: &str) -> Result<(), Code>
     ensures { result ≡ fixed wanted.now refusal text.now }
 {
@@ -39,7 +39,7 @@ pub fn service(text: Option<&str>) -> Result<(), Code>
     }
 }
 
-// The operation of a name.
+// The operation with a name.
 fn operation_named(name: &str) -> Option<Operation>
     ensures { result ≡ operation_named name.now }
 {
@@ -74,7 +74,7 @@ pub fn version(text: Option<&str>) -> Result<(), Code>
     }
 }
 
-/// The system that CRS means.
+/// The coordinate reference system that CRS means.
 pub fn system(text: Option<&str>) -> Result<Crs, Code>
     ensures { result ≡ system_of (option_copied text.entry) }
 {
@@ -98,7 +98,7 @@ pub fn area(crs: Crs, text: Option<&str>) -> Result<WorldBox, Code>
     }
 }
 
-// The side of that many pixels, if a picture may have it.
+// The side with that many pixels, if a picture may have it.
 fn side_within(pixels: u128) -> Option<PictureSide>
     ensures { result ≡ picture_side pixels }
 {
@@ -178,8 +178,8 @@ pub fn background(text: Option<&str>) -> Result<Rgb, Code>
     }
 }
 
-/// What a picture of a format has where nothing is painted: nothing where the format can show that and it is
-/// asked for, else the colour.
+/// The background of a picture: none where the format can be transparent and the query requests that, else the
+/// colour.
 pub fn background_for(format: Format, transparent: bool, colour: Rgb) -> Option<Rgb>
     ensures { result ≡ background_for format transparent colour }
 {
@@ -253,7 +253,7 @@ pub fn pixel(side: PictureSide, text: Option<&str>) -> Result<u32, Code>
     index_below(side, number).ok_or(Code::InvalidPoint)
 }
 
-// Whether a client that has the document of a sequence gets the present one.
+// Refuses a client that has the document of the present sequence, or of a later one.
 fn is_behind(present: u64, number: u128) -> Result<(), Code>
     ensures { result ≡ is_behind present number }
 {
