@@ -1,4 +1,4 @@
--- A block whose box lies beyond a side has no vertex that doesn't.
+-- A block whose box lies beyond a side has all its vertices beyond it.
 use Rattle.std.proofs.Common.{◌≡◌, ◌∙◌, ℕ, ◌*◌, ◌<◌, zero, suc, Bool, true, false, ◌||◌, List, [], ◌∷◌, ◌++◌, drop, get_or, length, take, refl, sym, ap, arith}
 use Rattle.std.proofs.lemmas.Int.{ints}
 use Rattle.std.proofs.lemmas.List.{take-append-drop}
@@ -25,7 +25,7 @@ southward : (view : ViewValue) (a b : Place) → IsExtent view.area → b.y ≤�
 southward view a b extent le = sixteenths-rising view.height (view.area.maxy -ℤ a.y) (view.area.maxy -ℤ b.y) (view.area.maxy -ℤ view.area.miny)
     (omega (arith, ints, extent.rows)) (omega (arith, ints, le))
 
--- a place of a box that lies beyond a side lies there
+-- where a box lies beyond a side, each place in it does
 beyond : (view : ViewValue) (box : Area) (limit : ℤ) (side : Side) (place : Place) → IsExtent view.area → HasPlace box place → box_reaches view box limit side ≡ false →
     is_within side limit (device_point view place) ≡ false
 beyond view box limit Right place extent inside h =
@@ -46,19 +46,19 @@ pub all-beyond : (view : ViewValue) (box : Area) (limit : ℤ) (side : Side) (pl
 all-beyond view box limit side [] extent all h = refl
 all-beyond view box limit side (place ∷ places) extent all h = rw (beyond view box limit side place extent all.0 h) (all-beyond view box limit side places extent all.1 h)
 
--- the first of some places have what one more have
+-- what holds for all of the first n + 1 places holds for all of the first n
 all-fewer : (P : Place → Type 0) (n : ℕ) (places : List Place) → AllByRecursion P (take (suc n) places) → AllByRecursion P (take n places)
 all-fewer P zero places all = tt
 all-fewer P (suc n) [] all = tt
 all-fewer P (suc n) (place ∷ places) all = (all.0, all-fewer P n places all.1)
 
--- the box of a block has its vertices but the last
+-- the box of a block contains its vertices but the last
 pub block-places : (vertices : List Place) (boxes : List Area) (k : ℕ) (box : Area) (left : List Place) → AreBlockBoxes vertices boxes → k < length boxes → box ≡ get_or boxes k box →
     left ≡ drop (64 * k) vertices → AllByRecursion (HasPlace box) (take 64 left)
 block-places vertices boxes k box [] are below is e = tt
 block-places vertices boxes k box (from ∷ rest) are below is e = all-fewer (HasPlace box) 64 (from ∷ rest) (block-has vertices boxes k box from rest are below is e)
 
--- what reaches is in the block or behind it
+-- a vertex that reaches is in the block or after it
 or-false : (a b : Bool) → a ≡ false → (a || b) ≡ b
 or-false true b e = absurd (cc)
 or-false false b e = refl

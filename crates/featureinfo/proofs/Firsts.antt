@@ -1,4 +1,4 @@
--- The first so many of the wanted numbers are found one after another.
+-- The first so many of the numbers that pass are found one after another.
 use Rattle.std.proofs.Common.{◌≡◌, ℕ, suc, ◌<◌, ◌≤◌, List, [], ◌∷◌, ◌++◌, length, All, inl, inr, ⊎_elim, arith, length-append, sym}
 use Rattle.std.proofs.lemmas.List.Elements.{All-nil, All-cons, All-append, Contains-append_cases, Contains-append_left, Contains-append_right}
 use Rattle.std.proofs.lemmas.List.Kept.{AllPairs-cons}
@@ -36,7 +36,7 @@ all-below : (xs : List ℕ) (k : ℕ) → ((x : ℕ) → Contains xs x → x < k
 all-below [] k below = All-nil (λ x. x < k)
 all-below (x ∷ xs) k below = All-cons (λ y. y < k) x xs (below x (here x xs)) (all-below xs k (λ y c. below y (Contains-append_right (x ∷ []) xs y c)))
 
--- the wanted ones among those that are seen, while there is room
+-- the numbers that pass among those that were seen, while there is room
 pub record SoFar (wanted : ℕ → Type 0) (count : ℕ) (seen found : List ℕ) : Type 0 where
   pub rising : AllPairs (λ a b. a < b) found
   pub each : (k : ℕ) → Contains found k → Contains seen k × wanted k

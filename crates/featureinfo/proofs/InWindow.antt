@@ -1,4 +1,4 @@
--- What lies near the asked pixel has its box in the window, so that candidates have all hits.
+-- A feature near the queried pixel has its box in the window, so the candidates include all hits.
 use Rattle.std.proofs.Common.{◌≡◌, ◌∙◌, ℕ, ◌+◌, ◌*◌, ◌≤◌, true, false, List, [], sym, arith}
 use Rattle.std.proofs.Math.Nat.{min-le_right}
 use Rattle.std.proofs.lemmas.Int.{ints}
@@ -55,7 +55,7 @@ module _ (view : ViewValue) (k : Geometry) (tolerance i j : ℕ) (feature : Feat
   in-window extent width height = box-in view (tolerance + 1) (points_of feature) extent width height round
 
 module _ (scene : SceneValue) (layer : LayerFields) (i j count : ℕ) where
-  -- the first of the candidates are the first of all
+  -- the first hits among the candidates are the first of all
   pub first-of-all : (found hits : List ℕ) → IsExtent scene.view.area → IsPictureSide scene.view.width → IsPictureSide scene.view.height →
       AreCandidates layer.features (window scene.view (layer.tolerance + 1)) found → AreFirstAmong (IsHitAt scene layer i j) count found hits → AreHits scene layer i j count hits
   first-of-all found hits extent width height candidates first = record {

@@ -1,4 +1,4 @@
--- The first so many of the wanted numbers are one list.
+-- The first so many of the numbers that pass are one list.
 use Rattle.std.proofs.Common.{◌≡◌, ℕ, suc, ◌-◌, ◌<◌, ◌≤◌, List, [], ◌∷◌, length, All, inl, inr, ⊎_elim, arith, refl, sym}
 use Rattle.std.proofs.lemmas.List.Elements.{Contains-append_right}
 use Rattle.std.specs.List.{AllPairs, Contains}
@@ -15,14 +15,14 @@ in-none k c = omega (arith, c.1)
 above : (x : ℕ) (xs : List ℕ) (k : ℕ) → AllPairs (λ a b. a < b) (x ∷ xs) → Contains xs k → x < k
 above x xs k rising c = of-all (λ b. x < b) xs k (λ i e within. rising 0 (suc i) e (omega arith) (omega arith)) c
 
--- the first number is the least that is wanted
+-- the first number is the least that passes
 least : (wanted : ℕ → Type 0) (count x : ℕ) (xs : List ℕ) (k : ℕ) → AreFirst wanted count (x ∷ xs) → wanted k → x ≤ k
 least wanted count x xs k f w = ⊎_elim
     (λ (c : Contains (x ∷ xs) k). ⊎_elim (λ (e : x ≡ k). omega (arith, e)) (λ (d : Contains xs k). omega (arith, above x xs k f.rising d)) (first_or x k xs c))
     (λ (full : (length (x ∷ xs) ≡ count) × All (λ g. g < k) (x ∷ xs)). omega (arith, full.1 0 x (omega arith)))
     (f.others k w)
 
--- the others are the first of those that are wanted above it
+-- the others are the first of those above it that pass
 others-first : (wanted : ℕ → Type 0) (count x : ℕ) (xs : List ℕ) → AreFirst wanted count (x ∷ xs) → AreFirst (λ k. wanted k × (x < k)) (count - 1) xs
 others-first wanted count x xs f = record {
   rising = λ i j e lt within. f.rising (suc i) (suc j) e (omega arith) (omega arith);
@@ -34,7 +34,7 @@ others-first wanted count x xs f = record {
       (f.others k w.0);
 }
 
--- nothing is wanted, or no room is left, where the list is empty
+-- where the list is empty and some number passes, there is no room
 empty-full : (wanted : ℕ → Type 0) (count k : ℕ) → AreFirst wanted count [] → wanted k → count ≡ 0
 empty-full wanted count k f w = ⊎_elim
     (λ (c : Contains [] k). absurd (in-none k c))

@@ -1,4 +1,4 @@
--- A point's pixel is among those near the asked one where the pixels of the points cover one of them.
+-- A point's pixel is among those near the queried one exactly where the pixels of the points cover one of them.
 use Rattle.std.proofs.Common.{◌≡◌, ◌∙◌, ◌↔◌, ℕ, ◌<◌, ◌≤◌, Bool, true, false, ◌&&◌, List, refl, sym, arith, IsTrue}
 use Rattle.std.proofs.lemmas.Bool.{and_parts}
 use Rattle.std.proofs.lemmas.Int.{ints}
@@ -39,7 +39,7 @@ one-pixel v c r i j =
       is_le (pos r) ((pixel_of v).j +ℤ pos 0) (omega (arith, ints, j)),
     ) refl
 
--- a covered one is among them
+-- a covered pixel is among the near ones
 has-covered : (n : Nearby) (v : DevicePoint) (c r : ℕ) → n.left ≤ c → c < n.right → n.top ≤ r → r < n.bottom →
     covers_square (square_at 1 v) (pos c) (pos r) ≡ true → has_pixel n (pixel_of v) ≡ true
 unfolding covers_square

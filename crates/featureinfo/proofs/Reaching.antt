@@ -1,4 +1,4 @@
--- What covers a pixel near the asked one has a vertex on each side of the pixels near it, or within them.
+-- What covers a pixel near the queried one has a vertex on each side of the pixels near it, or within them.
 use Rattle.std.proofs.Common.{◌≡◌, ◌∙◌, ℕ, ◌+◌, ◌*◌, ◌<◌, ◌≤◌, Bool, true, false, ◌||◌, List, [], ◌∷◌, map, refl, ap, sym, arith, ⊎_elim}
 use Rattle.std.proofs.lemmas.Bool.{and_parts}
 use Rattle.std.proofs.lemmas.Int.{ints}
@@ -29,7 +29,7 @@ use Rattle.featureinfo.specs.declared.nearby.Nearby.{Nearby}
 use Rattle.featureinfo.specs.declared.side.Side.{Side}
 use Rattle.featureinfo.specs.declared.side.Side.TheVariants.{Right, Left, Bottom, Top}
 
--- some element passes another test, too
+-- where some element passes a test, some element passes a weaker one
 pub any-more : {X : Type 0} (f g : X → Bool) (xs : List X) → ((x : X) → f x ≡ true → g x ≡ true) → list_any f xs ≡ true → list_any g xs ≡ true
 any-more f g [] more h = h
 any-more f g (x ∷ xs) more h = of (λ e. any-more f g xs more e) (f x) refl h (g x) refl
@@ -129,7 +129,7 @@ module _ (view : ViewValue) (parts : List (List Place)) (n : Nearby) (c r : ℕ)
       from-test Top (λ q. int_le (p.y -ℤ pos (8 * 1)) (at q).y) (λ q h. top-more 8 q (omega arith) h)
       (must-pass _ _ (parts-fail false at (λ v. int_le (p.y -ℤ pos (8 * 1)) v.y) (λ e. covers_segment 1 e p) (top-segment 1 p) parts) covered)
 
-  -- a vertex whose pixel it is
+  -- a vertex whose pixel is the covered one
   vertex-within : (v : DevicePoint) → covers_square (square_at 1 v) (pos c) (pos r) ≡ true → (side : Side) → is_within side (limit_of n side) v ≡ true
   unfolding covers_square
   vertex-within v h side =

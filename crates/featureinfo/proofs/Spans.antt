@@ -1,4 +1,4 @@
--- A row of a cover has one of some columns where one of its spans has.
+-- A row of a cover contains one of some columns where one of its spans does.
 use Rattle.std.proofs.Common.{◌≡◌, ℕ, ◌<◌, ◌≤◌, Bool, true, false, ◌||◌, nat_lt, List, [], ◌∷◌, refl, sym, ◌∙◌, arith}
 use Rattle.std.proofs.lemmas.Bool.{and_parts, ltb-true, ltb-false, lt-ltb}
 use Rattle.std.specs.List.{list_any}
@@ -34,7 +34,7 @@ some-passes test start end left right (span ∷ spans) runs lt h = of (some-pass
         in-run test start end left right span runs.0 lt (ltb-true _ _ both.0) (ltb-true _ _ both.1)
     of later false e h = later h
 
--- where none does, none passes
+-- where none of the spans does, no column passes
 pub none-passes : (test : ℕ → Bool) (start end left right : ℕ) (spans : List Span) → AreRunsFrom test start end spans →
     list_any (meets left right) spans ≡ false → (c : ℕ) → start ≤ c → c < end → left ≤ c → c < right → test c ≡ false
 none-passes test start end left right [] runs h c least most in_left in_right = runs c least most

@@ -1,4 +1,4 @@
--- A greater tolerance has all pixels of a lesser one.
+-- A greater tolerance includes all pixels of a lesser one.
 use Rattle.std.proofs.Common.{ℕ, ◌+◌, ◌≤◌, min, arith}
 use Rattle.std.proofs.Math.Nat.{le-min, min-le_left, min-le_right}
 use Rattle.featureinfo.specs.Hits.{ToleranceOnlyAdds}

@@ -18,7 +18,7 @@ item_lines [] values = []
 item_lines (name ∷ names) [] = []
 item_lines (name ∷ names) (value ∷ values) = item_line name value ++ item_lines names values
 
--- the lines of a feature: its place in the layer from 0, and its items
+-- the lines of a feature: its index in the layer, counted from 0, and its items
 unfoldable pub feature_lines : List (List ℕ) → ℕ → FeatureFields → List ℕ
 feature_lines names index feature = codes "  Feature " ++ (decimal index ++ (codes ":\n" ++ item_lines names feature.values))
 
@@ -39,7 +39,7 @@ layer_lines layer (index ∷ indices) = layer_line layer.name ++ flat_map (lines
 abbrev pub hit_lines : MapFields → LayerHits → List ℕ
 hit_lines map hits = option_map_or (λ (layer : LayerFields). layer_lines layer hits.features) (slice_get map.layers hits.layer) []
 
--- the first line, which always stands
+-- the first line, which every text has
 unfoldable pub first_line : List ℕ
 first_line = codes "GetFeatureInfo results:\n"
 

@@ -27,11 +27,11 @@ covers_plainly view kind.Polygon parts i j = is_inside (points_of view parts) (p
 covers_plainly view kind.Line parts i j = line.covers_pixel (line_of (points_of view parts) false 1) (pos i) (pos j)
 covers_plainly view kind.Point parts i j = list_any (λ part. list_any (λ vertex. covers_square (square_at 1 vertex) (pos i) (pos j)) part) (points_of view parts)
 
--- some pixel of the picture lies within so many columns and so many rows of the asked one, and in the feature's plain cover
+-- some pixel of the picture lies within so many columns and so many rows of the queried one, and in the feature's plain cover
 abbrev pub IsNear : ViewValue → Geometry → ℕ → ℕ → ℕ → FeatureFields → Type 0
 IsNear view k tolerance i j feature = SomeNear (nearby_of view.width view.height tolerance i j) (covers_plainly view k feature.parts)
 
--- a feature of a layer that shows is hit where it has a class, and lies near the asked pixel
+-- a feature of a layer that shows is hit where it has a class, and lies near the queried pixel
 pub record IsHit (scene : SceneValue) (layer : LayerFields) (i j : ℕ) (feature : FeatureFields) : Type 0 where
   pub shows : is_visible_layer scene.scale layer ≡ true
   pub class : is_some (class_of scene.scale layer feature) ≡ true
@@ -41,7 +41,8 @@ pub record IsHit (scene : SceneValue) (layer : LayerFields) (i j : ℕ) (feature
 abbrev pub IsHitAt : SceneValue → LayerFields → ℕ → ℕ → ℕ → Type 0
 IsHitAt scene layer i j k = (feature : FeatureFields) × (slice_get layer.features k ≡ Some feature) × IsHit scene layer i j feature
 
--- the first so many of the numbers that are wanted: rising, no more than so many, and each other one comes behind as many
+-- the first so many of the numbers that pass a test: they rise, are no more than so many, and each other one that passes
+-- comes after as many
 pub record AreFirst (wanted : ℕ → Type 0) (count : ℕ) (found : List ℕ) : Type 0 where
   pub rising : AllPairs (λ a b. a < b) found
   pub each : (k : ℕ) → Contains found k → wanted k
@@ -52,11 +53,11 @@ pub record AreFirst (wanted : ℕ → Type 0) (count : ℕ) (found : List ℕ) :
 abbrev pub AreHits : SceneValue → LayerFields → ℕ → ℕ → ℕ → List ℕ → Type 0
 AreHits scene layer i j count found = AreFirst (IsHitAt scene layer i j) count found
 
--- the same of the layer of an index
+-- the same for the layer at an index
 abbrev pub AreHitsOf : SceneValue → ℕ → ℕ → ℕ → ℕ → List ℕ → Type 0
 AreHitsOf scene index i j count found = IfSome (slice_get scene.map.layers index) (λ layer. AreHits scene layer i j count found)
 
--- the same of those that are among some numbers
+-- the same for the features whose indices are among some numbers
 abbrev pub AreFirstAmong : (ℕ → Type 0) → ℕ → List ℕ → List ℕ → Type 0
 AreFirstAmong wanted count among found = AreFirst (λ k. Contains among k × wanted k) count found
 
@@ -65,12 +66,12 @@ pub record IsClassedNear (scene : SceneValue) (layer : LayerFields) (n : Nearby)
   pub class : is_some (class_of scene.scale layer feature) ≡ true
   pub near : SomeNear n (covers_plainly scene.view layer.kind feature.parts)
 
--- the law that a layer has one list of hits at most
+-- the law that a layer has at most one list of hits
 abbrev pub HasOneHitList : Type 0
 HasOneHitList = (scene : SceneValue) (layer : LayerFields) (i j count : ℕ) (a b : List ℕ) →
     AreHits scene layer i j count a → AreHits scene layer i j count b → a ≡ b
 
--- the law that a greater TOLERANCE only adds hits: what is hit with a lesser one is hit with it
+-- the law that a greater TOLERANCE only adds hits: a feature that is hit with a lesser one is hit with it
 abbrev pub ToleranceOnlyAdds : Type 0
 ToleranceOnlyAdds = (scene : SceneValue) (layer : LayerFields) (tolerance i j : ℕ) (feature : FeatureFields) →
     layer.tolerance ≤ tolerance → IsHit scene layer i j feature → IsHit scene (record layer { tolerance = tolerance }) i j feature

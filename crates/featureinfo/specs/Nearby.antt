@@ -1,4 +1,4 @@
--- The pixels of a picture that are near the asked one (docs/WMS.md, "Feature information").
+-- The pixels of a picture that are near the queried one (docs/WMS.md, "Feature information").
 use Rattle.std.specs.Prelude.{◌≡◌, ℕ, ◌+◌, ◌-◌, ◌<◌, ◌≤◌, List, min, Bool, true, ◌&&◌, ◌↔◌, pos, int_le, int_lt, nat_lt}
 use Rattle.std.specs.Int.{abs_diff}
 use Rattle.std.specs.List.{list_any}
@@ -8,7 +8,7 @@ use Rattle.viewport.specs.View.{ViewValue, device_point}
 use Rattle.scanfill.specs.declared.span.Span.{Span}
 use Rattle.featureinfo.specs.declared.nearby.Nearby.{Nearby}
 
--- those within so many columns and rows of a pixel of a picture of that width and height
+-- the pixels within so many columns and rows of a pixel of a picture of that width and height
 abbrev pub nearby_of : ℕ → ℕ → ℕ → ℕ → ℕ → Nearby
 nearby_of width height tolerance i j = record {
   left = i - tolerance;
@@ -17,7 +17,7 @@ nearby_of width height tolerance i j = record {
   bottom = min (j + tolerance + 1) height;
 }
 
--- a pixel is one of them
+-- a pixel is one of the near ones
 abbrev pub has_pixel : Nearby → PixelValue → Bool
 has_pixel n p = int_le (pos n.left) p.i && int_lt p.i (pos n.right) && int_le (pos n.top) p.j && int_lt p.j (pos n.bottom)
 
@@ -25,14 +25,14 @@ has_pixel n p = int_le (pos n.left) p.i && int_lt p.i (pos n.right) && int_le (p
 abbrev pub meets : ℕ → ℕ → Span → Bool
 meets left right span = nat_lt span.from right && nat_lt left span.to
 
--- some point of a part has its pixel among them, and some of all parts
+-- a point of a part has its pixel among them, and a point of all parts
 abbrev pub part_near : ViewValue → List Place → Nearby → Bool
 part_near view part n = list_any (λ place. has_pixel n (pixel_of (device_point view place))) part
 
 abbrev pub points_near : ViewValue → List (List Place) → Nearby → Bool
 points_near view parts n = list_any (λ part. part_near view part n) parts
 
--- one of them passes a test of its column and its row
+-- one of the near pixels passes a test of its column and its row
 pub record SomeNear (n : Nearby) (test : ℕ → ℕ → Bool) : Type 0 where
   pub column : ℕ
   pub row : ℕ
@@ -42,7 +42,7 @@ pub record SomeNear (n : Nearby) (test : ℕ → ℕ → Bool) : Type 0 where
   pub bottom : row < n.bottom
   pub passes : test column row ≡ true
 
--- the law: they are the pixels of the picture within so many columns and so many rows of the asked one
+-- the law: the near pixels are those of the picture within so many columns and so many rows of the queried one
 abbrev pub NearbyAreWithin : Type 0
 NearbyAreWithin = (width height tolerance i j column row : ℕ) → i < width → j < height →
     let n = nearby_of width height tolerance i j in

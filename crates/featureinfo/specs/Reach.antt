@@ -1,4 +1,4 @@
--- Which features can't lie near the asked pixel: those whose vertices all lie beyond one side of the pixels near it
+-- Which features can't lie near the queried pixel: those whose vertices all lie beyond one side of the pixels near it
 -- (docs/WMS.md, "Feature information").
 use Rattle.std.specs.Prelude.{◌≡◌, ◌+◌, ◌*◌, Bool, false, ◌&&◌, not, ℤ, pos, ◌-ℤ◌, int_le, List}
 use Rattle.std.specs.List.{list_any}
@@ -12,7 +12,7 @@ use Rattle.featureinfo.specs.declared.nearby.Nearby.{Nearby}
 use Rattle.featureinfo.specs.declared.side.Side.{Side}
 use Rattle.featureinfo.specs.declared.side.Side.TheVariants.{Right, Left, Bottom, Top}
 
--- half a pixel beyond a side of the pixels, in sixteenths of one
+-- half a pixel beyond a side of the pixels, in sixteenths of a pixel
 abbrev pub limit_of : Nearby → Side → ℤ
 limit_of n Right = pos (16 * n.right + 8)
 limit_of n Left = pos (16 * n.left) -ℤ pos 8
@@ -26,7 +26,7 @@ is_within Left limit v = int_le limit v.x
 is_within Bottom limit v = int_le v.y limit
 is_within Top limit v = int_le limit v.y
 
--- a box doesn't lie beyond a limit on a side as a whole: its corner that is the last to lie there doesn't
+-- a box doesn't lie as a whole beyond a limit on a side: its corner that would be the last to lie there doesn't
 abbrev pub box_reaches : ViewValue → Area → ℤ → Side → Bool
 box_reaches view box limit Right = int_le (device_point view (record { x = box.minx; y = box.miny })).x limit
 box_reaches view box limit Left = int_le limit (device_point view (record { x = box.maxx; y = box.miny })).x
@@ -46,7 +46,7 @@ is_far view parts n =
     not (reaches view parts (limit_of n Right) Right && reaches view parts (limit_of n Left) Left
     && reaches view parts (limit_of n Bottom) Bottom && reaches view parts (limit_of n Top) Top)
 
--- the law: a feature that is far covers no pixel near the asked one plainly
+-- the law: a feature that is far covers no pixel near the queried one plainly
 abbrev pub NearIsNotFar : Type 0
 NearIsNotFar = (view : ViewValue) (k : Geometry) (parts : List (List Place)) (n : Nearby) →
     SomeNear n (covers_plainly view k parts) → is_far view parts n ≡ false

@@ -17,7 +17,7 @@ use std::alloc::{AllocError, Global};
 use strokes::Line;
 use viewport::{Projection, View};
 
-/// What is asked of the layers of a picture: a pixel, and how many features of a layer at most.
+/// A query of the layers of a picture: a pixel, and the most hits of a layer.
 #[derive(Clone, Copy)]
 pub struct PixelQuery {
     /// The column of the pixel, counted from 0.
@@ -32,12 +32,12 @@ pub struct PixelQuery {
 pub struct LayerHits {
     /// The index of the layer in the map.
     pub layer: usize,
-    /// The indices of the features that were hit, in order. The hits of a layer that is asked several times share
+    /// The indices of the features that were hit, in order. The hits of a layer that is queried several times share
     /// them.
     pub features: Shared<Items<u32>>,
 }
 
-// Whether some point of a part has its pixel among those.
+// Whether a point of a part has its pixel among the near ones.
 fn part_near(projection: &Projection, part: &[World], nearby: Nearby) -> bool
     ensures { result ≡ part_near projection.now part.now nearby }
 {
@@ -45,7 +45,7 @@ fn part_near(projection: &Projection, part: &[World], nearby: Nearby) -> bool
         .any(|place| nearby.has(projection.pixel(*place)))
 }
 
-// Whether some point of the parts has its pixel among those.
+// Whether a point of the parts has its pixel among the near ones.
 fn points_near(projection: &Projection, parts: &[Part], nearby: Nearby) -> bool
     ensures { result ≡ points_near projection.now parts.now nearby }
 {
@@ -54,7 +54,7 @@ fn points_near(projection: &Projection, parts: &[Part], nearby: Nearby) -> bool
         .any(|part| part_near(projection, part.as_slice(), nearby))
 }
 
-// Whether the plain cover of a polygon has one of the pixels. It is asked by its rows.
+// Whether the plain cover of a polygon has one of the near pixels. It is tested by its rows.
 fn polygon_near(
     alloc: Global,
     scene: &Scene<'_>,
@@ -71,7 +71,7 @@ fn polygon_near(
     nearby.meets_cover(alloc, &polygon, scene.projection().width())
 }
 
-// Whether the plain cover of a line has one of the pixels.
+// Whether the plain cover of a line has one of the near pixels.
 fn line_near(
     alloc: Global,
     scene: &Scene<'_>,
@@ -88,7 +88,7 @@ fn line_near(
     nearby.meets_cover(alloc, &line, scene.projection().width())
 }
 
-// Whether the plain cover of a feature has one of the pixels.
+// Whether the plain cover of a feature has one of the near pixels.
 fn covers_near(
     alloc: Global,
     scene: &Scene<'_>,
@@ -108,7 +108,8 @@ fn covers_near(
     }
 }
 
-// Whether a feature of the layer has a class and lies near the pixels. One that is far is neither looked up nor drawn.
+// Whether a feature of the layer has a class and lies near the pixels. A far feature gets no search for its class
+// and no cover.
 fn is_classed_near(
     alloc: Global,
     scene: &Scene<'_>,
@@ -163,15 +164,15 @@ fn first_hits(
     Ok(Items::of(hits))
 }
 
-/// The first features of a layer that are seen near a pixel of a scene's picture, by their indices: those of a layer
-/// that shows at the scale which have a class, and whose plain cover has a pixel of the picture within the layer's
+/// The first features of a layer that are hit near a pixel of a scene's picture, by their indices. A feature is hit
+/// where its layer shows at the scale, it has a class, and its plain cover has a pixel of the picture within the layer's
 /// tolerance of both the column and the row.
 ///
-/// The features that may be seen are those that `near` finds in the view and a pixel more than the tolerance round
+/// The features that may be hit are those that `near` finds in the view and a pixel more than the tolerance round
 /// it. The hits are the same whatever else it finds.
 ///
-/// It takes memory for what `near` finds, for the hits, and for one feature at a time. `AllocError` comes only where that
-/// is refused.
+/// It takes memory for what `near` finds, for the hits, and for one feature at a time. `AllocError` comes only where this
+/// memory is refused.
 pub fn hits_in<N: Near>(
     alloc: Global,
     scene: &Scene<'_>,
@@ -194,7 +195,7 @@ pub fn hits_in<N: Near>(
     first_hits(alloc, scene, fields, &found, asked)
 }
 
-/// What `hits_in` gives in the scene of a map in a view, at a scale.
+/// The hits that `hits_in` gives in the scene of a map in a view, at a scale.
 pub fn hits<N: Near>(
     alloc: Global,
     map: &Map,

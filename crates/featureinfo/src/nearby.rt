@@ -7,7 +7,7 @@ use geom::{PictureSide, Pixel};
 use scanfill::{Cover, Span, Spans};
 use std::alloc::{AllocError, Global};
 
-/// The pixels of a picture that are near the asked one: columns from one to before another, and rows.
+/// The pixels of a picture that are near the queried one: columns from one to before another, and rows likewise.
 #[derive(Clone, Copy)]
 pub struct Nearby {
     pub left: u16,
@@ -17,7 +17,7 @@ pub struct Nearby {
 }
 
 impl Nearby {
-    /// Those within so many columns and rows of a pixel of the picture.
+    /// The pixels within so many columns and rows of a pixel of the picture.
     pub fn of(sides: (PictureSide, PictureSide), column: u16, row: u16, tolerance: u8) -> Self
         requires column { column < sides.0 }
         requires row { row < sides.1 }
@@ -35,7 +35,7 @@ impl Nearby {
         }
     }
 
-    /// Whether a pixel is one of them.
+    /// Whether a pixel is one of the near ones.
     pub fn has(self, pixel: Pixel) -> bool
         ensures { result ≡ has_pixel self pixel }
     {
@@ -46,7 +46,7 @@ impl Nearby {
             && row < i64::from(self.bottom)
     }
 
-    // Whether one of the spans of a row has one of the columns.
+    // Whether one of the spans of a row contains one of the columns.
     fn meets(self, spans: &[Span]) -> bool
         ensures { result ≡ list_any (meets self.left self.right) spans.now }
     {
@@ -55,7 +55,7 @@ impl Nearby {
             .any(|span| span.from < self.right && self.left < span.to)
     }
 
-    /// Whether a cover covers one of them, by its rows.
+    /// Whether a cover covers one of the near pixels, by its rows.
     pub fn meets_cover<C: Cover>(
         self,
         alloc: Global,

@@ -9,7 +9,7 @@ use geom::{Device, World};
 use mapdefs::{BlockBox, Part, split_block};
 use viewport::Projection;
 
-// Half a pixel beyond a side of the pixels, in sixteenths of one.
+// Half a pixel beyond a side of the pixels, in sixteenths of a pixel.
 fn limit_of(nearby: Nearby, side: Side) -> i64
     ensures { result ≡ limit_of nearby side }
 {
@@ -33,7 +33,7 @@ fn is_within(side: Side, limit: i64, vertex: Device) -> bool
     }
 }
 
-// Whether some of these vertices doesn't lie beyond that side. It stops at the first that doesn't.
+// Whether one of these vertices at least doesn't lie beyond that side. The search stops at the first that doesn't.
 fn vertices_reach(projection: &Projection, vertices: &[World], limit: i64, side: Side) -> bool
     ensures { result ≡ part_reaches projection.now vertices.now limit side }
 {
@@ -42,7 +42,7 @@ fn vertices_reach(projection: &Projection, vertices: &[World], limit: i64, side:
         .any(|place| is_within(side, limit, projection.device(*place)))
 }
 
-// Whether a box doesn't lie beyond that side as a whole.
+// Whether a box doesn't lie as a whole beyond that side.
 fn box_reaches(projection: &Projection, area: BlockBox, limit: i64, side: Side) -> bool
     ensures value { result ≡ box_reaches projection.now area limit side }
     ensures limits { IsExtent projection.now.area }
@@ -56,7 +56,7 @@ fn box_reaches(projection: &Projection, area: BlockBox, limit: i64, side: Side) 
     }
 }
 
-// Whether some of the vertices, which lie in the box, doesn't lie beyond that side. If the box does, none is looked at.
+// Whether one of the vertices, which lie in the box, doesn't lie beyond that side. If the box does, none is tested.
 fn block_reaches(
     projection: &Projection,
     area: BlockBox,
@@ -70,7 +70,7 @@ fn block_reaches(
     box_reaches(projection, area, limit, side) && vertices_reach(projection, vertices, limit, side)
 }
 
-// Whether some vertex of a part doesn't lie beyond that side. A block of vertices whose box lies there is passed over.
+// Whether one vertex of a part at least doesn't lie beyond that side. A block is skipped if its box lies beyond it.
 fn part_reaches(projection: &Projection, part: &Part, limit: i64, side: Side) -> bool
     ensures { result ≡ part_reaches projection.now part.now limit side }
 {
@@ -85,7 +85,7 @@ fn part_reaches(projection: &Projection, part: &Part, limit: i64, side: Side) ->
     vertices_reach(projection, left, limit, side)
 }
 
-// Whether some vertex of the parts doesn't lie beyond that side.
+// Whether one vertex of the parts at least doesn't lie beyond that side.
 fn reaches(projection: &Projection, parts: &[Part], limit: i64, side: Side) -> bool
     ensures { result ≡ reaches projection.now parts.now limit side }
 {

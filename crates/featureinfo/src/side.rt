@@ -1,4 +1,4 @@
-/// A side of the pixels that are near the asked one.
+/// A side of the pixels that are near the queried one.
 #[derive(Clone, Copy)]
 pub enum Side {
     Right,

@@ -113,7 +113,7 @@ fn add_hits(out: &mut Vec<u8>, map: &MapFields, hits: &LayerHits) -> Result<(), 
     }
 }
 
-// The first line.
+// The first line of a text.
 #[tactic(auto, unfolding(crate::specs::Answer::first_line))]
 fn first_line() -> &'static str
     ensures { result.now ≡ first_line }
@@ -121,7 +121,7 @@ fn first_line() -> &'static str
     "GetFeatureInfo results:\n"
 }
 
-/// The text of the hits of some layers. An index that the map doesn't have is passed over. The error is
+/// The text of the hits of some layers. An index that the map doesn't have is skipped. The error says
 /// that memory was refused.
 pub fn text(alloc: Global, map: &Map, hits: &[LayerHits]) -> Result<Items<u8>, AllocError>
     ensures { IfOk result (λ bytes. bytes ≡ answer map.now hits.now) }
