@@ -1,4 +1,4 @@
--- Counts of ten digits at most, which no cap cuts.
+-- Counts of at most ten digits, which no cap cuts.
 use Rattle.std.proofs.Common.{◌≡◌, ℕ, ◌^◌, ◌<◌, ◌≤◌, Bool, true, false, List, Some, length, refl, ap, arith}
 use Rattle.std.proofs.Math.Nat.{pow-le-pow_right}
 use Rattle.std.specs.Char.{is_ascii_digit}
@@ -8,7 +8,7 @@ use Rattle.geom.specs.Decimal.{number_of}
 use Rattle.geom.specs.Natural.{number_in, up_to}
 use Rattle.geom.proofs.Digits.{number_of-below}
 
--- the number of ten digits at most is below ten thousand million
+-- the number of at most ten digits is below ten thousand million
 pub counted : (text : List ℕ) → length text ≤ 10 → option_map (up_to 10000000000) (number_in text) ≡ number_in text
 counted text short = go (list_all is_ascii_digit text) refl
   where

@@ -17,7 +17,7 @@ use Rattle.batches.specs.declared.fault.BatchKind.{BatchKind}
 use Rattle.batches.specs.declared.fault.BatchKind.TheVariants as kind
 use Rattle.mapdefs.specs.declared.map.MapFields.{MapFields}
 
--- what stands after a command is no longer than what stands after its line
+-- the bytes after a command are no more than those after its line
 line-within : (line : Option CommandLine) (rest : List ℕ) (r : Command × List ℕ) → with_bytes line rest ≡ Ok r → length r.1 ≤ length rest
 line-within None rest r e = absurd (cc)
 line-within (Some (Whole c)) rest r e = let is : (c, rest) ≡ r = cc in rw (← is) (omega arith)
@@ -30,7 +30,7 @@ line-within (Some (Wants count name)) rest r e = go (nat_lt (length rest) count)
         let is : (Append name (take count rest), drop count rest) ≡ r = cc in
         rw (← is) (omega (arith, length-drop count rest))
 
--- a command takes a byte at least
+-- a command takes at least one byte
 front-shrinks : (bytes : List ℕ) (r : Command × List ℕ) → first_command bytes ≡ Ok r → length r.1 < length bytes
 front-shrinks bytes r e = go (nat_lt (position_or_len is_line_end bytes) (length bytes)) refl
   where
@@ -55,14 +55,14 @@ enough (suc n) zero (b ∷ bs) h k = absurd (omega arith)
 enough (suc n) (suc m) (b ∷ bs) h k =
     step-same (reading_within n) (reading_within m) (b ∷ bs) (λ rest short. enough n m rest (omega arith) (omega arith)) (first_command (b ∷ bs)) refl
 
--- what is read is the command at the front and what is read after it
+-- reading gives the first command and what is read after it
 pub reading-step : (bytes : List ℕ) → 1 ≤ length bytes → reading_of bytes ≡ step (first_command bytes) reading_of
 unfolding reading_within
 reading-step [] h = absurd (omega arith)
 reading-step (b ∷ bs) h =
     step-same (reading_within (length bs)) reading_of (b ∷ bs) (λ rest short. enough (length bs) (length rest) rest (omega arith) (omega arith)) (first_command (b ∷ bs)) refl
 
--- one command is done, and the others are left
+-- one command is done, and the others remain
 pub goes-on : (index : ℕ) (bytes rest : List ℕ) (c : Command) (m next : MapFields) → 1 ≤ length bytes → first_command bytes ≡ Ok (c, rest) → applied c m ≡ Ok next →
     after_reading index (reading_of bytes) m ≡ after_reading (index + 1) (reading_of rest) next
 goes-on index bytes rest c m next some read done =
@@ -92,7 +92,7 @@ unread-fails index bytes m fault some read =
     none : (i : ℕ) → i + 0 ≡ i
     none i = omega arith
 
--- nothing is left
+-- nothing remains
 pub all-done : (index : ℕ) (bytes : List ℕ) (m : MapFields) → length bytes ≤ 0 → after_reading index (reading_of bytes) m ≡ Ok m
 unfolding reading_within
 all-done index [] m h = refl
@@ -104,7 +104,7 @@ pub fails-as : (index : ℕ) (bytes rest : List ℕ) (c : Command) (m : MapField
 fails-as index bytes rest c m total (command_error.Fault k) some read is e = sym is ∙ fails index bytes rest c m k some read e
 fails-as index bytes rest c m total command_error.NoMemory some read is e = tt
 
--- what the test for an empty rest tells
+-- what follows from the test for an empty rest
 pub some-left : (rest : List ℕ) (empty : Bool) → empty ≡ (length rest == 0) → empty ≡ false → 1 ≤ length rest
 some-left [] empty e f = absurd (cc)
 some-left (b ∷ bs) empty e f = omega arith

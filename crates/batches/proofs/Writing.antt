@@ -1,4 +1,4 @@
--- What is written as commands is read as these.
+-- Commands that are written are read back.
 use Rattle.std.proofs.Common.{◌≡◌, ◌∙◌, ℕ, suc, ◌+◌, ◌-◌, ◌<◌, ◌≤◌, ◌^◌, Bool, true, false, List, [], ◌∷◌, ◌++◌, length, take, drop, Option, None, Some, Ok, All, nat_le, nat_lt, refl, sym, ap, arith, length-append}
 use Rattle.std.proofs.Math.Seq.{drop-append-add, drop-append_seam, get_or-append_right, get_or-append_seam, take-append_seam}
 use Rattle.std.proofs.lemmas.Bool.{and_parts}
@@ -88,7 +88,7 @@ module _ (n : ℕ) (fits : n < 10 ^ 10) where
       let none = (digits-plain (decimal n) count-digits).0 in
       rw (cut-there is_space (decimal n) 32 name none refl, cut-before is_space (decimal n) 32 name none refl, count-read) (ap (λ (x : List ℕ). Some (Wants n x)) (cut-after is_space (decimal n) 32 name none refl))
 
--- no CR stands at the end of a line whose name has none there, nor of its front
+-- no CR ends a line whose name doesn't end with one, and whose prefix doesn't
 ends-plain : (front name : List ℕ) → ends_in_cr front ≡ false → ends_in_cr name ≡ false → ends_in_cr (front ++ name) ≡ false
 ends-plain front [] f n = rw (append-nil front) f
 ends-plain front (b ∷ bs) f n =
@@ -101,7 +101,7 @@ ends-space front =
     let last : length (front ++ 32 ∷ []) - 1 ≡ length front = omega (arith, length-append front (32 ∷ [])) in
     rw (last, get_or-append_seam front 32 [] 0) refl
 
--- a command is read back, and what stands after it
+-- a command is read back, with the bytes after it
 read-back : (c : Command) (rest : List ℕ) → CanBeWritten c → first_command (written_command c ++ rest) ≡ Ok (c, rest)
 read-back (On name) rest fits =
     ap (λ (x : List ℕ). first_command (79 ∷ 78 ∷ 32 ∷ x)) (append_assoc name (10 ∷ []) rest)

@@ -1,4 +1,4 @@
--- What a batch does to a state (docs/SERVICE.md, "Batches").
+-- How a batch changes a state (docs/SERVICE.md, "Batches").
 use Rattle.std.specs.Prelude.{◌≡◌, ℕ, ◌+◌, ◌-◌, ◌^◌, ◌==◌, true, false, nat_lt, if◌then◌else◌, List, [], ◌∷◌, length, Option, None, Some, Result, Ok, Err, IfSome, MatchResult, slice_get}
 use Rattle.std.specs.Result.{result_ok}
 use Rattle.csvpoints.specs.Source.{records_of}
@@ -38,7 +38,7 @@ abbrev pub read : Result TableFields CsvFault → Result TableFields BatchKind
 read (Ok table) = Ok table
 read (Err fault) = Err (kind.Csv fault)
 
--- what one command does to a map, or why it does nothing: a table is read by the columns that its layer names
+-- how one command changes a map, or why it fails: a table is read by the columns that its layer names
 abbrev pub applied : Command → MapFields → Result MapFields BatchKind
 applied (On name) m = refused (switch name true m)
 applied (Off name) m = refused (switch name false m)
@@ -47,7 +47,7 @@ applied (Append name bytes) m =
     and_then (refused (found_points name m)) (λ f.
     and_then (read (table_of f.1.csv_x f.1.csv_y MAX_FEATURES (records_of bytes))) (λ table. refused (append_at f.0 table m)))
 
--- what is wrong with the command of an index
+-- what is wrong with the command at an index
 abbrev pub at_command : {A : Type 0} → ℕ → Result A BatchKind → Result A BatchFault
 at_command index (Ok a) = Ok a
 at_command index (Err k) = Err (record { index = index; kind = k })
@@ -57,12 +57,12 @@ abbrev pub after : ℕ → List Command → MapFields → Result MapFields Batch
 after index [] m = Ok m
 after index (command ∷ commands) m = and_then (at_command index (applied command m)) (after (index + 1) commands)
 
--- what can't be read, behind the commands that can
+-- the fault of a command that can't be read, after the commands that can
 abbrev pub unread : ℕ → Option CommandFault → MapFields → Result MapFields BatchFault
 unread index None m = Ok m
 unread index (Some fault) m = Err (record { index = index; kind = kind.Unread fault })
 
--- the map after all that was read, of which the first command has that index, or the first fault
+-- the map after all commands of a reading, of which the first has that index, or the first fault
 abbrev pub after_reading : ℕ → Reading → MapFields → Result MapFields BatchFault
 after_reading index reading m = and_then (after index reading.commands m) (unread (index + length reading.commands) reading.wrong)
 
@@ -86,11 +86,11 @@ batched bytes s =
 abbrev pub accepted : State → List ℕ → Option State
 accepted state bytes = result_ok (batched bytes state)
 
--- the law that an empty batch leaves the map, and counts
+-- the law that an empty batch leaves the map, and is counted
 abbrev pub EmptyBatchCounts : Type 0
 EmptyBatchCounts = (s : State) → (s.sequence == 2 ^ 64 - 1) ≡ false → batched [] s ≡ Ok (record { map = s.map; sequence = s.sequence + 1 })
 
--- the error is the fault, or memory was refused
+-- the error is the fault, or refused memory
 abbrev pub IsErrorOf : {A : Type 0} → Result A BatchKind → CommandError → Type 0
 IsErrorOf r (command_error.Fault k) = r ≡ Err k
 IsErrorOf r command_error.NoMemory = Unit {0}
@@ -99,14 +99,14 @@ abbrev pub IsBatchErrorOf : {A : Type 0} → Result A BatchFault → BatchError 
 IsBatchErrorOf r (batch_error.Fault f) = r ≡ Err f
 IsBatchErrorOf r batch_error.NoMemory = Unit {0}
 
--- the table of some bytes by the columns that the layer of an index names, or what is wrong with them
+-- the table of some bytes by the columns that the layer at an index names, or what is wrong with them
 abbrev pub IsTableAt : MapFields → ℕ → List ℕ → Result TableFields CommandError → Type 0
 IsTableAt m index bytes result = IfSome (slice_get m.layers index) (λ (layer : LayerFields).
     MatchResult result
     (λ table. read (table_of layer.csv_x layer.csv_y MAX_FEATURES (records_of bytes)) ≡ Ok table)
     (IsErrorOf (read (table_of layer.csv_x layer.csv_y MAX_FEATURES (records_of bytes)))))
 
--- what the error of the command of an index is of the batch
+-- the fault of the batch where the command at an index has an error
 abbrev pub at_index : ℕ → CommandError → BatchError
 at_index index (command_error.Fault k) = batch_error.Fault (record { index = index; kind = k })
 at_index index command_error.NoMemory = batch_error.NoMemory

@@ -6,7 +6,7 @@ use Rattle.batches.specs.Command.{ends_in_cr, is_line_end, reading_of}
 use Rattle.batches.specs.declared.command.Command.{Command}
 use Rattle.batches.specs.declared.command.Command.TheVariants.{On, Off, Clear, Append}
 
--- a command as it is written: a line, and behind that of a table its bytes
+-- a command as it is written: a line, and for a table its bytes after that
 abbrev pub written_command : Command → List ℕ
 written_command (On name) = codes "ON " ++ (name ++ codes "\n")
 written_command (Off name) = codes "OFF " ++ (name ++ codes "\n")
@@ -18,7 +18,7 @@ written_command (Append name bytes) =
 abbrev pub written : List Command → List ℕ
 written commands = flat_map written_command commands
 
--- a name can stand on a line: it has no LF, and no CR at its end
+-- a name fits on a line: it has no LF, and no CR at its end
 pub record FitsOnLine (name : List ℕ) : Type 0 where
   pub line : list_any is_line_end name ≡ false
   pub end : ends_in_cr name ≡ false
@@ -30,6 +30,6 @@ CanBeWritten (Off name) = FitsOnLine name
 CanBeWritten (Clear name) = FitsOnLine name
 CanBeWritten (Append name bytes) = FitsOnLine name × (length bytes < 10 ^ 10)
 
--- the law: what is written is read as what was written
+-- the law: commands that are written are read back as these commands
 abbrev pub WrittenIsRead : Type 0
 WrittenIsRead = (commands : List Command) → All CanBeWritten commands → reading_of (written commands) ≡ record { commands = commands; wrong = None }

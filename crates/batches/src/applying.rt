@@ -9,7 +9,7 @@ use layers::{ChangeError, Draft, Layers};
 use mapdefs::MAX_FEATURES;
 use std::alloc::Global;
 
-// The table of some bytes, read by the columns that the layer of an index names.
+// The table of some bytes, read by the columns that the layer at an index names.
 fn table_at(alloc: Global, draft: &Draft, index: usize, bytes: &[u8]) -> Result<Table, CommandError>
     requires { index < length draft.now.layers }
     ensures { IsTableAt draft.now index bytes.now result }
@@ -44,7 +44,7 @@ fn append(alloc: Global, draft: &mut Draft, name: &[u8], bytes: &[u8]) -> Result
     }
 }
 
-/// Applies one command to a draft of the layers. Nothing is said of the draft where it fails.
+/// Applies one command to a draft of the layers. After an error the draft may have any value.
 pub fn apply_command(
     alloc: Global,
     draft: &mut Draft,
@@ -65,7 +65,7 @@ pub fn apply_command(
     }
 }
 
-// What the error of the command of an index is of the batch.
+// The fault of the batch where the command at an index has an error.
 fn at_index(index: u64, error: CommandError) -> BatchError
     ensures { result ≡ at_index index error }
 {
@@ -75,8 +75,8 @@ fn at_index(index: u64, error: CommandError) -> BatchError
     }
 }
 
-// Applies the commands of a batch to a draft, up to the first that fails. Nothing is said of the draft where one
-// does.
+// Applies the commands of a batch to a draft, up to the first that fails. After an error the draft may have any
+// value.
 fn apply_commands(alloc: Global, draft: &mut Draft, bytes: &[u8]) -> Result<(), BatchError>
     requires { length bytes.now ≤ MAX_BATCH }
     ensures done { OnOk result (batch bytes.now draft.old ≡ Ok draft.new) }
@@ -102,7 +102,7 @@ fn apply_commands(alloc: Global, draft: &mut Draft, bytes: &[u8]) -> Result<(), 
     Ok(())
 }
 
-/// Applies the commands of a batch, or gives its first fault. Where there is an error the layers stay as they are.
+/// Applies the commands of a batch, or gives its first fault. After an error the layers stay as they are.
 ///
 /// The commands change a draft, so that the list and the index of a layer are made once, however many of them
 /// change it.

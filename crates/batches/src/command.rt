@@ -22,24 +22,24 @@ pub enum Command<'a> {
 /// Why a command can't be read.
 #[derive(Clone, Copy, Debug, Error)]
 pub enum CommandFault {
-    /// Its word is unknown, or the line can't be read.
+    /// Its keyword is unknown, or the line can't be read.
     #[error("an unknown word, or a line that can't be read")]
     UnknownWord,
-    /// The bytes end before it does.
+    /// The bytes end before the command does.
     #[error("the bytes end before the command does")]
     Short,
 }
 
-/// What a line says.
+/// The content of a line.
 #[derive(Drop)]
 pub enum CommandLine<'a> {
     /// A whole command.
     Whole(Command<'a>),
-    /// A table of so many bytes for a layer.
+    /// The line before a table of so many bytes for a layer.
     Wants(u64, Bytes<'a>),
 }
 
-/// The number of a text of 1 to 10 digits.
+/// The number that a text of 1 to 10 digits stands for.
 #[tactic(auto, using(crate::proofs::Counts::counted))]
 pub fn count_of(text: &[u8]) -> Option<u64>
     ensures { result ≡ count_of text.now }
@@ -65,7 +65,7 @@ fn append_of(text: &[u8]) -> Option<CommandLine<'_>>
     }
 }
 
-// How many bytes stand before the first space.
+// How many bytes come before the first space.
 fn word_len(bytes: &[u8]) -> usize
     ensures index { result ≡ position_or_len is_space bytes.now }
     ensures within { result ≤ length bytes.now }
@@ -76,7 +76,7 @@ fn word_len(bytes: &[u8]) -> usize
         .unwrap_or(bytes.len())
 }
 
-/// How many bytes stand before the first LF.
+/// How many bytes come before the first LF.
 pub fn line_len(bytes: &[u8]) -> usize
     ensures index { result ≡ position_or_len is_line_end bytes.now }
     ensures within { result ≤ length bytes.now }
@@ -87,7 +87,7 @@ pub fn line_len(bytes: &[u8]) -> usize
         .unwrap_or(bytes.len())
 }
 
-// What a line says.
+// The content of a line.
 fn line_of(line: &[u8]) -> Option<CommandLine<'_>>
     ensures { result ≡ line_of line.now }
 {
@@ -116,7 +116,7 @@ fn without_cr(line: &[u8]) -> &[u8]
     }
 }
 
-// The command of a line, and what stands after it.
+// The command of a line, and the bytes after it.
 fn with_bytes<'a>(
     line: Option<CommandLine<'a>>,
     rest: &'a [u8],
@@ -137,7 +137,7 @@ fn with_bytes<'a>(
     }
 }
 
-/// The command at the front of some bytes, and what stands after it, or what is wrong there.
+/// The command at the beginning of some bytes, and the bytes after it, or what is wrong there.
 pub fn first_command(bytes: &[u8]) -> Result<(Command<'_>, &[u8]), CommandFault>
     ensures value { MatchResult result (λ r. first_command bytes.now ≡ Ok (r.0, r.1.now)) (λ fault. first_command bytes.now ≡ Err fault) }
     ensures shrinks { IfOk result (λ r. length r.1.now < length bytes.now) }

@@ -52,7 +52,7 @@ impl BatchKind {
 #[derive(Clone, Copy, Debug, Error)]
 #[error("command {index}: {kind}")]
 pub struct BatchFault {
-    /// The number of the command, from 1, or 0 where the fault is none of a command's.
+    /// The number of the command, from 1, or 0 where the fault is not one of a command.
     pub index: u64,
     /// What is wrong.
     pub kind: BatchKind,
@@ -61,7 +61,7 @@ pub struct BatchFault {
 /// Why a command changed nothing.
 #[derive(Clone, Copy, Debug, Error)]
 pub enum CommandError {
-    /// What is wrong with it.
+    /// What is wrong with the command.
     #[error("{0}")]
     Fault(BatchKind),
     /// Memory was refused.
@@ -72,7 +72,7 @@ pub enum CommandError {
 /// Why a batch changed nothing.
 #[derive(Clone, Copy, Debug, Error)]
 pub enum BatchError {
-    /// Its first fault.
+    /// The first fault of the batch.
     #[error("{0}")]
     Fault(BatchFault),
     /// Memory was refused.

@@ -7,7 +7,7 @@ use Rattle.wmsquery.specs.declared.request.Request.{Request}
 use Rattle.mapmachine.specs.Machine.{Answers, IsAnswer}
 use Rattle.mapmachine.specs.declared.reply.Answer.{Answer}
 
--- where there is an answer to the meaning, it is one to the query
+-- an answer to the meaning is one to the query
 pub answered : {E : Type 0} (state : State) (query : List ℕ) (meaning : Result Request WmsFault) (answer : Result Answer E) →
     IsMeaning state.map state.sequence query meaning → IfOk answer (Answers state meaning) → IfOk answer (IsAnswer state query)
 answered state query meaning (Ok answer) meant answers = (meaning, meant, answers)

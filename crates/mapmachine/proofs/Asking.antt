@@ -1,4 +1,4 @@
--- The hits of the layers that are asked for features, one layer after the other.
+-- The hits of the layers whose features are requested, one layer after another.
 use Rattle.std.proofs.Common.{◌≡◌, ℕ, suc, ◌+◌, ◌<◌, List, [], ◌∷◌, ◌++◌, length, take, slice_index_or, refl, sym, subst, arith}
 use Rattle.std.proofs.Math.Seq.{take-suc}
 use Rattle.std.proofs.lemmas.List.Elements.{All-cons, All-nil}
@@ -16,7 +16,7 @@ zip-push R [] (b ∷ ys) x y zip one = absurd zip
 zip-push R (a ∷ xs) [] x y zip one = absurd zip
 zip-push R (a ∷ xs) (b ∷ ys) x y zip one = (zip.0, zip-push R xs ys x y zip.1 one)
 
--- the hits of the next layer come behind those of the layers before it
+-- the hits of the next layer come after those of the layers before it
 pub next-hits : (R : ℕ → LayerHits → Type 0) (asked items : List ℕ) (index : ℕ) (found : List LayerHits) (hits : LayerHits) →
     items ≡ asked → index < length items → AllZip R (take index asked) found → R (slice_index_or items index 0) hits →
     AllZip R (take (index + 1) asked) (found ++ hits ∷ [])

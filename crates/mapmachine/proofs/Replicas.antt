@@ -48,15 +48,15 @@ led old new (Batch bytes ∷ events) (Published sequence ∷ replies) (next, ste
 led old new (Batch bytes ∷ events) (Refused fault ∷ replies) (next, step, run) = rw step.1 at (led next new events replies run)
 led old new (Batch bytes ∷ events) (NoMemory ∷ replies) (next, step, run) = rw step at (led next new events replies run)
 
--- the map has a layer of this index
+-- the map has a layer with this index
 abbrev HasLayer : MapFields → ℕ → Type 0
 HasLayer map index = (layer : LayerFields) × (slice_get map.layers index ≡ Some layer)
 
--- the index of a layer that may be asked for features
+-- the index of a layer whose features may be requested
 abbrev queryable : MapFields → ℕ → Result ℕ Code
 queryable map index = if is_queryable map index then Ok index else Err code.LayerNotQueryable
 
--- an index that may be asked for features is that of a layer
+-- such an index is that of a layer
 queryable-layer : (map : MapFields) (found index : ℕ) (o : Option LayerFields) → slice_get map.layers found ≡ o → queryable map found ≡ Ok index → HasLayer map index
 queryable-layer map found index None h e = let clash : ◌≡◌ {A = Result ℕ Code} (Err code.LayerNotQueryable) (Ok index) = rw h at e in absurd (cc)
 queryable-layer map found index (Some layer) h e = flagged layer.queryable refl
@@ -68,7 +68,7 @@ queryable-layer map found index (Some layer) h e = flagged layer.queryable refl
         let equal : found ≡ index = cc in
         (layer, rw equal at h)
 
--- so is that of a layer that is asked for by its name
+-- so is that of a layer that is requested by its name
 asked-layer : (map : MapFields) (names : List (List ℕ)) (name : List ℕ) (index : ℕ) → asked map names name ≡ Ok index → HasLayer map index
 asked-layer map names name index is = defined-layer (defined map name) refl
   where
@@ -81,7 +81,7 @@ asked-layer map names name index is = defined-layer (defined map name) refl
     defined-layer (Err c) h = let clash : ◌≡◌ {A = Result ℕ Code} (Err c) (Ok index) = rw h at is in absurd (cc)
     defined-layer (Ok found) h = among-layer found (is_among name names) refl (rw h at is)
 
--- the map has a layer of each index
+-- the map has a layer with each index
 abbrev HasLayers : MapFields → List ℕ → Type 0
 HasLayers map [] = Unit {0}
 HasLayers map (index ∷ indices) = HasLayer map index × HasLayers map indices
@@ -103,7 +103,7 @@ listed-layers map names (name ∷ queried) found is = first (listed-layers map n
     first rest (Err c) h = let clash : ◌≡◌ {A = Result (List ℕ) Code} (Err c) (Ok found) = rw h at is in absurd (cc)
     first rest (Ok index) h = others rest index h (indices_of (asked map names) queried) refl (rw h at is)
 
--- so the layers that QUERY_LAYERS asks for are the map's
+-- so the layers that QUERY_LAYERS lists are the map's
 queried-layers : (map : MapFields) (names queried : List (List ℕ)) (found : List ℕ) → asked_of map names queried ≡ Ok found → HasLayers map found
 queried-layers map names queried found is = some (listed (length queried)) refl
   where
@@ -118,7 +118,7 @@ same-hits a b e f = go a.layer a.features e f
     go : (layer : ℕ) (features : List ℕ) → layer ≡ b.layer → features ≡ b.features → ◌≡◌ {A = LayerHits} (record { layer = layer; features = features }) b
     go layer features e f = rw (e, f) refl
 
--- there is one list of hits of each layer that is asked for features
+-- there is one list of hits of each layer whose features are requested
 one-found : HasOneHitList → (map : MapFields) (r : InformationRequest) (indices : List ℕ) (found others : List LayerHits) → HasLayers map indices →
     AllZip (AreAskedHits map r) indices found → AllZip (AreAskedHits map r) indices others → found ≡ others
 one-found one-hit-list map r [] [] [] layers f g = refl

@@ -1,4 +1,4 @@
--- The map machine: what it answers to a query, what a batch does to it, and its runs (docs/SERVICE.md, "The machine").
+-- The map machine: its answer to a query, its state after a batch, and its runs (docs/SERVICE.md, "The machine").
 use Rattle.std.specs.Prelude.{◌≡◌, ℕ, ◌+◌, ◌-ℤ◌, unsigned_abs, List, [], ◌∷◌, Result, Ok, Err}
 use Rattle.std.specs.List.{AllZip}
 use Rattle.geom.specs.Scale.{PictureScale}
@@ -42,23 +42,23 @@ abbrev pub written_picture : Format → PictureFields → Answer
 written_picture format.Pixmap picture = record { mime = mime.Pixmap; body = ppm picture }
 written_picture format.ArbitraryMap picture = record { mime = mime.ArbitraryMap; body = pam picture }
 
--- the answer to a request for a picture: the picture of the map that it asks for, in its format
+-- the answer to a request for a picture: the requested picture of the map, in its format
 abbrev pub IsMapAnswer : MapFields → MapRequest → Answer → Type 0
 IsMapAnswer map request answer =
     (picture : PictureFields)
     × IsPictureOf map (view_of request) (scale_of (view_of request)) request.chosen request.background picture
     × (answer ≡ written_picture request.format picture)
 
--- what a request for a picture looks at
+-- the scene of a request for a picture: its map, its view and its scale
 abbrev pub scene_of : MapFields → MapRequest → SceneValue
 scene_of map request = record { map = map; view = view_of request; scale = scale_of (view_of request) }
 
--- the hits are those of the layer at an index, near the pixel of the request, and no more than it counts
+-- the hits are those of the layer at an index, near the pixel of the request, and at most as many as it requests
 abbrev pub AreAskedHits : MapFields → InformationRequest → ℕ → LayerHits → Type 0
 AreAskedHits map request index hits =
     (hits.layer ≡ index) × AreHitsOf (scene_of map request.map) index request.column request.row request.count hits.features
 
--- the answer to a request for feature information: the text of the hits of each layer that it asks, in its order
+-- the answer to a request for feature information: the text of the hits of each requested layer, in the order of the request
 abbrev pub IsInformationAnswer : MapFields → InformationRequest → Answer → Type 0
 IsInformationAnswer map request answer =
     (found : List LayerHits)
@@ -77,8 +77,8 @@ abbrev pub IsAnswer : State → List ℕ → Answer → Type 0
 IsAnswer state query answer =
     (meaning : Result Request WmsFault) × IsMeaning state.map state.sequence query meaning × Answers state meaning answer
 
--- one event in a state has this reply and leads to that state: a query changes nothing, a batch leads to the state after
--- it or is refused with its first fault, and out of memory nothing is changed
+-- one event in a state has this reply and leads to that state: a query changes nothing, and a batch leads to the state after
+-- it or is refused with its first fault; where memory is refused nothing is changed
 abbrev pub Steps : State → Event → Reply → State → Type 0
 Steps old (Query query) (Answered answer) new = IsAnswer old query answer × (new ≡ old)
 Steps old (Batch bytes) (Published sequence) new = (batched bytes old ≡ Ok new) × (sequence ≡ new.sequence)
@@ -86,7 +86,7 @@ Steps old (Batch bytes) (Refused fault) new = (batched bytes old ≡ Err fault) 
 Steps old event NoMemory new = new ≡ old
 Steps old event reply new = ⊥
 
--- a run of the machine: from a state over some events, with a reply to each in their order, to a state
+-- a run of the machine: from a state over some events, with a reply to each in order, to a state
 abbrev pub Runs : State → List Event → List Reply → State → Type 0
 Runs old [] [] new = new ≡ old
 Runs old (event ∷ events) (reply ∷ replies) new = (next : State) × Steps old event reply next × Runs next events replies new

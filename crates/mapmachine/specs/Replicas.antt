@@ -8,13 +8,13 @@ use Rattle.mapmachine.specs.declared.reply.Event.TheVariants.{Batch}
 use Rattle.mapmachine.specs.declared.reply.Reply.{Reply}
 use Rattle.mapmachine.specs.declared.reply.Reply.TheVariants.{Published}
 
--- the batches that a run published, in their order
+-- the batches that a run published, in order
 unfoldable pub published_batches : List Event → List Reply → List (List ℕ)
 published_batches (Batch bytes ∷ events) (Published sequence ∷ replies) = bytes ∷ published_batches events replies
 published_batches (event ∷ events) (reply ∷ replies) = published_batches events replies
 published_batches events replies = []
 
--- the law: two machines that began alike and published equal lists of batches have one state, whatever else each was asked, and where
+-- the law: two machines that began alike and published equal lists of batches have one state, whatever else came to each, and where
 -- both answer a query they answer it with the same bytes
 abbrev pub ReplicasAnswerAlike : Type 0
 ReplicasAnswerAlike = (old one other : State) (events theirs : List Event) (replies answers : List Reply) →

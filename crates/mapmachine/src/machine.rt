@@ -68,7 +68,7 @@ fn written_picture(alloc: Global, format: Format, picture: &Picture) -> Result<A
     }
 }
 
-// The hits of a layer once more, where they were found before.
+// The hits of a layer, shared with those that were found before, if these have them.
 fn found_before(found: &[LayerHits], layer: usize) -> Result<Option<LayerHits>, AllocError>
     ensures { IfOk result (λ hits. IfSome hits (λ h. (h.layer ≡ layer) × Contains found.now h)) }
 {
@@ -135,7 +135,7 @@ impl Machine {
         })
     }
 
-    // What a request for a picture looks at.
+    // The scene of a request for a picture: its map, its view and its scale.
     fn scene(&self, request: &MapRequest) -> Scene<'_>
         requires { IsExtent request.now.area }
         ensures { result ≡ scene_of self.now.map request.now }
@@ -162,7 +162,7 @@ impl Machine {
         written_picture(self.alloc, request.format, &picture)
     }
 
-    // The hits of a layer that a request asks for features.
+    // The hits of a layer whose features are requested.
     fn hits_of(&self, request: &InformationRequest, layer: usize) -> Result<LayerHits, AllocError>
         requires within { IsInformationWithin (length self.now.map.layers) request.now }
         requires layer { layer < length self.now.map.layers }
@@ -181,7 +181,7 @@ impl Machine {
         })
     }
 
-    // The same, from those that were found so far where they are among them.
+    // The hits of a layer: shared with those that were found so far if these have them, else searched for.
     fn next_hits(
         &self,
         request: &InformationRequest,
@@ -199,8 +199,8 @@ impl Machine {
         }
     }
 
-    // The hits of each layer that a request asks for features, in its order. Those of a layer that it asks several
-    // times are found once, and shared.
+    // The hits of each layer whose features are requested, in the order of the request. A layer that is requested several
+    // times is searched once, and its hits are shared.
     fn found(&self, request: &InformationRequest) -> Result<Items<LayerHits>, AllocError>
         requires within { IsInformationWithin (length self.now.map.layers) request.now }
         ensures { IfOk result (λ found. AllZip (AreAskedHits self.now.map request.now) request.now.asked found) }
@@ -213,7 +213,7 @@ impl Machine {
         Ok(found)
     }
 
-    // The answer to a request for feature information: the text of what is found.
+    // The answer to a request for feature information: the text of the hits.
     fn information_answer(&self, request: &InformationRequest) -> Result<Answer, AllocError>
         requires within { IsInformationWithin (length self.now.map.layers) request.now }
         ensures { IfOk result (Answers self.now (Ok (Request.Information request.now))) }
@@ -247,7 +247,7 @@ impl Machine {
         })
     }
 
-    /// The answer to a query: the document, the picture or the features that it asks for, or the document of
+    /// The answer to a query: the document, the picture or the features that it requests, or the document of
     /// its first fault. The one error is that memory was refused.
     pub fn reply(&self, query: &[u8]) -> Result<Answer, AllocError>
         ensures { IfOk result (IsAnswer self.now query.now) }
@@ -259,8 +259,8 @@ impl Machine {
         }
     }
 
-    /// Publishes a batch: applies all of its commands and counts it, and gives its number. Or it gives the first
-    /// fault of the batch, or says that memory was refused; then nothing is changed.
+    /// Publishes a batch: applies all of its commands, counts it, and gives its number. The error is the first
+    /// fault of the batch, or that memory was refused; then nothing is changed.
     ///
     /// A layer's list and its index are made once, however many commands change it, and the new ones share the
     /// features with the old ones.
@@ -299,8 +299,8 @@ impl Machine {
         }
     }
 
-    /// The replies to some events, in their order. The one error is that the list of replies was out of
-    /// memory. It is made before the first event, so that nothing was done then.
+    /// The replies to some events, in order. The one error is that memory for the list of replies was
+    /// refused. The list is made before the first event, so nothing was changed then.
     pub fn run(&mut self, events: &[Event]) -> Result<Items<Reply>, AllocError>
         ensures run { IfOk result (λ replies. Runs self.old events.now replies self.new) }
         ensures err { OnErr result (self.new ≡ self.old) }

@@ -2,7 +2,7 @@ use batches::{BatchFault, Bytes};
 use mapdefs::Items;
 use operations::Mime;
 
-/// What is asked of the machine.
+/// What comes to the machine.
 #[derive(Drop)]
 pub enum Event<'a> {
     /// The query part of a request, as its bytes came.
@@ -14,21 +14,21 @@ pub enum Event<'a> {
 /// The answer to a query.
 #[derive(Drop)]
 pub struct Answer {
-    /// What the body is.
+    /// The type of the body.
     pub mime: Mime,
     /// The bytes of the body.
     pub body: Items<u8>,
 }
 
-/// What the machine says to an event.
+/// The machine's reply to an event.
 #[derive(Drop)]
 pub enum Reply {
     /// The query was answered.
     Answered(Answer),
-    /// The batch was published: all of its commands were applied, and it is the batch of this number.
+    /// The batch was published: all of its commands were applied, and it has this number.
     Published(u64),
-    /// The batch has this first fault, and nothing was done.
+    /// The batch has this first fault, and nothing was changed.
     Refused(BatchFault),
-    /// Memory was refused, and nothing was done.
+    /// Memory was refused, and nothing was changed.
     NoMemory,
 }

@@ -5,7 +5,7 @@ use Rattle.mapmachine.specs.Machine.{Runs}
 use Rattle.mapmachine.specs.declared.reply.Reply.{Reply}
 use Rattle.mapmachine.proofs.machine.Machine.run.Given as goal
 
--- a run over what is left, after the replies so far, is a run over all events
+-- a run over the events that remain, after the replies so far, is a run over all events
 abbrev pub invariant-loop-event : goal.invariant-loop-event
 invariant-loop-event l = record {
   run : (replies : List Reply) (new : State) →
