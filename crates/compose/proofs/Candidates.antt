@@ -16,7 +16,7 @@ use Rattle.compose.specs.Walk.{given_at}
 use Rattle.mapdefs.proofs.Containing.{first_or}
 use Rattle.compose.proofs.Finding.{here, there}
 
--- things of which none covers the pixel leave its colour
+-- shapes of which none covers the pixel leave its colour
 pub quiet : (background : Option Rgb) (things : List PaintedShape) (i j : ℕ) → list_any (λ t. covers t i j) things ≡ false → colour_at background things i j ≡ background
 quiet background [] i j h = colour_at-none background i j
 quiet background (t ∷ things) i j h =
@@ -130,7 +130,7 @@ from-on f h i j (x ∷ xs) from past (y ∷ ys) background e link rising within 
     (λ w l. from-on f h i j xs (from + 1) past (y ∷ ys) background (omega (arith, e)) next rising w l))
     (cases_eq y from)
 
--- an element whose things cover a pixel is one of those that have some
+-- an element whose shapes cover a pixel is one of those that have some
 covered-there : (f : FeatureFields → List PaintedShape) (features : List FeatureFields) (found : List ℕ) (i j k : ℕ) →
     ((feature : FeatureFields) → slice_get features k ≡ Some feature → list_any (λ t. covers t i j) (f feature) ≡ true → Contains found k) →
     list_any (λ t. covers t i j) (given_at f features k) ≡ true → Contains found k

@@ -15,14 +15,14 @@ pub few-bytes : (text : List ℕ) (most : ℕ) → IsUtf8 text → length text �
 few-bytes text most utf8 h =
     let bytes : length (encode_utf8_all (chars text)) ≡ length text = ap length (encodes-chars text utf8) in omega (arith, length-le-encodes (chars text), bytes)
 
--- nor has one of which nothing is left after so many
+-- nor has a text of which nothing remains after so many
 pub none-left : (text : List ℕ) (count : ℕ) → [] ≡ drop count (chars text) → length (chars text) ≤ count
 none-left text count e =
     let all : length (take count (chars text) ++ drop count (chars text)) ≡ length (chars text) = ap length (take-append-drop count (chars text)) in
     let rest : length (drop count (chars text)) ≡ 0 = ap length (sym e) in
     omega (arith, all, rest, length-append (take count (chars text)) (drop count (chars text)), length-take count (chars text))
 
--- a text is its first characters, and what is left of it
+-- a text is its first characters, and the rest
 module _ (text rest : List ℕ) (count : ℕ) (utf8 : IsUtf8 text) (more : IsUtf8 rest) (left : chars rest ≡ drop count (chars text)) where
   pub parted : text ≡ first_characters count text ++ rest
   parted = sym (encodes-chars text utf8) ∙ ap encode_utf8_all (sym (take-append-drop count (chars text)))
@@ -44,7 +44,7 @@ module _ (text rest : List ℕ) (count : ℕ) (utf8 : IsUtf8 text) (more : IsUtf
   pub boundary : IsCharBoundary text (length text - length rest)
   boundary = rw seam (IsCharBoundary-at_seam text (first_characters count text) rest parted more)
 
--- what is cut off has not more characters than that
+-- what is cut off has no more characters than that
 pub short : (text cut rest : List ℕ) (most : ℕ) → text ≡ cut ++ rest → IsUtf8 cut → chars rest ≡ drop most (chars text) → length (chars cut) ≤ most
 short text cut rest most e utf8 left =
     let all : length (chars text) ≡ length (chars cut) + length (chars rest) = ap (λ (t : List ℕ). length (chars t)) e ∙ ap length (chars-append cut rest utf8) ∙ length-append (chars cut) (chars rest) in

@@ -25,7 +25,7 @@ use Rattle.compose.proofs.Walking.{paint-list-of-the-met}
 abbrev pub blank_of : ViewValue → Option Rgb → DrawingValue
 blank_of view background = record { canvas = record { width = view.width; height = view.height; pixels = replicate (view.width * view.height) background }; labels = [] }
 
--- from a canvas on which all that is met was drawn, and labels of the candidates were painted
+-- from a canvas on which all classified features were drawn, and labels of the candidates were painted
 finished-canvas : (scene : SceneValue) (chosen : List ℕ) (background : Option Rgb) (b : DrawingValue) (c : PictureFields) →
     IsDrawn scene (blank_of scene.view background) b (met_list scene.scale scene.map chosen) → HasLabels scene b.labels b.canvas c →
     IsPictureOf scene.map scene.view scene.scale chosen background c

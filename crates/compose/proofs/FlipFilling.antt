@@ -15,7 +15,7 @@ use Rattle.compose.proofs.Filling.{cond-either, some-columns}
 use Rattle.compose.proofs.Painting.{colour_at-one}
 use Rattle.compose.proofs.Sweeping.{one_colour}
 
--- filling the pixels that the flips which are left say lie inside fills all that lie inside
+-- filling the pixels that lie inside by the remaining flips fills all that lie inside
 pub record IsFilling (flips left : List ℕ) (colour : Rgb) (a b : PictureFields) : Type 0 where
   pub width : b.width ≡ a.width
   pub height : b.height ≡ a.height
@@ -42,7 +42,7 @@ span-filled span colour b c f at h = elim (cases_order (at / b.width) span.row) 
   | inr (inr below) ↦ f.rows.after at h (omega arith) ∙ rw (ne_eqb (at / b.width) span.row (λ e. omega (arith, e, below))) refl
 ]
 
--- one span more
+-- one more span
 pub filling-next : (flips left rest : List ℕ) (span : RowSpan) (colour : Rgb) (a b c : PictureFields) → length b.pixels ≡ b.width * b.height →
     ((i j : ℕ) → i < b.width → is_pixel_flipped left i j ≡ (has_pixel span i j || is_pixel_flipped rest i j)) → IsFilling flips left colour a b →
     HasRowsFilled (λ i k. is_in_spans (columns-of span ∷ []) i) (one_colour colour) span.row (span.row + 1) b c → IsFilling flips rest colour a c
@@ -62,7 +62,7 @@ filling-next flips left rest span colour a b c area flipped is f = record {
       ∙ rw (← is.width) at (is.pixels at h))));
 }
 
--- no flip is left
+-- no flip remains
 pub filling-last : (flips left : List ℕ) (colour : Rgb) (a b : PictureFields) → left ≡ [] → IsFilling flips left colour a b → IsFilled (is_pixel_flipped flips) (one_colour colour) a b
 filling-last flips left colour a b none is = record {
   width = is.width;
@@ -71,7 +71,7 @@ filling-last flips left colour a b none is = record {
   filled = λ at h. sym (ap (λ ts. cond (is_pixel_flipped ts (at % a.width) (at / a.width)) (Some colour) (colour_of b.pixels at)) none) ∙ is.pixels at h;
 }
 
--- what is filled where a thing covers the pixels of the picture is painted over with the thing
+-- a picture that is filled where a shape covers its pixels is painted over with the shape
 pub painted-within : (thing : PaintedShape) (test : ℕ → ℕ → Bool) (colour : ℕ → ℕ → Option Rgb) (a b : PictureFields) → length a.pixels ≡ a.width * a.height →
     ((i j : ℕ) → i < a.width → j < a.height → covers thing i j ≡ test i j) →
     ((i j : ℕ) → colour_in thing i j ≡ colour i j) → IsFilled test colour a b → IsPainted a b (thing ∷ [])

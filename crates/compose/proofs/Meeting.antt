@@ -10,7 +10,7 @@ use Rattle.compose.specs.Labels.{met_candidates}
 use Rattle.compose.specs.Walk.{ClassifiedFeatureValue, met_things}
 use Rattle.compose.proofs.Painting.{painted-append, painted-none}
 
--- where nothing is met all stays
+-- where no feature is classified, all stays
 pub drawn-none : (scene : SceneValue) (a : DrawingValue) → IsDrawn scene a a []
 drawn-none scene a = record { painted = painted-none a.canvas; labelled = sym (append-nil a.labels) }
 
@@ -25,14 +25,14 @@ drawn-append scene a b c xs ys p q =
           (q.labelled ∙ ap (λ (z : List CandidateValue). z ++ flat_map candidates ys) p.labelled ∙ append_assoc a.labels (flat_map candidates xs) (flat_map candidates ys));
     }
 
--- a loop that draws what each element meets: one element more
+-- a loop that draws the classified features of each element: one more element
 pub drawn-next : {X : Type 0} (scene : SceneValue) (f : X → List ClassifiedFeatureValue) (xs : List X) (i : ℕ) (x : X) (a b c : DrawingValue) → i < length xs → x ≡ get_or xs i x →
     IsDrawn scene a b (flat_map f (take i xs)) → IsDrawn scene b c (f x) → IsDrawn scene a c (flat_map f (take (i + 1) xs))
 drawn-next scene f xs i x a b c h e p q =
     let here : get_or xs i x ∷ [] ≡ x ∷ [] = ap (λ y. y ∷ []) (sym e) in
     rw (take_more xs i x h, here, flat_map-append f (take i xs) (x ∷ []), append-nil (f x)) (drawn-append scene a b c (flat_map f (take i xs)) (f x) p q)
 
--- a loop over all elements has drawn what they meet
+-- a loop over all elements has drawn their classified features
 pub drawn-end : {X : Type 0} (scene : SceneValue) (f : X → List ClassifiedFeatureValue) (xs : List X) (i : ℕ) (a b : DrawingValue) → i ≡ length xs →
     IsDrawn scene a b (flat_map f (take i xs)) → IsDrawn scene a b (flat_map f xs)
 drawn-end scene f xs i a b e p = rw (take_all i xs (omega arith)) at p

@@ -1,4 +1,4 @@
--- Layers that are chosen several times, and layers of which the candidates alone are added.
+-- Layers that are chosen several times, and layers of which only the candidates are added.
 use Rattle.std.proofs.Common.{◌≡◌, ◌∙◌, ℕ, ◌+◌, ◌<◌, Bool, true, false, cond, ◌||◌, ◌⊎◌, inl, inr, List, [], ◌∷◌, ◌++◌, length, get_or, take, reverse, Option, None, Some, refl, sym, ap, arith, ⊎_elim}
 use Rattle.std.proofs.lemmas.Bool.{false≢true}
 use Rattle.std.proofs.lemmas.Grind.{flat_map-append}
@@ -35,7 +35,7 @@ use Rattle.compose.proofs.Found.{found-label-all}
 use Rattle.compose.proofs.Painting.{colour_at-append, painted-append, painted-none}
 use Rattle.compose.proofs.Walking.{of-chosen, paint-list-of-the-met}
 
--- things give a pixel the same colour over any background, or leave it as it is
+-- shapes give a pixel the same colour over any background, or leave it as it is
 abbrev Hides : List PaintedShape → ℕ → ℕ → Type 0
 Hides things i j = (a b : Option Rgb) → colour_at a things i j ≡ colour_at b things i j
 
@@ -105,7 +105,7 @@ drawn-to-first scene chosen a = record {
   labelled = sym (append-nil a.labels);
 }
 
--- the candidates of one layer more
+-- the candidates of one more layer
 labelled-more : (scene : SceneValue) (done : List ℕ) (index : ℕ) (a b c : List CandidateValue) → b ≡ a ++ candidate_list scene.view scene.scale scene.map done →
     c ≡ b ++ flat_map (met_candidates scene.view scene.map.font) (met_chosen scene.scale scene.map index) →
     c ≡ a ++ candidate_list scene.view scene.scale scene.map (done ++ index ∷ [])
@@ -139,7 +139,7 @@ drawn-to-next scene chosen index after a b c p (inr drawn) =
       labelled = labelled-more scene p.done index a.labels b.labels c.labels p.labelled drawn.labelled;
     }
 
--- after the last one all that is met is drawn
+-- after the last one all classified features are drawn
 pub drawn-to-last : (scene : SceneValue) (chosen rest : List ℕ) (a b : DrawingValue) → length rest ≡ 0 → IsDrawnTo scene chosen rest a b →
     IsDrawn scene a b (met_list scene.scale scene.map chosen)
 drawn-to-last scene chosen (x ∷ xs) a b none p = absurd (omega (arith, none))
@@ -161,7 +161,7 @@ labelled-next f g xs i x a b c h e p q =
     rw (take_more xs i x h, here, flat_map-append f (take i xs) (x ∷ []), append-nil (f x), flat_map-append g (flat_map f (take i xs)) (f x))
     (q ∙ ap (λ (z : List CandidateValue). z ++ flat_map g (f x)) p ∙ append_assoc a early (flat_map g (f x)))
 
--- the index of an element in place of it
+-- the index of an element instead of the element
 pub labelled-at : {X : Type 0} (f : X → List ClassifiedFeatureValue) (g : ClassifiedFeatureValue → List CandidateValue) (xs : List X) (k : ℕ) (x : X) (b c : List CandidateValue) → k < length xs → x ≡ get_or xs k x →
     c ≡ b ++ flat_map g (f x) → c ≡ b ++ flat_map g (given_at f xs k)
 labelled-at f g xs k x b c short is p = rw (slice_get-get_or xs k x short, ← is) p
@@ -172,7 +172,7 @@ pub hidden-layer : (scene : SceneValue) (index : ℕ) (layer : LayerFields) (lab
     labels ≡ labels ++ flat_map (met_candidates scene.view scene.map.font) (met_chosen scene.scale scene.map index)
 hidden-layer scene index layer labels is hidden = rw (is, hidden) (sym (append-nil labels))
 
--- nor has one of whose classes none has a label
+-- nor has a layer without a class that has a label
 unlabelled-class : (view : ViewValue) (font : Option FontFields) (met : ClassifiedFeatureValue) → has_label met.class ≡ false → met_candidates view font met ≡ []
 unlabelled-class view None met none = refl
 unlabelled-class view (Some font) met none = go met.class.label none
@@ -217,7 +217,7 @@ pub unlabelled-layer : (scene : SceneValue) (index : ℕ) (layer : LayerFields) 
 unlabelled-layer scene index layer labels is shown none =
     rw (is, shown, unlabelled-features scene.view scene.map.font scene.scale layer layer.features none) (sym (append-nil labels))
 
--- and of one that shows the candidates are those of what is found
+-- and a layer that shows has the candidates of what is found
 pub found-layer : (scene : SceneValue) (index : ℕ) (layer : LayerFields) (found : List ℕ) (a b : List CandidateValue) → slice_get scene.map.layers index ≡ Some layer →
     is_visible_layer scene.scale layer ≡ true → IsExtent scene.view.area → IsPictureSide scene.view.width → IsPictureSide scene.view.height →
     AreCandidates layer.features (window scene.view 0) found →

@@ -20,7 +20,7 @@ use Rattle.viewport.specs.View.{IsNear, ViewValue, device_point, window}
 use Rattle.compose.specs.Anchor.{AnchorsAreNear, anchor_on, halfway, is_shown, middle, middle_of, shown_pixel}
 use Rattle.compose.proofs.Finding.{any-one, any-weaker, contains-flat, here, there}
 
--- a number that one of some places has
+-- a number that belongs to one of some places
 has-number : (f : Place → ℤ) (p : Place) (ps : List Place) (r : ℤ) → (r ≡ f p) ⊎ Contains (map f ps) r → Any (λ q. f q ≡ r) (p ∷ ps)
 has-number f p ps r (inl e) = any-one (λ q. f q ≡ r) (p ∷ ps) p (here p ps) (sym e)
 has-number f p ps r (inr c) =
@@ -38,7 +38,7 @@ halfway-least a b h = let q = quotient_parts (a +ℤ b) (pos 2) (omega (arith, i
 halfway-most : (a b : ℤ) → a ≤ℤ b → halfway a b ≤ℤ b
 halfway-most a b h = let q = quotient_parts (a +ℤ b) (pos 2) (omega (arith, ints)) in omega (arith, ints, q.0, q.1, h)
 
--- some place is not beyond the middle on the one side, and some on the other
+-- some place is not beyond the middle on one side, and some place is not beyond it on the other
 module _ (f : Place → ℤ) (p : Place) (ps : List Place) where
   abbrev low : ℤ
   low = fold int_min (f p) (map f ps)

@@ -171,7 +171,7 @@ fill-round view margin parts i j column row inside =
           (must-pass (list_any (λ (q : Place). int_lt p.y (at q).y) points) b (none-inside parts at (λ v. int_lt p.y v.y) p (above-fails p)) inside));
     }
 
--- a point whose pixel is this near to a column and a row of the picture lies round it by itself
+-- a point whose pixel is this near to a column and a row of the picture lies round it on all sides
 pub record IsBy (view : ViewValue) (margin : ℕ) (v : DevicePoint) : Type 0 where
   pub right : v.x <ℤ pos (16 * (view.width + margin))
   pub left : neg_ℤ (pos (16 * margin)) ≤ℤ v.x
@@ -227,7 +227,7 @@ position-by size margin side i x most within h =
     passes true e = refl
     passes false e = absurd (h (rw e refl))
 
--- a coloured pixel that was looked for by a column and a row has both
+-- a coloured pixel that was found by a column and a row has both
 both-there : {X : Type 0} (paints : Option X → Bool) (g : ℕ → ℕ → Option X) (o p : Option ℕ) → paints None ≡ false →
     paints (option_and_then (λ column. option_and_then (λ row. g column row) p) o) ≡ true → ((o ≡ None) → ⊥) × ((p ≡ None) → ⊥)
 both-there paints g None p none h = absurd (cc)

@@ -40,7 +40,7 @@ reach-furthest symbols (s ∷ styles) style c = ⊎_elim
     (λ (d : Contains styles style). omega (arith, reach-furthest symbols styles style d, le-max_right (reach_of symbols s) (furthest symbols styles)))
     (first_or s style styles c)
 
--- one thing covers what its list does
+-- a list of one shape covers what the shape covers
 one-thing : (t : Bool) → (t || false) ≡ true → t ≡ true
 one-thing true h = refl
 one-thing false h = cc

@@ -1,4 +1,4 @@
--- Painting one thing after another.
+-- Painting one shape after another.
 use Rattle.std.proofs.Common.{◌≡◌, zero, suc, ℕ, ◌+◌, ◌*◌, ◌/◌, ◌%◌, ◌<◌, Bool, true, false, List, [], ◌∷◌, ◌++◌, length, get_or, take, reverse, replicate, Option, None, Some, cond, refl, sym, ◌∙◌, ap, arith, take_all}
 use Rattle.std.proofs.lemmas.Grind.{flat_map-append}
 use Rattle.std.proofs.lemmas.List.{reverse-append, append-nil, take_more, get_or-replicate, length-replicate}
@@ -30,7 +30,7 @@ pub colour_at-none : (background : Option Rgb) (i j : ℕ) → colour_at backgro
 unfolding colour_at
 colour_at-none background i j = refl
 
--- one thing is seen where it covers
+-- one shape is seen where it covers
 pub colour_at-one : (background : Option Rgb) (thing : PaintedShape) (i j : ℕ) → colour_at background (thing ∷ []) i j ≡ cond (covers thing i j) (colour_in thing i j) background
 unfolding colour_at
 colour_at-one background thing i j = map_or-cond (λ (t : PaintedShape). colour_in t i j) (covers thing i j) thing background
@@ -59,7 +59,7 @@ painted-append a b c xs ys p q = record {
       ∙ rw (p.width, p.pixels at h) (sym (colour_at-append (colour_of a.pixels at) xs ys (at % a.width) (at / a.width)));
 }
 
--- a loop that paints what each element gives: one element more
+-- a loop that paints what each element gives: one more element
 pub painted_next : {X : Type 0} (f : X → List PaintedShape) (xs : List X) (i : ℕ) (x : X) (a b c : PictureFields) → i < length xs → x ≡ get_or xs i x →
     IsPainted a b (flat_map f (take i xs)) → IsPainted b c (f x) → IsPainted a c (flat_map f (take (i + 1) xs))
 painted_next f xs i x a b c h e p q =
@@ -88,7 +88,7 @@ pub painted-area : (view : ViewValue) (background : Option Rgb) (things : List P
     length b.pixels ≡ b.width * b.height
 painted-area view background things b p = p.area ∙ length-replicate (view.width * view.height) background ∙ rw (p.width, p.height)
 
--- pixels that have their colours where a thing covers them, and else are as they were, are painted over with the thing
+-- pixels that have their colours where a shape covers them, and else are as they were, are painted over with the shape
 pub painted-thing : (thing : PaintedShape) (test : ℕ → ℕ → Bool) (colour : ℕ → ℕ → Option Rgb) (a b : PictureFields) → ((i j : ℕ) → covers thing i j ≡ test i j) →
     ((i j : ℕ) → colour_in thing i j ≡ colour i j) → IsFilled test colour a b → IsPainted a b (thing ∷ [])
 painted-thing thing test colour a b same shown f = record {
@@ -99,7 +99,7 @@ painted-thing thing test colour a b same shown f = record {
       ∙ sym (colour_at-one (colour_of a.pixels at) thing (at % a.width) (at / a.width) ∙ rw (same (at % a.width) (at / a.width), shown (at % a.width) (at / a.width)) refl);
 }
 
--- the same where the thing covers what the test says in the rows of the picture
+-- the same where the shape covers what the test says in the rows of the picture
 pub painted-rows : (thing : PaintedShape) (test : ℕ → ℕ → Bool) (colour : ℕ → ℕ → Option Rgb) (a b : PictureFields) → length a.pixels ≡ a.width * a.height →
     ((i j : ℕ) → j < a.height → covers thing i j ≡ test i j) →
     ((i j : ℕ) → colour_in thing i j ≡ colour i j) → IsFilled test colour a b → IsPainted a b (thing ∷ [])

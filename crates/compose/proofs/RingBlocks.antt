@@ -25,7 +25,7 @@ step-within view run to flips is has =
     let row : row_of view to.y ≡ run.row = row-between view run.low run.high to.y run.row is.rows is.low is.high least most in
     (run-missed view run to flips is row, record { low = is.low; high = is.high; least = least; most = most; rows = is.rows })
 
--- the edges that are left of a block after one more
+-- the edges of a block that remain after one more
 pub chain-next : (view : ViewValue) (old flips new : List ℕ) (whole : List EdgeEnds) (from to : Place) (rest more : List Place) → rest ≡ to ∷ more →
     IsLeft view old flips whole (chain_edges (device_point view from) (map (device_point view) rest)) → AddsEdge view flips from to new →
     IsLeft view old new whole (chain_edges (device_point view to) (map (device_point view) more))
@@ -39,7 +39,7 @@ pub chain-none : (view : ViewValue) (old flips : List ℕ) (whole : List EdgeEnd
 chain-none view old flips whole from rest e is =
     left-none view old flips whole (chain_edges (device_point view from) (map (device_point view) rest)) (ap (λ (ps : List Place). chain_edges (device_point view from) (map (device_point view) ps)) e) is
 
--- the edges that are left of a ring after a block
+-- the edges of a ring that remain after a block
 pub ring-block : (view : ViewValue) (old flips new : List ℕ) (whole : List EdgeEnds) (first from end : Place) (left block behind : List Place) → left ≡ block ++ behind → end ≡ chain_end from block →
     IsLeft view old flips whole (closing_edges (device_point view first) (device_point view from) (map (device_point view) left)) → AddsChain view flips from block new →
     IsLeft view old new whole (closing_edges (device_point view first) (device_point view end) (map (device_point view) behind))

@@ -1,4 +1,4 @@
--- Blocks of vertices that are passed over: what their box in the world says of the chain along them.
+-- Blocks of vertices that are skipped: what their box in the world says of the chain along them.
 use Rattle.std.proofs.Common.{◌≡◌, ◌∙◌, ℕ, ◌*◌, ◌<◌, true, List, [], ◌∷◌, map, refl, sym, ap, arith}
 use Rattle.std.proofs.lemmas.Int.{ints}
 use Rattle.std.specs.List.{AllByRecursion, count_by}
@@ -98,7 +98,7 @@ by-chord view box from rest old new extent all is adds = record {
       adds i j column below ∙ ap (λ b. is_one_of (is_pixel_flipped old i j) b) (sym covered);
 }
 
--- a block between the two latitudes of a run is passed over, and the run goes on from its last vertex
+-- a block between the two latitudes of a run is skipped, and the run goes on from its last vertex
 pub record IsOver (view : ViewValue) (flips : List ℕ) (run : Run) (rest : List Place) : Type 0 where
   pub adds : AddsChain view flips run.from rest flips
   pub valid : IsRun view (record { from = chain_end run.from rest; row = run.row; low = run.low; high = run.high })

@@ -30,7 +30,7 @@ pub on-ok : {T E : Type 0} (r : Result T E) (P Q : Type 0) → (P → Q) → OnO
 on-ok (Ok x) P Q f p = f p
 on-ok (Err e) P Q f p = tt
 
--- what an element meets is what its index does
+-- the classified features of an element are those of its index
 pub drawn-at : {X : Type 0} (scene : SceneValue) (f : X → List ClassifiedFeatureValue) (xs : List X) (k : ℕ) (x : X) (a b : DrawingValue) → k < length xs → x ≡ get_or xs k x →
     IsDrawn scene a b (f x) → IsDrawn scene a b (given_at f xs k)
 drawn-at scene f xs k x a b short is p = rw (slice_get-get_or xs k x short, ← is) p
@@ -63,7 +63,7 @@ spared view scale symbols layer found a b extent width height wide high area are
       (λ k feature is covered. are.each k feature is (paints-near view scale symbols layer feature (at % a.width) (at / a.width) extent width height column row covered));
 }
 
--- and they meet the same candidates for labels, so that drawing what is found draws all
+-- and they give the same candidates for labels, so that drawing what is found draws all
 pub spared-drawing : (scene : SceneValue) (layer : LayerFields) (found : List ℕ) (a b : DrawingValue) →
     IsExtent scene.view.area → IsPictureSide scene.view.width → IsPictureSide scene.view.height →
     a.canvas.width ≡ scene.view.width → a.canvas.height ≡ scene.view.height → length a.canvas.pixels ≡ a.canvas.width * a.canvas.height →
@@ -85,7 +85,7 @@ spared-drawing scene layer found a b extent width height wide high area are p =
           (found-label-all view (margin_of symbols layer) scene.scale scene.map.font layer found extent width height are);
     }
 
--- what a layer meets is what its index in the map does
+-- the classified features of a layer are those of its index in the map
 pub drawn-chosen : (scene : SceneValue) (index : ℕ) (layer : LayerFields) (a b : DrawingValue) → slice_get scene.map.layers index ≡ Some layer →
     IsDrawn scene a b (met_layer scene.scale layer) → IsDrawn scene a b (met_chosen scene.scale scene.map index)
 drawn-chosen scene index layer a b e p = rw e p

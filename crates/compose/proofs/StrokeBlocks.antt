@@ -24,7 +24,7 @@ or-three : (a b c : Bool) → (a || (b || c)) ≡ ((a || b) || c)
 or-three true b c = refl
 or-three false b c = refl
 
--- what is left of a part covers what a chain does, or what is left behind that
+-- the rest of a part covers what a chain does, or what remains after that
 rest-append : (closed : Bool) (w : ℕ) (first other from : DevicePoint) (chain rest : List DevicePoint) (i j : ℕ) →
     (rest_covers false w other from chain i j || rest_covers closed w first (chain_end from chain) rest i j) ≡ rest_covers closed w first from (chain ++ rest) i j
 rest-append closed w first other from [] rest i j = refl
@@ -32,7 +32,7 @@ rest-append closed w first other from (to ∷ chain) rest i j =
     sym (or-three (step_covers w from to i j) (rest_covers false w other to chain i j) (rest_covers closed w first (chain_end to chain) rest i j))
     ∙ ap (λ t. step_covers w from to i j || t) (rest-append closed w first other to chain rest i j)
 
--- a line is on its way behind a block
+-- a line is on its way after a block
 pub way-block : (closed : Bool) (pen : PenValue) (first from end : Place) (left block behind : List Place) (whole : ℕ → ℕ → Bool) (old now next : PictureFields) →
     left ≡ block ++ behind → end ≡ chain_end from block → IsOnWay closed pen first from left whole old now → IsFilled (chain_covers pen from block) (λ i j. Some pen.colour) now next →
     IsOnWay closed pen first end behind whole old next
@@ -51,12 +51,12 @@ way-block closed pen first from end left block behind whole old now next e is wa
           (filled-either (chain_covers pen from block) (rest_covers closed pen.width (at first) (at end) (map at behind)) colour now next new f g));
     }
 
--- and behind all vertices
+-- and after all vertices
 pub way-whole : (closed : Bool) (pen : PenValue) (first end : Place) (rest : List Place) (whole : ℕ → ℕ → Bool) (old now next : PictureFields) → end ≡ chain_end first rest →
     IsOnWay closed pen first first rest whole old now → IsFilled (chain_covers pen first rest) (λ i j. Some pen.colour) now next → IsOnWay closed pen first end [] whole old next
 way-whole closed pen first end rest whole old now next is way f = way-block closed pen first first end rest rest [] whole old now next (sym (append-nil rest)) is way f
 
--- a place of a box that lies in another lies in that one
+-- a place in a box that lies in another box lies in that one
 within : (big small : Area) (place : Place) → has_box big small ≡ true → HasPlace small place → has_place big place ≡ true
 within big small place h inside =
     let both = and_parts (int_le big.minx small.minx && int_le small.maxx big.maxx) (int_le big.miny small.miny && int_le small.maxy big.maxy) h in

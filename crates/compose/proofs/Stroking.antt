@@ -132,7 +132,7 @@ vertex-before pen canvas trail area is =
     already-less (vertex_covers pen.width (device_point pen.view trail.from)) (pen_covers pen trail.from trail.from) (λ i j. Some pen.colour) canvas area
     (λ i j column row h. self-step pen trail.from i j ∙ h) (is.quiet trail.from trail.from is.on is.on)
 
--- a vertex of the quiet box is passed by
+-- a vertex in the quiet box is skipped
 pub trail-by : (pen : PenValue) (canvas : PictureFields) (trail : Trail) (to : Place) → has_place trail.quiet to ≡ true → IsTrail pen canvas trail →
     IsTrail pen canvas (record { from = to; quiet = trail.quiet })
 trail-by pen canvas trail to has is = record { on = has; quiet = is.quiet }
@@ -164,7 +164,7 @@ or-first false true false = refl
 or-first false false true = refl
 or-first false false false = refl
 
--- the steps from a vertex on cover what the segments and the squares that are left do, and the first square once more
+-- the steps from a vertex on cover what the remaining segments and squares do, and the first square once more
 steps : (closed : Bool) (w : ℕ) (first from : DevicePoint) (rest : List DevicePoint) (i j : ℕ) →
     ((list_any (covers_centre (pos i) (pos j)) (map (segment_along w) (following closed first from rest)) || list_any (λ s. covers_square s (pos i) (pos j)) (map (square_at w) rest))
     || vertex_covers w first i j) ≡ (vertex_covers w first i j || rest_covers closed w first from rest i j)
@@ -208,7 +208,7 @@ parts-line closed w (part ∷ parts) i j =
       list_any-append (λ s. covers_square s (pos i) (pos j)) (map (square_at w) part) (flat_map (map (square_at w)) parts),
     ) refl))
 
--- a line is on its way from a vertex: whatever fills what is left of its part, fills the whole
+-- a line is on its way from a vertex: whatever fills the rest of its part, fills the whole
 pub record IsOnWay (closed : Bool) (pen : PenValue) (first from : Place) (rest : List Place) (whole : ℕ → ℕ → Bool) (old now : PictureFields) : Type 0 where
   pub sides : IsOf pen now
   pub goes : (new : PictureFields) →
@@ -250,7 +250,7 @@ pub way-open : (closed : Bool) (pen : PenValue) (first from : Place) (rest : Lis
     IsOnWay closed pen first from rest whole old now → IsFilled whole (λ i j. Some pen.colour) old now
 way-open closed pen first from rest whole old now is e way = (rw (e, is) at way.goes) now (filled-nothing (λ i j. Some pen.colour) now)
 
--- a part of places
+-- the line along a part of places of the world covers a pixel
 abbrev pub place_covers : Bool → PenValue → List Place → ℕ → ℕ → Bool
 place_covers closed pen part i j = part_covers closed pen.width (map (device_point pen.view) part) i j
 

@@ -39,11 +39,11 @@ anchor_place kind feature = option_and_then (anchor_on kind) (slice_get feature.
 abbrev pub is_shown : ViewValue → PixelValue → Bool
 is_shown view p = (int_le (pos 0) p.i && int_lt p.i (pos view.width)) && (int_le (pos 0) p.j && int_lt p.j (pos view.height))
 
--- the pixel that a place lies in, where that lies in the picture
+-- the pixel that a place lies in, where the pixel lies in the picture
 abbrev pub shown_pixel : ViewValue → Place → Option PixelValue
 shown_pixel view place = let pixel = pixel_of (device_point view place) in if is_shown view pixel then Some pixel else None
 
--- the pixel of a feature's anchor, where it has one and that lies in the picture
+-- the pixel of a feature's anchor, where it has one and the pixel lies in the picture
 abbrev pub shown_anchor : ViewValue → Geometry → FeatureFields → Option PixelValue
 shown_anchor view kind feature = option_and_then (shown_pixel view) (anchor_place kind feature)
 

@@ -1,4 +1,4 @@
--- Painting the features that are met and adding their candidates, in one walk; and then the labels (docs/DRAWING.md, "Labels").
+-- Painting the classified features and adding their candidates, in one walk; and then the labels (docs/DRAWING.md, "Labels").
 use Rattle.std.specs.Prelude.{◌≡◌, ℕ, List, ◌++◌, Option, ◌⊎◌}
 use Rattle.std.specs.List.{Contains, flat_map}
 use Rattle.labelcache.specs.Candidate.{CandidateValue}
@@ -17,22 +17,22 @@ pub record DrawingValue : Type 0 where
   pub canvas : PictureFields
   pub labels : List CandidateValue
 
--- what was met has been painted over the picture, and its candidates are added
+-- the classified features have been painted over the picture, and their candidates are added
 pub record IsDrawn (scene : SceneValue) (old new : DrawingValue) (met : List ClassifiedFeatureValue) : Type 0 where
   pub painted : IsPainted old.canvas new.canvas (flat_map (met_things scene.view scene.map.symbols) met)
   pub labelled : new.labels ≡ old.labels ++ flat_map (met_candidates scene.view scene.map.font) met
 
--- the candidates of what was met are added, and the picture is as it was
+-- the candidates of the classified features are added, and the picture is as it was
 pub record IsLabelled (scene : SceneValue) (old new : DrawingValue) (met : List ClassifiedFeatureValue) : Type 0 where
   pub canvas : new.canvas ≡ old.canvas
   pub labelled : new.labels ≡ old.labels ++ flat_map (met_candidates scene.view scene.map.font) met
 
--- the layer of an index that stands before others in a list has been drawn; or it stands among these again, and its candidates alone are added
+-- the layer at an index that stands before others in a list has been drawn; or it stands among these again, and only its candidates are added
 abbrev pub IsMentioned : SceneValue → ℕ → List ℕ → DrawingValue → DrawingValue → Type 0
 IsMentioned scene index after old new =
     (Contains after index × IsLabelled scene old new (met_chosen scene.scale scene.map index)) ⊎ IsDrawn scene old new (met_chosen scene.scale scene.map index)
 
--- of the chosen layers those that are done have been mentioned, and the rest has not: what is painted are those that are kept, with which the rest
+-- of the chosen layers, the done ones have been mentioned, and the rest has not: what is painted are those that are kept, with which the rest
 -- gives each pixel the colour that all chosen layers give it
 pub record IsDrawnTo (scene : SceneValue) (chosen rest : List ℕ) (old new : DrawingValue) : Type 0 where
   pub done : List ℕ

@@ -27,7 +27,7 @@ pub record BandsValue : Type 0 where
   pub height : ℕ
   pub bands : List Band
 
--- where anything lies between the two latitudes of a band they are of a row
+-- where anything lies between the two latitudes of a band, they are of a row
 pub record IsBand (south north : ℤ) (height row : ℕ) (band : Band) : Type 0 where
   pub low : band.south ≤ℤ band.north → row_in south north height band.south ≡ row
   pub high : band.south ≤ℤ band.north → row_in south north height band.north ≡ row
@@ -44,7 +44,7 @@ pub record IsRun (view : ViewValue) (run : Run) : Type 0 where
   pub most : run.from.y ≤ℤ run.high
   pub rows : view.area.miny <ℤ view.area.maxy
 
--- a corner is where its place lies, and of that row
+-- a vertex of a ring is where its place lies, and of that row
 pub record IsCorner (view : ViewValue) (corner : Corner) : Type 0 where
   pub at : corner.at ≡ device_point view corner.from
   pub row : corner.row ≡ first_row corner.at.y view.height
@@ -58,7 +58,7 @@ pub record Adds (view : ViewValue) (old : List ℕ) (more : List EdgeEnds) (new 
   pub same : (i j : ℕ) → i < view.width → j < view.height →
       is_pixel_flipped new i j ≡ is_one_of (is_pixel_flipped old i j) (is_covered more (pixel_centre (pos i) (pos j)))
 
--- the same of the edge between two vertices
+-- the same for the edge between two vertices
 abbrev pub AddsEdge : ViewValue → List ℕ → Place → Place → List ℕ → Type 0
 AddsEdge view old from to new = (i j : ℕ) → i < view.width → j < view.height →
     is_pixel_flipped new i j ≡

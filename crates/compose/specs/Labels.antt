@@ -37,7 +37,7 @@ feature_text layer feature = elim feature.text [
   | None ↦ option_map_or (item_value layer.items feature.values) layer.labelitem []
 ]
 
--- the text of its label: that, cut
+-- the text of a feature's label: its text, cut
 abbrev pub label_text : LayerFields → FeatureFields → List ℕ
 label_text layer feature = first_characters MAX_CHARACTERS (feature_text layer feature)
 
@@ -46,7 +46,7 @@ abbrev pub candidate_at : LabelFields → List ℕ → PixelValue → List Candi
 candidate_at label [] anchor = []
 candidate_at label (b ∷ bs) anchor = record { text = b ∷ bs; anchor = anchor; label = label } ∷ []
 
--- what may be placed of a feature that is met: its text, where its class has a label and its anchor lies in the picture
+-- the candidate of a classified feature: its text, where its class has a label and its anchor lies in the picture
 abbrev pub label_candidates : ViewValue → ClassifiedFeatureValue → List CandidateValue
 label_candidates view met =
     option_map_or (λ label. option_map_or (candidate_at label (label_text met.layer met.feature)) (shown_anchor view met.layer.kind met.feature) []) met.class.label []
@@ -60,7 +60,7 @@ met_candidates view (Some font) met = label_candidates view met
 abbrev pub has_label : ClassFields → Bool
 has_label class = is_some class.label
 
--- all candidates, by their numbers: those of the features that are met, in order
+-- all candidates, by their numbers: those of the classified features, in order
 abbrev pub candidate_list : ViewValue → PictureScale → MapFields → List ℕ → List CandidateValue
 candidate_list view scale m chosen = flat_map (met_candidates view m.font) (met_list scale m chosen)
 
@@ -85,7 +85,7 @@ abbrev pub inks : Written → Option Rgb → List PaintedShape
 inks w None = []
 inks w (Some colour) = paint.Inked w colour ∷ []
 
--- what is painted of a candidate whose text stands at a pixel: its outline, and then its glyphs
+-- what is painted of a candidate whose text has its corner at a pixel: its outline, and then its glyphs
 abbrev pub candidate_things : FontFields → CandidateValue → PixelValue → List PaintedShape
 candidate_things font c at =
     let w : Written = record { font = font; characters = chars c.text; at = at } in

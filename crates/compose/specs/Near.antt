@@ -40,14 +40,14 @@ furthest symbols (style ∷ styles) = max (reach_of symbols style) (furthest sym
 abbrev pub margin_of : List Symbol → LayerFields → ℕ
 margin_of symbols layer = furthest symbols (flat_map (λ (class : ClassFields). class.styles) layer.classes)
 
--- the law: where some of the things that are painted of a feature covers a pixel of the picture, its box meets the window of the layer's margin
+-- the law: where some shape that is painted of a feature covers a pixel of the picture, its box meets the window of the layer's margin
 abbrev pub PaintsNear : Type 0
 PaintsNear = (view : ViewValue) (scale : PictureScale) (symbols : List Symbol) (layer : LayerFields) (feature : FeatureFields) (i j : ℕ) →
     IsExtent view.area → IsPictureSide view.width → IsPictureSide view.height → i < view.width → j < view.height →
     list_any (λ thing. covers thing i j) (feature_things view scale symbols layer feature) ≡ true →
     HasBoxIn (window view (margin_of symbols layer)) feature
 
--- the law: painting candidates in their order is painting all, where each whose things cover a pixel of the picture is a candidate
+-- the law: painting candidates in their order is painting all, where each whose shapes cover a pixel of the picture is a candidate
 abbrev pub CandidatesPaintAll : Type 0
 CandidatesPaintAll = (f : FeatureFields → List PaintedShape) (features : List FeatureFields) (found : List ℕ) (background : Option Rgb) (i j : ℕ) →
     IsStrictlyIncreasing found → All (λ k. k < length features) found →

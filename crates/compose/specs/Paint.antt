@@ -26,14 +26,14 @@ use Rattle.symbols.specs.Stamp.{StampValue, pixel_at}
 use Rattle.symbols.specs.Stamp as stamp
 use Rattle.viewport.specs.View.{ViewValue, device_point}
 
--- a text on the picture: its characters in a font, with its upper left pixel
+-- a text on the picture: its characters in a font, with its corner
 pub record Written : Type 0 where
   pub font : FontFields
   pub characters : List ℕ
   pub at : PixelValue
 
--- what is painted: rings that are filled with a colour, a line of a colour, a square of a colour, or a pixmap; and the
--- outline round all glyphs of a text, or these themselves, of a colour
+-- a shape that is painted: rings that are filled with a colour, a line of a colour, a square of a colour, or a pixmap; and the
+-- outline round all glyphs of a text, or the glyphs, in a colour
 pub data PaintedShape : Type 0 where
   Fill : List (List DevicePoint) → Rgb → PaintedShape
   Stroke : LineValue → Rgb → PaintedShape
@@ -42,7 +42,7 @@ pub data PaintedShape : Type 0 where
   Outlined : Written → Rgb → PaintedShape
   Inked : Written → Rgb → PaintedShape
 
--- whether it covers the pixel in a column and a row: rings cover a pixel whose centre lies inside of them
+-- whether a shape covers the pixel in a column and a row: rings cover a pixel whose centre lies inside of them
 abbrev pub covers : PaintedShape → ℕ → ℕ → Bool
 covers (Fill rings colour) i j = is_inside rings (pixel_centre (pos i) (pos j))
 covers (Stroke stroke colour) i j = line.covers_pixel stroke (pos i) (pos j)
@@ -51,7 +51,7 @@ covers (Stamped pixmap) i j = stamp.covers_pixel pixmap (pos i) (pos j)
 covers (Outlined w colour) i j = has_outline w.font w.characters w.at (pos i) (pos j)
 covers (Inked w colour) i j = has_ink w.font w.characters w.at (pos i) (pos j)
 
--- the colour that it gives to a pixel: a pixmap has one for each pixel that it covers, the others for all
+-- the colour that a shape gives to a pixel: a pixmap has one for each pixel that it covers, the others have one for all
 abbrev pub colour_in : PaintedShape → ℕ → ℕ → Option Rgb
 colour_in (Fill rings colour) i j = Some colour
 colour_in (Stroke stroke colour) i j = Some colour
@@ -85,11 +85,11 @@ stamps pixel symbol = Stamped (record { pixmap = symbol.pixmap; pixel = pixel })
 abbrev pub polygon_things : List (List DevicePoint) → StyleFields → List PaintedShape
 polygon_things rings style = fills rings style.colour ++ strokes (line_of rings true style.width) style.outline
 
--- what it paints of lines: the line along them
+-- what a style paints of lines: the line along them
 abbrev pub line_things : List (List DevicePoint) → StyleFields → List PaintedShape
 line_things parts style = strokes (line_of parts false style.width) style.colour
 
--- what it paints of a point: the pixmap of its symbol round the point's pixel, or without a symbol a square round it
+-- what a style paints of a point: the pixmap of its symbol round the point's pixel, or without a symbol a square round it
 abbrev pub point_things : ViewValue → List Symbol → StyleFields → Place → List PaintedShape
 point_things view symbols style place =
     let pixel = pixel_of (device_point view place) in
@@ -104,7 +104,7 @@ style_things view symbols kind.Polygon feature style = polygon_things (parts_of 
 style_things view symbols kind.Line feature style = line_things (parts_of view feature) style
 style_things view symbols kind.Point feature style = flat_map (λ part. flat_map (point_things view symbols style) part) feature.parts
 
--- what a class paints of it: its styles, in order
+-- what a class paints of a feature: its styles, in order
 abbrev pub class_things : ViewValue → List Symbol → Geometry → FeatureFields → ClassFields → List PaintedShape
 class_things view symbols kind feature class = flat_map (style_things view symbols kind feature) class.styles
 
@@ -118,7 +118,7 @@ abbrev pub layer_things : ViewValue → PictureScale → List Symbol → LayerFi
 layer_things view scale symbols layer =
     if is_visible_layer scale layer then flat_map (feature_things view scale symbols layer) layer.features else []
 
--- what is painted of the layer of that index in the map
+-- what is painted of the layer at that index in the map
 abbrev pub chosen_things : ViewValue → PictureScale → MapFields → ℕ → List PaintedShape
 chosen_things view scale m index = option_map_or (layer_things view scale m.symbols) (slice_get m.layers index) []
 

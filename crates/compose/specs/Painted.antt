@@ -5,11 +5,11 @@ use Rattle.mapdefs.specs.declared.picture.PictureFields.{PictureFields}
 use Rattle.compose.specs.Paint.{PaintedShape}
 use Rattle.compose.specs.Picture.{colour_at}
 
--- what the pixel at an index has, row by row: a colour, or nothing
+-- what the pixel at an index has, row by row: a colour, or none
 abbrev pub colour_of : List (Option Rgb) → ℕ → Option Rgb
 colour_of pixels at = slice_index_or pixels at None
 
--- the new picture is the old one with the things painted over it, in order
+-- the new picture is the old one with the shapes painted over it, in order
 pub record IsPainted (old new : PictureFields) (things : List PaintedShape) : Type 0 where
   pub width : new.width ≡ old.width
   pub height : new.height ≡ old.height

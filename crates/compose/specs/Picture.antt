@@ -11,13 +11,13 @@ use Rattle.viewport.specs.View.{ViewValue}
 use Rattle.compose.specs.Labels.{ArePlaced, candidate_list, ink_list}
 use Rattle.compose.specs.Paint.{PaintedShape, covers, colour_in, paint_list}
 
--- the colour of a pixel: that of the last thing that covers it, else the background, which may be nothing
+-- the colour of a pixel: that of the last shape that covers it, else the background, which may be none
 unfoldable pub colour_at : Option Rgb → List PaintedShape → ℕ → ℕ → Option Rgb
 colour_at background things i j =
     option_map_or (λ thing. colour_in thing i j) (find (λ thing. covers thing i j) (reverse things)) background
 
--- the picture has labels, the view's sides, and as many pixels as these say; each pixel has the colour of the last thing that covers it,
--- of what is painted of features and then of the labels, else the background
+-- the picture has labels, the view's sides, and as many pixels as these say; each pixel has the colour of the last shape that covers it,
+-- among what is painted of features and then of the labels, else the background
 pub record IsPictureOf (m : MapFields) (view : ViewValue) (scale : PictureScale) (chosen : List ℕ) (background : Option Rgb) (picture : PictureFields) : Type 0 where
   pub labels : List Placed
   pub placed : ArePlaced view m.font (candidate_list view scale m chosen) labels

@@ -21,30 +21,30 @@ abbrev pub part_covers : Bool → ℕ → List DevicePoint → ℕ → ℕ → B
 part_covers closed w part i j =
     list_any (covers_centre (pos i) (pos j)) (segments_of closed w part) || list_any (λ s. covers_square s (pos i) (pos j)) (map (square_at w) part)
 
--- the square round a vertex does
+-- the square round a vertex covers a pixel
 abbrev pub vertex_covers : ℕ → DevicePoint → ℕ → ℕ → Bool
 vertex_covers w a i j = covers_square (square_at w a) (pos i) (pos j)
 
--- the segment from one vertex to another does
+-- the segment from one vertex to another covers a pixel
 abbrev pub segment_covers : ℕ → DevicePoint → DevicePoint → ℕ → ℕ → Bool
 segment_covers w a b i j = covers_segment w (edge_between (a, b)) (pixel_centre (pos i) (pos j))
 
--- a step does: the segment from one vertex to the next, or the square round that one
+-- a step covers a pixel: the segment from one vertex to the next does, or the square round that one
 abbrev pub step_covers : ℕ → DevicePoint → DevicePoint → ℕ → ℕ → Bool
 step_covers w a b i j = segment_covers w a b i j || vertex_covers w b i j
 
--- one of the steps that are left from a vertex does: those over the vertices that follow, and in a closed line the one back to the first
+-- one of the remaining steps from a vertex does: those over the vertices that follow, and in a closed line the one back to the first
 abbrev pub rest_covers : Bool → ℕ → DevicePoint → DevicePoint → List DevicePoint → ℕ → ℕ → Bool
 rest_covers closed w first from [] i j = closed && step_covers w from first i j
 rest_covers closed w first from (to ∷ rest) i j = step_covers w from to i j || rest_covers closed w first to rest i j
 
--- what a line is painted with: the view that its places lie in, its width and its colour
+-- the pen of a line: the view that its places lie in, its width and its colour
 pub record PenValue : Type 0 where
   pub view : ViewValue
   pub width : ℕ
   pub colour : Rgb
 
--- a pen's width is within its limits, and its window has what its width reaches
+-- a pen's width is within its limits, and its window contains what its width reaches
 pub record IsPen (pen : PenValue) (window_of_pen : Area) : Type 0 where
   pub some : 1 ≤ pen.width
   pub most : pen.width ≤ MAX_LINE_WIDTH
@@ -57,11 +57,11 @@ pub record IsPen (pen : PenValue) (window_of_pen : Area) : Type 0 where
 abbrev pub has_place : Area → Place → Bool
 has_place box place = (int_le box.minx place.x && int_le place.x box.maxx) && (int_le box.miny place.y && int_le place.y box.maxy)
 
--- a step of a pen between two places
+-- a step of a pen between two places covers a pixel
 abbrev pub pen_covers : PenValue → Place → Place → ℕ → ℕ → Bool
 pen_covers pen a b i j = step_covers pen.width (device_point pen.view a) (device_point pen.view b) i j
 
--- one of the steps from a place over those that follow does
+-- one of the steps from a place over those that follow covers a pixel
 abbrev pub chain_covers : PenValue → Place → List Place → ℕ → ℕ → Bool
 chain_covers pen from rest i j = rest_covers false pen.width (device_point pen.view from) (device_point pen.view from) (map (device_point pen.view) rest) i j
 
@@ -89,7 +89,7 @@ pub record IsTrail (pen : PenValue) (canvas : PictureFields) (trail : Trail) : T
   pub on : has_place trail.quiet trail.from ≡ true
   pub quiet : (a b : Place) → has_place trail.quiet a ≡ true → has_place trail.quiet b ≡ true → HasAlready pen canvas (pen_covers pen a b)
 
--- the last vertex of a tip lies at its point, and the square round that has the pen's colour already
+-- the last vertex of a tip lies at its point, and the square round that already has the pen's colour
 pub record IsTip (pen : PenValue) (canvas : PictureFields) (tip : Tip) : Type 0 where
   pub at : tip.at ≡ device_point pen.view tip.from
   pub area : length canvas.pixels ≡ canvas.width * canvas.height

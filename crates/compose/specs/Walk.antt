@@ -1,4 +1,4 @@
--- The features that are met when the chosen layers are gone through (docs/DRAWING.md, "How features are painted").
+-- The classified features of the chosen layers, in the order in which they are drawn (docs/DRAWING.md, "How features are painted").
 use Rattle.std.specs.Prelude.{◌≡◌, ℕ, if◌then◌else◌, List, [], ◌∷◌, slice_get}
 use Rattle.std.specs.List.{flat_map}
 use Rattle.std.specs.Option.{option_map_or}
@@ -12,38 +12,38 @@ use Rattle.mapdefs.specs.declared.symbol.Symbol.{Symbol}
 use Rattle.viewport.specs.View.{ViewValue}
 use Rattle.compose.specs.Paint.{PaintedShape, class_things, paint_list}
 
--- what the element of an index gives, if there is one
+-- what the element at an index gives, if there is one
 abbrev pub given_at : {X Y : Type 0} → (X → List Y) → List X → ℕ → List Y
 given_at f xs index = option_map_or f (slice_get xs index) []
 
--- a feature that is met, with its layer and its class
+-- a classified feature, with its layer and its class
 pub record ClassifiedFeatureValue : Type 0 where
   pub layer : LayerFields
   pub feature : FeatureFields
   pub class : ClassFields
 
--- a feature of a layer is met if it has a class at the scale
+-- a feature of a layer is classified if it has a class at the scale
 abbrev pub met_feature : PictureScale → LayerFields → FeatureFields → List ClassifiedFeatureValue
 met_feature scale layer feature =
     option_map_or (λ (class : ClassFields). record { layer = layer; feature = feature; class = class } ∷ []) (class_of scale layer feature) []
 
--- those of a layer, in order, where it is visible at the scale
+-- the classified features of a layer, in order, where it is visible at the scale
 abbrev pub met_layer : PictureScale → LayerFields → List ClassifiedFeatureValue
 met_layer scale layer = if is_visible_layer scale layer then flat_map (met_feature scale layer) layer.features else []
 
--- those of the layer of that index in the map
+-- the classified features of the layer at that index in the map
 abbrev pub met_chosen : PictureScale → MapFields → ℕ → List ClassifiedFeatureValue
 met_chosen scale m index = option_map_or (met_layer scale) (slice_get m.layers index) []
 
--- all, from the first to the last: those of the chosen layers, in order
+-- all classified features, from the first to the last: those of the chosen layers, in order
 abbrev pub met_list : PictureScale → MapFields → List ℕ → List ClassifiedFeatureValue
 met_list scale m chosen = flat_map (met_chosen scale m) chosen
 
--- what is painted of one that is met
+-- what is painted of a classified feature
 abbrev pub met_things : ViewValue → List Symbol → ClassifiedFeatureValue → List PaintedShape
 met_things view symbols met = class_things view symbols met.layer.kind met.feature met.class
 
--- the law that the paint list is what is painted of those that are met
+-- the law that the paint list is what is painted of the classified features
 abbrev pub PaintListIsOfTheMet : Type 0
 PaintListIsOfTheMet = (view : ViewValue) (scale : PictureScale) (m : MapFields) (chosen : List ℕ) →
     paint_list view scale m chosen ≡ flat_map (met_things view m.symbols) (met_list scale m chosen)

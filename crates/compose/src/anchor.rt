@@ -57,7 +57,7 @@ fn middle_of(ring: &[World]) -> Option<World>
     Some(World::new(halfway(west, east), halfway(south, north)))
 }
 
-// Where a part of a feature has its anchor: points at the first, a line at the vertex in its middle, a ring in the
+// Where a part of a feature has its anchor: points at the first one, a line at the vertex in its middle, a ring in the
 // middle of its box.
 fn anchor_on(kind: Geometry, part: &[World]) -> Option<World>
     ensures { result ≡ anchor_on kind part.now }
@@ -79,7 +79,7 @@ fn anchor_place(kind: Geometry, feature: &FeatureFields) -> Option<World>
     }
 }
 
-// Whether the column or the row of an index is one of so many.
+// Whether an index is that of one of so many columns or rows.
 fn is_among(side: PictureSide, index: i64) -> bool
     ensures value { result ≡ (int_le (pos 0) index && int_lt index (pos side)) }
     ensures limits { IsTrue result → IsBelow (2 ^ 32) index }
@@ -96,7 +96,7 @@ fn is_shown(scene: &Scene<'_>, pixel: Pixel) -> bool
     is_among(projection.width(), pixel.i()) && is_among(projection.height(), pixel.j())
 }
 
-// The pixel that a place lies in, where that lies in the scene's picture.
+// The pixel that a place lies in, where the pixel lies in the scene's picture.
 fn shown_pixel(scene: &Scene<'_>, place: World) -> Option<Pixel>
     ensures value { result ≡ shown_pixel scene.now.view place }
     ensures limits { IfSome result IsAnchor }
@@ -109,7 +109,7 @@ fn shown_pixel(scene: &Scene<'_>, place: World) -> Option<Pixel>
     }
 }
 
-/// The pixel of a feature's anchor, where it has one and that lies in the scene's picture.
+/// The pixel of a feature's anchor, where it has one and the pixel lies in the scene's picture.
 pub fn shown_anchor(scene: &Scene<'_>, kind: Geometry, feature: &FeatureFields) -> Option<Pixel>
     ensures value { result ≡ shown_anchor scene.now.view kind feature.now }
     ensures limits { IfSome result IsAnchor }

@@ -34,7 +34,7 @@ impl Model for Canvas {
 }
 
 impl Canvas {
-    /// A canvas of the background, which may be nothing, as wide and as high as the scene's picture. What is
+    /// A canvas of the background, which may be none, as wide and as high as the scene's picture. What is
     /// painted on it takes its memory from the same allocator.
     pub fn new(
         alloc: Global,
@@ -58,17 +58,17 @@ impl Canvas {
         })
     }
 
-    /// The allocator that it was made with.
+    /// The allocator that the canvas was made with.
     pub fn alloc(&self) -> Global {
         *self.pixels.allocator()
     }
 
-    /// The table of the latitudes of its rows.
+    /// The table of the latitudes of the canvas's rows.
     pub fn latitudes(&self) -> &RowLatitudes {
         &self.latitudes
     }
 
-    /// An empty list of flips of its picture. It has the memory of the list that was given back last.
+    /// An empty list of flips of the canvas's picture. It reuses the memory of the list that was taken back last.
     pub fn lend_flips(&mut self) -> RowFlips
         ensures same { self.new ≡ self.old }
         ensures flips { result ≡ record { width = self.old.width; height = self.old.height; flips = [] } }
@@ -79,14 +79,14 @@ impl Canvas {
         flips
     }
 
-    /// Takes a list of flips back. Its memory serves the next one.
+    /// Takes a list of flips back. The next list reuses its memory.
     pub fn return_flips(&mut self, flips: RowFlips)
         ensures { self.new ≡ self.old }
     {
         self.flips = flips;
     }
 
-    /// How many columns of pixels it has.
+    /// How many columns of pixels the canvas has.
     pub fn width(&self) -> PictureSide
         ensures value { result ≡ self.now.width }
         ensures area { length self.now.pixels ≡ self.now.width * self.now.height }
@@ -94,7 +94,7 @@ impl Canvas {
         self.width
     }
 
-    /// How many rows of pixels it has.
+    /// How many rows of pixels the canvas has.
     pub fn height(&self) -> PictureSide
         ensures { result ≡ self.now.height }
     {
@@ -110,7 +110,7 @@ impl Canvas {
         self.colour_row(j, &ColouredSpans { spans, colour });
     }
 
-    /// Gives their colours to the pixels of the row `j`.
+    /// Gives the pixels of the row `j` their colours.
     pub fn colour_row<K: Colouring>(&mut self, j: u16, colouring: &K)
         requires row { j < self.old.height }
         requires fits { K.fits colouring.now self.old.width }

@@ -11,7 +11,7 @@ pub struct Block<'a> {
     pub vertices: &'a [World],
 }
 
-/// A ring or a line of no more vertices is cheaper to go along than the boxes of its blocks are to test.
+/// A ring or a line with no more vertices is cheaper to follow vertex by vertex than by its blocks' boxes.
 pub const FEW_VERTICES: usize = 8;
 
 /// The last vertex of a chain, from its first and those that follow.

@@ -3,7 +3,7 @@ ghost use Rattle.std.specs.Prelude.{◌≡◌};
 use mapdefs::{ClassFields, FeatureFields, LayerFields};
 use std::marker::Model;
 
-/// A feature that is met, with its layer and its class.
+/// A feature that has a class at the scale, with its layer and its class.
 #[derive(Drop)]
 pub struct ClassifiedFeature<'a> {
     layer: &'a LayerFields,
@@ -24,7 +24,7 @@ impl<'a> Model for ClassifiedFeature<'a> {
 }
 
 impl<'a> ClassifiedFeature<'a> {
-    /// The feature of a layer and of one of its classes.
+    /// The feature, with its layer and one of the layer's classes.
     pub fn new(layer: &'a LayerFields, feature: &'a FeatureFields, class: &'a ClassFields) -> Self
         ensures { result ≡ record { layer = layer.now; feature = feature.now; class = class.now } }
     {
@@ -35,21 +35,21 @@ impl<'a> ClassifiedFeature<'a> {
         }
     }
 
-    /// Its layer.
+    /// The feature's layer.
     pub fn layer(&self) -> &'a LayerFields
         ensures { result.now ≡ self.now.layer }
     {
         self.layer
     }
 
-    /// The feature itself.
+    /// The feature.
     pub fn feature(&self) -> &'a FeatureFields
         ensures { result.now ≡ self.now.feature }
     {
         self.feature
     }
 
-    /// Its class.
+    /// The feature's class.
     pub fn class(&self) -> &'a ClassFields
         ensures { result.now ≡ self.now.class }
     {

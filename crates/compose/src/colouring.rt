@@ -8,9 +8,9 @@ use mapdefs::{PixelColour, Rgb};
 use scanfill::Span;
 use symbols::{RowPixels, is_transparent};
 
-/// What gives pixels of a row their colours: one colour to those of some spans, or a row of a pixmap its own.
+/// Gives pixels of a row their colours: one colour to the pixels of some spans, or a row of a pixmap its own.
 pub trait Colouring {
-    // Whether it lies within a row of so many columns.
+    // Whether it lies within a row with so many columns.
     ghost fits: { Self → ℕ → Type 0 };
 
     // Whether it has a colour for the pixel in a column, and that colour.
@@ -18,7 +18,7 @@ pub trait Colouring {
 
     ghost colour: { Self → ℕ → Option RgbValue };
 
-    /// Gives their colours to the pixels of a row.
+    /// Gives the pixels of a row their colours.
     fn fill(&self, row: &mut [PixelColour])
         requires { fits self.now (length row.old) }
         ensures { (i : ℕ) → colour_of row.new i ≡ (if has self.now i then colour self.now i else colour_of row.old i) };
@@ -54,8 +54,8 @@ fn fill_span(row: &mut [PixelColour], span: Span, colour: Rgb)
     row[usize::from(span.from)..usize::from(span.to)].fill(PixelColour::new(Some(colour)));
 }
 
-/// Gives the colour to the pixels in some columns and some rows of a picture that is so many pixels wide. A number of
-/// columns that is known when this is compiled takes a store or two a row.
+/// Gives the colour to the pixels in some columns and some rows of a picture that is so many pixels wide. Where the
+/// number of columns is known at compile time, a row takes a store or two.
 pub fn fill_box(pixels: &mut [PixelColour], width: u16, columns: Span, rows: Span, colour: Rgb)
     requires some { 0 < width }
     requires order { columns.from ≤ columns.to }
@@ -119,7 +119,7 @@ impl Colouring for RowPixels<'_> {
     }
 }
 
-// Gives a pixel's colour to the pixel at an index, if it stands for one.
+// Gives a colour to the pixel at an index, unless the colour is transparent.
 fn put_pixel(row: &mut [PixelColour], at: usize, colour: Rgb)
     requires { at < length row.old }
     ensures wide { length row.new ≡ length row.old }

@@ -9,8 +9,8 @@ use scene::Scene;
 use std::alloc::{AllocError, Global};
 use std::marker::Model;
 
-/// A picture while it is drawn: the canvas, and the candidates for its labels so far. These borrow their texts and
-/// labels from the map.
+/// A picture while it is drawn: the canvas, and the candidates for its labels so far. The candidates borrow their texts
+/// and labels from the map.
 #[derive(Drop)]
 pub struct Drawing<'a> {
     pub(crate) canvas: Canvas,
@@ -44,7 +44,7 @@ impl Drawing<'_> {
         })
     }
 
-    /// The canvas with labels of the candidates, which are placed and painted over it.
+    /// The canvas, with the labels of the candidates placed and painted over it.
     pub fn into_labelled(self, scene: &Scene<'_>) -> Result<Canvas, AllocError>
         ensures { IfOk result (HasLabels scene.now self.entry.labels self.entry.canvas) }
     {

@@ -6,8 +6,8 @@ use crate::canvas::Canvas;
 use mapdefs::Rgb;
 use scanfill::{RowFlips, Span};
 
-/// Gives the colour to each pixel of the canvas that lies inside by the flips. They are sorted, and of a picture
-/// of its sides.
+/// Gives the colour to each pixel of the canvas that lies inside by the flips. The flips are sorted, and belong to a
+/// picture with the canvas's sides.
 pub fn fill_flips(canvas: &mut Canvas, flips: &RowFlips, colour: Rgb)
     requires width { flips.now.width ≡ canvas.old.width }
     requires height { flips.now.height ≡ canvas.old.height }

@@ -50,7 +50,7 @@ impl<'a> Grain<'a> {
         self.projection
     }
 
-    /// A box round a place, which lies at that point of the picture. All places of the box lie in its pixel.
+    /// A box round a place, which lies at that point of the picture. All places of the box lie in the same pixel.
     pub fn around(&self, place: World, at: Device) -> WorldBox
         requires { at ≡ device_point self.now place }
         ensures has { has_place result place ≡ true }
@@ -95,7 +95,7 @@ fn into_pixel(number: i64) -> u8
     (number - 16 * number.div_euclid(16)) as u8
 }
 
-// A coordinate less so many grains, and one and so many.
+// A coordinate less so many grains, and a coordinate plus so many.
 fn less(number: i64, count: u8, grain: i64) -> i64
     requires number { IsBelow (2 ^ 31) number }
     requires grain { IsBelow (2 ^ 31) grain }

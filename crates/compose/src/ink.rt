@@ -18,7 +18,7 @@ use scene::Scene;
 use std::alloc::{AllocError, Global};
 use std::marker::Model;
 
-// A text on the picture: its glyphs, each where it stands.
+// A text on the picture: its glyphs, each with its position.
 #[derive(Drop)]
 struct WrittenText<'a> {
     font: &'a Font,
@@ -41,7 +41,7 @@ impl<'a> Model for WrittenText<'a> {
 }
 
 impl<'a> WrittenText<'a> {
-    // The text with its upper left pixel at a pixel.
+    // The text whose corner is a pixel.
     fn new(alloc: Global, font: &'a Font, text: &'a str, at: Pixel) -> Result<Self, AllocError>
         requires { length (chars text.now) ≤ MAX_CHARACTERS }
         ensures { IfOk result (λ w. w ≡ record { font = font.now; characters = chars text.now; at = at }) }
@@ -75,7 +75,7 @@ impl<'a> WrittenText<'a> {
     }
 }
 
-// Gives the colour to the pixels that are of the outline of some glyph.
+// Gives the colour to the pixels of the outline of some glyph.
 fn paint_outlines(
     canvas: &mut Canvas,
     glyphs: &[PlacedGlyph<'_>],
@@ -89,7 +89,7 @@ fn paint_outlines(
     Ok(())
 }
 
-// Paints a candidate's text at a pixel: its outline, and then its glyphs.
+// Paints a candidate's text with its corner at a pixel: its outline, and then its glyphs.
 fn paint_candidate(
     canvas: &mut Canvas,
     font: &Font,
@@ -134,7 +134,7 @@ fn paint_placed(
     Ok(())
 }
 
-/// Places labels of the candidates on the scene's picture and paints them. A map without a font has none.
+/// Places labels of the candidates on the scene's picture and paints them. Without a font, the map has no labels.
 pub fn paint_labels(
     canvas: &mut Canvas,
     scene: &Scene<'_>,

@@ -34,7 +34,7 @@ fn first_characters(text: &str, most: usize) -> &str
     ensures cut { result.now ≡ first_characters most text.now }
     ensures short { length (chars result.now) ≤ most }
 {
-    // A character has a byte at least.
+    // A character has at least one byte.
     if text.len() <= most {
         return text;
     }
@@ -58,7 +58,7 @@ fn label_text<'a>(layer: &LayerFields, feature: &'a FeatureFields) -> &'a str
     first_characters(feature_text(layer, feature), MAX_CHARACTERS)
 }
 
-/// Adds what may be placed of a feature that is met.
+/// Adds the candidate of a classified feature, if it has one.
 pub fn add_candidate<'a>(
     labels: &mut Cache<'a>,
     scene: &Scene<'_>,

@@ -10,8 +10,8 @@ use mapdefs::{FeatureFields, LayerFields, Near};
 use scene::Scene;
 use std::alloc::AllocError;
 
-/// Adds what may be placed of the layer of an index, where it shows at the scale, and paints nothing. A layer without
-/// labels isn't looked at.
+/// Adds the candidates of the layer at an index, where it shows at the scale, and paints nothing. A layer without
+/// labels is skipped.
 pub fn add_layer<'a, N: Near>(
     labels: &mut Cache<'a>,
     scene: &Scene<'a>,
@@ -45,7 +45,7 @@ fn has_labels(layer: &LayerFields) -> bool
     false
 }
 
-// Adds what may be placed of the features of those indices in the layer, in their order.
+// Adds the candidates of the features at those indices in the layer, in order.
 fn add_features<'a>(
     labels: &mut Cache<'a>,
     scene: &Scene<'_>,
@@ -62,7 +62,7 @@ fn add_features<'a>(
     Ok(())
 }
 
-// Adds what may be placed of a feature of the layer, if it has a class at the scale.
+// Adds the candidate of a feature of the layer, if the feature has a class at the scale.
 fn add_feature<'a>(
     labels: &mut Cache<'a>,
     scene: &Scene<'_>,

@@ -9,16 +9,16 @@ use std::alloc::{AllocError, Global};
 use std::marker::Model;
 use viewport::Projection;
 
-/// Two latitudes of a row of a picture: all between them are of that row. If the southern one is the greater, the
-/// band is empty, and they needn't be of the row.
+/// Two latitudes of a row of a picture: each latitude between them is of that row. If the southern one is the greater,
+/// the band is empty, and they needn't be of the row.
 #[derive(Clone, Copy)]
 pub struct Band {
     pub south: Coordinate,
     pub north: Coordinate,
 }
 
-/// The bands of the rows of a picture, from the top, and last the one of what lies below them. Each is guessed, and
-/// tested when the table is made. The table has the latitudes and the height of the picture that it is of.
+/// The bands of the rows of a picture, from the top, and last the band of what lies below them. Each is guessed, and
+/// tested when the table is made. The table keeps the latitudes and the height of its picture.
 #[derive(Drop)]
 pub struct RowLatitudes {
     south: Micro,
@@ -51,7 +51,7 @@ impl RowLatitudes {
         })
     }
 
-    /// The bands, or none if they are of another picture than the projection's.
+    /// The bands, or none if the projection is of another picture.
     pub fn bands(&self, projection: &Projection) -> &[Band]
         ensures { AreBands projection.now.area.miny projection.now.area.maxy projection.now.height result.now }
     {
@@ -94,7 +94,7 @@ fn band_of(projection: &Projection, row: u16) -> Band
     }
 }
 
-// The latitude of so many millionths of a degree.
+// The latitude with so many millionths of a degree.
 fn latitude(millionths: u8) -> Coordinate
     ensures { result ≡ pos millionths }
 {
@@ -108,7 +108,7 @@ pub fn row_at(projection: &Projection, latitude: Coordinate) -> u16
     first_row(projection.down(latitude), projection.height())
 }
 
-// About the southernmost latitude of a row, and about the northernmost one: the one that is next to the row above it.
+// A guess of the southernmost latitude of a row, and of the northernmost one, which is next to the row above it.
 fn about_south(projection: &Projection, row: u16) -> Coordinate {
     if row < projection.height().pixels() {
         projection.about_south(row)

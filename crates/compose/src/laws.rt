@@ -6,18 +6,18 @@ ghost use Rattle.compose.specs.Near.{CandidatesPaintAll, PaintsNear};
 ghost use Rattle.compose.specs.Picture.{HasOnePicture, LastMentionsPaintAll};
 ghost use Rattle.compose.specs.Walk.{PaintListIsOfTheMet};
 
-/// A feature that paints a pixel of the picture has its box in the window of its layer's margin, so that what is
+/// A feature that paints a pixel of the picture has its box in the window of its layer's margin. So what is
 /// painted doesn't depend on how features are found.
 pub fn paints_near()
     ensures { PaintsNear }
 {}
 
-/// Painting the candidates, in their order, gives each pixel the colour that painting all features gives it.
+/// Painting the candidates, in order, gives each pixel the colour that painting all features gives it.
 pub fn candidates_paint_all()
     ensures { CandidatesPaintAll }
 {}
 
-/// The paint list is what is painted of the features that are met, of which the candidates for labels are too.
+/// The paint list is what is painted of the classified features, which give the candidates for labels, too.
 pub fn paint_list_is_of_the_met()
     ensures { PaintListIsOfTheMet }
 {}
@@ -27,18 +27,19 @@ pub fn anchors_are_near()
     ensures { AnchorsAreNear }
 {}
 
-/// What is found in a window of the picture, whatever its margin and whatever else is found, gives the candidates
-/// that all features of the layer give, in the same order: so their numbers and the labels are the same.
+/// What is found in a window of the picture gives the candidates that all features of the layer
+/// give, in the same order. This holds whatever the margin is, and whatever else is found. So the
+/// candidates' numbers and the labels are the same.
 pub fn found_label_all()
     ensures { FoundLabelAll }
 {}
 
-/// There is one picture at most of a map in a view.
+/// A map has at most one picture in a view.
 pub fn one_picture()
     ensures { HasOnePicture }
 {}
 
-/// A list of layers in which one stands twice gives each pixel the colour that it gives it without the first mention.
+/// A list of layers in which one stands twice gives each pixel the colour that the list without its first mention gives it.
 pub fn last_mentions_paint_all()
     ensures { LastMentionsPaintAll }
 {}

@@ -13,7 +13,7 @@ fn side_of(symbol: &Symbol) -> u16
     pixmap.width.max(pixmap.height)
 }
 
-// How far the symbol of an index paints from a point at most.
+// How far the symbol at an index paints from a point at most.
 fn reach_of_symbol(symbols: &[Symbol], index: Option<usize>) -> u16
     ensures value { result ≡ symbol_reach symbols.now index }
     ensures most { result ≤ MAX_SYMBOL_SIDE }
@@ -38,7 +38,7 @@ fn reach_of(symbols: &[Symbol], style: &Style) -> u16
         .max(reach_of_symbol(symbols, style.symbol))
 }
 
-// The further of a reach and the furthest that some styles paint.
+// The greater of a reach and the furthest that some styles paint.
 fn further(most: u16, symbols: &[Symbol], styles: &[Style]) -> u16
     requires { most ≤ 256 }
     ensures value { result ≡ max most (furthest symbols.now styles.now) }

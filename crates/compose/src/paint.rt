@@ -21,9 +21,9 @@ use std::alloc::{AllocError, Global};
 use viewport::View;
 
 /// The picture of the chosen layers of a scene. `chosen` has their indices in the map. They are painted
-/// in that order, one that is chosen twice also twice, and whether they are switched on or not. Layers
+/// in that order, a layer that is chosen twice also twice, and whether they are switched on or not. Layers
 /// and classes that aren't visible at the scale are left out. Where nothing is painted the picture has the
-/// background, which may be nothing. The labels of the features that are met are placed and painted after
+/// background, which may be none. The labels of the classified features are placed and painted after
 /// everything else, if the map has a font.
 ///
 /// A layer that is chosen several times is painted at its last mention alone, which gives the same picture
@@ -34,8 +34,8 @@ use viewport::View;
 ///
 /// It takes memory for the picture, for what `near` finds of a layer, for the flips of a polygon's rows, which is kept
 /// until the picture is done, and for one feature at a time: for the edges of a polygon whose rows have too many flips,
-/// and for a row. Of labels it takes memory for the candidates, which borrow their texts, for the labels, for what
-/// tests ask of them, and for the glyphs of one text at a time. `AllocError` comes only where that is refused.
+/// and for a row. For labels it takes memory for the candidates, which borrow their texts, for the labels, for the
+/// indices that tests query, and for the glyphs of one text at a time. `AllocError` comes only where this is refused.
 pub fn draw<N: Near>(
     alloc: Global,
     scene: &Scene<'_>,
@@ -56,7 +56,7 @@ pub fn draw<N: Near>(
     Ok(drawing.into_labelled(scene)?.into_picture())
 }
 
-/// What `draw` gives in the scene of a map in a view, at a scale.
+/// The picture that `draw` gives in the scene of a map in a view, at a scale.
 pub fn picture<N: Near>(
     alloc: Global,
     map: &Map,
@@ -79,8 +79,8 @@ pub fn picture<N: Near>(
     )
 }
 
-// Draws the layer of an index that stands before others in a list, unless it stands among these again: then its
-// candidates alone are added.
+// Draws the layer at an index that stands before others in a list. If it stands among these again, only its
+// candidates are added.
 fn draw_mention<'a, N: Near>(
     drawing: &mut Drawing<'a>,
     scene: &Scene<'a>,
@@ -101,7 +101,7 @@ fn draw_mention<'a, N: Near>(
     draw_layer(drawing, scene, near, index)
 }
 
-// Draws the layer of an index, where it shows at the scale.
+// Draws the layer at an index, where it shows at the scale.
 fn draw_layer<'a, N: Near>(
     drawing: &mut Drawing<'a>,
     scene: &Scene<'a>,
@@ -124,7 +124,7 @@ fn draw_layer<'a, N: Near>(
     draw_features(drawing, scene, layer, &found)
 }
 
-// Draws the features of those indices in the layer, in their order.
+// Draws the features at those indices in the layer, in order.
 fn draw_features<'a>(
     drawing: &mut Drawing<'a>,
     scene: &Scene<'_>,
@@ -162,7 +162,7 @@ fn draw_feature<'a>(
     add_candidate(&mut drawing.labels, scene, &met)
 }
 
-// Paints a feature that is met.
+// Paints a classified feature.
 fn paint_feature(
     canvas: &mut Canvas,
     scene: &Scene<'_>,

@@ -11,8 +11,8 @@ use scene::Scene;
 use std::marker::Model;
 use viewport::Projection;
 
-/// What a line is painted with: the grain of its places' projection, its width and its colour, and the window of the
-/// world outside of which its vertices cover nothing of the picture.
+/// The pen of a line: the grain of its places' projection, its width and its colour, and the window of the
+/// world outside of which its vertices cover no pixel of the picture.
 #[derive(Drop)]
 pub struct Pen<'a> {
     grain: Grain<'a>,
@@ -46,14 +46,14 @@ impl<'a> Pen<'a> {
         }
     }
 
-    /// The projection of its places.
+    /// The projection of the line's places.
     pub fn projection(&self) -> &Projection
         ensures { result.now ≡ self.now.view }
     {
         self.grain.projection()
     }
 
-    /// Its width.
+    /// The width of the line.
     pub fn width(&self) -> u8
         ensures value { result ≡ self.now.width }
         ensures some { 1 ≤ result }
@@ -62,17 +62,18 @@ impl<'a> Pen<'a> {
         self.width
     }
 
-    /// Its colour.
+    /// The colour of the line.
     pub fn colour(&self) -> Rgb
         ensures { result ≡ self.now.colour }
     {
         self.colour
     }
 
-    /// A box that has the place, which lies at that point of the picture, and is quiet beside it: the part of the world
-    /// west, east, south or north of the window in which the place lies, since a step within it covers no pixel; or
-    /// places of its pixel, since a step between them covers the square round it alone if the width is odd; or the
-    /// place alone.
+    /// A box with a place, which lies at that point of the picture. The box is quiet beside it. It
+    /// is the part of the world west, east, south or north of the window, if the place lies there,
+    /// since a step within it covers no pixel. Else it is places of the place's pixel if the width
+    /// is odd, since a step between them covers the square round it alone. Else it is the place
+    /// alone.
     pub fn quiet_at(&self, place: World, at: Device) -> WorldBox
         requires { at ≡ device_point self.now.view place }
         ensures has { has_place result place ≡ true }
@@ -127,7 +128,7 @@ fn encloses(outer: (Micro, Micro), inner: (Micro, Micro)) -> bool
     outer.0.millionths() <= inner.0.millionths() && inner.1.millionths() <= outer.1.millionths()
 }
 
-// Whether a number lies between two others, both included.
+// Whether a number lies between two others, inclusive.
 fn is_between(least: i64, number: i64, most: i64) -> bool
     ensures { result ≡ (int_le least number && int_le number most) }
 {

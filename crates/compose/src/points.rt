@@ -23,7 +23,7 @@ pub fn paint_points(canvas: &mut Canvas, scene: &Scene<'_>, parts: &[Part], styl
     }
 }
 
-// Paints them by one style.
+// Paints the points of these parts by one style.
 fn paint_by_style(canvas: &mut Canvas, scene: &Scene<'_>, parts: &[Part], style: &Style)
     ensures { IsPainted canvas.old canvas.new (flat_map (λ part. flat_map (point_things scene.now.view scene.now.map.symbols style.now) part) parts.now) }
 {

@@ -87,7 +87,7 @@ fn add_few(
     Ok(corner)
 }
 
-// Adds the flips of the edge between two vertices. Within a row it crosses none.
+// Adds the flips of the edge between two vertices. An edge between vertices of one row adds none.
 fn add_edge(flips: &mut RowFlips, from: &Corner, to: &Corner) -> Result<(), FlipFault>
     requires from { from.now.row ≡ first_row from.now.at.y flips.old.height }
     requires to { to.now.row ≡ first_row to.now.at.y flips.old.height }
@@ -126,8 +126,8 @@ fn add_blocks(flips: &mut RowFlips, rows: &RowFinder<'_>, ring: &Part) -> Result
     Ok(())
 }
 
-// Adds the flips of a block: of none of its edges if its box lies between the latitudes of the run or right of the
-// picture, of its chord if it lies left of it, else of all.
+// Adds the flips of a block. It adds none if the block's box lies between the latitudes of the run or right of the
+// picture, those of its chord if the box lies left of the picture, else those of all its edges.
 fn add_block(
     flips: &mut RowFlips,
     rows: &RowFinder<'_>,
@@ -157,7 +157,7 @@ fn add_block(
     add_vertices(flips, rows, run, block.vertices)
 }
 
-// Adds the flips of the edges over the vertices of a block. One between the two latitudes of the run is skipped.
+// Adds the flips of the edges over the vertices of a block. An edge between the two latitudes of the run is skipped.
 fn add_vertices(
     flips: &mut RowFlips,
     rows: &RowFinder<'_>,
@@ -202,7 +202,7 @@ fn go_on(flips: &mut RowFlips, rows: &RowFinder<'_>, run: Run, to: World) -> Res
     Ok(rows.begin(to, row))
 }
 
-// The rows that an edge crosses whose ends are of two rows.
+// The rows that an edge crosses, by the rows of its ends.
 fn rows_between(a: u16, b: u16) -> RowRange
     ensures { result ≡ record { from = min a b; to = max a b } }
 {

@@ -6,8 +6,8 @@ use mapdefs::Rgb;
 use scanfill::{Cover, Spans};
 use std::alloc::AllocError;
 
-/// Gives the colour to the pixels that the cover covers. It goes over the rows of the cover alone, and takes
-/// memory for a row. Where that is refused some rows may have the colour already.
+/// Gives the colour to the pixels that the cover covers. It visits the rows of the cover alone, and takes
+/// memory for a row. Where memory is refused, some rows may have the colour already.
 pub fn paint_cover<C: Cover>(canvas: &mut Canvas, cover: &C, colour: Rgb) -> Result<(), AllocError>
     ensures { OnOk result (IsFilled (C.covered cover.now) (λ i j. Some colour) canvas.old canvas.new) }
 {

@@ -12,7 +12,7 @@ use std::marker::Model;
 use viewport::Projection;
 
 /// A run of a ring's vertices in one row of the picture: the last of them, the row, and two latitudes of that row
-/// between which that vertex lies. What lies between them is of the row too.
+/// between which that vertex lies. Each latitude between them is of the row, too.
 #[derive(Clone, Copy)]
 pub struct Run {
     pub from: World,
@@ -39,7 +39,7 @@ pub struct Corner {
     pub row: u16,
 }
 
-/// Finds the rows of a picture by latitudes.
+/// Finds the rows of a picture for latitudes.
 #[derive(Drop)]
 pub struct RowFinder<'a> {
     projection: &'a Projection,
@@ -82,7 +82,7 @@ impl<'a> RowFinder<'a> {
         row_at(self.projection, latitude)
     }
 
-    /// The corner of a ring at a place.
+    /// The vertex of a ring at a place.
     pub fn corner(&self, from: World) -> Corner
         ensures from { result.from ≡ from }
         ensures corner { IsCorner self.now result }
@@ -120,7 +120,7 @@ impl<'a> RowFinder<'a> {
         }
     }
 
-    /// Whether a box lies right of the picture: a chain of vertices in it adds no flips.
+    /// Whether a box lies right of the picture. A chain of vertices in it adds no flips.
     pub fn is_right(&self, area: BlockBox) -> bool
         ensures value { result ≡ is_right self.now area }
         ensures limits { IsExtent self.now.area }
@@ -128,7 +128,7 @@ impl<'a> RowFinder<'a> {
         self.projection.area().maxx().millionths() < area.minx().get().millionths()
     }
 
-    /// Whether a box lies left of the picture: a chain of vertices in it adds the flips of its chord.
+    /// Whether a box lies left of the picture. A chain of vertices in it adds the flips of its chord.
     pub fn is_left(&self, area: BlockBox) -> bool
         ensures value { result ≡ is_left self.now area }
         ensures limits { IsExtent self.now.area }

@@ -23,7 +23,7 @@ use std::alloc::AllocError;
 use strokes::{Segment, Square, Strip, are_neighbours, is_small, is_steep};
 
 /// Paints the line of a pen along the vertices of each part. A closed line joins each part's last vertex to its first.
-/// It takes memory for the row of a segment that isn't small, and no other.
+/// It takes memory for the row of each segment that isn't small, and no other.
 pub fn paint_along_parts(
     canvas: &mut Canvas,
     pen: &Pen<'_>,
@@ -130,7 +130,8 @@ fn paint_blocks(
     Ok(())
 }
 
-// Goes on over the vertices of a block: at once to its last one if its box lies in the trail's, else step by step.
+// Goes on over the vertices of a block: at once to the last one if the block's box lies in the trail's, else step by
+// step.
 fn paint_block(
     canvas: &mut Canvas,
     pen: &Pen<'_>,
@@ -153,7 +154,7 @@ fn paint_block(
     paint_steps(canvas, pen, trail, block.vertices)
 }
 
-// Paints the steps over the vertices of a block. One within the trail's box is skipped.
+// Paints the steps over the vertices of a block. A step within the trail's box is skipped.
 fn paint_steps(
     canvas: &mut Canvas,
     pen: &Pen<'_>,
@@ -211,7 +212,7 @@ fn go_on(canvas: &mut Canvas, pen: &Pen<'_>, trail: &Trail, to: World) -> Result
     })
 }
 
-// Paints a step whose first square is painted already. A short segment of an odd width adds nothing to the squares round
+// Paints a step whose first square is already painted. A short segment of an odd width adds nothing to the squares round
 // its ends.
 fn paint_step(
     canvas: &mut Canvas,

@@ -9,7 +9,7 @@ use scanfill::{Polygon, Spans, Sweep, Work};
 use std::alloc::AllocError;
 
 /// Gives the colour to each pixel that the polygon covers. It takes memory for the edges that cross the
-/// picture, and for a row. Where that is refused some rows may be filled already.
+/// picture, and for a row. Where memory is refused, some rows may be filled already.
 pub fn fill_polygon(canvas: &mut Canvas, polygon: &Polygon, colour: Rgb) -> Result<(), AllocError>
     ensures filled { OnOk result (IsFilled (λ i j. is_covered polygon.now (pixel_centre (pos i) (pos j))) (λ i j. Some colour) canvas.old canvas.new) }
     ensures area { length canvas.old.pixels ≡ canvas.old.width * canvas.old.height }
@@ -20,7 +20,7 @@ pub fn fill_polygon(canvas: &mut Canvas, polygon: &Polygon, colour: Rgb) -> Resu
     Ok(())
 }
 
-// Goes over the rows that no edge crosses, and fills the one after them. It answers whether there is one.
+// Skips the rows that no edge crosses, and fills the one after them. It returns whether there is one.
 fn fill_next(
     canvas: &mut Canvas,
     sweep: &mut Sweep<'_>,

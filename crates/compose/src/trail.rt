@@ -1,6 +1,6 @@
 use geom::{Device, World, WorldBox};
 
-/// How far a line is painted: the place of its last vertex, and a *quiet* box round it. A step within the box needs no
+/// How far a line is painted: the place of its last vertex, and a *quiet* box round that. A step within the box needs no
 /// painting, since all that it covers has the line's colour already.
 #[derive(Clone, Copy)]
 pub struct Trail {

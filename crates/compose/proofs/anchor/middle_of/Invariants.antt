@@ -3,7 +3,7 @@ use Rattle.std.specs.Int.{int_max, int_min}
 use Rattle.std.specs.List.{fold}
 use Rattle.compose.proofs.anchor.middle_of.Given as goal
 
--- the least and the greatest of those so far and of the places that are left are those of all
+-- the least and the greatest of those so far and of the remaining places are those of all
 abbrev pub invariant-loop-place : goal.invariant-loop-place
 invariant-loop-place l = record {
   west : fold int_min l.west (map (λ q. q.x) (drop l.place-index l.rest)) ≡ fold int_min l.initial.west (map (λ q. q.x) l.rest);

@@ -2,7 +2,7 @@ use Rattle.std.proofs.Common.{◌≡◌, length}
 use Rattle.compose.proofs.FlipFilling.{IsFilling}
 use Rattle.compose.proofs.flip_fill.fill_flips.Given as goal
 
--- the flips that are left say what is still to be filled
+-- the remaining flips say what is still to be filled
 abbrev pub invariant-loop-span : goal.invariant-loop-span
 invariant-loop-span l = record {
   sides : l.spans ≡ record l.fn.flips { flips = l.spans.flips };

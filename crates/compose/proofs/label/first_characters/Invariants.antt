@@ -2,7 +2,7 @@ use Rattle.std.proofs.Common.{◌≡◌, ◌≤◌, ◌-◌, drop}
 use Rattle.std.specs.Str.{IsUtf8, chars}
 use Rattle.compose.proofs.label.first_characters.Given as goal
 
--- what is left of the text has the characters after those that were counted
+-- the rest of the text has the characters after those that were counted
 abbrev pub invariant-loop-count : goal.invariant-loop-count
 invariant-loop-count l = record {
   count : l.count ≤ l.most;

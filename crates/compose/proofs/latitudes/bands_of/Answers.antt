@@ -6,7 +6,7 @@ use Rattle.compose.specs.Flipped.{AreBands, IsBand}
 use Rattle.compose.specs.declared.latitudes.Band.{Band}
 use Rattle.compose.proofs.latitudes.bands_of.Goals as goal
 
--- the band of a row more
+-- the band of one more row
 bands-more : (south north : ℤ) (height row : ℕ) (bands : List Band) (band : Band) → length bands ≡ row → AreBands south north height bands → IsBand south north height row band →
     AreBands south north height (bands ++ band ∷ [])
 bands-more south north height row bands band count are is = λ k d h. ⊎_elim

@@ -19,7 +19,7 @@ returns-then-not-are_neighbours-2 c =
     filled-short (segment_covers w from to) (vertex_covers w from) (vertex_covers w to) (λ i j. Some c.args.pen.now.colour)
     c.args.canvas.now c.fill_vertex.new.canvas (λ (i j : ℕ). short-law w from to (pos i) (pos j) odd near) c.requires c.fill_vertex.ensures
 
--- one within a pixel
+-- a step within a pixel
 pub returns-else-not-are_neighbours-2 : goal.returns-else-not-are_neighbours-2
 returns-else-not-are_neighbours-2 c =
     let w = c.args.pen.now.width in

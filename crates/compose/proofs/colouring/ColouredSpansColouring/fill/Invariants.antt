@@ -3,7 +3,7 @@ use Rattle.scanfill.specs.Runs.{is_in_spans}
 use Rattle.compose.specs.Painted.{colour_of}
 use Rattle.compose.proofs.colouring.ColouredSpansColouring.fill.Given as goal
 
--- where the spans that are left are filled too, all are
+-- where the remaining spans are filled too, all are
 abbrev pub invariant-loop-span : goal.invariant-loop-span
 invariant-loop-span l = record {
   width : length l.row ≡ length l.fn.row;

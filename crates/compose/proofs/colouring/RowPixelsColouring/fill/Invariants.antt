@@ -4,7 +4,7 @@ use Rattle.compose.proofs.Stamps.{shown}
 use Rattle.symbols.specs.Stamp.{pixel_from}
 use Rattle.compose.proofs.colouring.RowPixelsColouring.fill.Given as goal
 
--- where the colours that are left are put too, all are
+-- where the remaining colours are put too, all are
 abbrev pub invariant-loop-k : goal.invariant-loop-k
 invariant-loop-k l = record {
   width : length l.row ≡ length l.fn.row;
