@@ -76,7 +76,7 @@ sides a b e f g h =
     let of : ℤ → ℤ → ℤ → ℤ → Area = λ minx miny maxx maxy. record { minx = minx; miny = miny; maxx = maxx; maxy = maxy } in
     ap (λ z. of z a.miny a.maxx a.maxy) e ∙ (ap (λ z. of b.minx z a.maxx a.maxy) f ∙ (ap (λ z. of b.minx b.miny z a.maxy) g ∙ ap (λ z. of b.minx b.miny b.maxx z) h))
 
--- a place that a box has got once needs no second time
+-- a place that a box contains already changes nothing
 place-twice : (a : Area) (p : Place) → with_place (with_place a p) p ≡ with_place a p
 place-twice a p = sides (with_place (with_place a p) p) (with_place a p) (less-twice a.minx p.x) (less-twice a.miny p.y) (greater-twice a.maxx p.x) (greater-twice a.maxy p.y)
 
@@ -119,7 +119,7 @@ box-wider a b small wide = record {
 cons-first : {X : Type 0} (p v : X) (ps vs : List X) → p ∷ ps ≡ v ∷ vs → p ≡ v
 cons-first p v ps vs e = ap (λ xs. get_or xs 0 p) e
 
--- the first place behind a block is the block's last, which the box has already
+-- the first place after a block is the block's last, which the box contains already
 pub again-next : (n : ℕ) (a : Area) (places : List Place) (v : Place) (more : List Place) → drop n places ≡ v ∷ more →
     with_place (fold with_place a (take (suc n) places)) v ≡ fold with_place a (take (suc n) places)
 again-next zero a [] v more e = absurd (omega (arith, ap length e))
@@ -127,7 +127,7 @@ again-next (suc n) a [] v more e = absurd (omega (arith, ap length e))
 again-next zero a (p ∷ places) v more e = rw (← cons-first p v places more e) (place-twice a p)
 again-next (suc n) a (p ∷ places) v more e = again-next n (with_place a p) places v more e
 
--- so where one place at most is left, the box is whole
+-- so where at most one place remains, the box is whole
 pub joined-end : (a whole : Area) (left : List Place) → length left ≤ 1 → ((v : Place) (more : List Place) → left ≡ v ∷ more → with_place a v ≡ a) →
     fold with_place a left ≡ whole → a ≡ whole
 joined-end a whole [] few again e = e

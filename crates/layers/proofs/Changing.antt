@@ -24,13 +24,13 @@ at-index [] index h = absurd (omega arith)
 at-index (x ∷ xs) zero h = (x, refl)
 at-index (x ∷ xs) (suc index) h = at-index xs index (omega arith)
 
--- what is set to a function's value is so in what it gives
+-- setting an element and then mapping sets the mapped value
 pub map-slice_set : {X Y : Type 0} (f : X → Y) (xs : List X) (index : ℕ) (x : X) → map f (slice_set xs index x) ≡ slice_set (map f xs) index (f x)
 map-slice_set f [] index x = refl
 map-slice_set f (y ∷ ys) zero x = refl
 map-slice_set f (y ∷ ys) (suc index) x = ap (λ zs. f y ∷ zs) (map-slice_set f ys index x)
 
--- what is set to what it is stays
+-- setting an element to its own value changes nothing
 pub set-same : {X : Type 0} (xs : List X) (index : ℕ) (x : X) → slice_get xs index ≡ Some x → slice_set xs index x ≡ xs
 set-same [] index x e = absurd (cc)
 set-same (y ∷ ys) zero x e = let is : y ≡ x = cc in ap (λ z. z ∷ ys) (sym is)
@@ -59,7 +59,7 @@ pub boxes-emptied : (index : ℕ) (layers : List LayerFields) → index < length
     map boxes_of (changed_at index emptied layers) ≡ slice_set (map boxes_of layers) index []
 boxes-emptied index layers h = let (layer, e) = at-index layers index h in boxes-changed index emptied layers layer e
 
--- the layer of a name is found where its index is
+-- the layer with a name is found where its index is
 pub found-is : (name : List ℕ) (m : MapFields) (index : ℕ) (layer : LayerFields) → Some index ≡ index_of name m.layers → index < length m.layers → layer ≡ get_or m.layers index layer →
     found name m ≡ Ok (index, layer)
 found-is name m index layer e h is =
@@ -76,7 +76,7 @@ grid-candidates features window found answer = record {
     within : (k : ℕ) → MeetsAt window (map box_of features) k → k < length features
     within k (area, e, m) = omega (arith, slice_get_within (map box_of features) k area e, length-map features box_of)
 
--- of the layer of an index
+-- the same for the layer at an index
 pub candidates-at : (m : MapFields) (index : ℕ) (window : Area) (grid : List Area) (found : List ℕ) → index < length m.layers →
     slice_get (map boxes_of m.layers) index ≡ Some grid → IsAnswer window grid found → AreCandidatesOf m index window found
 candidates-at m index window grid found h e answer =
@@ -94,7 +94,7 @@ ok-candidates (Ok found) m index window grids grid h kept is answer =
     slice_get-get_or (map boxes_of m.layers) index grid (omega (arith, h, length-map m.layers boxes_of)) ∙ ap Some (sym (rw kept at is)) in
     candidates-at m index window grid found.items h same answer
 
--- the layer of points of a name
+-- the layer of points with a name
 pub points-found : (name : List ℕ) (m : MapFields) (index : ℕ) (layer : LayerFields) → Some index ≡ index_of name m.layers → index < length m.layers → layer ≡ get_or m.layers index layer →
     is_of_points layer.kind ≡ true → IsFoundAt (found_points name m) index m
 points-found name m index layer e h is points =

@@ -18,7 +18,7 @@ use Rattle.layers.specs.declared.fault.Refusal.TheVariants.{NotPoints}
 pub extended-nothing : (layer : LayerFields) → extended [] layer ≡ layer
 extended-nothing layer = ap (λ fs. record layer { features = fs }) (append-nil layer.features)
 
--- the layer of an index with what waits beside it
+-- the layer at an index with what waits beside it
 pub get-extended : (more : List (List FeatureFields)) (layers : List LayerFields) (index : ℕ) (layer : LayerFields) → slice_get layers index ≡ Some layer →
     slice_get (extended_first more layers) index ≡ Some (extended (get_or more index []) layer)
 get-extended [] layers index layer e = e ∙ ap Some (sym (extended-nothing layer))
@@ -32,14 +32,14 @@ length-extended [] layers = refl
 length-extended (x ∷ more) [] = refl
 length-extended (x ∷ more) (y ∷ layers) = ap suc (length-extended more layers)
 
--- none past the last
+-- there is none after the last
 none-extended : (more : List (List FeatureFields)) (layers : List LayerFields) (index : ℕ) → slice_get layers index ≡ None → slice_get (extended_first more layers) index ≡ None
 none-extended [] layers index e = e
 none-extended (x ∷ more) [] index e = e
 none-extended (x ∷ more) (y ∷ layers) zero e = absurd (cc)
 none-extended (x ∷ more) (y ∷ layers) (suc index) e = none-extended more layers index e
 
--- the layer of a name has the index that it had
+-- the layer with a name has the index that it had
 position-extended : (name : List ℕ) (more : List (List FeatureFields)) (layers : List LayerFields) →
     position_or_len (λ (layer : LayerFields). is_same_name layer.name name) (extended_first more layers) ≡ position_or_len (λ (layer : LayerFields). is_same_name layer.name name) layers
 position-extended name [] layers = refl
@@ -90,13 +90,13 @@ points-matched name more m (Ok index) (layer, e, there) =
     (extended (get_or more index []) layer, points-more name more m ∙ ap (grown more) e, get-extended more m.layers index layer there)
 points-matched name more m (Err refusal) e = points-more name more m ∙ ap (grown more) e
 
--- at an index of a layer
+-- at the index of a layer
 pub points-within : (more : List (List FeatureFields)) (m : MapFields) (result : Result ℕ Refusal) → IfOk result (λ index. index < length m.layers) →
     IfOk result (λ index. index < length (with_more more m).layers)
 points-within more m (Ok index) h = omega (arith, h, length-extended more m.layers)
 points-within more m (Err refusal) h = h
 
--- a change behind the first layer
+-- a change after the first layer
 pub changed-behind : (index : ℕ) (change : LayerFields → LayerFields) (layer : LayerFields) (layers : List LayerFields) →
     changed_at (suc index) change (layer ∷ layers) ≡ layer ∷ changed_at index change layers
 changed-behind index change layer layers = go (slice_get layers index)
@@ -148,11 +148,11 @@ pub cleared-more : (more : List (List FeatureFields)) (m : MapFields) (index : �
     with_more (slice_set more index []) (with_layer index emptied m) ≡ with_layer index emptied (with_more more m)
 cleared-more more m index = ap (λ ls. record m { layers = ls }) (cleared-layers more m.layers index)
 
--- where the layer of points of a name is found, it can be emptied
+-- where the layer of points with a name is found, it can be emptied
 pub clear-found : (name : List ℕ) (m : MapFields) (index : ℕ) → IsFoundAt (found_points name m) index m → clear name m ≡ Ok (with_layer index emptied m)
 clear-found name m index (layer, e, there) = ap (λ (r : Result (ℕ × LayerFields) Refusal). and_then r (λ f. Ok (with_layer f.0 emptied m))) e
 
--- features behind those that wait beside a layer
+-- features after those that wait beside a layer
 appended-layers : (xs : List FeatureFields) (more : List (List FeatureFields)) (layers : List LayerFields) (index : ℕ) → index < length more →
     changed_at index (extended xs) (extended_first more layers) ≡ extended_first (slice_set more index (get_or more index [] ++ xs)) layers
 appended-layers xs [] layers index h = absurd (omega arith)

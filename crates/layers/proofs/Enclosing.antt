@@ -1,4 +1,4 @@
--- The box of a feature has all that lies between its points.
+-- The box of a feature contains all that lies between its points.
 use Rattle.std.proofs.Common.{◌≡◌, List, [], ◌∷◌, fold, refl, arith, ⊎_elim}
 use Rattle.std.proofs.lemmas.Int.{ints}
 use Rattle.std.proofs.lemmas.List.Elements.{Contains-append_cases, Contains-append_right}
@@ -11,7 +11,7 @@ use Rattle.mapdefs.proofs.Containing.{first_or}
 use Rattle.mapdefs.specs.Blocks.{nowhere, with_place}
 use Rattle.layers.specs.Boxes.{box_of, with_parts}
 
--- what is one of many lists together is one of one of them
+-- an element of many lists together is one of one of them
 pub flat-contains : {X A : Type 0} (f : X → List A) (xs : List X) (a : A) → Contains (flat_map f xs) a → (x : X) × Contains xs x × Contains (f x) a
 flat-contains f [] a c = absurd (omega (arith, c.1))
 flat-contains {X} {A} f (x ∷ xs) a c = ⊎_elim
@@ -19,7 +19,7 @@ flat-contains {X} {A} f (x ∷ xs) a c = ⊎_elim
     (λ (d : Contains (flat_map f xs) a). let (y, e, g) = flat-contains f xs a d in (y, Contains-append_right (x ∷ []) xs y e, g))
     (Contains-append_cases (f x) (flat_map f xs) a c)
 
--- a box and many places have each of those
+-- a box that is joined with many places contains each of them
 many-has : (area : Area) (points : List Place) (q : Place) → Contains points q → HasPlace (fold with_place area points) q
 many-has area [] q c = absurd (omega (arith, c.1))
 many-has area (p ∷ points) q c = ⊎_elim

@@ -1,4 +1,4 @@
--- Layers that are extended one after the other by what waits beside them.
+-- Layers that are extended one after another by the features that wait beside them.
 use Rattle.std.proofs.Common.{◌≡◌, ◌∙◌, ℕ, ◌+◌, List, [], ◌∷◌, ◌++◌, length, Some, refl, sym, ap, subst, arith}
 use Rattle.std.proofs.lemmas.List.{append_assoc, length-append}
 use Rattle.std.specs.List.{AllZip, slice_get}
@@ -9,7 +9,7 @@ use Rattle.mapdefs.specs.declared.map.MapFields.{MapFields}
 use Rattle.layers.specs.Draft.{extended_first, with_more}
 use Rattle.layers.proofs.Drafting.{changed-behind}
 
--- the map, from the layer of an index on each with a list of features behind its own
+-- the map, with a list of features appended to each layer from an index on
 abbrev pub extend_from : ℕ → List (List FeatureFields) → MapFields → MapFields
 extend_from index [] m = m
 extend_from index (x ∷ more) m = extend_from (index + 1) more (with_layer index (extended x) m)
@@ -19,7 +19,7 @@ abbrev pub CanTakeFrom : ℕ → List (List FeatureFields) → MapFields → Typ
 CanTakeFrom index [] m = Unit {0}
 CanTakeFrom index (x ∷ more) m = CanTakeAt x index m.layers × CanTakeFrom (index + 1) more (with_layer index (extended x) m)
 
--- the layer behind some others
+-- the layer after some others
 get-behind : (done rest : List LayerFields) (y : LayerFields) → slice_get (done ++ y ∷ rest) (length done) ≡ Some y
 get-behind [] rest y = refl
 get-behind (d ∷ done) rest y = get-behind done rest y

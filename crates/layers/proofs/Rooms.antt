@@ -1,4 +1,4 @@
--- Each layer has room for what waits beside it.
+-- Each layer has room for the features that wait beside it.
 use Rattle.std.proofs.Common.{◌≡◌, ◌∙◌, ℕ, zero, suc, Bool, List, [], ◌∷◌, ◌++◌, length, get_or, Some, Result, Ok, Err, MatchResult, ap, arith}
 use Rattle.std.proofs.lemmas.List.Elements.{All-nil}
 use Rattle.std.specs.List.{AllZip, slice_get}
@@ -42,7 +42,7 @@ room-cleared (x ∷ more) [] index room = absurd room
 room-cleared (x ∷ more) (y ∷ layers) zero room = (record { count = omega arith; values = All-nil (HasValues (length y.items)) }, room.1)
 room-cleared (x ∷ more) (y ∷ layers) (suc index) room = rw (changed-behind index emptied y layers) (room.0, room-cleared more layers index room.1)
 
--- of what waits beside the layer of an index
+-- of the features that wait beside the layer at an index
 pub room-at : (more : List (List FeatureFields)) (layers : List LayerFields) (index : ℕ) (layer : LayerFields) → AllZip HasRoomFor more layers → slice_get layers index ≡ Some layer →
     HasRoomFor (get_or more index []) layer
 room-at [] [] index layer room e = absurd (cc)

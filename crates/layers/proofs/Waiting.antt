@@ -1,4 +1,4 @@
--- Rows of a table that come to wait beside a layer.
+-- Rows of a table that are added to those that wait beside a layer.
 use Rattle.std.proofs.Common.{◌≡◌, ◌∙◌, ℕ, zero, suc, ◌+◌, ◌<◌, ◌≤◌, Bool, true, false, List, [], ◌∷◌, ◌++◌, length, get_or, map, Option, Some, Ok, Err, refl, sym, ap, arith, nat_lt}
 use Rattle.std.proofs.lemmas.Bool.Decides.{nat_tests}
 use Rattle.std.proofs.lemmas.List.{length-append, length-map}
@@ -19,11 +19,11 @@ use Rattle.layers.specs.declared.fault.Refusal.TheVariants.{Full, NotPoints}
 use Rattle.layers.proofs.Appending.{fitted-values}
 use Rattle.layers.proofs.Drafting.{appended-more, get-extended}
 
--- the layer of an index
+-- the layer at an index
 pub layer-there : (layers slice : List LayerFields) (index : ℕ) (layer : LayerFields) → slice ≡ layers → index < length layers → layer ≡ get_or slice index layer → slice_get layers index ≡ Some layer
 layer-there layers slice index layer same within is = slice_get-get_or layers index layer within ∙ ap Some (sym (rw same at is))
 
--- what is at an index is so whatever stands in for none
+-- an element at an index is the same whatever the default is
 pub whatever-none : {X : Type 0} (xs : List X) (index : ℕ) (x d : X) → index < length xs → x ≡ get_or xs index x → x ≡ get_or xs index d
 whatever-none [] index x d h e = absurd (omega arith)
 whatever-none (y ∷ ys) zero x d h e = e
@@ -34,7 +34,7 @@ not-points : (m : MapFields) (index : ℕ) (layer : LayerFields) (table : TableF
 not-points m index layer table e kind =
     ap (λ (o : Option LayerFields). and_then (and_then (layer_at index o) of_points) (appended table m)) e ∙ rw kind refl
 
--- by one without the room
+-- and by a layer without the room
 is-full : (m : MapFields) (index : ℕ) (layer : LayerFields) (table : TableFields) → slice_get m.layers index ≡ Some layer → is_of_points layer.kind ≡ true →
     MAX_FEATURES < length layer.features + length table.features → append_at index table m ≡ Err Full
 is-full m index layer table e kind full =
@@ -44,7 +44,7 @@ is-full m index layer table e kind full =
     by true h = rw (kind, h) refl
     by false h = absurd (grind (arith, nat_tests))
 
--- and else its rows come behind the features
+-- else its rows come after the features
 is-appended : (m : MapFields) (index : ℕ) (layer : LayerFields) (table : TableFields) (xs : List FeatureFields) → slice_get m.layers index ≡ Some layer → is_of_points layer.kind ≡ true →
     length layer.features + length table.features ≤ MAX_FEATURES → xs ≡ map (fitted layer.items table.columns) table.features →
     append_at index table m ≡ Ok (with_layer index (extended xs) m)

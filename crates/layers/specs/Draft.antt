@@ -5,7 +5,7 @@ use Rattle.mapdefs.specs.declared.feature.FeatureFields.{FeatureFields}
 use Rattle.mapdefs.specs.declared.layer.LayerFields.{LayerFields}
 use Rattle.mapdefs.specs.declared.map.MapFields.{MapFields}
 
--- the layers, each list of features behind those of the layer at its place
+-- the layers, with each list of features appended to the layer at its index
 abbrev pub extended_first : List (List FeatureFields) → List LayerFields → List LayerFields
 extended_first [] layers = layers
 extended_first (more ∷ others) [] = []

@@ -4,7 +4,7 @@ use Rattle.std.specs.Option.{option_map_or}
 use Rattle.csvpoints.specs.Row.{column_of}
 use Rattle.mapdefs.specs.declared.feature.FeatureFields.{FeatureFields}
 
--- the columns of some items: of each the first one of its name, if there is one
+-- the columns of some items: for each the first one with its name, if there is one
 abbrev pub columns_of : List (List ℕ) → List (List ℕ) → List (Option ℕ)
 columns_of columns items = map (λ item. column_of item columns) items
 

@@ -44,14 +44,14 @@ fn box_of_block(block: BlockBox) -> WorldBox
     WorldBox::new(minx, miny, maxx, maxy)
 }
 
-// The box of no place.
+// The box of no places.
 fn nowhere() -> WorldBox
     ensures { result ≡ nowhere }
 {
     box_of_block(BlockBox::of(&[]))
 }
 
-// The box of the vertices of a part. It looks at the boxes of blocks alone, if there are any.
+// The box of the vertices of a part. It uses the boxes of blocks alone, if there are any.
 fn box_of_part(part: &Part) -> WorldBox
     ensures { result ≡ box_of_places part.now }
 {
@@ -77,7 +77,7 @@ fn box_of(feature: &FeatureFields) -> WorldBox
     area
 }
 
-// Adds the boxes of some features, in order, behind others.
+// Appends the boxes of some features, in order, to others.
 fn add_boxes(boxes: &mut Vec<WorldBox>, features: &[Shared<Feature>]) -> Result<(), AllocError>
     ensures { OnOk result (boxes.new.items ≡ boxes.old.items ++ map box_of features.now) }
 {
@@ -105,7 +105,7 @@ pub fn grid_of(alloc: Global, features: &[Shared<Feature>]) -> Result<SharedGrid
     SharedGrid::new(alloc, Grid::build(alloc, boxes)?)
 }
 
-/// The grid of the boxes of a grid, with those of some features behind them.
+/// The grid of the boxes of a grid, and of those of some features after them.
 pub fn extended_grid(
     alloc: Global,
     grid: &SharedGrid,

@@ -12,9 +12,9 @@ use mapdefs::{Feature, Items, Layer, MAX_FEATURES, Shared};
 use std::alloc::{AllocError, Global};
 use std::marker::Model;
 
-/// Layers of which the changes of a batch are collected. Contracts see the map with all of them.
+/// Layers of which the changes of a batch are collected. Contracts see the map with all changes.
 ///
-/// What is appended waits beside the layers. So `into_layers` makes the list and the grid of a layer once,
+/// Appended features wait beside the layers. So `into_layers` makes the list and the grid of a layer once,
 /// however many commands changed it.
 #[derive(Drop)]
 pub struct Draft {
@@ -37,7 +37,7 @@ impl Model for Draft {
 
     ghost view = { λ d. with_more d.more.items d.layers };
 
-    // Each layer has room for what waits beside it.
+    // Each layer has room for the features that wait beside it.
     ghost invariant = { λ d. AllZip HasRoomFor d.more.items d.layers.layers };
 }
 
@@ -54,7 +54,7 @@ fn none_beside(alloc: Global, layers: &[Layer]) -> Result<Vec<Items<Shared<Featu
     Ok(more)
 }
 
-// The layers with each list of features behind those of the layer at its place.
+// The layers, with each list of features appended to the layer at its index.
 fn extended_all(layers: Layers, more: Vec<Items<Shared<Feature>>>) -> Result<Layers, AllocError>
     requires { AllZip HasRoomFor more.items layers.layers }
     ensures { IfOk result (λ l. l ≡ with_more more.items layers) }
@@ -95,7 +95,7 @@ impl Draft {
         extended_all(layers, more)
     }
 
-    /// The index of the layer of points of that name.
+    /// The index of the layer of points with that name.
     pub fn points_named(&self, name: &[u8]) -> Result<usize, Refusal>
         ensures value { MatchResult result (λ index. IsFoundAt (found_points name.now self.now) index self.now) (λ refusal. found_points name.now self.now ≡ Err refusal) }
         ensures within { IfOk result (λ index. index < length self.now.layers) }
@@ -103,7 +103,7 @@ impl Draft {
         self.layers.points_named(name)
     }
 
-    /// The names of the columns of longitudes and latitudes in the tables of the layer of an index.
+    /// The names of the columns of longitudes and latitudes in the tables of the layer at an index.
     pub fn coordinate_columns(&self, index: usize) -> (&str, &str)
         requires { index < length self.now.layers }
         ensures { (layer : LayerFields) × (slice_get self.now.layers index ≡ Some layer) × (result.0.now ≡ layer.csv_x) × (result.1.now ≡ layer.csv_y) }
@@ -137,7 +137,7 @@ impl Draft {
         }
     }
 
-    /// Adds the rows of a table behind the features of the layer of points of an index. A refused call changes
+    /// Appends the rows of a table to the features of the layer of points at an index. A refused call changes
     /// nothing.
     pub fn append_at(&mut self, index: usize, table: Table) -> Result<(), ChangeError>
         requires { index < length self.old.layers }

@@ -9,7 +9,7 @@ use mapdefs::{Layer, Shared};
 use std::alloc::{AllocError, Global};
 use std::marker::Model;
 
-/// The grid of the boxes of a layer's features, which copies of the layers share. Contracts see the boxes. One
+/// The grid of the boxes of a layer's features, which copies of the layers share. Contracts see the boxes. A grid
 /// without boxes takes no memory.
 #[derive(Drop)]
 pub struct SharedGrid {
@@ -57,7 +57,7 @@ impl SharedGrid {
         }
     }
 
-    /// A grid of these boxes and of others behind them.
+    /// A grid of these boxes, and of others after them.
     pub fn extended(&self, alloc: Global, more: Vec<WorldBox>) -> Result<Self, AllocError>
         requires { length self.now + length more.items ≤ 2 ^ 32 }
         ensures { IfOk result (λ g. g ≡ self.now ++ more.items) }
@@ -68,7 +68,7 @@ impl SharedGrid {
         }
     }
 
-    /// The indices of all boxes that meet the window, ends included, rising and each once.
+    /// The indices of all boxes that meet the window, borders included, rising and each once.
     pub fn candidates(&self, alloc: Global, window: WorldBox) -> Result<Vec<u32>, AllocError>
         ensures { IfOk result (λ found. IsAnswer window self.now found.items) }
     {

@@ -66,21 +66,21 @@ impl Layers {
         &self.served
     }
 
-    /// How many layers there are.
+    /// The number of layers.
     pub fn len(&self) -> usize
         ensures { result ≡ length self.now.layers }
     {
         self.served.get().layers.len()
     }
 
-    /// The index of the first layer of that name.
+    /// The index of the first layer with that name.
     pub fn by_name(&self, name: &[u8]) -> Option<usize>
         ensures { result ≡ index_of name.now self.now.layers }
     {
         self.served.find(name)
     }
 
-    /// The index of the layer of points of that name.
+    /// The index of the layer of points with that name.
     pub fn points_named(&self, name: &[u8]) -> Result<usize, Refusal>
         ensures value { MatchResult result (λ index. IsFoundAt (found_points name.now self.now) index self.now) (λ refusal. found_points name.now self.now ≡ Err refusal) }
         ensures within { IfOk result (λ index. index < length self.now.layers) }
@@ -126,7 +126,7 @@ impl Layers {
         }
     }
 
-    // Takes all features out of the layer of an index.
+    // Takes all features out of the layer at an index.
     pub(crate) fn clear_at(&mut self, index: usize)
         requires { index < length self.old.layers }
         ensures { self.new ≡ with_layer index emptied self.old }
@@ -135,7 +135,7 @@ impl Layers {
         self.grids[index] = SharedGrid::empty();
     }
 
-    // Adds features behind those of the layer of an index. Where memory is refused nothing changes: the growths
+    // Appends features to those of the layer at an index. Where memory is refused nothing changes: the growths
     // come before the changes. Where there are no features the layer keeps its list and its grid.
     pub(crate) fn extend_at(
         &mut self,
@@ -155,7 +155,7 @@ impl Layers {
         Ok(())
     }
 
-    /// Adds the rows of a table behind the features of a layer of points, as a batch of this one change does. A
+    /// Appends the rows of a table to the features of a layer of points, as a batch of this one change does. A
     /// refused call changes nothing.
     pub fn append(&mut self, name: &[u8], table: Table) -> Result<(), ChangeError>
         ensures done { OnOk result (append name.now table self.old ≡ Ok self.new) }
@@ -177,7 +177,7 @@ impl Layers {
         }
     }
 
-    /// Equal layers of their own, which share the features and the grids.
+    /// Equal layers that share the features and the grids with these.
     pub fn copy(&self) -> Result<Self, AllocError>
         ensures { IfOk result (λ l. l ≡ self.now) }
     {

@@ -4,7 +4,7 @@ use Rattle.layers.specs.Draft.{with_more}
 use Rattle.layers.proofs.Extending.{CanTakeFrom, extend_from}
 use Rattle.layers.proofs.draft.extended_all.Given as goal
 
--- the layers that are left, with theirs, make all of them
+-- the remaining layers, with theirs, make all of them
 abbrev pub invariant-loop-features : goal.invariant-loop-features
 invariant-loop-features l = record {
   all : extend_from l.index (into_iter_items l.features-iterator) l.extended ≡ with_more l.fn.more.items l.fn.layers;
