@@ -48,7 +48,7 @@ lines-first bytes at e h =
     let some : 0 < length others = omega (arith, length-slice_split (λ b. b == 10) (after_first (λ b. b == 10) bytes)) in
     ap lines_of_parts split ∙ parts-after (before_first (λ b. b == 10) bytes) others some ∙ rw e refl
 
--- spaces in front of a line are no words
+-- leading spaces of a line are no words
 spaces-cons : (b : ℕ) (bs : List ℕ) (t : Bool) → is_space b ≡ t →
     (words bs ≡ words (drop (position_or_len (λ c. not (is_space c)) bs) bs)) →
     words (b ∷ bs) ≡ words (drop (position_or_len (λ c. not (is_space c)) (b ∷ bs)) (b ∷ bs))
@@ -59,7 +59,7 @@ words-spaces : (line : List ℕ) → words line ≡ words (drop (position_or_len
 words-spaces [] = refl
 words-spaces (b ∷ bs) = spaces-cons b bs (is_space b) refl (words-spaces bs)
 
--- what follows the spaces in front begins with a word
+-- what follows the leading spaces begins with a word
 over-cons : (b : ℕ) (bs : List ℕ) (t : Bool) → is_space b ≡ t →
     (0 < length (drop (position_or_len (λ c. not (is_space c)) bs) bs) → 0 < position_or_len is_space (drop (position_or_len (λ c. not (is_space c)) bs) bs)) →
     0 < length (drop (position_or_len (λ c. not (is_space c)) (b ∷ bs)) (b ∷ bs)) → 0 < position_or_len is_space (drop (position_or_len (λ c. not (is_space c)) (b ∷ bs)) (b ∷ bs))
@@ -97,7 +97,7 @@ kept-first : (word : List ℕ) (others : List (List ℕ)) → 0 < length word �
 kept-first [] others h = absurd (omega arith)
 kept-first (b ∷ bs) others h = let some : nat_lt 0 (suc (length bs)) ≡ true = grind (arith, nat_tests) in rw some refl
 
--- the first word of a line, after the spaces in front
+-- the first word of a line, after the leading spaces
 pub words-first : (line : List ℕ) (spaces size : ℕ) → spaces ≡ position_or_len (λ c. not (is_space c)) line → size ≡ position_or_len is_space (drop spaces line) → size ≤ length (drop spaces line) →
     0 < length (drop spaces line) → words line ≡ take size (drop spaces line) ∷ words (drop size (drop spaces line))
 words-first line spaces size e f within some =

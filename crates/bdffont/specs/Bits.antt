@@ -41,6 +41,6 @@ written _ = []
 abbrev pub filled : List Bool → List Bool
 filled row = row ++ replicate (((length row + 7) / 8) * 8 - length row) false
 
--- the law that a row of pixels that is written out is a row of its width, and is read as itself
+-- the law that a row of pixels that is written out is a row of its width, and is read back
 abbrev pub WrittenRowIsRead : Type 0
 WrittenRowIsRead = (row : List Bool) → IsTrue (is_row (length row) (written (filled row))) × (row_pixels (length row) (written (filled row)) ≡ row)

@@ -40,7 +40,7 @@ encoding_of (Some n) = Ok (if n.is_negative || nat_le (2 ^ 32) n.size then NoCha
 abbrev pub encoding_at : List ℕ → Result Encoding FontKind
 encoding_at line = encoding_of (number_at 1 line)
 
--- the advance of two numbers, to the right and upwards: the second only has to be there
+-- the advance of two numbers, to the right and upwards: the second is only required to be a number
 abbrev pub advance_of : Option WholeNumber → Option WholeNumber → Result ℕ FontKind
 advance_of (Some across) (Some up) = if not across.is_negative && nat_lt across.size 256 then Ok across.size else Err Field
 advance_of _ _ = Err Field

@@ -63,12 +63,12 @@ abbrev pub follows : Option ℕ → ℕ → Bool
 follows None e = true
 follows (Some last) e = nat_lt last e
 
--- the error of a stop on a line
+-- the error where reading stops at a line
 abbrev pub error_on : ℕ → LineError → FontError
 error_on line (stop.Fault kind) = Fault (fault_on line kind)
 error_on line stop.NoMemory = NoMemory
 
--- the error of a file: its fault, or that memory was refused
+-- the error of a file: its fault, or refused memory
 abbrev pub IsErrorOf : Result FontFields FontFault → FontError → Type 0
 IsErrorOf file (Fault fault) = file ≡ Err fault
 IsErrorOf file NoMemory = Unit {0}

@@ -33,7 +33,7 @@ opened d =
     then Ok (InGlyph (record d { started = d.started + 1 }) (record { encoding = None; advance = None; bounds = None }))
     else Err Limit
 
--- the font ends, if as many glyphs have begun as there are to be
+-- the font ends, if as many glyphs have begun as CHARS announces
 abbrev pub closed : Draft → Result Section FontKind
 closed d = if d.started == d.count then Ok (Ended (record { bounds = d.bounds; glyphs = d.glyphs })) else Err Count
 
@@ -76,7 +76,7 @@ advanced g line = and_then (advance_at line) (λ a. Ok (record g { advance = Som
 abbrev pub bounded : GlyphHeader → List ℕ → Result GlyphHeader FontKind
 bounded g line = and_then (box_at line) (λ b. Ok (record g { bounds = Some b }))
 
--- before the rows of a glyph whose header has all its fields, all rows are to come
+-- before the rows of a glyph whose header has all its fields, all rows remain
 abbrev pub rows_with : Option Encoding → Option ℕ → Option BitmapBox → Result GlyphRows FontKind
 rows_with (Some e) (Some a) (Some b) = Ok (record { encoding = e; advance = a; bounds = b; pixels = []; left = b.height })
 rows_with _ _ _ = Err Field
@@ -107,7 +107,7 @@ abbrev pub after_rows : Draft → GlyphRows → Option Keyword → Result Sectio
 after_rows d r (Some word.EndChar) = Ok (Between (with_glyph d r))
 after_rows d r _ = Err Row
 
--- a row, while rows are to come, and then the line after the last one
+-- a row, while rows remain, and then the line after the last one
 abbrev pub in_rows : Draft → GlyphRows → List ℕ → Result Section FontKind
 in_rows d r line =
     if nat_lt 0 r.left
@@ -145,14 +145,14 @@ closes_properties _ = false
 abbrev pub start : ReaderState
 start = record { section = Before; in_properties = false }
 
--- what a line makes of the state: the properties are skipped, and every other line counts by its section
+-- the state after a line: the properties are skipped, and every other line counts by its section
 abbrev pub says : ReaderState → List ℕ → Result ReaderState FontKind
 says s line =
     if s.in_properties then Ok (record s { in_properties = not (closes_properties (keyword_in line)) })
     else (if opens_properties (keyword_in line) && has_properties s.section then Ok (record s { in_properties = true })
     else and_then (section_after s.section line) (λ next. Ok (record { section = next; in_properties = false })))
 
--- why reading stops at a line: at the fault of the line, or where memory was refused
+-- why reading stops at a line: for the fault of the line, or for refused memory
 abbrev pub IsStop : {X : Type 0} → LineError → Result X FontKind → Type 0
 IsStop (Fault kind) said = said ≡ Err kind
 IsStop NoMemory said = Unit {0}

@@ -6,6 +6,6 @@ use Rattle.std.specs.List.{slice_split}
 abbrev pub is_space : ℕ → Bool
 is_space b = b == 32
 
--- the words of a line: what stands between spaces, where it is not empty
+-- the words of a line: the parts between spaces that are not empty
 abbrev pub words : List ℕ → List (List ℕ)
 words line = filter (λ word. nat_lt 0 (length word)) (slice_split is_space line)

@@ -34,7 +34,7 @@ pub fn is_row(line: &[u8], width: u8) -> bool
     line.len() == (usize::from(width) + 7) / 8 * 2 && is_hexadecimal(line)
 }
 
-// Adds a pixel, unless the row is full, and says how many are left then.
+// Adds a pixel, unless the row is full, and returns how many remain.
 fn push_pixel(pixels: &mut Items<bool>, left: u8, ink: bool) -> Result<u8, AllocError>
     ensures { IfOk result (λ n. (others : List Bool) → pixels.new ++ take n others ≡ pixels.old ++ take left (ink ∷ others)) }
 {
@@ -45,8 +45,8 @@ fn push_pixel(pixels: &mut Items<bool>, left: u8, ink: bool) -> Result<u8, Alloc
     Ok(left - 1)
 }
 
-// Adds the four pixels of a digit's value, the highest bit first, so far as the row has room for them,
-// and says how many are left then.
+// Adds the four pixels of a digit's value, the highest bit first, as far as the row has room for them,
+// and returns how many remain.
 fn push_bits(pixels: &mut Items<bool>, left: u8, value: u8) -> Result<u8, AllocError>
     ensures { IfOk result (λ n. (others : List Bool) → pixels.new ++ take n others ≡ pixels.old ++ take left (bits_of value ++ others)) }
 {

@@ -10,10 +10,10 @@ pub enum FontKind {
     /// The first line does not begin with STARTFONT. The line is 1, also where the file is empty.
     #[error("the first line does not begin with STARTFONT")]
     Start,
-    /// A field is missing, can't be read, or stands where it may not.
+    /// A field is missing, can't be read, or has a wrong position.
     #[error("a field that is missing, out of place or can't be read")]
     Field,
-    /// A row of a glyph has not the digits of its width, or the last one is not followed by ENDCHAR.
+    /// A row of a glyph doesn't have the digits of its width, or the last one is not followed by ENDCHAR.
     #[error("a row of a glyph with the wrong digits, or rows with no ENDCHAR after them")]
     Row,
     /// The glyphs are not as many as CHARS says. The line is that of ENDFONT.

@@ -10,7 +10,7 @@ use mapdefs::{BitmapBox, MAX_GLYPH_SIDE};
 /// The encoding of a glyph.
 #[derive(Clone, Copy)]
 pub enum Encoding {
-    /// A number that no character has, a negative one or one past 32 bits: the glyph is no character of the font.
+    /// A number that no character has, below 0 or past 32 bits: the glyph is no character of the font.
     NoCharacter,
     /// A character's number.
     Character(u32),
@@ -56,7 +56,7 @@ fn box_of(
     }
 }
 
-/// The box that the four words after the keyword are.
+/// The box that the four words after the keyword give.
 pub fn box_at(line: &[u8]) -> Result<BitmapBox, FontKind>
     ensures { result ≡ box_at line.now }
 {
@@ -71,7 +71,7 @@ pub fn box_at(line: &[u8]) -> Result<BitmapBox, FontKind>
     }
 }
 
-/// The encoding that the word after the keyword is.
+/// The encoding that the word after the keyword gives.
 pub fn encoding_at(line: &[u8]) -> Result<Encoding, FontKind>
     ensures { result ≡ encoding_at line.now }
 {
@@ -82,7 +82,7 @@ pub fn encoding_at(line: &[u8]) -> Result<Encoding, FontKind>
     }
 }
 
-/// The advance that the first of the two words after the keyword is.
+/// The advance that the first of the two words after the keyword gives.
 pub fn advance_at(line: &[u8]) -> Result<u8, FontKind>
     ensures { result ≡ advance_at line.now }
 {
@@ -94,7 +94,7 @@ pub fn advance_at(line: &[u8]) -> Result<u8, FontKind>
     }
 }
 
-/// The count that the word after the keyword is.
+/// The count that the word after the keyword gives.
 pub fn count_at(line: &[u8]) -> Result<u64, FontKind>
     ensures { result ≡ count_at line.now }
 {

@@ -12,7 +12,7 @@ use crate::step::LineError;
 use mapdefs::{BitmapBox, Font, FontFields, Glyph, Items};
 use std::alloc::Global;
 
-// The error of a stop on a line.
+// The error where reading stops at a line.
 fn error_on(line: u64, stop: LineError) -> FontError
     ensures { result ≡ error_on line stop }
 {
@@ -61,7 +61,7 @@ fn read_lines(alloc: Global, bytes: &[u8]) -> Result<FontFields, FontError>
     }
 }
 
-// The font of a box and of glyphs by rising encodings.
+// The font with a box and with glyphs by rising encodings.
 fn font_of(bounds: BitmapBox, glyphs: Vec<Glyph>) -> Font
     requires bounds { IsBoxWithinLimits bounds }
     requires count { length glyphs.items ≤ MAX_GLYPHS }
@@ -76,7 +76,7 @@ fn font_of(bounds: BitmapBox, glyphs: Vec<Glyph>) -> Font
     })
 }
 
-/// Reads a BDF file in one pass: the font that it describes, or its first fault with its line. Of
+/// Reads a BDF file in one pass: the font that it describes, or its first fault with its line. For
 /// glyphs with the same encoding the first counts.
 ///
 /// `file_of` is either what the file says or a fault, so the two clauses say when each comes: unless

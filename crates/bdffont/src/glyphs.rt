@@ -15,7 +15,7 @@ fn follows(last: Option<u32>, encoding: u32) -> bool
     }
 }
 
-// Of glyphs whose encodings don't fall, the first of each encoding.
+// For glyphs whose encodings don't fall, the first glyph of each encoding.
 fn firsts(alloc: Global, glyphs: Vec<Glyph>) -> Result<Vec<Glyph>, AllocError>
     requires { IsNonDecreasingBy (λ (glyph : Glyph). glyph.encoding) glyphs.items }
     ensures firsts { IfOk result (λ kept. AreFirstsOf glyphs.items kept.items) }
@@ -32,8 +32,8 @@ fn firsts(alloc: Global, glyphs: Vec<Glyph>) -> Result<Vec<Glyph>, AllocError>
     Ok(kept)
 }
 
-/// The glyphs by rising encodings, the first of each. Glyphs that rise already are gone through once
-/// by the sort, and once to see that none has the encoding of the one before it.
+/// The glyphs by rising encodings, the first of each. The sort visits glyphs that already rise once. A second
+/// visit finds that none has the encoding of the one before it.
 pub fn by_encoding(alloc: Global, glyphs: Vec<Glyph>) -> Result<Vec<Glyph>, AllocError>
     ensures firsts { IfOk result (λ kept. AreFirstsOf glyphs.items kept.items) }
     ensures fewer { IfOk result (λ kept. length kept.items ≤ length glyphs.items) }

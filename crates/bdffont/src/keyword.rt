@@ -20,7 +20,7 @@ pub enum Keyword {
     EndFont,
 }
 
-// All of them.
+// All keywords.
 const KEYWORDS: [Keyword; 12] = [
     Keyword::StartFont,
     Keyword::StartProperties,

@@ -5,13 +5,13 @@ ghost use Rattle.bdffont.specs.File.{FileHasOneFont};
 ghost use Rattle.bdffont.specs.Ink.{InkIsOfACharacter};
 
 /// A row of pixels that is written out in hexadecimal digits, four pixels in each and the leftmost as
-/// its highest bit, is a row of its width and is read as itself.
+/// its highest bit, is a row of its width and is read back.
 pub fn written_row_is_read()
     ensures { WrittenRowIsRead }
 {}
 
-/// A file has one font: two fonts that stand by their encodings, and have for each encoding the first
-/// glyph that the file has of it, are the same.
+/// A file has one font. Two fonts that are ordered by their encodings, and have for each encoding the first
+/// glyph of the file with it, are the same.
 pub fn file_has_one_font()
     ensures { FileHasOneFont }
 {}

@@ -3,12 +3,12 @@
 //! Proved: `read` gives the font that a file describes (clause `font`) or its first fault with its
 //! line (`error`), for any bytes. `extent` is the sum of the advances and the height of the font's box
 //! (`width`, `height`), and `ink` says of each pixel whether a text has ink there. Laws state that a
-//! file has one font, that a row which is written out is read as itself, and that ink is that of a
+//! file has one font, that a row which is written out is read back, and that ink is that of a
 //! character, the pen having advanced by those before it (`laws`). `split_char`, `glyph_of`, `advance_of` and
-//! `corner_of` give a text's glyphs one by one, and where each stands; `inks_at` says what one of them inks.
+//! `corner_of` give a text's glyphs one by one, and the corner of each; `inks_at` says what one of them inks.
 //!
-//! Words: a *section* is the part of a file in which a line stands, as a header or the rows of a glyph; the
-//! *state* is the section, and whether properties are skipped there. A *draft* is a font so far as it is
+//! Terms: a *section* is the part of a file in which a line stands, as a header or the rows of a glyph. The
+//! *state* is the section, and whether properties are skipped there. A *draft* is a font as far as it is
 //! read. The *pen* is where the next glyph is drawn.
 #![tactic(auto)]
 

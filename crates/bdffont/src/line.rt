@@ -13,7 +13,7 @@ fn without_carriage_return(line: &[u8]) -> &[u8]
     }
 }
 
-// How many bytes stand before the first LF.
+// How many bytes come before the first LF.
 fn line_len(bytes: &[u8]) -> usize
     ensures count { result ≡ position_or_len (λ b. b == 10) bytes.now }
     ensures within { result ≤ length bytes.now }
@@ -21,7 +21,7 @@ fn line_len(bytes: &[u8]) -> usize
     bytes.iter().take_while(|byte| **byte != b'\n').count()
 }
 
-/// The first line of some bytes, and the bytes after it; none where no bytes are left.
+/// The first line of some bytes, and the bytes after it; none where no bytes remain.
 pub fn split_line(bytes: &[u8]) -> Option<(&[u8], &[u8])>
     ensures lines { MatchOption result (lines bytes.now ≡ []) (λ p. lines bytes.now ≡ p.0.now ∷ lines p.1.now) }
     ensures shorter { IfSome result (λ p. length p.1.now < length bytes.now) }
@@ -37,7 +37,7 @@ pub fn split_line(bytes: &[u8]) -> Option<(&[u8], &[u8])>
     }
 }
 
-// How many spaces stand in front.
+// How many spaces a line begins with.
 fn spaces_len(line: &[u8]) -> usize
     ensures count { result ≡ position_or_len (λ b. not (is_space b)) line.now }
     ensures within { result ≤ length line.now }
@@ -45,7 +45,7 @@ fn spaces_len(line: &[u8]) -> usize
     line.iter().take_while(|byte| **byte == b' ').count()
 }
 
-// How many bytes stand before the first space.
+// How many bytes come before the first space.
 fn word_len(line: &[u8]) -> usize
     ensures count { result ≡ position_or_len is_space line.now }
     ensures within { result ≤ length line.now }
@@ -53,7 +53,7 @@ fn word_len(line: &[u8]) -> usize
     line.iter().take_while(|byte| **byte != b' ').count()
 }
 
-// The first word of a line, and what stands after it; none where there is no word.
+// The first word of a line, and the bytes after it; none where there is no word.
 fn split_word(line: &[u8]) -> Option<(&[u8], &[u8])>
     ensures { MatchOption result (words line.now ≡ []) (λ p. words line.now ≡ p.0.now ∷ words p.1.now) }
 {

@@ -4,17 +4,17 @@ ghost use Rattle.bdffont.specs.Number.{size_of, number_of, number_at};
 use crate::line::word;
 use geom::read_digits;
 
-// So far a size is read: it is past every limit of a font.
+// The cap of a size as it is read: it is past every limit of a font.
 const MOST_READ: u128 = 1 << 32;
 
-/// A whole number: whether it is below 0, and its size, which counts up to 2^32 at most.
+/// A whole number: whether it is below 0, and its size, which is at most 2^32.
 #[derive(Clone, Copy)]
 pub struct WholeNumber {
     pub is_negative: bool,
     pub size: u64,
 }
 
-// The size of the number that some digits are.
+// The size that some digits stand for.
 fn size_of(digits: &[u8]) -> Option<u64>
     ensures { result ≡ size_of digits.now }
 {
@@ -25,7 +25,7 @@ fn size_of(digits: &[u8]) -> Option<u64>
     Some(size as u64)
 }
 
-// The number that a word is: digits, with a minus before them or none.
+// The number that a word stands for: digits, with a minus before them or none.
 fn number_of(word: &[u8]) -> Option<WholeNumber>
     ensures { result ≡ number_of word.now }
 {
@@ -40,7 +40,7 @@ fn number_of(word: &[u8]) -> Option<WholeNumber>
     })
 }
 
-/// The number that the word of a line with this index is.
+/// The number that the word of a line with this index stands for.
 pub fn number_at(line: &[u8], index: usize) -> Option<WholeNumber>
     ensures { result ≡ number_at index line.now }
 {

@@ -9,11 +9,11 @@ pub struct FontHeader {
     pub count: Option<u64>,
 }
 
-/// A font so far as it is read: the fields of its header, and its glyphs.
+/// A font as far as it is read: the fields of its header, and its glyphs.
 #[derive(Drop)]
 pub struct Draft {
     pub bounds: BitmapBox,
-    /// How many glyphs there are to be.
+    /// How many glyphs CHARS announces.
     pub count: u64,
     /// How many have begun.
     pub started: usize,
@@ -29,7 +29,7 @@ pub struct GlyphHeader {
     pub bounds: Option<BitmapBox>,
 }
 
-/// A glyph so far as its rows are read.
+/// A glyph as far as its rows are read.
 #[derive(Drop)]
 pub struct GlyphRows {
     pub encoding: Encoding,
@@ -37,7 +37,7 @@ pub struct GlyphRows {
     pub bounds: BitmapBox,
     /// The pixels of the rows that are read.
     pub pixels: Items<bool>,
-    /// How many rows are to come.
+    /// How many rows remain.
     pub left: u8,
 }
 

@@ -9,7 +9,7 @@ ghost use Rattle.bdffont.specs.Ink.{glyph_of, advance_of, text_width, inks, left
 use geom::Pixel;
 use mapdefs::{BitmapBox, Font, Glyph};
 
-// The glyph with the encoding, by halving the glyphs.
+// The glyph with the encoding, by binary search.
 fn find(glyphs: &[Glyph], encoding: u32) -> Option<&Glyph>
     requires { IsRising glyphs.now }
     ensures { MatchOption result (find (has_encoding encoding) glyphs.now ≡ None) (λ g. find (has_encoding encoding) glyphs.now ≡ Some g.now) }
@@ -20,7 +20,7 @@ fn find(glyphs: &[Glyph], encoding: u32) -> Option<&Glyph>
     }
 }
 
-/// The glyph that a character has in a font, by the glyphs of that: its own, else that of the question mark.
+/// The glyph of a character, among the glyphs of a font: its own, else that of the question mark.
 pub fn glyph_of(glyphs: &[Glyph], character: u32) -> Option<&Glyph>
     requires { IsRising glyphs.now }
     ensures { MatchOption result (glyph_of glyphs.now character ≡ None) (λ g. glyph_of glyphs.now character ≡ Some g.now) }
@@ -65,7 +65,7 @@ fn characters_len(text: &str) -> usize
 /// The most characters of a text that is measured or drawn.
 pub const MAX_CHARACTERS: usize = 256;
 
-/// Whether a text has at most `MAX_CHARACTERS` characters, which `extent` and `ink` ask for.
+/// Whether a text has at most `MAX_CHARACTERS` characters, which `extent` and `ink` require.
 pub fn is_short(text: &str) -> bool
     ensures { IsTrue result ↔ (length (chars text.now) ≤ MAX_CHARACTERS) }
 {
@@ -76,7 +76,7 @@ pub fn is_short(text: &str) -> bool
 /// height of the font's box. A character without a glyph has the glyph 63, or no advance where the font
 /// has none. It takes no memory.
 ///
-/// The text has at most `MAX_CHARACTERS` characters, as `is_short` tells.
+/// The text has at most `MAX_CHARACTERS` characters, which `is_short` tests.
 pub fn extent(font: &Font, text: &str) -> (u32, u32)
     requires { length (chars text.now) ≤ MAX_CHARACTERS }
     ensures width { result.0 ≡ text_width font.now.glyphs (chars text.now) }
@@ -199,7 +199,7 @@ fn covers(font: BitmapBox, at: Pixel, pen: u32, cell: (i64, i64), glyph: &Glyph)
 /// without a glyph has the glyph 63, or no ink and no advance where the font has none. Ink may lie
 /// outside of the text's extent. It takes no memory.
 ///
-/// The text has at most `MAX_CHARACTERS` characters, as `is_short` tells.
+/// The text has at most `MAX_CHARACTERS` characters, which `is_short` tests.
 pub fn ink(font: &Font, text: &str, at: Pixel, i: i64, j: i64) -> bool
     requires { length (chars text.now) ≤ MAX_CHARACTERS }
     ensures { result ≡ has_ink font.now (chars text.now) at i j }

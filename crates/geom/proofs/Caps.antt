@@ -106,7 +106,7 @@ millionths-are d all short few =
     scaled-capped (d.whole ++ d.decimals) d.exponent (length d.decimals) all short few
     ∙ ap clamped_to_limits (sym (scaled-is (number_of (d.whole ++ d.decimals)) (up d.exponent) (down d.exponent) (length d.decimals)))
 
--- a capped number with the zeros that its scale asks for
+-- a capped number with the zeros that its scale requires
 pub scaled-zeros : (digits : List ℕ) (ups downs : ℕ) → downs ≤ ups → clamped_to_limits (capped (capped (number_of digits) * 10 ^ (ups - downs))) ≡ clamped_to_limits (scaled digits ups downs)
 scaled-zeros digits ups downs h =
     let none : downs - ups ≡ 0 = omega arith in

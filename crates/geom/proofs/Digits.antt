@@ -8,7 +8,7 @@ use Rattle.std.specs.Char.{is_ascii_digit}
 use Rattle.std.specs.List.{fold, list_all}
 use Rattle.geom.specs.Decimal.{with_digit, number_of}
 
--- a number with further digits: each moves it one place up
+-- a number with further digits: each digit multiplies it by ten
 pub fold-from : (n : ℕ) (digits : List ℕ) → fold with_digit n digits ≡ n * 10 ^ length digits + number_of digits
 fold-from n [] = omega arith
 fold-from n (d ∷ ds) =
@@ -30,7 +30,7 @@ digit-range d h = grind (arith, nat_tests)
 pub digits-cons : (d : ℕ) (ds : List ℕ) → list_all is_ascii_digit (d ∷ ds) ≡ true → (is_ascii_digit d ≡ true) × (list_all is_ascii_digit ds ≡ true)
 digits-cons d ds h = and_parts (is_ascii_digit d) (list_all is_ascii_digit ds) h
 
--- a number is below the power of ten of as many places as it has digits
+-- a number is below ten to the power of the number of its digits
 pub number_of-below : (digits : List ℕ) → list_all is_ascii_digit digits ≡ true → number_of digits < 10 ^ length digits
 number_of-below [] h = omega arith
 number_of-below (d ∷ ds) h =

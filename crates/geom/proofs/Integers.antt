@@ -1,4 +1,4 @@
--- What the words of the machine hold of numbers of known sizes.
+-- What machine integers hold of numbers of known sizes.
 use Rattle.std.proofs.Common.{◌≡◌, ℕ, ◌^◌, ◌<◌, arith}
 use Rattle.std.proofs.lemmas.Int.{ints, to_z-of_z, fits_signed_mul}
 use Rattle.std.specs.Int.RustNames.{FitsSigned, unsigned_abs}

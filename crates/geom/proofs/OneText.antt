@@ -15,7 +15,7 @@ use Rattle.geom.specs.Written.{OneText, six_digits, written_size}
 use Rattle.geom.proofs.Digits.{number_of-append, number_of-below, digits-cons, digit-range}
 use Rattle.geom.proofs.Written.{parts-read, six-millionths, no-sign}
 
--- both words for digits
+-- both definitions of digits
 same-test : (ds : List ℕ) → all_ascii_digits ds ≡ list_all is_ascii_digit ds
 same-test [] = refl
 same-test (d ∷ ds) = ap (λ (b : Bool). is_ascii_digit d && b) (same-test ds)

@@ -12,7 +12,7 @@ turned e = record { from = e.to; to = e.from }
 abbrev pub TurnedEdgesCrossAlike : Type 0
 TurnedEdgesCrossAlike = (e : EdgeEnds) (p : DevicePoint) → crosses_at_or_left p (turned e) ≡ crosses_at_or_left p e
 
--- what crosses a point's height at it or left of it does so for each point further right on that height
+-- an edge that crosses a point's height at it or left of it does so for each point further right on that height
 abbrev pub CrossingsStayLeft : Type 0
 CrossingsStayLeft =
     (e : EdgeEnds) (p q : DevicePoint) → q.y ≡ p.y → p.x ≤ℤ q.x → crosses_at_or_left p e ≡ true → crosses_at_or_left q e ≡ true

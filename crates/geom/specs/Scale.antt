@@ -36,7 +36,7 @@ abbrev pub is_before : PictureScale → Option ℤ → Bool
 is_before scale None = true
 is_before scale (Some max) = int_le max (pos 0) || not (reaches scale max)
 
--- whether a thing with these bounds on the scale denominator is visible: from the first on, and before the second
+-- whether an object with these bounds on the scale denominator is visible: from the first on, and before the second
 abbrev pub is_visible : PictureScale → Option ℤ → Option ℤ → Bool
 is_visible scale min max = is_from scale min && is_before scale max
 
@@ -49,7 +49,7 @@ abbrev pub BoundsAreFractions : Type 0
 BoundsAreFractions = (scale : PictureScale) (p q : ℕ) (bound : ℤ) → 1 ≤ scale.width → 1 ≤ q → IsDenominator scale p q →
     IsTrue (reaches scale bound) ↔ ((bound *ℤ pos q) ≤ℤ pos (p * 1000000))
 
--- the law that of a thing up to a bound and a thing from that bound on exactly one is visible
+-- the law that of an object up to a bound and an object from that bound on exactly one is visible
 abbrev pub OneOfTwoIsVisible : Type 0
 OneOfTwoIsVisible = (scale : PictureScale) (bound : ℤ) → pos 0 <ℤ bound → is_visible scale None (Some bound) ≡ not (is_visible scale (Some bound) None)
 

@@ -5,8 +5,8 @@ ghost use Rattle.std.specs.Option.{option_map};
 ghost use Rattle.geom.specs.Capped.{capped, capped_exponent, clamped_to_limits, scaled};
 ghost use Rattle.geom.specs.Decimal.{is_negative, unsigned, number_of, with_digit, is_point, is_exponent_letter, are_digits, whole_number, exponent_of, decimal_of, millionths_of, nearest, signed};
 
-/// The power of ten by which a number counts: up or down by so many places, and one of both is 0.
-/// What 64 bits don't hold is their greatest value. No text has room for the digits that would tell
+/// The power of ten by which a number counts: up or down by so many digits. One of both is 0.
+/// What 64 bits don't hold is their greatest value. No text is long enough for the digits that would distinguish
 /// them apart: the number is past every limit or rounds to 0, with the one as with the other.
 #[derive(Clone, Copy)]
 pub struct Exponent {

@@ -33,8 +33,8 @@ pub fn crossings_stay_left()
     ensures { CrossingsStayLeft }
 {}
 
-/// An edge crosses at the place where the exact line through its ends meets the height: at a point or left
-/// of it exactly where that place, as a fraction, is at most the point's x.
+/// An edge crosses where the exact line through its ends meets the height: at a point or left
+/// of it exactly where the x of this crossing, as a fraction, is at most the point's x.
 pub fn crossings_lie_on_the_line()
     ensures { CrossingsLieOnTheLine }
 {}

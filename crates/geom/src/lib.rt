@@ -5,9 +5,9 @@
 //! `Micro::write` writes the one text of its form that means the number (`laws::one_text`),
 //! and `Edge::crosses_at_or_left` decides the crossings that the even-odd rule counts. Seven laws say what
 //! that rule means for edges that are turned, for rings and for two polygons (`specs/Laws.antt`).
-//! `PxBox::meets` and `WorldBox::meets` say whether two boxes share a pixel, and a place.
+//! `PxBox::meets` says whether two boxes share a pixel, `WorldBox::meets` whether they share a place.
 //!
-//! Words: a *coordinate* is a longitude or a latitude, in millionths of a degree. A *place* is a point
+//! Terms: a *coordinate* is a longitude or a latitude, in millionths of a degree. A *place* is a point
 //! of the world, of longitude `x` and latitude `y`. A *device point* is a point of the picture in
 //! sixteenths of a pixel, from the upper left corner, to the right and down. A *pixel* is named by its
 //! column `i` and its row `j`. A *side* is that of a picture or a box, an *edge* that of a ring.

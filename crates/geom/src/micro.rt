@@ -73,8 +73,8 @@ impl Micro {
     }
 
     /// The number that a decimal text means, rounded to the nearest millionth, a half away from zero:
-    /// a sign or none, digits, perhaps a point and digits, with one digit at least, and perhaps `e` or
-    /// `E`, a sign or none, and digits. `limit` is the greatest size that is taken, in millionths.
+    /// a sign or none, digits, perhaps a point and digits, with at least one digit, and perhaps `e` or
+    /// `E`, a sign or none, and digits. `limit` is the greatest size that is accepted, in millionths.
     ///
     /// `NotANumber` where the text is no such number, else `TooLarge` where the size is above `limit`.
     /// It reads each byte a few times, of a text of any length, and takes no memory.

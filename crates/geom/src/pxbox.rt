@@ -88,7 +88,7 @@ impl PxBox {
         }
     }
 
-    /// Whether all four sides lie within the picture, its ends included.
+    /// Whether all four sides lie within the picture, ends included.
     pub fn inside(self, width: PictureSide, height: PictureSide) -> bool
         ensures { IsTrue result ↔ IsInside self width height }
     {
