@@ -68,7 +68,7 @@ and-stops b bs h = stops-at b bs (no-number b h) (no-letter b h)
 ends-stops : (after : List ℕ) → Ends is_and after → Stops after
 ends-stops after e = rw e.whole (stops-spaced e.spaces (e.byte ∷ e.rest) e.blank (and-stops e.byte e.rest e.passes))
 
--- what comes after a word that is written after spaces
+-- the bytes after a keyword that is written after spaces
 word-ends : (p : ℕ → Bool) (IsSome : List ℕ → Type 0) (written after : List ℕ) → IsSpaced IsSome written →
     ((part : List ℕ) → IsSome part → (b : ℕ) × (rest : List ℕ) × (part ≡ b ∷ rest) × (p b ≡ true)) → Ends p (written ++ after)
 word-ends p IsSome written after s first =
@@ -108,7 +108,7 @@ and-first part (inr is) = let (b, rest, e, f, more) = word-first 38 (38 ∷ []) 
     passes : (b : ℕ) → to_ascii_lowercase b ≡ 38 → is_and b ≡ true
     passes b f = grind (arith, nat_tests)
 
--- a word that is written has a byte at least
+-- a keyword that is written has at least one byte
 spaced-some : (IsSome : List ℕ → Type 0) (p : ℕ → Bool) (written : List ℕ) → IsSpaced IsSome written →
     ((part : List ℕ) → IsSome part → (b : ℕ) × (rest : List ℕ) × (part ≡ b ∷ rest) × (p b ≡ true)) → 0 < length written
 spaced-some IsSome p written s first =
@@ -157,7 +157,7 @@ record IsRead (how : Joint) (part : Reading Expr) (bytes : List ℕ) (es : List 
   within : length tail ≤ length bytes
   further : (n : ℕ) → length tail < n → more_parts how part n tail ≡ Some (others, after)
 
--- one part, where no word comes that joins it to a further one
+-- one part, where no keyword comes that joins it to a further one
 read-last : (how : Joint) (part : Reading Expr) (text after : List ℕ) (e : Expr) → part (text ++ after) ≡ Some (e, after) → after_joint how after ≡ None → IsRead how part (text ++ after) (e ∷ []) after
 read-last how part text after e h over = record {
   first = e;
@@ -173,7 +173,7 @@ read-last how part text after e h over = record {
     last zero m = absurd (omega arith)
     last (suc n) m = more_parts-over how part n after over
 
--- one part before such a word and further ones
+-- one part before such a keyword and further ones
 read-more : (how : Joint) (part : Reading Expr) (text word others after : List ℕ) (e : Expr) (es : List Expr) → part (text ++ (word ++ (others ++ after))) ≡ Some (e, word ++ (others ++ after)) →
     after_joint how (word ++ (others ++ after)) ≡ Some (others ++ after) → 0 < length word → IsRead how part (others ++ after) es after → IsRead how part (text ++ (word ++ (others ++ after))) (e ∷ es) after
 read-more how part text word others after e es h joint some more = record {

@@ -14,7 +14,7 @@ abbrev pub rank : Joint → ℕ
 rank Or = 2
 rank And = 0
 
--- what is read after some parts and the word that joins them to a further one
+-- what is read after some parts and the keyword that joins them to a further one
 abbrev pub with_further : Joint → Reading Expr → List Expr → ℕ → Expr × List ℕ → Option (Expr × List ℕ)
 with_further how part parts n p = option_map (λ ps. (joined how (parts ++ p.0 ∷ ps.0), ps.1)) (more_parts how part n p.1)
 
@@ -25,7 +25,7 @@ pub joined_by-none : (how : Joint) (part : Reading Expr) (bytes : List ℕ) → 
 unfolding joined_by
 joined_by-none how part bytes e = rw e refl
 
--- where no word that joins them comes, there is no further part
+-- where no keyword that joins them comes, there is no further part
 pub more_parts-over : (how : Joint) (part : Reading Expr) (n : ℕ) (rest : List ℕ) → after_joint how rest ≡ None → more_parts how part (suc n) rest ≡ Some ([], rest)
 unfolding more_parts
 more_parts-over how part n rest over = rw (over, more_parts) refl

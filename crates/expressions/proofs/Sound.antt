@@ -19,7 +19,7 @@ use Rattle.mapdefs.specs.declared.expr.Comparison.TheVariants.{Equal, NotEqual, 
 use Rattle.expressions.specs.Reading.{is_pair}
 use Rattle.std.specs.Char.{to_ascii_lowercase}
 
--- a thing is written at the front of some bytes
+-- something is written as a prefix of some bytes
 abbrev pub Reads : {A : Type 0} → (A → List ℕ → Type 0) → List ℕ → Option (A × List ℕ) → Type 0
 Reads Is bytes None = Unit {0}
 Reads Is bytes (Some p) = Found (Is p.0) bytes p.1
@@ -146,7 +146,7 @@ operand-sound bytes = by (operand_from (after_spaces bytes)) (operand_from-sound
 same-pair : (a b first second : ℕ) → is_pair a b first second ≡ true → (a ≡ first) × (b ≡ second)
 same-pair a b first second h = let p = and_parts (a == first) (b == second) h in (eqb-true a first p.0, eqb-true b second p.1)
 
--- two bytes that are written as a word of two letters
+-- two bytes that are written as a keyword of two letters
 written-two : (a b c d : ℕ) → to_ascii_lowercase a ≡ to_ascii_lowercase c → to_ascii_lowercase b ≡ to_ascii_lowercase d → IsWord (c ∷ d ∷ []) (a ∷ b ∷ [])
 written-two a b c d e f = and_from _ _ (eq-eqb _ _ e) (and_from _ _ (eq-eqb _ _ f) refl)
 

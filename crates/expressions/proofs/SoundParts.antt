@@ -14,7 +14,7 @@ use Rattle.expressions.specs.Reading.{Reading, after_either, after_spaced, after
 use Rattle.expressions.proofs.Words.{Found, after_spaced-sound, after_either-sound}
 use Rattle.expressions.proofs.Sound.{Reads, IsSpacedOperand, operand-sound, IsSpacedComparison, comparison-sound}
 
--- three things one after another
+-- three parts of a text, one after another
 three : (a b c rest bytes x y : List ℕ) → bytes ≡ a ++ x → x ≡ b ++ y → y ≡ c ++ rest → bytes ≡ (a ++ (b ++ c)) ++ rest
 three a b c rest bytes x y e f g =
     e ∙ ap (λ z. a ++ z) (f ∙ ap (λ z. b ++ z) g ∙ sym (append_assoc b c rest)) ∙ sym (append_assoc a (b ++ c) rest)
@@ -41,7 +41,7 @@ compare-sound n bytes = first (operand_at bytes) (operand-sound bytes)
     first None a = tt
     first (Some l) a = second l (comparison_at l.1) a (comparison-sound l.1)
 
--- Parts that a word joins, whatever they are: each is a Q, the word between two a W, and several are an L.
+-- Parts that a keyword joins, whatever they are: each is a Q, the keyword between two a W, and several are an L.
 module _ (Q : Expr → List ℕ → Type 0) (W : List ℕ → Type 0) (L : List Expr → List ℕ → Type 0)
     (last : (text : List ℕ) (e : Expr) → Q e text → L (e ∷ []) text)
     (more : (text word others : List ℕ) (e : Expr) (es : List Expr) → Q e text → W word → L es others → L (e ∷ es) (text ++ (word ++ others)))

@@ -1,4 +1,4 @@
--- Words with which texts begin, and spaces before them.
+-- Keywords with which texts begin, and spaces before them.
 use Rattle.std.proofs.Common.{◌≡◌, ℕ, ◌<◌, ◌==◌, Bool, true, false, if◌then◌else◌, List, [], ◌∷◌, ◌++◌, length, drop, Option, Some, None, IfSome, IsTrue, All, inl, inr, refl, sym, ◌∙◌, ap, append_assoc, drop-cons, arith}
 use Rattle.std.proofs.lemmas.Bool.{and_parts, and_from, eqb-true, eq-eqb}
 use Rattle.std.proofs.lemmas.Bool.Decides.{nat_tests}
@@ -15,11 +15,11 @@ pub after_word-short : (word rest : List ℕ) (i : ℕ) → i < length word → 
 after_word-short word [] i h short = rw (drop-cons word i 0 h) refl
 after_word-short word (b ∷ bs) i h short = absurd (omega arith)
 
--- something is written at the front of some bytes, before a rest
+-- something is written as a prefix of some bytes, before a rest
 abbrev pub Found : (List ℕ → Type 0) → List ℕ → List ℕ → Type 0
 Found IsPart bytes rest = (written : List ℕ) × IsPart written × (bytes ≡ written ++ rest)
 
--- the spaces at the front of some bytes
+-- the leading spaces of some bytes
 spaces-sound : (bytes : List ℕ) → (spaces : List ℕ) × All (λ b. IsTrue (is_space b)) spaces × (bytes ≡ spaces ++ after_spaces bytes)
 spaces-sound [] = ([], All-nil (λ b. IsTrue (is_space b)), refl)
 spaces-sound (b ∷ bs) = by (spaces-sound bs) (is_space b) refl
@@ -38,7 +38,7 @@ spaced-sound IsPart bytes rest found =
       s.2 ∙ ap (λ cs. s.0 ++ cs) found.2 ∙ sym (append_assoc s.0 found.0 rest),
     )
 
--- the word at the front of some bytes
+-- the keyword with which some bytes begin
 pub word-sound : (word bytes : List ℕ) → IfSome (after_word word bytes) (Found (IsWord word) bytes)
 word-sound [] bytes = ([], refl, refl)
 word-sound (c ∷ cs) [] = tt
@@ -71,7 +71,7 @@ after_either-sound word sign bytes = by (after_word word (after_spaces bytes)) (
     by None (Some rest) found other = spaced-sound (λ w. IsWord word w ⊎ IsWord sign w) bytes rest (other.0, inr other.1, other.2)
     by None None found other = tt
 
--- spaces are passed over
+-- spaces are skipped
 spaces-skip : (spaces rest : List ℕ) → All (λ b. IsTrue (is_space b)) spaces → after_spaces (spaces ++ rest) ≡ after_spaces rest
 spaces-skip [] rest blank = refl
 spaces-skip (b ∷ bs) rest blank =
@@ -81,7 +81,7 @@ pub spaced-skip : (IsPart : List ℕ → Type 0) (written after : List ℕ) (s :
 spaced-skip IsPart written after s stays =
     ap after_spaces (ap (λ w. w ++ after) s.whole ∙ append_assoc s.spaces s.part after) ∙ spaces-skip s.spaces (s.part ++ after) s.blank ∙ stays
 
--- the letters of a word
+-- the letters of a keyword
 pub word-first : (c : ℕ) (cs written : List ℕ) → IsWord (c ∷ cs) written → (b : ℕ) × (rest : List ℕ) × (written ≡ b ∷ rest) × (to_ascii_lowercase b ≡ to_ascii_lowercase c) × IsWord cs rest
 word-first c cs [] is = cc
 word-first c cs (b ∷ rest) is =
@@ -101,14 +101,14 @@ two-letters c d written is =
     let (a, rest, e, f, more) = word-first c (d ∷ []) written is in
     let (b, g, h) = one-letter d rest more in (a, b, e ∙ ap (λ r. a ∷ r) g, f, h)
 
--- a word is found where it is written
+-- a keyword is found where it is written
 pub word-found : (word written after : List ℕ) → IsWord word written → after_word word (written ++ after) ≡ Some after
 word-found [] written after is = rw (word-none written is) refl
 word-found (c ∷ cs) written after is =
     let (b, rest, e, f, more) = word-first c cs written is in
     rw (e, f, eq-eqb (to_ascii_lowercase c) (to_ascii_lowercase c) refl) (word-found cs rest after more)
 
--- a byte that is a letter of a word, but for its case, is no space if the letter is none
+-- a byte that is a letter of a keyword, but for its case, is no space if the letter is none
 pub not-space : (b c : ℕ) → is_space c ≡ false → to_ascii_lowercase b ≡ to_ascii_lowercase c → is_space b ≡ false
 not-space b c h e = grind (arith, nat_tests)
 
@@ -124,7 +124,7 @@ unfolding after_spaced
 spaced-found c cs written after ink s =
     ap (after_word (c ∷ cs)) (spaced-skip (IsWord (c ∷ cs)) written after s (word-stays c cs s.part after ink s.is)) ∙ word-found (c ∷ cs) s.part after s.is
 
--- a word isn't found before another letter
+-- a keyword isn't found before another letter
 pub spaced-none : (c : ℕ) (cs bytes : List ℕ) (b : ℕ) (bs : List ℕ) → after_spaces bytes ≡ b ∷ bs → (to_ascii_lowercase b == to_ascii_lowercase c) ≡ false → after_spaced (c ∷ cs) bytes ≡ None
 unfolding after_spaced
 spaced-none c cs bytes b bs e other = rw (e, other) refl

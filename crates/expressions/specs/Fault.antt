@@ -12,7 +12,7 @@ abbrev pub IsStop : {A : Type 0} → Option A → ReadingError → Type 0
 IsStop reading (stop.Fault left) = reading ≡ None
 IsStop reading stop.NoMemory = Unit {0}
 
--- a text is refused that is no Logic, or memory was
+-- a text is refused that is no Logic, or memory was refused
 abbrev pub IsRefusal : List ℕ → ExprError → Type 0
 IsRefusal text (error.Fault fault) = (e : Expr) → IsLogic text e → ⊥
 IsRefusal text error.NoMemory = Unit {0}

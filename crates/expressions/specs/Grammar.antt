@@ -23,23 +23,23 @@ pub record IsSpaced (IsPart : List ℕ → Type 0) (written : List ℕ) : Type 0
   pub blank : All (λ b. IsTrue (is_space b)) spaces
   pub is : IsPart part
 
--- a word or a sign is written as it is spelled, in capitals or not
+-- a keyword or a sign is written as it is spelled, in capitals or not
 abbrev pub IsWord : List ℕ → List ℕ → Type 0
 IsWord spelling written = IsTrue (str_eq_ignore_ascii_case written spelling)
 
--- the word between the parts of an OR
+-- the keyword between the parts of an OR
 abbrev pub IsOrWord : List ℕ → Type 0
 IsOrWord written = IsWord (codes "OR") written ⊎ IsWord (codes "||") written
 
--- the word between the parts of an AND
+-- the keyword between the parts of an AND
 abbrev pub IsAndWord : List ℕ → Type 0
 IsAndWord written = IsWord (codes "AND") written ⊎ IsWord (codes "&&") written
 
--- the word before a part that isn't to be true
+-- the keyword before a part that isn't to be true
 abbrev pub IsNotWord : List ℕ → Type 0
 IsNotWord written = IsWord (codes "NOT") written ⊎ IsWord (codes "!") written
 
--- the words and signs of comparisons
+-- the keywords and signs of comparisons
 pub data IsComparison (written : List ℕ) : Comparison → Type 0 where
   equal : IsWord (codes "=") written → IsComparison written Equal
   equal_twice : IsWord (codes "==") written → IsComparison written Equal
@@ -103,13 +103,13 @@ mutual
         IsSpaced (λ w. IsOperand w a) left → IsSpaced (λ w. IsComparison w how) sign → IsSpaced (λ w. IsOperand w b) right →
         IsPart n (left ++ (sign ++ right)) (Compare how a b)
 
-  -- one such part or more, with ANDs between them
+  -- at least one such part, with ANDs between them
   pub data AreBetweenAnds : ℕ → List ℕ → List Expr → Type 0 where
     last_and : (n : ℕ) (text : List ℕ) (e : Expr) → IsPart n text e → AreBetweenAnds n text (e ∷ [])
     and : (n : ℕ) (text word others : List ℕ) (e : Expr) (es : List Expr) →
         IsPart n text e → IsSpaced IsAndWord word → AreBetweenAnds n others es → AreBetweenAnds n (text ++ (word ++ others)) (e ∷ es)
 
-  -- one of these or more, with ORs between them
+  -- at least one of these, with ORs between them
   pub data AreBetweenOrs : ℕ → List ℕ → List Expr → Type 0 where
     last_or : (n : ℕ) (text : List ℕ) (es : List Expr) → AreBetweenAnds n text es → AreBetweenOrs n text (all_of es ∷ [])
     or : (n : ℕ) (text word others : List ℕ) (es fs : List Expr) →

@@ -17,26 +17,26 @@ use Rattle.expressions.specs.declared.logic.Joint.{Joint}
 use Rattle.expressions.specs.declared.logic.Joint.TheVariants as joint
 use Rattle.expressions.specs.Grammar.{is_space, all_of, any_of, IsLogic}
 
--- what reading gives: a thing, and the bytes after it
+-- the result of reading: a value, and the bytes after what was read
 abbrev pub Reading : Type 0 → Type 0
 Reading A = List ℕ → Option (A × List ℕ)
 
--- what stands after spaces
+-- the bytes after spaces
 abbrev pub after_spaces : List ℕ → List ℕ
 after_spaces [] = []
 after_spaces (b ∷ bs) = if is_space b then after_spaces bs else b ∷ bs
 
--- what stands after a word with which the bytes begin, in capitals or not
+-- the bytes after a keyword with which they begin, in capitals or not
 abbrev pub after_word : List ℕ → List ℕ → Option (List ℕ)
 after_word [] bytes = Some bytes
 after_word (c ∷ cs) [] = None
 after_word (c ∷ cs) (b ∷ bs) = if to_ascii_lowercase b == to_ascii_lowercase c then after_word cs bs else None
 
--- what stands after spaces and a word
+-- the bytes after spaces and a keyword
 unfoldable pub after_spaced : List ℕ → List ℕ → Option (List ℕ)
 after_spaced word bytes = after_word word (after_spaces bytes)
 
--- after spaces and one of two words
+-- the bytes after spaces and one of two keywords
 unfoldable pub after_either : List ℕ → List ℕ → List ℕ → Option (List ℕ)
 after_either word sign bytes = option_or (after_word word (after_spaces bytes)) (after_word sign (after_spaces bytes))
 
@@ -152,7 +152,7 @@ unfoldable pub compare_at : Reading Expr
 compare_at bytes =
     option_and_then (λ left. option_and_then (λ how. option_map (λ right. (expr.Compare how.0 left.0 right.0, right.1)) (operand_at how.1)) (comparison_at left.1)) (operand_at bytes)
 
--- the bytes after the word by which parts are joined
+-- the bytes after the keyword that joins parts
 abbrev pub after_joint : Joint → List ℕ → Option (List ℕ)
 after_joint joint.Or bytes = after_either (codes "OR") (codes "||") bytes
 after_joint joint.And bytes = after_either (codes "AND") (codes "&&") bytes
@@ -162,7 +162,7 @@ abbrev pub joined : Joint → List Expr → Expr
 joined joint.Or parts = any_of parts
 joined joint.And parts = all_of parts
 
--- further parts, each after the word that joins them, within so many turns
+-- further parts, each after the keyword that joins them, within so many turns
 unfoldable pub more_parts : Joint → Reading Expr → ℕ → Reading (List Expr)
 more_parts how part zero bytes = None
 more_parts how part (suc n) bytes = elim (after_joint how bytes) [
@@ -184,11 +184,11 @@ part_of joint.And part = part
 abbrev pub joined_at : Joint → Reading Expr → Reading Expr
 joined_at how part = joined_by how (part_of how part)
 
--- what stands before a closing bracket
+-- the bytes before a closing bracket
 abbrev pub closed : Expr × List ℕ → Option (Expr × List ℕ)
 closed p = option_map (λ rest. (p.0, rest)) (after_spaced (codes ")") p.1)
 
--- what stands after a NOT or after a bracket decides what is read, where this reads what is nested in them
+-- how a part is read after a NOT or after a bracket, by a reader of the parts that are nested in them
 abbrev pub part_by : Reading Expr → Reading Expr → Option (List ℕ) → Option (List ℕ) → Reading Expr
 part_by negated within (Some rest) opened bytes = option_map (λ p. (expr.Not p.0, p.1)) (negated rest)
 part_by negated within None (Some rest) bytes = option_and_then closed (within rest)

@@ -7,7 +7,7 @@ use thiserror::Error;
 #[derive(Clone, Copy, Debug, Error)]
 #[error("no expression from byte {at} on")]
 pub struct ExprFault {
-    /// The index of the byte at which no reading can go on, from 0. It is the text's length where the
+    /// The index, from 0, of the byte at which no reading can go on. It is the text's length where the
     /// text ends too early.
     pub at: usize,
 }
@@ -26,7 +26,7 @@ pub enum ExprError {
 /// What stops reading within a text.
 #[derive(Clone, Copy)]
 pub enum ReadingError {
-    /// No reading goes on where so many bytes are left.
+    /// No reading goes on where so many bytes remain.
     Fault { left: usize },
     /// Memory was refused.
     NoMemory,

@@ -3,12 +3,12 @@
 ghost use Rattle.expressions.specs.Grammar.{LogicHasOneTree};
 ghost use Rattle.expressions.specs.Reading.{ReadingFollowsGrammar};
 
-/// The grammar relates a text to one tree at most.
+/// The grammar relates a text to at most one tree.
 pub fn logic_has_one_tree()
     ensures { LogicHasOneTree }
 {}
 
-/// The tree that is read of a text, from its first byte to its last, is the one to which the grammar
+/// The tree that `read` makes of a text, from its first byte to its last, is the one to which the grammar
 /// relates it.
 pub fn reading_follows_grammar()
     ensures { ReadingFollowsGrammar }

@@ -5,7 +5,7 @@
 //! a class, by `limits`. `laws` states that no text has two trees. `holds` says whether a rule is true of
 //! a feature, and `item_value` gives the value of an item.
 //!
-//! Words: a *part* is what stands between ANDs. An *operand*, or side, stands on either side of a
+//! Terms: a *part* is what stands between ANDs or between ORs. An *operand*, or side, stands on either side of a
 //! *comparison*. The *nesting* of a text counts the brackets and NOTs within one another.
 #![tactic(auto)]
 

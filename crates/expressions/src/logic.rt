@@ -11,14 +11,14 @@ use crate::word::{after_either, after_spaced, after_spaces, comparison_at, left_
 use mapdefs::{Boxed, Expr, Items, MAX_NESTING};
 use std::alloc::Global;
 
-/// By what parts are joined.
+/// Whether parts are joined by OR or by AND.
 #[derive(Clone, Copy)]
 pub enum Joint {
     Or,
     And,
 }
 
-// What stands after spaces and the word by which parts are joined.
+// The text after spaces and the keyword that joins parts.
 fn after_joint(joint: Joint, text: &[u8]) -> Option<&[u8]>
     ensures value { option_copied result ≡ after_joint joint text.now }
     ensures shorter { IfSome result (λ rest. length rest.now < length text.now) }
@@ -29,7 +29,7 @@ fn after_joint(joint: Joint, text: &[u8]) -> Option<&[u8]>
     }
 }
 
-// Two parts or more that are joined.
+// At least two parts that are joined.
 fn joined(joint: Joint, parts: Items<Expr>) -> Expr
     requires { 2 ≤ length parts }
     ensures { result ≡ joined joint parts }
@@ -40,16 +40,16 @@ fn joined(joint: Joint, parts: Items<Expr>) -> Expr
     }
 }
 
-// The words of comparisons.
+// The keywords and signs of comparisons.
 const COMPARISONS: [&[u8]; 15] = [
     b"=", b"==", b"eq", b"!=", b"ne", b"<", b"lt", b">", b"gt", b"<=", b"le", b">=", b"ge", b"=*",
     b"IN",
 ];
 
-// The word that may stand in the place of an operand.
+// The keyword that may stand in place of an operand.
 const NOT: [&[u8]; 1] = [b"NOT"];
 
-// The words that may stand after a part.
+// The keywords and signs that may stand after a part.
 const AFTER_PART: [&[u8]; 5] = [b"OR", b"||", b"AND", b"&&", b")"];
 
 // How many bytes are left where neither an operand, of which so many are, nor a NOT goes on.
@@ -60,8 +60,8 @@ fn left_or_begun(left: usize, text: &[u8], room: usize) -> usize {
     left.min(left_without(&NOT, text))
 }
 
-// The comparison of two operands that stands here, and what stands after it. Where there is room for a
-// NOT, one may be begun here in its place.
+// The comparison of two operands that stands here, and the text after it. Where there is room for a
+// NOT, a NOT may begin here instead.
 #[tactic(auto, unfolding(crate::specs::Reading::compare_at))]
 fn compare_at(alloc: Global, text: &[u8], room: usize) -> Result<(Expr, &[u8]), ReadingError>
     ensures value { MatchResult result (λ r. compare_at text.now ≡ Some (r.0, r.1.now)) (IsStop (compare_at text.now)) }
@@ -88,7 +88,7 @@ fn compare_at(alloc: Global, text: &[u8], room: usize) -> Result<(Expr, &[u8]), 
     }
 }
 
-// What stands after spaces and a closing bracket.
+// The text after spaces and a closing bracket.
 fn after_bracket(text: &[u8]) -> Result<&[u8], ReadingError>
     ensures value { MatchResult result (λ rest. after_spaced (codes ")") text.now ≡ Some rest.now) (IsStop (after_spaced (codes ")") text.now)) }
     ensures shorter { IfOk result (λ rest. length rest.now < length text.now) }
@@ -102,7 +102,7 @@ fn after_bracket(text: &[u8]) -> Result<&[u8], ReadingError>
     }
 }
 
-// An expression in brackets, and what stands after the one that closes it.
+// An expression in brackets, and the text after the one that closes it.
 fn closed(expr: Expr, rest: &[u8]) -> Result<(Expr, &[u8]), ReadingError>
     ensures value { MatchResult result (λ r. closed (expr, rest.now) ≡ Some (r.0, r.1.now)) (IsStop (closed (expr, rest.now))) }
     ensures shorter { IfOk result (λ r. length r.1.now < length rest.now) }
@@ -133,7 +133,7 @@ fn part_of(
     }
 }
 
-// The parts that stand here between ORs or between ANDs, and what stands after them.
+// The parts that stand here between ORs or between ANDs, and the text after them.
 #[cycle(logic)]
 fn joined_at(
     alloc: Global,
@@ -160,7 +160,7 @@ fn joined_at(
     }
 }
 
-// The part that stands here, with at most so many brackets and NOTs within one another, and what stands
+// The part that stands here, with at most so many brackets and NOTs within one another, and the text
 // after it.
 #[cycle(logic)]
 fn part_at(alloc: Global, text: &[u8], room: usize) -> Result<(Expr, &[u8]), ReadingError>

@@ -21,7 +21,7 @@ fn begins_q(text: &[u8]) -> bool
     }
 }
 
-// Whether a literal number goes on with the byte before the rest. The `e` of an `eq` isn't one of its.
+// Whether a literal number goes on with the byte before the rest. The `e` of an `eq` isn't part of it.
 fn is_of_number(byte: u8, rest: &[u8]) -> bool
     ensures { result ≡ is_of_number byte rest.now }
 {
@@ -55,7 +55,7 @@ fn text_from(bytes: &[u8]) -> Option<&str>
     }
 }
 
-// The text without a sign at its front.
+// The text without a leading sign.
 fn without_sign(text: &[u8]) -> &[u8] {
     match text {
         [b'+' | b'-', rest @ ..] => rest,
@@ -63,13 +63,13 @@ fn without_sign(text: &[u8]) -> &[u8] {
     }
 }
 
-// The text without the digits at its front.
+// The text without its leading digits.
 fn without_digits(text: &[u8]) -> &[u8] {
     let digits = text.iter().take_while(|byte| byte.is_ascii_digit()).count();
     text.get(digits..).unwrap_or(&[])
 }
 
-// How many bytes are left after the letter that may begin an `eq`, if it stands here.
+// How many bytes remain after the letter that may begin an `eq`, if it stands here.
 fn left_after_e(text: &[u8]) -> usize {
     match text {
         [b'e' | b'E', rest @ ..] => rest.len(),
@@ -77,8 +77,8 @@ fn left_after_e(text: &[u8]) -> usize {
     }
 }
 
-// How many bytes are left where a text that begins with no number ceases to look like one. Where a fault
-// is told is tested, not proved.
+// How many bytes remain where a text that begins with no number ceases to look like one. The position of
+// a fault is tested, not proved.
 fn left_after_number(text: &[u8]) -> usize {
     let unsigned = without_sign(text);
     let mut rest = without_digits(unsigned);
@@ -101,7 +101,7 @@ fn left_after_number(text: &[u8]) -> usize {
     rest.len()
 }
 
-// The literal number with which the text begins, and what stands after it.
+// The literal number with which the text begins, and the text after it.
 #[tactic(auto, unfolding(crate::specs::Reading::number_at))]
 fn number_at(alloc: Global, text: &[u8]) -> Result<(Operand, &[u8]), ReadingError>
     ensures value { MatchResult result (λ r. number_at text.now ≡ Some (r.0, r.1.now)) (IsStop (number_at text.now)) }
@@ -133,7 +133,7 @@ fn index_of(byte: u8, text: &[u8]) -> Option<usize>
     text.iter().position(|other| *other == byte)
 }
 
-// What stands before a byte that comes again, and what stands after it.
+// The text before a byte that comes again, and the text after that.
 #[tactic(auto, unfolding(crate::specs::Reading::split_before))]
 fn split_before(quote: u8, text: &[u8]) -> Option<(&[u8], &[u8])>
     ensures value { option_map (λ r. (r.0.now, r.1.now)) result ≡ split_before quote text.now }
@@ -155,7 +155,7 @@ fn name_from(bytes: &[u8]) -> Option<&str>
     text_from(bytes)
 }
 
-// How many bytes are left at the first that is not UTF-8, or at the end of the front of a text.
+// How many bytes remain at the first that is not UTF-8, or at the end of a prefix of a text.
 fn left_after_text(front: &[u8], text: &[u8]) -> usize {
     let valid = match str::from_utf8(front) {
         Ok(_) => front.len(),
@@ -164,7 +164,7 @@ fn left_after_text(front: &[u8], text: &[u8]) -> usize {
     text.len().saturating_sub(valid)
 }
 
-// The item whose name and bracket stand here, after its first bracket, and what stands after it.
+// The item whose name and closing bracket stand here, after its first bracket, and the text after it.
 #[tactic(auto, unfolding(crate::specs::Reading::item_at))]
 fn item_at(alloc: Global, text: &[u8]) -> Result<(Operand, &[u8]), ReadingError>
     ensures value { MatchResult result (λ r. item_at text.now ≡ Some (r.0, r.1.now)) (IsStop (item_at text.now)) }
@@ -206,7 +206,7 @@ fn quoted_as(alloc: Global, text: &str) -> Result<Operand, AllocError>
     }
 }
 
-// The quoted text that stands here, after its first quote, and what stands after it.
+// The quoted text that stands here, after its first quote, and the text after it.
 #[tactic(auto, unfolding(crate::specs::Reading::quoted_at))]
 fn quoted_at(alloc: Global, quote: u8, text: &[u8]) -> Result<(Operand, &[u8]), ReadingError>
     ensures value { MatchResult result (λ r. quoted_at quote text.now ≡ Some (r.0, r.1.now)) (IsStop (quoted_at quote text.now)) }
@@ -224,7 +224,7 @@ fn quoted_at(alloc: Global, quote: u8, text: &[u8]) -> Result<(Operand, &[u8]), 
     }
 }
 
-// The operand with which the text begins, and what stands after it.
+// The operand with which the text begins, and the text after it.
 fn operand_from(alloc: Global, text: &[u8]) -> Result<(Operand, &[u8]), ReadingError>
     ensures value { MatchResult result (λ r. operand_from text.now ≡ Some (r.0, r.1.now)) (IsStop (operand_from text.now)) }
     ensures shorter { IfOk result (λ r. length r.1.now < length text.now) }
@@ -237,7 +237,7 @@ fn operand_from(alloc: Global, text: &[u8]) -> Result<(Operand, &[u8]), ReadingE
     }
 }
 
-/// The operand after spaces, and what stands after it.
+/// The operand after spaces, and the text after it.
 #[tactic(auto, unfolding(crate::specs::Reading::operand_at))]
 pub fn operand_at(alloc: Global, text: &[u8]) -> Result<(Operand, &[u8]), ReadingError>
     ensures value { MatchResult result (λ r. operand_at text.now ≡ Some (r.0, r.1.now)) (IsStop (operand_at text.now)) }

@@ -9,22 +9,22 @@ use geom::{Micro, NUMBER_LIMIT};
 use mapdefs::{Comparison, Expr, Operand, Rule, Text};
 use std::cmp::Ordering;
 
-// Whether two texts are alike without regard to case of ASCII letters.
+// Whether two texts are equal without regard to case of ASCII letters.
 fn is_alike(a: &str, b: &str) -> bool
     ensures { result ≡ str_eq_ignore_ascii_case a.now b.now }
 {
     a.eq_ignore_ascii_case(b)
 }
 
-// The index of the first item of this name, without regard to case of ASCII letters.
+// The index of the first item with this name, without regard to case of ASCII letters.
 fn item_index(names: &[Text], name: &str) -> Option<usize>
     ensures { result ≡ position (λ item. str_eq_ignore_ascii_case item name.now) names.now }
 {
     names.iter().position(|item| is_alike(item.as_str(), name))
 }
 
-/// The value of the item of this name, without regard to case of ASCII letters, the first of equal names
-/// counting: the empty text where there is none.
+/// The value of the first item with this name, without regard to case of ASCII letters, or the empty
+/// text where there is none.
 pub fn item_value<'a>(names: &[Text], values: &'a [Text], name: &str) -> &'a str
     ensures { result.now ≡ item_value names.now values.now name.now }
 {
@@ -47,7 +47,7 @@ fn text_of<'a>(names: &[Text], values: &'a [Text], operand: &'a Operand) -> &'a 
     }
 }
 
-// Whether an operand asks for numbers.
+// Whether an operand requires numbers.
 fn asks_numbers(operand: &Operand) -> bool
     ensures { result ≡ asks_numbers operand.now }
 {
@@ -79,7 +79,7 @@ fn accepts(comparison: Comparison, order: Ordering) -> bool
     }
 }
 
-// Whether a comparison is true of two numbers, both there.
+// Whether a comparison is true of two numbers, where both exist.
 fn is_true_of_numbers(comparison: Comparison, left: Option<Micro>, right: Option<Micro>) -> bool
     ensures { result ≡ is_true_of_numbers comparison left right }
 {
@@ -177,7 +177,7 @@ fn is_among(texts: &[Text], value: &str) -> bool
 /// Whether the rule of a class is true of a feature: by the names of its items and their values, and by
 /// the value of the class item.
 ///
-/// It takes no memory, and goes as deep as the expression is nested.
+/// It takes no memory, and recurses as deep as the expression is nested.
 pub fn holds(rule: &Rule, names: &[Text], values: &[Text], class_value: &str) -> bool
     ensures { result ≡ holds rule.now names.now values.now class_value.now }
 {

@@ -12,7 +12,7 @@ fn is_space(byte: u8) -> bool
     matches!(byte, b' ' | b'\t' | b'\n' | b'\r')
 }
 
-/// What stands after spaces.
+/// The text after spaces.
 pub fn after_spaces(text: &[u8]) -> &[u8]
     ensures value { result.now ≡ after_spaces text.now }
     ensures within { length result.now ≤ length text.now }
@@ -25,7 +25,7 @@ pub fn after_spaces(text: &[u8]) -> &[u8]
     &[]
 }
 
-// What stands after the word with which the text begins, in capitals or not.
+// The text after the keyword with which it begins, in capitals or not.
 fn after_word<'a>(word: &[u8], text: &'a [u8]) -> Option<&'a [u8]>
     ensures value { option_copied result ≡ after_word word.now text.now }
     ensures shorter { IfSome result (λ rest. length rest.now + length word.now ≤ length text.now) }
@@ -43,7 +43,7 @@ fn after_word<'a>(word: &[u8], text: &'a [u8]) -> Option<&'a [u8]>
     Some(rest)
 }
 
-/// What stands after spaces and the word, which has at least one letter.
+/// The text after spaces and the keyword, which has at least one letter.
 #[tactic(auto, unfolding(crate::specs::Reading::after_spaced))]
 pub fn after_spaced<'a>(word: &[u8], text: &'a [u8]) -> Option<&'a [u8]>
     requires { 1 ≤ length word.now }
@@ -53,7 +53,7 @@ pub fn after_spaced<'a>(word: &[u8], text: &'a [u8]) -> Option<&'a [u8]>
     after_word(word, after_spaces(text))
 }
 
-/// What stands after spaces and one of two words, which have at least one letter each.
+/// The text after spaces and one of two keywords, which have at least one letter each.
 #[tactic(auto, unfolding(crate::specs::Reading::after_either))]
 pub fn after_either<'a>(word: &[u8], sign: &[u8], text: &'a [u8]) -> Option<&'a [u8]>
     requires word { 1 ≤ length word.now }
@@ -68,7 +68,7 @@ pub fn after_either<'a>(word: &[u8], sign: &[u8], text: &'a [u8]) -> Option<&'a 
     }
 }
 
-// The comparison that two bytes are, of which letters are small.
+// The comparison that two bytes stand for, with letters in lower case.
 #[tactic(auto, unfolding(crate::specs::Reading::comparison_of_two))]
 fn comparison_of_two(first: u8, second: u8) -> Option<Comparison>
     ensures { result ≡ comparison_of_two first second }
@@ -86,7 +86,7 @@ fn comparison_of_two(first: u8, second: u8) -> Option<Comparison>
     }
 }
 
-// The comparison that one byte is.
+// The comparison that one byte stands for.
 #[tactic(auto, unfolding(crate::specs::Reading::comparison_of_one))]
 fn comparison_of_one(byte: u8) -> Option<Comparison>
     ensures { result ≡ comparison_of_one byte }
@@ -99,7 +99,7 @@ fn comparison_of_one(byte: u8) -> Option<Comparison>
     }
 }
 
-// The comparison with which the text begins, and what stands after it.
+// The comparison with which the text begins, and the text after it.
 fn comparison_from(text: &[u8]) -> Option<(Comparison, &[u8])>
     ensures value { option_map (λ r. (r.0, r.1.now)) result ≡ comparison_from text.now }
     ensures shorter { IfSome result (λ r. length r.1.now < length text.now) }
@@ -116,7 +116,7 @@ fn comparison_from(text: &[u8]) -> Option<(Comparison, &[u8])>
     Some((comparison_of_one(*first)?, others))
 }
 
-/// The comparison after spaces, and what stands after it.
+/// The comparison after spaces, and the text after it.
 #[tactic(auto, unfolding(crate::specs::Reading::comparison_at))]
 pub fn comparison_at(text: &[u8]) -> Option<(Comparison, &[u8])>
     ensures value { option_map (λ r. (r.0, r.1.now)) result ≡ comparison_at text.now }
@@ -125,7 +125,7 @@ pub fn comparison_at(text: &[u8]) -> Option<(Comparison, &[u8])>
     comparison_from(after_spaces(text))
 }
 
-// How many bytes the text and the word have in common at their fronts, in capitals or not.
+// The length of the longest prefix that the text and the keyword share, in capitals or not.
 fn common_len(text: &[u8], word: &[u8]) -> usize {
     text.iter()
         .zip(word)
@@ -133,8 +133,8 @@ fn common_len(text: &[u8], word: &[u8]) -> usize {
         .count()
 }
 
-/// How many bytes are left where a text ceases to look like spaces and one of these words. Where a fault
-/// is told is tested, not proved.
+/// How many bytes remain where a text ceases to look like spaces and one of these keywords. The position of
+/// a fault is tested, not proved.
 pub fn left_without(words: &[&[u8]], text: &[u8]) -> usize {
     let text = after_spaces(text);
     let mut most = 0;

@@ -20,7 +20,7 @@ gone-none list row passed begun o = record {
   counts = λ i j h. refl;
 }
 
--- one ends, and changes places with the first that doesn't
+-- one ends, and is swapped with the first that doesn't
 pub gone-ended : (old list : List Crossing) (row passed at : ℕ) → HaveGoneOn old list row passed at → at < length list →
     ((d : Crossing) → end_of (get_or list at d) ≡ row + 1) → HaveGoneOn old (swap list passed at) row (passed + 1) (at + 1)
 gone-ended old list row passed at gone bound ends =
@@ -52,7 +52,7 @@ gone-ended old list row passed at gone bound ends =
 abbrev share : (Crossing → Bool) → Crossing → ℕ
 share p c = cond {A = ℕ} (p c) 1 0
 
--- a list with one element in another's place counts as before, where the test tells both alike
+-- a list with one element instead of another counts as before, where the test has the same result for both
 count-set : (p : Crossing → Bool) (list : List Crossing) (at : ℕ) (was now : Crossing) → at < length list → was ≡ get_or list at was → p now ≡ p was →
     count_by p (set list at now) ≡ count_by p list
 count-set p list at was now bound is same =

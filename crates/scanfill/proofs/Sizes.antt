@@ -1,4 +1,4 @@
--- The sizes of an edge's place and slope.
+-- The sizes of an edge's crossing and slope.
 use Rattle.std.proofs.Common.{ℕ, ◌^◌, ◌≡◌, true, arith}
 use Rattle.std.proofs.lemmas.Int.{ints}
 use Rattle.std.specs.Int.{int_div_euclid}

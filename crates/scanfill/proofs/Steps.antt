@@ -1,4 +1,4 @@
--- How an edge's place goes on from row to row.
+-- How an edge's crossing moves from row to row.
 use Rattle.std.proofs.Common.{◌≡◌, ◌∙◌, ℕ, ◌+◌, Bool, true, false, refl, sym, arith}
 use Rattle.std.proofs.lemmas.Int.{ints}
 use Rattle.std.specs.Int.{int_div_euclid}
@@ -14,7 +14,7 @@ use Rattle.scanfill.specs.declared.row_crossing.RowCrossing.{RowCrossing}
 use Rattle.scanfill.specs.declared.row_crossing.Slope.{Slope}
 use Rattle.scanfill.proofs.Quotients.{left-parts, quotient-fewer, quotient-same}
 
--- the next place, by whether what is left covers the slope's rest
+-- the next crossing, by whether the remainder covers the slope's rest
 pub next-fewer : (place : RowCrossing) (slope : Slope) → place.over <ℤ slope.rest →
     next_crossing place slope ≡ record { column = place.column +ℤ slope.step +ℤ pos 1; over = place.over -ℤ slope.rest +ℤ slope.whole }
 next-fewer place slope h = let e : int_lt place.over slope.rest ≡ true = sym (omega (arith, ints)) in rw e
@@ -32,11 +32,11 @@ reach-next e j =
     rw (down, add-mul (centre (pos j) -ℤ (low_end e).y) (pos 16) (run e), mul-left_comm s (pos 16) (rise e), mul-sub (pos 16) (run e) (s *ℤ rise e))
     (omega (arith, ints))
 
--- two places that have one column and one rest are one
+-- two crossings with the same column and rest are the same
 place-same : (a b c d : ℤ) → a ≡ c → b ≡ d → ◌≡◌ {A = RowCrossing} record { column = a; over = b } record { column = c; over = d }
 place-same a b c d e f = rw (e, f)
 
--- the parts of the next place, of a reach m and the next one
+-- the parts of the next crossing, for a reach m and the next one
 column-fewer : (q s next : ℤ) → next ≡ q -ℤ s -ℤ pos 1 → neg_ℤ q +ℤ s +ℤ pos 1 ≡ neg_ℤ next
 column-fewer q s next e = omega (arith, ints)
 
@@ -56,7 +56,7 @@ rest-parts : (e : EdgeEnds) → pos 0 <ℤ rise e → let rest = pos 16 *ℤ (ru
     (pos 0 ≤ℤ rest) × (rest <ℤ (pos 16 *ℤ rise e))
 rest-parts e some = let parts = left-parts (run e) (rise e) some in (omega (arith, ints, parts.0), omega (arith, ints, parts.1))
 
--- the next place is that of the next row
+-- the next crossing is that of the next row
 pub next_crossing-at : (e : EdgeEnds) (j : ℕ) → pos 0 <ℤ rise e → next_crossing (crossing_at e j) (slope_of e) ≡ crossing_at e (j + 1)
 unfolding column_of over_of slope_of
 next_crossing-at e j some = go (int_lt (reach e j -ℤ int_div_euclid (reach e j) (pos 16 *ℤ rise e) *ℤ (pos 16 *ℤ rise e)) (pos 16 *ℤ (run e -ℤ int_div_euclid (run e) (rise e) *ℤ rise e))) refl

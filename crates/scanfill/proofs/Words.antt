@@ -1,4 +1,4 @@
--- What the words of the machine hold of numbers of known sizes.
+-- What machine integers hold of numbers of known sizes.
 use Rattle.std.proofs.Common.{◌≡◌, ℕ, ◌*◌, ◌^◌, ◌<◌, ◌≤◌, arith}
 use Rattle.std.proofs.lemmas.Int.{ints, unsigned_abs-mul}
 use Rattle.std.proofs.lemmas.Nat.{mul-lt}
@@ -56,7 +56,7 @@ pub product-fits : (m n : ℕ) (a b : ℤ) → m ≤ 2 ^ 127 → n ≤ 2 ^ 127 �
     SFits w128 (to_z w128 (of_z w128 a) *ℤ to_z w128 (of_z w128 b))
 product-fits m n a b least most all p q = rw (wide m a least p, wide n b most q) (fits-wide (m * n) (a *ℤ b) all (product-below m n a b p q))
 
--- what is left of a number by a quotient
+-- the remainder of a number by a quotient
 pub left-is : (m q k : ℤ) → IsBelow (2 ^ 97) m → IsBelow (2 ^ 44) q → IsBelow (2 ^ 52) k → IsBelow (2 ^ 52) (m -ℤ q *ℤ k) →
     to_z w128 (of_z w128 (to_z w128 (of_z w128 m) -ℤ to_z w128 (of_z w128 (to_z w128 (of_z w128 q) *ℤ to_z w128 (of_z w128 k))))) ≡ m -ℤ q *ℤ k
 left-is m q k below_m below_q below_k below =
@@ -67,7 +67,7 @@ left-is m q k below_m below_q below_k below =
 pub opposite-is : (q : ℤ) → IsBelow (2 ^ 44) q → to_z w64 (of_z w64 (pos 0 -ℤ to_z w64 (of_z w64 (to_z w128 (of_z w128 q))))) ≡ neg_ℤ q
 opposite-is q h = rw (wide (2 ^ 44) q (omega arith) h, word (2 ^ 44) q (omega arith) h) (omega (arith, ints))
 
--- the next column, and what is left there
+-- the next column, and the remainder there
 pub step-is : (a b : ℤ) → IsBelow (2 ^ 44) a → IsBelow (2 ^ 48) b →
     to_z w64 (of_z w64 (to_z w64 (of_z w64 a) +ℤ to_z w64 (of_z w64 b))) ≡ a +ℤ b
 step-is a b p q = omega (arith, ints)

@@ -30,14 +30,14 @@ slope_of e = record {
   rest = pos 16 *ℤ (run e -ℤ int_div_euclid (run e) (rise e) *ℤ rise e);
 }
 
--- the place a row further down: a column more where what is left doesn't cover the slope's rest
+-- the crossing a row further down: one more column where the remainder doesn't cover the slope's rest
 abbrev pub next_crossing : RowCrossing → Slope → RowCrossing
 next_crossing place slope =
     if int_lt place.over slope.rest
     then record { column = place.column +ℤ slope.step +ℤ pos 1; over = place.over -ℤ slope.rest +ℤ slope.whole }
     else record { column = place.column +ℤ slope.step; over = place.over -ℤ slope.rest }
 
--- place and slope have the sizes of those of an edge between device points
+-- crossing and slope have the sizes of those of an edge between device points
 pub record AreSizes (place : RowCrossing) (slope : Slope) : Type 0 where
   pub column : IsBelow (2 ^ 44) place.column
   pub over : IsBelow (2 ^ 52) place.over
@@ -45,7 +45,7 @@ pub record AreSizes (place : RowCrossing) (slope : Slope) : Type 0 where
   pub whole : IsBelow (2 ^ 52) slope.whole
   pub rest : IsBelow (2 ^ 52) slope.rest
 
--- the edge crosses all rows that are left of the walk, and place and slope are those of the row that it has come to
+-- the edge crosses all rows that remain of the walk, and crossing and slope are those of the row that it has come to
 pub record IsWalked (edge : EdgeEnds) (row end : ℕ) (place : RowCrossing) (slope : Slope) : Type 0 where
   pub device : IsDeviceEdge edge
   pub some : row < end

@@ -95,7 +95,7 @@ fn next_begin(list: &[Crossing], begun: usize, end: u16) -> u16
     end
 }
 
-// How many crossings have begun by the row, given how many had before it. The others wait in order.
+// How many crossings have begun by the row, from how many had before it. The others wait in order.
 fn begun_by(list: &[Crossing], begun: usize, row: u16) -> usize
     requires within { begun ≤ length list.now }
     requires waiting { (k : ℕ) (d : Crossing) → begun ≤ k → k < length list.now → row ≤ row_of (slice_index_or list.now k d) }

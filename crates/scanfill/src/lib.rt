@@ -11,7 +11,7 @@
 //! it, what an edge adds to the crossings that the even-odd rule counts (`counts`), and the spans that
 //! `RowSpans::next` gives of them have the pixels inside and no other (`flipped`).
 //!
-//! Words: a *span* is a run of pixels in a row, its end excluded. A *cover* is a shape that covers pixels.
+//! Terms: a *span* is a run of pixels in a row, its end excluded. A *cover* is a shape that covers pixels.
 //! A *walk* goes down an edge, row by row. A *flip* is a column, or a pixel, at which a row goes in or out.
 //! A *crossing* is an edge as a sweep knows it: left of the view, or walked. A *sweep* gives a polygon's
 //! rows from the top.

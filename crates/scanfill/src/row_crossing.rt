@@ -140,7 +140,7 @@ fn sixteen_times(a: i64) -> i64
     16 * a
 }
 
-// The place by the quotient of a reach and a whole column.
+// The crossing by the quotient of a reach and a whole column.
 fn divide(reach: i128, whole: i64) -> RowCrossing
     requires reach { IsBelow (2 ^ 97) reach }
     requires some { pos 0 <ℤ whole }

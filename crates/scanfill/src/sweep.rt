@@ -75,7 +75,7 @@ impl<'a> Sweep<'a> {
     }
 
     /// Goes on to the next row that an edge crosses, or after the last row where none is left. The row that
-    /// comes next may be it already. The rows that are passed over have no covered pixel.
+    /// comes next may be it already. The rows that are skipped have no covered pixel.
     pub fn skip(&mut self)
         ensures row { self.new ≡ record self.old { row = self.new.row } }
         ensures from { self.old.row ≤ self.new.row }

@@ -9,7 +9,7 @@ use Rattle.scanfill.proofs.Quotients.{left-below}
 use Rattle.scanfill.proofs.Words.{fits-opposite, fits-wide, fits-word, left-is, opposite-is, product-below, product-is, wide, word}
 use Rattle.scanfill.proofs.row_crossing.divide.Goals as goal
 
--- the quotient by its definition, in the words of the machine
+-- the quotient by its definition, in machine integers
 quotient-is : (reach whole from quotient : ℤ) → IsBelow (2 ^ 97) reach → IsBelow (2 ^ 52) whole → from ≡ to_z w64 (of_z w64 whole) →
     quotient ≡ int_div_euclid (to_z w128 (of_z w128 reach)) (to_z w128 (of_z w128 from)) → (from ≡ whole) × (quotient ≡ int_div_euclid reach whole)
 quotient-is reach whole from quotient below_reach below_whole is by =

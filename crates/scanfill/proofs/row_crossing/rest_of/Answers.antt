@@ -43,7 +43,7 @@ overflow_sub-result c =
       word (2 ^ 48) c.args.run (omega arith) c.requires.run,
     ) (fits-word (2 ^ 48) (c.args.run -ℤ c.args.quotient *ℤ c.args.rise) (omega arith) less)
 
--- what the words of the machine hold of what is left
+-- what machine integers hold of the remainder
 held : (run quotient rise : ℤ) → IsBelow (2 ^ 48) run → IsBelow (2 ^ 48) rise → pos 0 <ℤ rise → quotient ≡ int_div_euclid run rise →
     to_z w64 (of_z w64 (to_z w64 (of_z w64 run) -ℤ to_z w64 (of_z w64 (to_z w64 (of_z w64 quotient) *ℤ to_z w64 (of_z w64 rise))))) ≡ run -ℤ quotient *ℤ rise
 held run quotient rise h most some is =
