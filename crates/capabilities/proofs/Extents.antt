@@ -1,4 +1,4 @@
--- A reader finds the extent of a map in the pieces that tell it.
+-- A reader finds the extent of a map in the pieces that state it.
 use Rattle.std.proofs.Common.{◌≡◌, ◌++◌, ℕ, ℤ, true, false, List, [], ◌∷◌, codes, refl, ◌∙◌, ap, sym}
 use Rattle.std.proofs.lemmas.List.{append_assoc}
 use Rattle.std.proofs.lemmas.List.Folds.{list_any-append}

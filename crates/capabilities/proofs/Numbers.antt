@@ -28,7 +28,7 @@ pub record IsElsewhere (p : ℕ → Bool) : Type 0 where
   pub minus : p 45 ≡ false
   pub point : p 46 ≡ false
 
--- so the digits of a number lack them, in front of other bytes that do
+-- so the digits of a number have none of them, before other bytes that have none
 onto-lacks : (p : ℕ → Bool) → IsElsewhere p → (k n : ℕ) (rest : List ℕ) → list_any p rest ≡ false → list_any p (digits_onto k 10 false n rest) ≡ false
 onto-lacks p e zero n rest h = h
 onto-lacks p e (suc k) n rest h =

@@ -186,7 +186,7 @@ outer-found s m =
     (joined s _ _ _ _ (title-found s m.title)
     (joined s _ _ [] _ (none (markup part.Systems) refl s) (boxes-found s m.extent)))
 
--- nothing in a bound, whether it is given or not
+-- nothing in a bound, whether there is one or not
 bound-none : (s : Sought) (name : List ℕ) (number : Option ℤ) → Finds s (opening name) [] → Finds s (ending name) [] → Finds s (bound name number) []
 bound-none s name None opens ends = record { is = λ rest. refl }
 bound-none s name (Some z) opens ends = shown-or-not (int_lt (pos 0) z)

@@ -50,7 +50,7 @@ joined s xs ys a b front back = record {
   is = λ rest. rw (append_assoc xs ys rest, front.is (ys ++ rest), back.is rest) (sym (append_assoc a b (reading_of s rest)));
 }
 
--- a byte at which it doesn't begin is passed over
+-- a byte at which it doesn't begin is skipped
 pub passed : (s : Sought) (b : ℕ) (bs : List ℕ) → starts_with nat_eq (b ∷ bs) (60 ∷ beginning s) ≡ false → reading_of s (b ∷ bs) ≡ reading_of s bs
 unfolding opening
 passed Titles b bs h = rw h refl

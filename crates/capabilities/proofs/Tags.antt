@@ -23,7 +23,7 @@ use Rattle.capabilities.specs.Texts.{untitled, without_texts, TextsChangeNoTags}
 use Rattle.capabilities.specs.World.{geographic_box, corner, bounding_box, boxes}
 use Rattle.capabilities.proofs.Numbers.{decimal-plain, written-plain}
 
--- from one place, two pieces of documents have the same tags and lead to the same place
+-- from one state, two pieces of documents have the same tags and lead to the same state
 pub record HaveSameTags (from to : Place) (xs ys : List ℕ) : Type 0 where
   pub tags : structure from xs ≡ structure from ys
   pub first : place_after from xs ≡ to
@@ -41,7 +41,7 @@ joined p q r a b x y front back = record {
 same : (p q : Place) (xs : List ℕ) → place_after p xs ≡ q → HaveSameTags p q xs xs
 same p q xs h = record { tags = refl; first = h; second = h }
 
--- bytes without markup, at a place for texts
+-- bytes without markup, at a position for texts
 plain-tags : (p : Place) (xs ys : List ℕ) → is_for_texts p ≡ true → list_any is_markup xs ≡ false → list_any is_markup ys ≡ false → HaveSameTags p p xs ys
 plain-tags p xs ys place h k = record {
   tags = no-tags p xs place h ∙ sym (no-tags p ys place k);

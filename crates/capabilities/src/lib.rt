@@ -5,7 +5,7 @@
 //! (`laws::texts_change_no_tags`). A reader of XML finds in it the titles and the names of the map, and no
 //! others (`laws::titles_are_read`, `laws::names_are_read`).
 //!
-//! Words: an *element* is a name, a content between its tags, and the end of the line.
+//! Terms: an *element* is a name, a content between its tags, and the end of the line.
 #![tactic(auto)]
 
 mod element;

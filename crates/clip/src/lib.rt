@@ -4,7 +4,7 @@
 //! right of the view, left of it or neither (`class_of`); what each of these answers means is `IsClass`.
 //! `RowRange::joined` are the rows from the first one to the last one of two groups (`joined`).
 //!
-//! Words: a *view* is here the picture's columns and rows. An edge *crosses a row* where it crosses the
+//! Terms: a *view* is here the picture's columns and rows. An edge *crosses a row* where it crosses the
 //! height of the row's pixel centres. An edge that lies left of the view counts for each pixel of the
 //! rows that it crosses, one that lies right of it for none.
 #![tactic(auto)]

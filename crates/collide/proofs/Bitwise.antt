@@ -51,7 +51,7 @@ max-right n x y e p q = omega (arith, e, p, q)
 by-word : (n number : ℕ) → n / 64 ≡ number → number * 64 + n % 64 ≡ n
 by-word n number e = omega (arith, e)
 
--- the bits are set in the words before one of a number
+-- the bits are set in the words before the word with a number
 abbrev pub AreSetTo : ℕ → ℕ → ℕ → List ℕ → List ℕ → Type 0
 AreSetTo number from past old new = (n : ℕ) → n < 64 * length old → HasBit new n ↔ (((from ≤ n) × (n < past) × (n / 64 < number)) ⊎ HasBit old n)
 
@@ -116,7 +116,7 @@ no-shared-bit w m k none a b =
     let z : 0 ≡ 1 = sym (bit_at-zero k) ∙ zero in
     absurd (omega (arith, z))
 
--- a shared bit of a word and its mask is one that is asked for
+-- a shared bit of a word and its mask is one of the tested bits
 pub found-bit : (number from past m w : ℕ) (words : List ℕ) → w ≡ get_or words number 0 → IsMask number from past m →
     0 < bit_and w m → bit_and w m < 2 ^ 64 → HasAny from past words
 found-bit number from past m w words is mask some small =
@@ -132,7 +132,7 @@ found-bit number from past m w words is mask some small =
       is = rw (word, bit) (ap (λ (z : ℕ). bit_at z k) (sym is) ∙ s.2);
     }
 
--- no bit that is asked for is set in the words before one of a number
+-- no tested bit is set in the words before the word with a number
 abbrev pub HasNoneTo : ℕ → ℕ → ℕ → List ℕ → Type 0
 HasNoneTo number from past words = (n : ℕ) → from ≤ n → n < past → n / 64 < number → HasBit words n → ⊥
 

@@ -22,7 +22,7 @@ same-row c i j row left right within most low high = ⊎_elim
     (cases_lt row j))
     (cases_lt j row)
 
--- the bit of a position as a call was given it
+-- the bit of a position as a call got it
 pub bit-is : (n count : ℕ) (r z : ℤ) → n ≡ bit_of count (to_z w64 (of_z w64 r)) → r ≡ z → SFits w64 r → n ≡ bit_of count z
 bit-is n count r z h e f = h ∙ ap (bit_of count) (to_z-of_z w64 r f ∙ e)
 

@@ -10,8 +10,8 @@ use std::marker::Model;
 
 /// Boxes in the order in which they were added. They may lie off the picture.
 ///
-/// A box that meets the picture, or touches it, is asked for by the pixels that are marked: two of these that share a
-/// pixel share one there. If some box lies further off, all boxes are asked one by one.
+/// A box that meets the picture, or touches it, is tested by the pixels that are marked: two of these that share a
+/// pixel share one there. If some box lies further off, the boxes are tested one by one.
 #[derive(Drop)]
 pub struct Boxes {
     boxes: Vec<PxBox>,

@@ -1,9 +1,9 @@
 //! Boxes that were placed on a picture, and whether a further one shares a pixel with any of them.
 //!
-//! Proved: `Boxes::add` keeps each box that it is given, on the picture or off it, and `Boxes::hits`
+//! Proved: `Boxes::add` keeps each box that it gets, on the picture or off it, and `Boxes::hits`
 //! says whether a box shares a pixel with one of them.
 //!
-//! Words: two boxes *meet* where some pixel lies in both; boxes that only touch don't. A pixel is *marked*
+//! Terms: two boxes *meet* where some pixel lies in both; boxes that only touch don't. A pixel is *marked*
 //! where it lies in a box that was added.
 #![tactic(auto)]
 

@@ -3,7 +3,7 @@
 //! Proved: `Crs::bbox` and `bbox` read the box of four coordinates in the axis order of its system, or its first
 //! fault, by its clause `value`; a box that it reads has an area within the world (`extent`).
 //!
-//! Words: the *axis order* of a coordinate reference system (CRS) says whether the longitude or the
+//! Terms: the *axis order* of a coordinate reference system (CRS) says whether the longitude or the
 //! latitude is written first.
 #![tactic(auto)]
 

@@ -25,7 +25,7 @@ pub other-at_end : (text : List ℕ) (n : ℕ) → n < length text → (get_or t
 unfolding before_spaces after_spaces
 other-at_end text n h e = rw (take_more text n 0 h, reverse-append (take n text) (get_or text n 0 ∷ []), e) (reverse_onto (reverse (take n text)) (get_or text n 0) [] ∙ ap (λ (t : List ℕ). t ++ get_or text n 0 ∷ []) (reverse-reverse (take n text)))
 
--- a step from the end towards the front
+-- a step from the end towards the beginning
 pub back-step : (text : List ℕ) (k : ℕ) → k < length text → get_or text (length text - k - 1) 0 ≡ 32 →
     before_spaces (take (length text - k) text) ≡ before_spaces text → before_spaces (take (length text - (k + 1)) text) ≡ before_spaces text
 back-step text k h e so_far =

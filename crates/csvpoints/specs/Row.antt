@@ -34,7 +34,7 @@ columns_in x y names =
 abbrev pub columns_of : List ℕ → List ℕ → List (List ℕ) → Result Columns CsvKind
 columns_of x y fields = and_then (texts_of fields) (columns_in x y)
 
--- a text without the spaces at its front
+-- a text without its leading spaces
 unfoldable pub after_spaces : List ℕ → List ℕ
 after_spaces [] = []
 after_spaces (b ∷ bs) = if b == 32 then after_spaces bs else b ∷ bs

@@ -7,7 +7,7 @@ use Rattle.csv.specs.Reading.{Ready, default_config, records, records_from, sour
 use Rattle.csv.specs.declared.reader.Reader.{Reader}
 use Rattle.csv.specs.declared.reader.Trim.TheVariants as trim
 
--- the records of a text: the header is one of them, and a byte order mark at the front is no part of it
+-- the records of a text: the header is one of them, and a leading byte order mark is no part of it
 abbrev pub records_of : List ℕ → List (List (List ℕ))
 records_of text = records default_config (strip_bom text)
 

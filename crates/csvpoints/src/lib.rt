@@ -5,7 +5,7 @@
 //! its features has one point, and one value for each column (`IsTable`); it has the names of its header,
 //! and a feature for each row (`laws`).
 //!
-//! Words: a *record* is what the crate `csv` reads as one, with its *fields*. The first is the *header*,
+//! Terms: a *record* is what the crate `csv` reads as one, with its *fields*. The first is the *header*,
 //! which names the *columns*; the others are *rows*. Records are numbered from 1.
 #![tactic(auto)]
 

@@ -11,7 +11,7 @@ use geom::{COORDINATE_LIMIT, Coordinate, Micro, World};
 use mapdefs::{Feature, FeatureFields, Items, Part, Text};
 use std::alloc::{AllocError, Global};
 
-// The text without the spaces at its front.
+// The text without its leading spaces.
 #[tactic(auto, unfolding(crate::specs::Row::after_spaces))]
 fn after_spaces(text: &[u8]) -> &[u8]
     ensures { result.now ≡ after_spaces text.now }

@@ -92,7 +92,7 @@ fn read_rows(
 /// number of its record.
 ///
 /// `x` and `y` name the columns of the longitudes and of the latitudes, in degrees, and `limit` is the
-/// most rows after the header. Of several faults in one record the first of these is told: `NoHeader`,
+/// most rows after the header. Of several faults in one record the first of these is reported: `NoHeader`,
 /// where there is no record; `Limit`, for the row after the last that is allowed; `Uneven`; `NotText`;
 /// `Limit`, for a header of more than `MAX_ITEMS` columns; `NoColumn`; `BadNumber`.
 ///

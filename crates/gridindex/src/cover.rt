@@ -5,7 +5,7 @@ ghost use Rattle.gridindex.specs.Groups.{Encloses, EnclosesAll};
 
 use geom::{Micro, WorldBox};
 
-/// A box that encloses the boxes of the indices. An index past the last box is passed over.
+/// A box that encloses the boxes at the indices. An index past the last box is skipped.
 pub fn cover_of(boxes: &[WorldBox], indices: &[u32]) -> WorldBox
     ensures { EnclosesAll result boxes.now indices.now }
 {
@@ -27,7 +27,7 @@ fn with_box(cover: WorldBox, boxes: &[WorldBox], index: u32) -> WorldBox
     }
 }
 
-// A box without a place. Joined with another it is that one.
+// A box without a place. Joined with another box it is that one.
 fn no_place() -> WorldBox {
     let least = Micro::new(i64::MIN);
     let most = Micro::new(i64::MAX);

@@ -6,7 +6,7 @@ use geom::WorldBox;
 use std::alloc::{AllocError, Global};
 use std::marker::Model;
 
-/// Boxes of the world, at most 2^32 of them, in a list that is quickly asked for those that meet a
+/// Boxes of the world, at most 2^32 of them, in a list that is quickly searched for those that meet a
 /// window. It takes memory in proportion to their number, whatever their sizes.
 #[derive(Drop)]
 pub struct Grid {

@@ -27,7 +27,7 @@ fn indices_below(alloc: Global, count: usize) -> Result<Vec<u32>, AllocError>
 }
 
 // Where the middle of a box lies, as a number: the bits of its longitude and of its latitude by
-// turns, so that near numbers are of places near one another. No answer rests on it, speed does.
+// turns, so that near numbers are of places near one another. The answers don't depend on it, the speed does.
 fn key_at(boxes: &[WorldBox], index: u32) -> u64 {
     match boxes.get(index as usize) {
         Some(area) => {

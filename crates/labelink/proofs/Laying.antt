@@ -22,10 +22,10 @@ module _ (font : FontFields) (at : PixelValue) (pen : ℕ) (characters : List �
         glyphs_from font at pen characters ≡ record { glyph = g; left = left_of at.i pen g.bounds; top = first_row (bottom_of at.j font.bounds g.bounds) g.bounds.height } ∷ glyphs_from font at (pen + g.advance) cs
     lay-next g is = rw (e, is) refl
 
--- a list that is built from its front on
+-- a list that is built from its first element on
 pub laid-more : (xs new : List GlyphValue) (x y : GlyphValue) (rest all : List GlyphValue) → new ≡ xs ++ x ∷ [] → x ≡ y → xs ++ (y ∷ rest) ≡ all → new ++ rest ≡ all
 laid-more xs new x y rest all more same e = rw (more, same) (append_assoc xs (y ∷ []) rest ∙ e)
 
--- glyphs at the same places
+-- glyphs with the same corners
 pub same-place : (g : Glyph) (left at_left top at_top : ℤ) → left ≡ at_left → top ≡ at_top → ◌≡◌ {A = GlyphValue} (record { glyph = g; left = left; top = top }) (record { glyph = g; left = at_left; top = at_top })
 same-place g left at_left top at_top e f = rw (e, f) refl

@@ -40,7 +40,7 @@ impl<'a> PlacedGlyph<'a> {
         PlacedGlyph { glyph, left, top }
     }
 
-    /// The same glyph at the same place again.
+    /// A copy of the glyph, with the same corner.
     pub fn copy(&self) -> Self
         ensures { result ≡ self.now }
     {

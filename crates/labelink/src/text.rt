@@ -12,7 +12,7 @@ use std::alloc::{AllocError, Global};
 /// The glyphs of a text whose upper left pixel is `at`, from the first character on: a character without a
 /// glyph has that of the question mark, or none and no advance where the font has none.
 ///
-/// The text has at most `MAX_CHARACTERS` characters, as `is_short` of `bdffont` tells.
+/// The text has at most `MAX_CHARACTERS` characters, which `is_short` of `bdffont` tests.
 pub fn text_glyphs<'a>(
     alloc: Global,
     font: &'a Font,

@@ -29,7 +29,7 @@ greater-both a b = go (int_lt a b) refl
     go true e = (omega (arith, ints, e), omega (arith, ints))
     go false e = (omega (arith, ints), omega (arith, ints, e))
 
--- a box with a place more is wider, and has the place
+-- a box that is joined with one more place is wider, and contains the place
 pub one-wider : (area : Area) (p : Place) → IsWider (with_place area p) area
 one-wider area p = record {
   west = (less-both area.minx p.x).0;

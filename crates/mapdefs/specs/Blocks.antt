@@ -15,7 +15,7 @@ greater a b = if int_lt a b then b else a
 abbrev pub with_place : Area → Place → Area
 with_place area p = record { minx = less area.minx p.x; miny = less area.miny p.y; maxx = greater area.maxx p.x; maxy = greater area.maxy p.y }
 
--- the box of no place: its west side is east of all places, and so on
+-- the box of no places: its west side is east of all places, and so on
 abbrev pub nowhere : Area
 nowhere = record { minx = pos 1000000000; miny = pos 1000000000; maxx = negsuc 999999999; maxy = negsuc 999999999 }
 

@@ -28,7 +28,7 @@ text_of items values (operand.Item name) = item_value items values name
 text_of items values (operand.ItemText name) = item_value items values name
 text_of items values (operand.Text text) = text
 
--- whether a side asks for numbers: a number, or an item without quotes
+-- whether a side requires numbers: a number, or an item without quotes
 abbrev pub asks_numbers : Operand → Bool
 asks_numbers (operand.Number number text) = true
 asks_numbers (operand.Item name) = true
@@ -66,7 +66,7 @@ is_of_texts comparison.EqualIgnoringCase = true
 is_of_texts comparison.In = true
 is_of_texts _ = false
 
--- a comparison is of numbers where one of its sides asks for them, else of texts
+-- a comparison is of numbers where one of its sides requires them, else of texts
 abbrev pub is_true : List (List ℕ) → List (List ℕ) → Comparison → Operand → Operand → Bool
 is_true items values how left right =
     if not (is_of_texts how) && (asks_numbers left || asks_numbers right)

@@ -39,7 +39,7 @@ impl BlockBox {
         grown
     }
 
-    // The box of no place.
+    // The box of no places.
     fn nowhere() -> Self
         ensures { result ≡ nowhere }
     {

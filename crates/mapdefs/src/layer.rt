@@ -33,9 +33,9 @@ pub struct LayerFields {
     /// The columns of longitude and latitude in the layer's tables.
     pub csv_x: Text,
     pub csv_y: Text,
-    /// Whether it may be asked for feature information.
+    /// Whether its features may be requested by GetFeatureInfo.
     pub queryable: bool,
-    /// How far from the asked pixel a feature counts, in pixels.
+    /// How far from the queried pixel a feature counts, in pixels.
     pub tolerance: u8,
     pub min: Option<Micro>,
     pub max: Option<Micro>,

@@ -1,13 +1,13 @@
 //! The types of a map, with the limits that each keeps, and the definitions that several crates cite.
 //!
-//! Proved: a value of each type is within its limits. Whoever makes it shows so (`Limited::new`), and
-//! whoever reads it may rely on it (`Limited::get`, clause `limits`). `Map::find` finds the first layer
-//! of a name, and `Picture::at` reads the pixel of a column and a row.
+//! Proved: a value of each type is within its limits. The caller that makes it shows so (`Limited::new`), and
+//! each reader may rely on it (`Limited::get`, clause `limits`). `Map::find` finds the first layer
+//! with a name, and `Picture::at` reads the pixel of a column and a row.
 //!
 //! In a clause a map is a plain nested record: `Items` is a list, `Text` a list of bytes, `Boxed` the
 //! value in it, and `Map`, `Layer` and the others are their fields.
 //!
-//! Words: a *layer* holds *features* of one *kind*. Its *classes* are tried in order, and the first
+//! Terms: a *layer* holds *features* of one *kind*. Its *classes* are tried in order, and the first
 //! that is visible and whose *rule* holds is the feature's; its *styles* say how it is painted, its
 //! *label* how it is named. An *item* is an attribute of the features.
 #![tactic(auto)]

@@ -4,8 +4,7 @@ use std::alloc::{AllocError, Global};
 use std::marker::Model;
 use std::sync::Arc;
 
-/// A value that several owners share. Contracts see the value, so that it doesn't matter which of the owners is
-/// asked.
+/// A value that several owners share. Contracts see the value, so that all owners are alike.
 #[derive(Drop)]
 pub struct Shared<T> {
     value: Arc<T, Global>,

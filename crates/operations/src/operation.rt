@@ -1,7 +1,7 @@
 ghost use Rattle.std.specs.Prelude.{◌≡◌};
 ghost use Rattle.operations.specs.Operation.{name_of};
 
-/// What a query asks for.
+/// The operation that a query requests.
 #[derive(Clone, Copy, Debug)]
 pub enum Operation {
     /// The document that says what the service offers.

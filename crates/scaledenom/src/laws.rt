@@ -8,7 +8,7 @@ pub fn bounds_are_fractions()
     ensures { BoundsAreFractions }
 {}
 
-/// A scale denominator at which one thing ends and another begins shows the second, and each scale
+/// A scale denominator at which one object ends and another begins shows the second, and each scale
 /// denominator shows exactly one of them.
 pub fn one_of_two_is_visible()
     ensures { OneOfTwoIsVisible }

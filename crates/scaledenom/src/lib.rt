@@ -1,10 +1,10 @@
 //! Scales: at which of them a layer or a class is visible.
 //!
-//! Proved: `Scale::within` says whether a thing with two bounds on the scale denominator is visible at a
-//! scale, by exact products. `laws` states that a bound is compared as a fraction, and that of two things
+//! Proved: `Scale::within` says whether an object with two bounds on the scale denominator is visible at a
+//! scale, by exact products. `laws` states that a bound is compared as a fraction, and that of two objects
 //! that share a bound exactly one is visible.
 //!
-//! Words: the *scale denominator* says how many times as wide the shown part of the world is on the
+//! Terms: the *scale denominator* says how many times as wide the shown part of the world is on the
 //! ground as in the picture, where a pixel counts as 0.28 mm and a degree as 111,319.491 m.
 #![tactic(auto)]
 

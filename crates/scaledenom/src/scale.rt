@@ -37,7 +37,7 @@ impl Scale {
         Scale { span, width }
     }
 
-    /// Whether a thing is visible whose scale denominator must be at least `min` and less than `max`.
+    /// Whether an object is visible whose scale denominator must be at least `min` and less than `max`.
     /// A bound that is absent doesn't count, and a `max` of 0 or less neither.
     pub fn within(self, min: Option<Micro>, max: Option<Micro>) -> bool
         ensures { result ≡ is_visible self min max }

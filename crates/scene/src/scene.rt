@@ -48,7 +48,7 @@ impl<'a> Scene<'a> {
         }
     }
 
-    /// The view, ready for many places.
+    /// The view, prepared for many places.
     pub fn projection(&self) -> &Projection
         ensures { result.now ≡ self.now.view }
     {

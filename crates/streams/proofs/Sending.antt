@@ -16,7 +16,7 @@ sent-sent held taken a b c s t first second = record {
   count = omega (arith, first.count, second.count, length-append s t);
 }
 
--- the front of a text is the front of that and another
+-- a prefix of a text is a prefix of that and another
 pub cut-more : {S : Type 0} (held : S → Option (List ℕ)) (taken : S → ℕ) (a b : S) (s t : List ℕ) → IsCutSomewhere held taken a s b → IsCutSomewhere held taken a (s ++ t) b
 cut-more held taken a b s t (n, cut) = (
   n,
@@ -27,7 +27,7 @@ cut-more held taken a b s t (n, cut) = (
   },
 )
 
--- a text and then the front of another went out: the front of both did
+-- a text and then a prefix of another went out: a prefix of both did
 pub sent-cut : {S : Type 0} (held : S → Option (List ℕ)) (taken : S → ℕ) (a b c : S) (s t : List ℕ) → IsSent held taken a s b → IsCutSomewhere held taken b t c → IsCutSomewhere held taken a (s ++ t) c
 sent-cut held taken a b c s t sent (n, cut) = (
   length s + n,
@@ -38,7 +38,7 @@ sent-cut held taken a b c s t sent (n, cut) = (
   },
 )
 
--- the count tells where a text was cut
+-- the count says where a text was cut
 pub cut-at : {S : Type 0} (held : S → Option (List ℕ)) (taken : S → ℕ) (a b : S) (s : List ℕ) (written : ℕ) → taken b ≡ taken a + written → IsCutSomewhere held taken a s b → IsCut held taken a s written b
 cut-at held taken a b s written count (n, cut) =
     let same : n ≡ written = omega (arith, count, cut.count) in

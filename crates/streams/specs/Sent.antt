@@ -1,4 +1,4 @@
--- What a sink got of a text: `held` tells the bytes that it holds, where they are known, and `taken` how many it took.
+-- What a sink got of a text: `held` gives the bytes that it holds, where they are known, and `taken` how many it took.
 use Rattle.std.specs.Prelude.{◌≡◌, ℕ, ◌+◌, ◌<◌, List, length, take, Option}
 use Rattle.std.specs.Io.KnownBytes.{Appends}
 
@@ -13,6 +13,6 @@ pub record IsCut {S : Type 0} (held : S → Option (List ℕ)) (taken : S → �
   pub bytes : Appends (held old) (held new) (take written text)
   pub count : taken new ≡ taken old + written
 
--- the same, with the number of bytes left unsaid: `taken` tells it
+-- the same for some number of bytes, which `taken` gives
 abbrev pub IsCutSomewhere : {S : Type 0} → (S → Option (List ℕ)) → (S → ℕ) → S → List ℕ → S → Type 0
 IsCutSomewhere held taken old text new = (written : ℕ) × IsCut held taken old text written new

@@ -42,7 +42,7 @@ impl Gathered {
         &self.room[..self.filled]
     }
 
-    /// Gathers the front of a piece, as much as there is room for, and gives the rest.
+    /// Gathers a prefix of a piece, as much as there is room for, and gives the rest.
     pub fn fill<'a>(&mut self, piece: &'a [u8]) -> &'a [u8]
         ensures { self.new ++ result.now ≡ self.old ++ piece.now }
     {

@@ -4,7 +4,7 @@
 //! bytes, with the flag of writing set (`cut`, `flag`). A `Source` gives no bytes only at its end. `Flagged` makes
 //! both of std's readers and writers; a failed call sets its own flag and no other.
 //!
-//! Words: bytes are taken from a *source* and put into a *sink*. A text is *sent* where all of it went out, and
+//! Terms: bytes are taken from a *source* and put into a *sink*. A text is *sent* where all of it went out, and
 //! *cut* where only its first bytes did.
 #![tactic(auto)]
 

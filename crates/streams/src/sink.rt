@@ -22,7 +22,7 @@ pub trait Sink {
     // Whether a call of `put` or `flush` has failed.
     ghost put_failed: { Self → Bool };
 
-    /// Takes some bytes from the front, at least one where there are any, and says how many.
+    /// Takes a prefix of some bytes, at least one where there are any, and returns how many.
     fn put(&mut self, bytes: &[u8]) -> Result<usize, PutFailed>
         ensures count { IfOk result (λ n. n ≤ length bytes.now) }
         ensures some { IfOk result (λ n. 1 ≤ length bytes.now → 1 ≤ n) }

@@ -22,8 +22,8 @@ pub trait Source {
     // Whether a call of `take` has failed.
     ghost take_failed: { Self → Bool };
 
-    /// Puts some bytes into the front of the room, and says how many: none only where there is no
-    /// room, or no byte is left. A call that fails may be left out of the count.
+    /// Fills the beginning of the room with some bytes, and returns how many: none only where there is no
+    /// room, or no byte remains. A call that fails may be left out of the count.
     fn take(&mut self, room: &mut [u8]) -> Result<usize, TakeFailed>
         ensures count { IfOk result (λ n. n ≤ length room.new) }
         ensures bytes { ReadConsumes (left self.old) (left self.new) result room.new }

@@ -9,7 +9,7 @@
 //! line covers the same without them. What `RowWalk::columns` gives of a row is what the segment covers there
 //! (`all`), with one division a segment.
 //!
-//! Words: a *segment* joins two vertices of a line. It is *steep* where it goes further down than across.
+//! Terms: a *segment* joins two vertices of a line. It is *steep* where it goes further down than across.
 //! To *turn* a point or a segment is to exchange across and down: what a steep segment covers row by row, a
 //! flat one covers column by column. A segment is *short* where its ends lie in pixels of one column or one row,
 //! at most its width apart. A *strip* is a segment that is walked row by row, or a turned one.

@@ -135,7 +135,7 @@ impl RowWalk {
     }
 }
 
-// The columns, of so many, after a given one: as many as the width. The given one may lie off the picture.
+// The columns, of so many, after another one: as many as the width. That one may lie off the picture.
 fn columns_after(column: i64, width: u8, end: u16) -> Span
     requires column { IsBelow (2 ^ 53) column }
     ensures all { (i : ℕ) → i < end → has_column result i ≡ (int_le (column +ℤ pos 1) (pos i) && int_le (pos i) (column +ℤ pos width)) }

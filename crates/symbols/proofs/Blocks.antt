@@ -9,7 +9,7 @@ use Rattle.std.specs.Simd.{first_chunks}
 use Rattle.mapdefs.specs.PixelBytes.{rgba_bytes}
 use Rattle.mapdefs.specs.declared.colour.Rgb.{Rgb}
 
--- three bytes are set one after another, and stand behind what stood in front of them
+-- three bytes are set one after another, and follow the bytes that were set before
 pub put-three : (xs : List ℕ) (at a b c : ℕ) → at + 3 ≤ length xs →
     take (at + 3) (slice_set (slice_set (slice_set xs at a) (at + 1) b) (at + 2) c) ≡ take at xs ++ a ∷ b ∷ c ∷ []
 put-three xs at a b c h =
@@ -77,7 +77,7 @@ four-bytes : (pixel : Option Rgb) (four : List ℕ) → four ≡ rgba_bytes pixe
 four-bytes None four is = rw is refl
 four-bytes (Some colour) four is = rw is refl
 
--- the bytes of one more pixel stand in front
+-- the bytes of one more pixel are set
 pub four-more : (pixels : List (Option Rgb)) (i : ℕ) (pixel : Option Rgb) (bytes four : List ℕ) → i < length pixels → get_or pixels i pixel ≡ pixel →
     four ≡ rgba_bytes pixel → 4 * i + 4 ≤ length bytes → take (4 * i) bytes ≡ flat_map rgba_bytes (take i pixels) →
     take (4 * (i + 1)) (slice_set (slice_set (slice_set (slice_set bytes (4 * i) (slice_index_or four 0 0)) (4 * i + 1) (slice_index_or four 1 0)) (4 * i + 2) (slice_index_or four 2 0)) (4 * i + 3) (slice_index_or four 3 0))

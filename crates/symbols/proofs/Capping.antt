@@ -8,7 +8,7 @@ pub capped-same : (n : ℕ) → n ≤ 1000 → capped n ≡ n
 unfolding capped
 capped-same n h = omega arith
 
--- the digits in front are digits
+-- the leading digits are digits
 pub digits-front : (p : ℕ → Bool) (xs : List ℕ) → list_all p (take (prefix_len p xs) xs) ≡ true
 digits-front p [] = refl
 digits-front p (x ∷ xs) = go (digits-front p xs) (p x) refl

@@ -28,7 +28,7 @@ or-right false u h = h
 comment-step : (b : ℕ) (xs : List ℕ) → is_line_end b ≡ false → blanks_len true (b ∷ xs) ≡ suc (blanks_len true xs)
 comment-step b xs h = rw h
 
--- a comment is passed over up to the end of its line
+-- a comment is skipped up to the end of its line
 comment-passed : (text : List ℕ) (end : ℕ) (rest : List ℕ) → list_any is_line_end text ≡ false → is_line_end end ≡ true →
     blanks_len true ((text ++ end ∷ []) ++ rest) ≡ length (text ++ end ∷ []) + blanks_len false rest
 comment-passed [] end rest none e = rw e (omega arith)
@@ -67,7 +67,7 @@ pub digits-stay : (digits rest : List ℕ) → AreDigits digits → blanks_len f
 digits-stay [] rest are = absurd (omega (arith, are.some))
 digits-stay (d ∷ ds) rest are = digit-stays d (ds ++ rest) (digits-cons d ds are.each).0
 
--- the digits in front are all of them, where no digit follows
+-- the leading digits are all of them, where no digit follows
 digits-end : (digits rest : List ℕ) → list_all is_ascii_digit digits ≡ true → prefix_len is_ascii_digit rest ≡ 0 → prefix_len is_ascii_digit (digits ++ rest) ≡ length digits
 digits-end [] rest all none = none
 digits-end (d ∷ ds) rest all none =

@@ -21,7 +21,7 @@ is_space b = b == 32 || (nat_le 9 b && nat_le b 13)
 abbrev pub is_line_end : ℕ → Bool
 is_line_end b = b == 10 || b == 13
 
--- how many bytes of white space and comments stand in front, in a comment or outside of one
+-- how many bytes of white space and comments some bytes begin with, in a comment or outside of one
 abbrev pub blanks_len : Bool → List ℕ → ℕ
 blanks_len in_comment [] = 0
 blanks_len true (b ∷ bs) = suc (blanks_len (not (is_line_end b)) bs)

@@ -3,7 +3,7 @@ ghost use Rattle.std.specs.Prelude.{◌≡◌};
 use std::alloc::AllocError;
 use thiserror::Error;
 
-/// Why bytes give no pixmap. Of several faults the first of these is told: `Magic`, `Header`, `Limit`,
+/// Why bytes give no pixmap. Of several faults the first of these is reported: `Magic`, `Header`, `Limit`,
 /// `Short`.
 #[derive(Clone, Copy, Debug, Error)]
 pub enum PixFault {

@@ -84,7 +84,7 @@ fn number_at(bytes: &[u8], at: usize) -> Option<HeaderNumber>
     })
 }
 
-// How many bytes of white space and comments stand in front.
+// How many bytes of white space and comments some bytes begin with.
 fn blanks_len(bytes: &[u8]) -> usize
     ensures value { result ≡ blanks_len false bytes.now }
     ensures bound { result ≤ length bytes.now }
@@ -103,7 +103,7 @@ fn blanks_len(bytes: &[u8]) -> usize
     bytes.len()
 }
 
-// How many digits stand in front.
+// How many digits some bytes begin with.
 fn digits_len(bytes: &[u8]) -> usize
     ensures value { result ≡ prefix_len is_ascii_digit bytes.now }
     ensures bound { result ≤ length bytes.now }

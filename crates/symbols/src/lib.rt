@@ -7,7 +7,7 @@
 //! `laws::files` states that a file is read as the parts that it is made of, `laws::pictures` that a small
 //! picture is read as it was written, `laws::maps` that an arbitrary map shows the picture that it is of.
 //!
-//! Words: a *pixmap* is the picture of a symbol. To *stamp* it is to lay it on the picture round a pixel.
+//! Terms: a *pixmap* is the picture of a symbol. To *stamp* it is to lay it on the picture round a pixel.
 //! *Blanks* are the white space and the comments between two numbers of a header.
 #![tactic(auto)]
 

@@ -6,7 +6,7 @@ pub record AxisValue : Type 0 where
   pub times : ℕ
   pub whole : ℕ
 
--- what one multiplies by in place of dividing by the whole, before the product is cut by a limit
+-- the factor by which one multiplies instead of dividing by the whole, before the product is cut by a limit
 abbrev pub factor_of : ℕ → ℕ → ℕ → ℕ
 factor_of times whole limit = times * limit / whole + 1
 

@@ -1,4 +1,4 @@
--- A view that is ready for many places (docs/DRAWING.md, "From the world to the picture").
+-- A view that is prepared for many places (docs/DRAWING.md, "From the world to the picture").
 use Rattle.std.specs.Prelude.{◌≡◌, ◌*◌, ◌-ℤ◌, unsigned_abs}
 use Rattle.geom.specs.World.{IsExtent}
 use Rattle.viewport.specs.Axis.{AxisValue}

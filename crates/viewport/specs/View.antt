@@ -63,7 +63,7 @@ pub record IsNear (view : ViewValue) (margin : ℕ) (pixel : PixelValue) : Type 
   pub top : neg_ℤ (pos margin) ≤ℤ pixel.j
   pub bottom : pixel.j <ℤ pos (view.height + margin)
 
--- the law that the window has each place whose pixel is so near to the picture
+-- the law that the window contains each place whose pixel is so near to the picture
 abbrev pub WindowHasNearPlaces : Type 0
 WindowHasNearPlaces = (view : ViewValue) (margin : ℕ) (place : Place) → IsExtent view.area → IsPictureSide view.width → IsPictureSide view.height →
     IsNear view margin (pixel_of (device_point view place)) → HasPlace (window view margin) place

@@ -4,7 +4,7 @@ ghost use Rattle.geom.specs.Range.{IsBelow};
 
 use std::marker::Model;
 
-/// One axis of a view, ready for many places: it has divided by what its side shows, and divides no more.
+/// One axis of a view, prepared for many places: it has divided by what its side shows, and divides no more.
 #[derive(Drop)]
 pub struct Axis {
     // The side in sixteenths of a pixel, and what it shows in millionths of a degree.

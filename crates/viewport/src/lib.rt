@@ -7,7 +7,7 @@
 //! the quotient. `View::window` gives the part of the world that the picture and a margin show, and
 //! `laws::window` says which places lie in it.
 //!
-//! Words: the *area* of a view is the part of the world that it shows, its *width* and *height* the
+//! Terms: the *area* of a view is the part of the world that it shows, its *width* and *height* the
 //! sides of the picture in pixels. A *projection* is a view that has divided once for each of its two
 //! *axes*, and serves many places.
 #![tactic(auto)]

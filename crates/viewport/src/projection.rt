@@ -8,7 +8,7 @@ use crate::view::{View, difference, span};
 use geom::{Coordinate, Device, Micro, PictureSide, Pixel, World, WorldBox};
 use std::marker::Model;
 
-/// A view that is ready for many places: it has divided for each of its two axes, and divides no more.
+/// A view that is prepared for many places: it has divided for each of its two axes, and divides no more.
 #[derive(Drop)]
 pub struct Projection {
     view: View,
@@ -120,7 +120,7 @@ impl Projection {
     }
 
     /// About the southernmost latitude from which it is at most to the pixel centres of a row, counted from
-    /// the top. It is a guess, of which nothing is promised: whoever takes it looks where it lies.
+    /// the top. It is a guess, of which nothing is proved: the caller tests it.
     pub fn about_south(&self, row: u16) -> Coordinate {
         let area = self.view.area();
         let whole = span(area.miny(), area.maxy());

@@ -3,7 +3,7 @@ use Rattle.std.specs.List.{flat_map}
 use Rattle.symbols.specs.Netpbm.{pixmap_bytes}
 use Rattle.symbols.proofs.netpbm.block_bytes.Given as goal
 
--- the bytes of the pixels before this one stand in front
+-- the bytes of the pixels before this one are set
 abbrev pub invariant-loop-i : goal.invariant-loop-i
 invariant-loop-i l = record {
   count : length l.bytes ≡ 3 * 32;
