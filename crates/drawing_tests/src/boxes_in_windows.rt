@@ -24,7 +24,7 @@ fn ask(out: &mut String, grid: &Grid, window: WorldBox) -> Result<(), AllocError
     write!(out, "{:?}", found.as_slice())
 }
 
-// Asks a grid of three boxes, adds one, and begins anew.
+// Queries a grid of three boxes, adds one, and begins anew.
 fn ask_of_three(out: &mut String, grid: &mut Grid) -> Result<(), AllocError>
     requires { length grid.old < 2 ^ 31 }
 {
@@ -39,7 +39,7 @@ fn ask_of_three(out: &mut String, grid: &mut Grid) -> Result<(), AllocError>
     ask(out, grid, window)
 }
 
-// Asks a grid without boxes, and adds one.
+// Queries a grid without boxes, and adds one.
 fn ask_of_none(out: &mut String, grid: &mut Grid) -> Result<(), AllocError>
     requires { length grid.old < 2 ^ 31 }
 {
@@ -50,7 +50,7 @@ fn ask_of_none(out: &mut String, grid: &mut Grid) -> Result<(), AllocError>
     ask(out, grid, area([FAR, FAR, LEAST, LEAST]))
 }
 
-// What is told of three boxes.
+// The answers of three boxes.
 fn of_three(alloc: Global, _of: &str) -> Result<String, AllocError> {
     let rows = [[0, 0, 0, 0], [5, 5, 6, 6], [-1, -1, 9, 9]].map(degrees);
     let mut grid = Grid::build(alloc, vec![in alloc; rows[0], rows[1], rows[2]]?)?;
@@ -70,7 +70,7 @@ fn windows_find_worked_boxes(rt: HostRuntime) -> Result<(), TableFault> {
     )
 }
 
-// What is told of no boxes.
+// The answers of no boxes.
 fn of_none(alloc: Global, _of: &str) -> Result<String, AllocError> {
     let mut grid = Grid::build(alloc, Vec::new(alloc))?;
     let mut text = String::new(alloc);
@@ -118,7 +118,7 @@ fn next_box(state: &mut u64) -> WorldBox {
     })
 }
 
-// The indices of the boxes of a list that meet the window, asked one by one.
+// The indices of the boxes of a list that meet the window, tested one by one.
 fn asked(alloc: Global, list: &[WorldBox], window: WorldBox) -> Result<Vec<u32>, AllocError> {
     let mut found = Vec::new(alloc);
     let mut index = 0_u32;
@@ -184,8 +184,8 @@ fn found_in_both(
     Ok((found == asked, found.len()))
 }
 
-// Asks for a thousand windows. How many boxes they find, or the first window of which the list says
-// something else.
+// Queries a thousand windows. How many boxes they find, or the first window for which the list has another
+// answer.
 fn found_by_all(
     alloc: Global,
     grid: &Grid,
@@ -204,8 +204,8 @@ fn found_by_all(
     Ok(Ok(count))
 }
 
-// Adds what is told of the windows: many where they find more boxes than they are themselves, `few`, or the
-// window of which the list says something else.
+// Adds the result of the windows: many where they find more boxes than they are themselves, `few`, or the
+// window for which the list has another answer.
 fn tell(out: &mut String, alloc: Global, grid: &Grid, list: &[WorldBox]) -> Result<(), AllocError> {
     match found_by_all(alloc, grid, list)? {
         Ok(found) if found > 1_000 => out.push_str("many "),
@@ -214,7 +214,7 @@ fn tell(out: &mut String, alloc: Global, grid: &Grid, list: &[WorldBox]) -> Resu
     }
 }
 
-// Tells of a grid that was built, and again after boxes were added.
+// Adds the result of a grid that was built, and again after boxes were added.
 fn tell_twice(
     out: &mut String,
     alloc: Global,
@@ -229,7 +229,7 @@ fn tell_twice(
     tell(out, alloc, grid, list)
 }
 
-// What is told of boxes that a sequence from that number on makes.
+// The result of boxes that a sequence from that number on makes.
 fn of_sequence(alloc: Global, number: &str) -> Result<String, AllocError> {
     let Ok(mut state) = number.parse::<u64>() else {
         return String::from_str(alloc, "malformed");

@@ -6,7 +6,7 @@ use std::alloc::{AllocError, Global};
 use test_tables::{TableFault, check_rows, numbers};
 
 // What an edge is on a picture and in which rows, worked by hand, the ends of the edge, and width and height
-// of the picture. RowRange without pixels of it are given as 0 0.
+// of the picture. A `RowRange` without pixels of it is written as 0 0.
 const CLASSES: &str = "\
 left 1 3=-48 16 -48 48|4 4
 drop 0 0=80 0 80 64|4 4

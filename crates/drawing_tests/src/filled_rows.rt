@@ -163,7 +163,7 @@ fn are_covered(polygon: &Polygon, row: u16, width: PictureSide, spans: &Spans) -
     true
 }
 
-// Whether a row, the sweep and each pixel by itself say the same on a picture of that height. What owns
+// Whether a row, the sweep and each pixel alone agree on a picture of that height. What owns
 // memory is lent.
 fn rows_agree(
     polygon: &Polygon,
@@ -266,7 +266,7 @@ fn first_row(
     Ok((work.divisions, first))
 }
 
-// What is told of the bars where so many divisions stood before: how many stand then, how many spans the
+// The result of the bars after so many divisions: how many there are then, how many spans the
 // first row has, and the last of them.
 fn told_bars(alloc: Global, before: &str) -> Result<String, AllocError> {
     let Ok(before) = before.parse::<u64>() else {
@@ -317,7 +317,7 @@ fn draw_skips(
     Ok(())
 }
 
-// What is told of five skips.
+// The result of five skips.
 fn skipped(alloc: Global, rings: &str) -> Result<String, AllocError> {
     let polygon = polygon(alloc, rings)?;
     let mut sweep = polygon.sweep(side(9), side(14), &mut Work::new())?;
@@ -346,7 +346,7 @@ fn swept_edge(alloc: Global, _of: &str) -> Result<String, AllocError> {
     swept(alloc, &polygon, side(4), side(4))
 }
 
-// One edge by itself: the pixels from its column on lie inside.
+// One edge alone: the pixels from its column on lie inside.
 #[test]
 fn walks_have_worked_columns(rt: HostRuntime) -> Result<(), TableFault> {
     check_rows(rt.alloc(), "2: - 1-4 2-4 -=one edge", '=', 1, swept_edge)

@@ -160,7 +160,7 @@ fn halves_are_rounded_away_from_zero(rt: HostRuntime) -> Result<(), TableFault> 
     check_rows(rt.alloc(), WHOLES, '=', 9, whole)
 }
 
-// A definition cites the same constant as the code, so only a test can tell a wrong limit.
+// A definition cites the same constant as the code, so only a test can find a wrong limit.
 #[test]
 fn limits_have_their_numbers(rt: HostRuntime) {
     let limits = [COORDINATE_LIMIT, NUMBER_LIMIT];
@@ -201,12 +201,12 @@ fn numbers_are_ordered_by_their_size(rt: HostRuntime) -> Result<(), TableFault> 
     check_rows(rt.alloc(), ORDERED, '|', 6, orders)
 }
 
-// The words on a fault, and its name.
+// The message on a fault, and its name.
 const FAULTS: &str = "\
 not a decimal number=NotANumber
 a number beyond the limit=TooLarge";
 
-// The words on the fault of a name.
+// The message on the fault of a name.
 fn words(alloc: Global, name: &str) -> Result<String, AllocError> {
     match name {
         "NotANumber" => format!(in alloc; "{}", NumberFault::NotANumber),

@@ -57,7 +57,7 @@ fn sides_have_1_to_2048_pixels(rt: HostRuntime) {
     );
 }
 
-// Whether two boxes share a pixel, asked of each, and their sides. The greatest size of a side that may grow
+// Whether two boxes share a pixel, tested from each, and their sides. The greatest size of a side that may grow
 // is 1,099,511,627,775.
 const MEETINGS: &str = "\
 true true=0 0 3 4|2 3 5 6

@@ -86,7 +86,7 @@ fn files_are_read_or_have_their_faults(rt: HostRuntime) -> Result<(), TableFault
     check_rows(rt.alloc(), FILES, '=', 38, read_bytes)
 }
 
-// The words on a fault, and its name.
+// The message on a fault, and its name.
 const FAULTS: &str = "\
 the bytes don't begin with P6=Magic
 a header that can't be read, or without pixels=Header

@@ -5,9 +5,9 @@ use std::alloc::{AllocError, Global};
 use std::test::Fail;
 use test_tables::{TableFault, check_rows, numbers};
 
-// What is told of steps, the side of the picture in pixels, and the steps, which begin with no boxes. `ask`
-// tells whether a box is hit, `#` or `-`, `add` adds one, and `note` tells whether it is hit before, adds it,
-// and tells whether its first and its last pixel are hit after.
+// The results of steps, the side of the picture in pixels, and the steps, which begin with no boxes. `ask`
+// shows whether a box is hit, `#` or `-`, and `add` adds one. `note` shows whether it is hit before, adds it,
+// and shows whether its first and its last pixel are hit after.
 const STEPS: &str = "\
 # a box hits what it shares a pixel with
 --##=130|ask 2 2 4 4|add 0 0 3 3|add -9 -9 -5 -5|ask 3 0 5 2|ask 2 2 4 4|ask -6 -6 0 0
@@ -48,13 +48,13 @@ fn added(boxes: &mut Boxes, area: PxBox) -> Result<(char, char, char), AllocErro
     Ok((before, first, mark(boxes.hits(last_pixel(area)))))
 }
 
-// The word and the box of a step.
+// The keyword and the box of a step.
 fn parts(step: &str) -> Option<(&str, PxBox)> {
     let (word, sides) = step.split_once(' ')?;
     Some((word, pixels(numbers(sides, ' ')?)))
 }
 
-// Makes a step, and adds what it tells.
+// Makes a step, and adds its result.
 fn make(out: &mut String, boxes: &mut Boxes, step: &str) -> Result<(), AllocError> {
     let Some((word, area)) = parts(step) else {
         return out.push('?');
@@ -78,7 +78,7 @@ fn make_all(out: &mut String, boxes: &mut Boxes, steps: &str) -> Result<(), Allo
     Ok(())
 }
 
-// What the steps of a row tell.
+// The results of a row's steps.
 fn steps(alloc: Global, row: &str) -> Result<String, AllocError> {
     let (pixels, steps) = row.split_once('|').unwrap_or(("", ""));
     let side = side(pixels.parse::<i64>().unwrap_or(0));
@@ -145,7 +145,7 @@ fn hits_from(alloc: Global, mut state: u64) -> Result<Result<u32, PxBox>, AllocE
 #[test]
 fn answers_are_those_of_a_plain_list(rt: HostRuntime) -> Result<(), Fail> {
     let hits = hits_from(rt.alloc(), 20_261)?;
-    // both answers are met often
+    // both answers come often
     assert!(rt; matches!(hits, Ok(126..375)), "{hits:?}");
     Ok(())
 }

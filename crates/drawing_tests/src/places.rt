@@ -3,7 +3,7 @@ use std::alloc::{AllocError, Global};
 use test_maps::place;
 use test_tables::{TableFault, check_rows, numbers};
 
-// Whether two boxes share a place, asked of each, and their sides, west, south, east and north.
+// Whether two boxes share a place, tested from each, and their sides, west, south, east and north.
 const MEETINGS: &str = "\
 true true=0 0 3 4|2 3 5 6
 true true=0 0 3 4|3 1 5 2
@@ -43,7 +43,7 @@ fn boxes_meet_where_they_share_a_place(rt: HostRuntime) -> Result<(), TableFault
     check_rows(rt.alloc(), MEETINGS, '=', 18, meet)
 }
 
-// The coordinates of a place are those that it is made of.
+// The coordinates of a place are those that it is made from.
 #[test]
 fn places_keep_their_coordinates(rt: HostRuntime) {
     let place = place([3, 5]);

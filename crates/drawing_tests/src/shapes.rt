@@ -115,7 +115,7 @@ pub(crate) fn told_rows<C: Cover>(
     draw_rows(alloc, rows)
 }
 
-// The mark of a pixel: `#` where it is in the spans and is covered when asked by itself, `.` where it is
+// The mark of a pixel: `#` where it is in the spans and is covered when tested alone, `.` where it is
 // neither, and `?` where the two differ.
 fn mark(spans: &Spans, column: u16, is_covered: bool) -> char {
     let is_in = spans

@@ -17,7 +17,7 @@ pub(crate) struct Entry {
     pub(crate) label: Label,
 }
 
-/// What a label says where nothing else is given, in the middle round its anchor.
+/// The defaults of a label, in the middle round its anchor.
 pub(crate) fn plain_label() -> LabelFields {
     LabelFields {
         colour: Some(Rgb {

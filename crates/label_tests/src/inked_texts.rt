@@ -27,7 +27,7 @@ fn pixel([i, j]: [i64; 2]) -> Pixel {
     Pixel::new(i.clamp(-100, 100), j.clamp(-100, 100))
 }
 
-// Whether a glyph covers a pixel, by its rows, or nothing where it says something else of the pixel by itself.
+// Whether a glyph covers a pixel, by its rows, or nothing where the test of the pixel alone differs.
 fn is_covered(
     glyph: &PlacedGlyph<'_>,
     spans: &mut Spans,
@@ -49,7 +49,7 @@ fn is_covered(
 }
 
 // The mark of a pixel: `#` where one of the glyphs covers it, `.` where none does, and `?` where one of them
-// says two things of it.
+// gives two answers for it.
 fn mark(
     glyphs: &[PlacedGlyph<'_>],
     spans: &mut Spans,

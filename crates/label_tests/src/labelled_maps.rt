@@ -44,7 +44,7 @@ fn styles_of(alloc: Global, letter: &str) -> Result<Items<Style>, AllocError>
     Ok(styles)
 }
 
-// The label of these words.
+// The label with these codes.
 fn label(words: &str) -> Label {
     let mut fields = plain_label();
     for word in words.split(' ') {
@@ -53,7 +53,7 @@ fn label(words: &str) -> Label {
     label_of(fields)
 }
 
-// One class with this style and the label of these words.
+// One class with this style and the label with these codes.
 fn classes_of(alloc: Global, letter: &str, words: &str) -> Result<SharedItems<Class>, AllocError>
     ensures symbols { IfOk result (All (ClassNamesSymbolsOf 0)) }
     ensures count { IfOk result (λ classes. length classes ≡ 1) }
@@ -197,7 +197,7 @@ fn kind_of(letter: &str) -> Geometry {
     }
 }
 
-// A layer: `p`, `l` or `g` for its kind, the letter of its style, the words of its label, and its features.
+// A layer: `p`, `l` or `g` for its kind, the letter of its style, the codes of its label, and its features.
 fn layer(alloc: Global, row: &str, unit: Unit) -> Result<Layer, AllocError>
     ensures { IfOk result (LayerNamesSymbolsOf 0) }
 {

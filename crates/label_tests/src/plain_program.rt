@@ -10,7 +10,7 @@ use test_tables::{TableFault, check_rows};
 // A box by its left, top, right and bottom side.
 type Sides = [i64; 4];
 
-// A label as the plain program places it: its number, the upper left pixel of its text, and its box.
+// A label as the plain program places it: its number, the corner of its text, and its box.
 #[derive(Clone, Copy)]
 struct PlainLabel {
     number: usize,
@@ -343,7 +343,7 @@ fn compared(
     Ok(Some((labels.len(), entries.len().saturating_sub(labels.len()))))
 }
 
-// What is told of 500 sets of candidates with a font: `ok` where both programs place the same ones, and many
+// The result of 500 sets of candidates with a font: `ok` where both programs place the same ones, and many
 // labels are placed and many left out; else the number of the set, or how many.
 fn told(alloc: Global, row: &str) -> Result<String, AllocError> {
     let (name, seed) = row.split_once(' ').ok_or(AllocError)?;

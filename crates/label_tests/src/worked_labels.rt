@@ -6,7 +6,7 @@ use mapdefs::{LabelFields, Position, Rgb};
 use std::alloc::{AllocError, Global};
 use test_tables::{TableFault, check_rows};
 
-// The position of its word in a mapfile.
+// The position with this keyword of a mapfile.
 fn position_of(word: &str) -> Position {
     match word {
         "UL" => Position::UpperLeft,
@@ -22,7 +22,7 @@ fn position_of(word: &str) -> Position {
     }
 }
 
-/// Sets what a word says: `F` for FORCE, `P` for PARTIALS, `o` for an outline, `n` for no colour, a colour as `c#`
+/// Sets the field of a code: `F` for FORCE, `P` for PARTIALS, `o` for an outline, `n` for no colour, a colour as `c#`
 /// and that of an outline as `r#`, a priority as `p2`, a buffer as `b3`, a distance as `d5`, and else a position.
 pub(crate) fn set(label: &mut LabelFields, word: &str) {
     if let Some(letter) = word.strip_prefix('c') {
@@ -48,7 +48,7 @@ pub(crate) fn set(label: &mut LabelFields, word: &str) {
     }
 }
 
-// The text of a row's word.
+// The text of a row's code.
 fn text_of(word: &str) -> Option<&'static str> {
     match word {
         "A" => Some("A"),
@@ -59,7 +59,7 @@ fn text_of(word: &str) -> Option<&'static str> {
     }
 }
 
-// A candidate as its text, the column and the row of its anchor, and words of its label.
+// A candidate as its text, the column and the row of its anchor, and the codes of its label.
 fn entry(row: &str) -> Option<Entry> {
     let mut words = row.split(' ');
     let text = text_of(words.next()?)?;
@@ -111,7 +111,7 @@ fn tell(out: &mut String, label: &Placed) -> Result<(), AllocError> {
     )
 }
 
-// What is told of all labels of a row, in their order.
+// The result for all labels of a row, in order.
 fn told(alloc: Global, row: &str) -> Result<String, AllocError> {
     let labels = placed(alloc, row)?;
     let mut text = String::new(alloc);
@@ -184,7 +184,7 @@ fn labels_stand_at_worked_places(rt: HostRuntime) -> Result<(), TableFault> {
     check_rows(rt.alloc(), PLACED, '=', 43, told)
 }
 
-// What is told of the first candidate of a row: the upper left pixel of its text, or `-`.
+// The result for the first candidate of a row: the corner of its text, or `-`.
 fn told_first(alloc: Global, row: &str) -> Result<String, AllocError> {
     let labels = placed(alloc, row)?;
     for label in labels.as_slice() {

@@ -29,7 +29,7 @@ MAP
 END
 ";
 
-// The query for two features at most of each layer that is asked, at the pixel where they lie.
+// The query for at most two features of each queried layer, at the pixel where they lie.
 const QUERY: &str =
     "VERSION=1.3.0&REQUEST=GetFeatureInfo&LAYERS=p,q&STYLES=&CRS=CRS:84&BBOX=0,0,4,4&WIDTH=4&HEIGHT=4\
 &FORMAT=image/x-portable-pixmap&INFO_FORMAT=text/plain&FEATURE_COUNT=2&I=1&J=1&QUERY_LAYERS=";

@@ -3,7 +3,7 @@ use capabilities::document;
 use std::alloc::{AllocError, Global};
 use std::test::Fail;
 
-// Two layers, of which the first can be asked for features.
+// Two layers, of which the first is queryable.
 const LAYERS: &str = "\
 MAP
   EXTENT 1 -2.5 30 4

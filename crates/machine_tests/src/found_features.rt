@@ -9,7 +9,7 @@ use std::alloc::{AllocError, Global};
 use test_tables::{TableFault, check_rows};
 use viewport::{MAX_MARGIN, View};
 
-// A layer of three points in one pixel, of the tolerance that a layer of points has where none is given.
+// A layer of three points in one pixel, with the default tolerance of a layer of points.
 const POINTS: &str = "\
 MAP
   LAYER
@@ -30,7 +30,7 @@ fn is_same(a: WorldBox, b: WorldBox) -> bool {
     a.minx() == b.minx() && a.miny() == b.miny() && a.maxx() == b.maxx() && a.maxy() == b.maxy()
 }
 
-// Finds all features of a map where it is asked for one window, and is out of memory for any other.
+// Finds all features of a map for one window, and is out of memory for any other.
 #[derive(Drop)]
 struct InWindow<'a> {
     alloc: Global,
@@ -85,7 +85,7 @@ fn hits_in_window(alloc: Global, map: &Map, margin: u16, count: u32) -> Result<S
     }
 }
 
-// The same of a row: a margin, and how many features are asked for.
+// The same for a row: a margin, and how many features are requested.
 fn hits_of_row(alloc: Global, row: &str) -> Result<String, AllocError> {
     let (margin, count) = row.split_once(' ').unwrap_or(("", ""));
     let map = map_of(alloc, POINTS)?;
@@ -114,7 +114,7 @@ fn features_are_looked_for_a_pixel_beyond_the_tolerance(rt: HostRuntime) -> Resu
     check_rows(rt.alloc(), WINDOWS, '=', 6, hits_of_row)
 }
 
-// The hits that a word has: the index of a layer, a colon and the digits of the features.
+// The hits of a code: the index of a layer, a colon and the digits of the features.
 fn hits_of(alloc: Global, word: &str) -> Result<LayerHits, AllocError> {
     let (layer, digits) = word.split_once(':').unwrap_or(("", ""));
     let mut features = Items::new(alloc);

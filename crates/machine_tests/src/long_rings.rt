@@ -78,7 +78,7 @@ fn is_answered(alloc: Global, last: u8) -> Result<bool, AllocError> {
     is_painted(alloc, &machine, last)
 }
 
-// A body that asks each edge for each pixel would make 2^44 tests.
+// A body that tests each edge for each pixel would make 2^44 tests.
 #[test]
 fn a_ring_of_65536_vertices_is_painted_64_times(rt: HostRuntime) -> Result<(), Fail> {
     assert!(rt; is_answered(rt.alloc(), 0)?);

@@ -3,7 +3,7 @@ use mapfaults::{Finding, explain};
 use std::alloc::{AllocError, Global};
 use test_tables::{TableFault, check_rows};
 
-// What is told of a source: its line and the words on its fault.
+// The result for a source: its line and the message on its fault.
 fn told(alloc: Global, source: &str) -> Result<String, AllocError> {
     match explain(alloc, source.as_bytes()) {
         Finding::Sound => String::from_str(alloc, "sound"),
@@ -15,7 +15,7 @@ fn told(alloc: Global, source: &str) -> Result<String, AllocError> {
     }
 }
 
-// What is told of a source in which `~` stands for the end of a line, `^` for `~`, and `{3*ab}` for `ababab`.
+// The result for a source in which `~` stands for the end of a line, `^` for `~`, and `{3*ab}` for `ababab`.
 fn told_row(alloc: Global, row: &str) -> Result<String, AllocError> {
     let lines = row.replace(alloc, '~', "\n")?;
     let lines = lines.replace(alloc, '^', "~")?;
@@ -23,7 +23,7 @@ fn told_row(alloc: Global, row: &str) -> Result<String, AllocError> {
     told(alloc, source.as_str())
 }
 
-// What is told of sources, and the sources.
+// The results for sources, and the sources.
 const ROWS: &str = "\
 sound|MAP END
 2: the mapfile has no MAP|# MAP~
@@ -121,7 +121,7 @@ fn faults_are_told_in_words(rt: HostRuntime) -> Result<(), TableFault> {
     check_rows(rt.alloc(), ROWS, '|', 89, told_row)
 }
 
-// What is told of sources with a block, a vertex or an item more than a map may have.
+// The result for sources with a block, a vertex or an item more than a map may have.
 const LIMITS: &str = "\
 1: MAP of line 1 has more than 64 SYMBOL blocks|MAP {65*SYMBOL NAME a TYPE PIXMAP IMAGE b END }
 2: LAYER of line 2 has more than 64 CLASS blocks|MAP~LAYER {65*CLASS END }
@@ -134,7 +134,7 @@ fn limits_are_told_in_words(rt: HostRuntime) -> Result<(), TableFault> {
     check_rows(rt.alloc(), LIMITS, '|', 5, told_row)
 }
 
-// What is told of 128 layers and one more.
+// The result for 128 layers and one more.
 fn told_after_layers(alloc: Global, end: &str) -> Result<String, AllocError> {
     let mut source = String::from_str(alloc, "MAP\n")?;
     for i in 1..=128 {
@@ -150,7 +150,7 @@ fn a_layer_too_many_is_told_in_words(rt: HostRuntime) -> Result<(), TableFault> 
     check_rows(rt.alloc(), ROW, '|', 1, told_after_layers)
 }
 
-// The words on a mapfile with a byte that isn't UTF-8 on its second line.
+// The message on a mapfile with a byte that isn't UTF-8 on its second line.
 fn told_of_bytes(alloc: Global, _row: &str) -> Result<String, AllocError> {
     let source = b"MAP\nNAME 'caf\xE9'\nEND";
     match explain(alloc, source) {

@@ -15,7 +15,7 @@ fn files_of(alloc: Global, row: &str) -> Result<Files, AllocError> {
     Ok(files)
 }
 
-// The words on the files of a row, whose file stands before its mapfile.
+// The messages on the files of a row, whose file is written before its mapfile.
 fn told_row(alloc: Global, row: &str) -> Result<String, AllocError> {
     let (files, source) = row.split_once('|').unwrap_or(("", row));
     let files = files_of(alloc, files)?;
@@ -37,7 +37,7 @@ fn told_row(alloc: Global, row: &str) -> Result<String, AllocError> {
     words
 }
 
-// The words, the file, and the mapfile.
+// The messages, the file, and the mapfile.
 const ROWS: &str = "\
 none||MAP END
 none|a.csv=x,y~1,2|MAP LAYER NAME a TYPE POINT DATA a.csv END END

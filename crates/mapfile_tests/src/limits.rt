@@ -39,7 +39,7 @@ const AFTER_LAYERS: &str = "\
 128 128 128 128 128:END
 259 Limit:# one more|LAYER";
 
-// What is told of 128 layers and what comes after them.
+// The result for 128 layers and what comes after them.
 fn told_after_layers(alloc: Global, end: &str) -> Result<String, AllocError> {
     let end = end.replace(alloc, '|', "\n")?;
     let mut source = String::from_str(alloc, "MAP\n")?;

@@ -173,8 +173,8 @@ fn services_have_their_titles_and_addresses(rt: HostRuntime) -> Result<(), Table
     check_rows(rt.alloc(), TITLES, '~', 9, told_title)
 }
 
-// A mapfile in pieces. A row is what is told where the source ends within a token of the piece, what is told
-// where it ends after a blank or with the piece, what stands before the piece, and the piece. `|` stands for
+// A mapfile in pieces. A row is the result where the source ends within a token of the piece, the result
+// where it ends after a blank or with the piece, the text before the piece, and the piece. `|` stands for
 // the end of a line. A piece without an end within a token has the same twice.
 const PIECES: &str = "\
 1 UnknownWord;1 MissingEnd~~MAP
@@ -204,7 +204,7 @@ const PIECES: &str = "\
 14 UnknownWord;1 1 1 1 4~MAP|  LAYER|    NAME \"a\"|    TYPE POLYGON|    CLASS|      STYLE|        COLOR 10 20 30|      END|    END|    FEATURE|      POINTS 1 2 3 4 5 6 7 8 END|    END|  END|~END
 1 1 1 1 4;1 1 1 1 4~MAP|  LAYER|    NAME \"a\"|    TYPE POLYGON|    CLASS|      STYLE|        COLOR 10 20 30|      END|    END|    FEATURE|      POINTS 1 2 3 4 5 6 7 8 END|    END|  END|END~|";
 
-// Adds what is told of a source, if it is another than before.
+// Adds the result for a source, if it differs from the one before.
 fn add_told(out: &mut String, told: &str) -> Result<(), AllocError> {
     if out.as_str() != told {
         if !out.is_empty() {
@@ -215,7 +215,7 @@ fn add_told(out: &mut String, told: &str) -> Result<(), AllocError> {
     Ok(())
 }
 
-// What is told where a source ends within a token of its last piece, or at its other ends.
+// The result where a source ends within a token of its last piece, or at its other ends.
 fn told_ends(
     alloc: Global,
     front: &str,
@@ -237,7 +237,7 @@ fn told_ends(
     Ok(out)
 }
 
-// What is told at the ends in a piece.
+// The result at the ends in a piece.
 fn told_piece(alloc: Global, row: &str) -> Result<String, AllocError> {
     let (front, piece) = row.split_once('~').unwrap_or((row, ""));
     let last = told_ends(alloc, front, piece, false)?;

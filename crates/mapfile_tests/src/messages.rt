@@ -56,7 +56,7 @@ const FAULTS: [ParseFault; 13] = [
     ParseFault::NoMemory,
 ];
 
-// Their numbers and messages, by their places in the list.
+// Their numbers and messages, by their indices in the list.
 const MESSAGES: &str = "\
 1 line 7: the quoted text, expression or list that begins here is not closed=0
 1 line 7: a bracket that closes nothing, a control character, or a byte that is not UTF-8=1

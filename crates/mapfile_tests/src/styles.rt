@@ -23,7 +23,7 @@ fn cut_colours(said: &str) -> Option<&str> {
 }
 
 // The map of a class with this STYLE and an empty one has these colours for the first: its colour and that
-// of its outline. All else that it says is told where it is another.
+// of its outline. Any other value is shown where it differs.
 fn told_colours(alloc: Global, style: &str) -> Result<String, AllocError> {
     let source = format!(in alloc;
         "MAP LAYER NAME a TYPE POLYGON CLASS STYLE {style} END STYLE END END END END"
@@ -75,7 +75,7 @@ fn cut_kind(said: &str) -> Option<(&str, &str)> {
     layer.split_once(" true - - x y false ")
 }
 
-// The kind and the tolerance of the layer with these words. All else that its map says is told where it is
+// The kind and the tolerance of the layer with these keywords. Any other value of its map is shown where it is
 // another.
 fn told_kind(alloc: Global, words: &str) -> Result<String, AllocError> {
     let source = format!(in alloc; "MAP LAYER NAME a {words} END END")?;

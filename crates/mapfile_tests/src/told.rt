@@ -63,7 +63,7 @@ pub fn told(alloc: Global, source: &str) -> Result<String, AllocError> {
     }
 }
 
-// What stands before the first `{`, the count and the text of a repetition, and what stands after it.
+// The text before the first `{`, the count and the text of a repetition, and the text after it.
 fn repetition(text: &str) -> Option<(&str, usize, &str, &str)> {
     let (head, rest) = text.split_once('{')?;
     let (count, rest) = rest.split_once('*')?;
@@ -71,7 +71,7 @@ fn repetition(text: &str) -> Option<(&str, usize, &str, &str)> {
     Some((head, count.parse::<usize>().ok()?, part, tail))
 }
 
-/// The text, in which `{3*ab}` stands for `ababab`, once at most.
+/// The text, in which `{3*ab}` stands for `ababab`, at most once.
 pub fn repeated(alloc: Global, text: &str) -> Result<String, AllocError> {
     match repetition(text) {
         Some((head, count, part, tail)) => {
@@ -88,7 +88,7 @@ pub fn written(alloc: Global, row: &str) -> Result<String, AllocError> {
     repeated(alloc, lines.as_str())
 }
 
-/// What is told of the source of a row.
+/// The result for the source of a row.
 pub fn told_row(alloc: Global, row: &str) -> Result<String, AllocError> {
     let source = written(alloc, row)?;
     told(alloc, source.as_str())

@@ -14,7 +14,7 @@ fn is_same(a: WorldBox, b: WorldBox) -> bool {
     a.minx() == b.minx() && a.miny() == b.miny() && a.maxx() == b.maxx() && a.maxy() == b.maxy()
 }
 
-// Finds all features of a map where it is asked for one window, and is out of memory for any other.
+// Finds all features of a map for one window, and is out of memory for any other.
 #[derive(Drop)]
 struct InWindow<'a> {
     alloc: Global,
@@ -54,7 +54,7 @@ fn drawn_in_window(alloc: Global, map: &Map, margin: u16) -> Result<String, Allo
     }
 }
 
-// What is told of a row: a margin, and the words and the rings of a layer, in tenths of a degree. The margin of a
+// The result for a row: a margin, and the codes and the rings of a layer, in tenths of a degree. The margin of a
 // layer is the greatest of the widths, the sizes and the sides of the symbols of its styles.
 fn told(alloc: Global, row: &str) -> Result<String, AllocError> {
     let (margin, layer) = row.split_once(' ').unwrap_or(("", ""));

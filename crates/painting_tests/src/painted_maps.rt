@@ -77,7 +77,7 @@ fn style(letters: &str) -> Style
     })
 }
 
-// The least scale denominator at which a thing is visible, and the first that is too great.
+// The least scale denominator at which an object is visible, and the first that is too great.
 type Bounds = (Option<Micro>, Option<Micro>);
 
 // A bound, `-` for none.
@@ -289,7 +289,7 @@ fn map_of(alloc: Global, layers: Items<Layer>) -> Result<Map, AllocError>
     Ok(Map::new(fields))
 }
 
-// The layer of these words and rings.
+// The layer with these codes and rings.
 fn layer_of_rings(alloc: Global, words: &str, rings: &str) -> Result<Layer, AllocError>
     ensures { IfOk result (LayerNamesSymbolsOf 2) }
 {
@@ -297,7 +297,7 @@ fn layer_of_rings(alloc: Global, words: &str, rings: &str) -> Result<Layer, Allo
     layer(alloc, words, feature)
 }
 
-/// A map of two layers. The first has these words and rings, the second paints the inner square dark.
+/// A map of two layers. The first has these codes and rings, the second paints the inner square dark.
 pub(crate) fn map_of_two(alloc: Global, words: &str, rings: &str) -> Result<Map, AllocError>
     ensures { IfOk result (λ map. length map.layers ≡ 2) }
 {
@@ -371,7 +371,7 @@ fn drawn(
     letters_of(alloc, &picture)
 }
 
-// The fields of a row after the picture: the background, the layers that are chosen, words and rings.
+// The fields of a row after the picture: the background, the layers that are chosen, codes and rings.
 fn fields_of(fields: &str) -> Option<(&str, &str, &str, &str)> {
     let (background, fields) = fields.split_once(';')?;
     let (chosen, fields) = fields.split_once(';')?;
@@ -380,7 +380,7 @@ fn fields_of(fields: &str) -> Option<(&str, &str, &str, &str)> {
 }
 
 /// The picture of the fields of a row after the picture. A row is the picture in letters, the letter of the
-/// background, the layers that are chosen, and the words and the rings of the first layer, in tenths of a
+/// background, the layers that are chosen, and the codes and the rings of the first layer, in tenths of a
 /// degree.
 pub(crate) fn drawn_row(alloc: Global, fields: &str) -> Result<String, AllocError> {
     let Some((background, chosen, words, rings)) = fields_of(fields) else {

@@ -62,7 +62,7 @@ fn drawn_chain(alloc: Global, fields: &str) -> Result<String, AllocError> {
 }
 
 // The chain lies left of the picture, right of it, above it, below it, and between the heights of two rows of pixel
-// centres. Such a chain tells by where it begins and ends alone. The last ring has another edge on its left.
+// centres. Such a chain counts by where it begins and ends alone. The last ring has another edge on its left.
 const CHAINS: &str = "\
 ##.. ##.. ##.. ##..;x -30 -10;20,40 20,0
 ..## ..## ..## ..##;x 50 70;20,40 20,0

@@ -10,7 +10,7 @@ const AXIS_FAULTS: [AxisFault; 4] = [
     AxisFault::Empty,
 ];
 
-// What is told, `|` and the crate that tells it.
+// The message, `|` and the crate that gives it.
 const MESSAGES: &str = "\
 not a known coordinate reference system; not four numbers between commas; a number that can't be read, or beyond 1,000 degrees; a box without an area|crsaxes
 out of memory|wmsquery";

@@ -16,8 +16,8 @@ const QUERY: &str =
 const INFORMATION: &str =
     "VERSION=1.3.0&REQUEST=GetFeatureInfo&LAYERS=a,c,d&CRS=CRS:84&BBOX=0,0,4,4&WIDTH=4&HEIGHT=3&QUERY_LAYERS=d,a&INFO_FORMAT=text/plain&I=3&J=2";
 
-// What is told of each query, `|` and the query. `@` is the query without a fault, `$` the one for features,
-// `*` are 63 layers and `#` 50,000 parameters that are not looked at. A line that begins with `# ` is a
+// The result for each query, `|` and the query. `@` is the query without a fault, `$` the one for features,
+// `*` are 63 layers and `#` 50,000 parameters that the server doesn't read. A line that begins with `# ` is a
 // heading.
 const QUERIES: &str = "\
 # the names
@@ -209,7 +209,7 @@ fn ground(alloc: Global, request: &MapRequest) -> Result<String, AllocError> {
     Ok(text)
 }
 
-// The picture of a request, as a row tells it.
+// The picture of a request, as a row writes it.
 fn picture(alloc: Global, request: &MapRequest) -> Result<String, AllocError> {
     let chosen = listed(alloc, request.chosen.as_slice())?;
     let area = request.area;
@@ -220,7 +220,7 @@ fn picture(alloc: Global, request: &MapRequest) -> Result<String, AllocError> {
     format!(in alloc; "{chosen} {west} {south} {east} {north} {width} {height} {ground}")
 }
 
-// A request for features, as a row tells it.
+// A request for features, as a row writes it.
 fn information(alloc: Global, request: &InformationRequest) -> Result<String, AllocError> {
     let picture = picture(alloc, &request.map)?;
     let asked = listed(alloc, request.asked.as_slice())?;
@@ -228,7 +228,7 @@ fn information(alloc: Global, request: &InformationRequest) -> Result<String, Al
     format!(in alloc; "{picture}; {asked} {count} {column} {row}")
 }
 
-// A request as a row tells it.
+// A request as a row writes it.
 fn shown(alloc: Global, request: &Request) -> Result<String, AllocError> {
     match request {
         Request::Capabilities => String::from_str(alloc, "capabilities"),
@@ -237,7 +237,7 @@ fn shown(alloc: Global, request: &Request) -> Result<String, AllocError> {
     }
 }
 
-// What is told of a query: its request, or the message of what refuses it.
+// The result for a query: its request, or the message of its refusal.
 fn told(alloc: Global, query: &str, map: &Map) -> Result<String, AllocError> {
     match read(alloc, query.as_bytes(), map, u64::MAX) {
         Ok(request) => shown(alloc, &request),
@@ -271,7 +271,7 @@ fn queries_of_other_operations_are_told_as_worked(rt: HostRuntime) -> Result<(),
     check_rows(rt.alloc(), OTHERS, '|', 51, rows_of_queries)
 }
 
-// A definition cites the same constant as the code, so only a test can tell a wrong limit.
+// A definition cites the same constant as the code, so only a test can find a wrong limit.
 #[test]
 fn limits_have_their_numbers(rt: HostRuntime) {
     assert_eq!(rt; MAX_NAMES, 64);

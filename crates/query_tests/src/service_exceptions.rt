@@ -8,7 +8,7 @@ use wmsquery::{Code, Parameter, WmsFault, report};
 const DOCUMENTS: &str = "\
 215 <?xml version=\"1.0\" encoding=\"UTF-8\"?>~<ServiceExceptionReport version=\"1.3.0\" xmlns=\"http://www.opengis.net/ogc\">~<ServiceException code=\"MissingParameterValue\">REQUEST</ServiceException>~</ServiceExceptionReport>~|REQUEST";
 
-// What is told of the document where REQUEST is missing.
+// The document where REQUEST is missing, as the row writes it.
 fn told(alloc: Global, name: &str) -> Result<String, AllocError> {
     if name != "REQUEST" {
         return String::from_str(alloc, "malformed");

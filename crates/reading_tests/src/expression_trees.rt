@@ -85,13 +85,13 @@ fn bytes_of(alloc: Global, letters: &str) -> Result<Vec<u8>, AllocError> {
     Ok(text)
 }
 
-// What is told of letters.
+// The result for letters.
 fn told_letters(alloc: Global, letters: &str) -> Result<String, AllocError> {
     let text = bytes_of(alloc, letters)?;
     told(alloc, &text)
 }
 
-// What is told, `~` and the letters of the text.
+// The result, `~` and the letters of the text.
 const TREES: &str = "\
 # each comparison, with and without spaces and in both cases
 [a]=1:1000000~([a]=1)
@@ -202,7 +202,7 @@ fn faults_stand_at_worked_bytes(rt: HostRuntime) -> Result<(), TableFault> {
     check_rows(rt.alloc(), FAULTS, '~', 38, told_letters)
 }
 
-// What is told of a text, and its parts: how often a sign stands after the opening bracket, the sign, what
+// The result for a text, and its parts: how often a sign stands after the opening bracket, the sign, what
 // comes then, and how many brackets close it.
 const NESTED: &str = "\
 [a]=1:1000000~63*(*[a]=1*64
@@ -233,7 +233,7 @@ fn parts(row: &str) -> Option<(usize, &str, &str, usize)> {
     ))
 }
 
-// What is told of the text of some parts, cut after 65,536 bytes.
+// The result for the text of some parts, cut after 65,536 bytes.
 fn told_parts(alloc: Global, row: &str) -> Result<String, AllocError> {
     let Some((count, sign, middle, closing)) = parts(row) else {
         return String::from_str(alloc, "malformed");
@@ -255,7 +255,7 @@ fn long_texts_are_read_to_their_fault(rt: HostRuntime) -> Result<(), TableFault>
     check_rows(rt.alloc(), LONG, '~', 6, told_parts)
 }
 
-// The words of a fault and of no memory.
+// The messages of a fault and of no memory.
 const ERRORS: &str = "no expression from byte 7 on; out of memory~";
 
 fn errors(alloc: Global, _row: &str) -> Result<String, AllocError> {

@@ -119,7 +119,7 @@ fn pictures_are_read_by_column_and_row(rt: HostRuntime) -> Result<(), TableFault
     check_rows(rt.alloc(), PIXELS, '=', 1, told_columns)
 }
 
-// A definition cites the same constant as the code, so only a test can tell a wrong limit. Counts, and
+// A definition cites the same constant as the code, so only a test can find a wrong limit. Counts, and
 // lengths in pixels with the priority.
 const LIMITS: &str = "\
 [128, 64, 64, 64, 200000, 16, 64, 65536, 65536]=counts

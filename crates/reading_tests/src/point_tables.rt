@@ -3,7 +3,7 @@ use mapdefs::Text;
 use std::alloc::{AllocError, Global};
 use test_tables::{TableFault, check_rows};
 
-// What is told of texts of tables, and after `|` the texts. What is told is the table as `told` writes it,
+// The results for texts of tables, and after `|` the texts. A result is the table as `told` writes it,
 // or the fault. In both `/` is a line feed and `^` a carriage return, and in texts also `@` is a tab, `~` the
 // byte 255 and `%` a byte order mark.
 const TABLES: &str = "\
@@ -97,7 +97,7 @@ fn told(alloc: Global, table: &Table) -> Result<String, AllocError> {
     Ok(told)
 }
 
-// What is told of a text with the columns and the limit that are asked for.
+// The result for a text with the columns and the limit that are requested.
 fn read_told(
     alloc: Global,
     text: &str,
@@ -112,7 +112,7 @@ fn read_told(
     }
 }
 
-// What is told of a text with the columns `x` and `y` and the limit 3.
+// The result for a text with the columns `x` and `y` and the limit 3.
 fn told_text(alloc: Global, text: &str) -> Result<String, AllocError> {
     let told = read_told(alloc, text, "x", "y", 3)?;
     let told = told.replace(alloc, '\n', "/")?;
@@ -129,7 +129,7 @@ fn the_first_fault_is_told(rt: HostRuntime) -> Result<(), TableFault> {
     check_rows(rt.alloc(), FAULTS, '|', 25, told_text)
 }
 
-// What is told, and after `|` the columns and the limit that are asked for, and the text.
+// The result, and after `|` the columns and the limit that are requested, and the text.
 const ASKED: &str = "\
 row 2: more columns or rows than a table may have|x;y;0;x,y,n/1,2,a/
 x+y+n|x;y;0;x,y,n/
@@ -195,7 +195,7 @@ const KINDS: [CsvKind; 6] = [
     CsvKind::Limit,
 ];
 
-// The number of each kind, and the words of an error.
+// The number of each kind, and the message of an error.
 const VALUES: &str = "\
 [1, 2, 3, 4, 5, 6]|numbers
 out of memory|no memory";

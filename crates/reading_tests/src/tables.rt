@@ -1,7 +1,7 @@
 use std::alloc::{AllocError, Global};
 use test_tables::{TableFault, check_all, check_rows};
 
-// What is told of a table that was checked.
+// The result for a table that was checked.
 fn told(alloc: Global, found: Result<(), TableFault>) -> Result<String, AllocError> {
     match found {
         Ok(()) => format!(in alloc; "holds"),
@@ -15,7 +15,7 @@ fn length(alloc: Global, text: &str) -> Result<String, AllocError> {
     format!(in alloc; "{}", text.len())
 }
 
-// What is found of a table of lengths that has to have two rows. In it `/` stands for the end of a line.
+// The result for a table of lengths that has to have two rows. In it `/` stands for the end of a line.
 fn told_of_rows(alloc: Global, table: &str) -> Result<String, AllocError> {
     let table = table.replace(alloc, '/', "\n")?;
     told(alloc, check_rows(alloc, table.as_str(), '=', 2, length))

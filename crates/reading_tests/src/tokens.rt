@@ -51,7 +51,7 @@ fn source_of(alloc: Global, letters: &str) -> Result<Vec<u8>, AllocError> {
     Ok(source)
 }
 
-// What is told of the source of letters, with `|` for a line feed. The rows below are this, `~` and the
+// The result for the source of letters, with `|` for a line feed. The rows below are this, `~` and the
 // letters.
 fn told_letters(alloc: Global, letters: &str) -> Result<String, AllocError> {
     let source = source_of(alloc, letters)?;
@@ -234,7 +234,7 @@ const LONG_TOKENS: &str = "\
 2 OpenString 2~|(*aaa|\x00
 2 OpenString 2~|{*aaa|\x00";
 
-// What is told of the source of letters with `*`.
+// The result for the source of letters with `*`.
 fn told_long(alloc: Global, letters: &str) -> Result<String, AllocError> {
     let many = "a".repeat(alloc, 65_534)?;
     let letters = letters.replace(alloc, '*', many.as_str())?;
@@ -261,7 +261,7 @@ const DEEP: &str = "\
 1 OpenString 1~(<>
 1 TooLong 1~<>";
 
-// What is told of the source of letters with `<` and `>`.
+// The result for the source of letters with `<` and `>`.
 fn told_deep(alloc: Global, letters: &str) -> Result<String, AllocError> {
     let opening = "(".repeat(alloc, 500_000)?;
     let closing = ")".repeat(alloc, 500_000)?;
@@ -279,7 +279,7 @@ fn on(line: u64, kind: LexKind) -> LexFault {
     LexFault { line, kind }
 }
 
-// The words of each kind, and of a fault.
+// The message of each kind, and of a fault.
 const VALUES: &str = "\
 the quoted text, expression or list that begins here is not closed~OpenString
 a bracket that closes nothing, a control character, or a byte that is not UTF-8~BadByte

@@ -1,4 +1,4 @@
-//! Maps of tests: places, and the fields of a layer and of a map with nothing in them but what is handed over. A
+//! Maps of tests: places, and the fields of a layer and of a map, which hold nothing but the arguments. A
 //! test changes the fields that it is about.
 #![tactic(auto)]
 

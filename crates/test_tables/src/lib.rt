@@ -1,7 +1,7 @@
-//! Tables of tests: a table is one text, a row a line, and a function of the test tells what stands for
-//! the left side of a row.
+//! Tables of tests: a table is one text, a row a line, and a function of the test gives the text that
+//! the left side of a row expects.
 //!
-//! Nothing is proved here but that each call is safe and ends. What a call answers is tested here without
+//! Nothing is proved here but that each call is safe and ends. What a call returns is tested here without
 //! tables, and once more in `reading_tests` with tables that differ in each way.
 #![tactic(auto)]
 
@@ -15,7 +15,7 @@ use std::alloc::{AllocError, Global};
 pub enum TableFault {
     /// The line, counted from 1, has no separator.
     NoSeparator(usize),
-    /// What is told of the line, counted from 1, isn't what its row expects.
+    /// The function's text for the line, counted from 1, isn't the one that its row expects.
     Differs(usize, String),
     /// The function doesn't hold of the row on this line, counted from 1.
     Fails(usize),
@@ -56,8 +56,8 @@ fn check_each<F: Fn(usize, &str) -> Result<(), TableFault>>(
     }
 }
 
-/// Checks that a table has so many rows, and that of each the function tells what the row expects. A row
-/// is what is expected, the separator and the rest, of which the function tells. A line that begins with
+/// Checks that a table has so many rows, and that the function gives for each the text that the row expects. A row
+/// is the expected text, the separator and the rest, which the function gets. A line that begins with
 /// `# ` is a heading.
 pub fn check_rows<F: Fn(Global, &str) -> Result<String, AllocError>>(
     alloc: Global,

@@ -23,7 +23,7 @@ fn is_one_byte(_: Global, text: &str) -> Result<bool, AllocError> {
     Ok(text.len() == 1)
 }
 
-// What is told of tables, without a table that says what is expected.
+// The results for tables, without a table of expected texts.
 fn are_told(alloc: Global) -> bool {
     told(check_rows(alloc, "3=abc\n1=x", '=', 2, length)) == (0, 0)
         && told(check_rows(alloc, "3=abc\n2=x", '=', 2, length)) == (2, 2)

@@ -173,7 +173,7 @@ fn kind_in_words(alloc: Global, kind: FontKind) -> Result<String, AllocError> {
     format!(in alloc; "{} {kind}", kind.number())
 }
 
-// Each kind by its place in the list: its number and its words. Then the words of a fault, of an error and
+// Each kind by its index in the list: its number and its message. Then the messages of a fault, of an error and
 // of no memory.
 const VALUES: &str = "\
 1 the first line does not begin with STARTFONT|0

@@ -172,7 +172,7 @@ fn told_of(alloc: Global, font: &Font, row: &str) -> Result<String, AllocError> 
     }
 }
 
-// What is told of a font: its glyphs, its letters, or the extent of a text.
+// The result for a font: its glyphs, its letters, or the extent of a text.
 fn told_font(alloc: Global, row: &str) -> Result<String, AllocError> {
     let (name, rest) = row.split_once('|').unwrap_or((row, ""));
     let source = match name {
