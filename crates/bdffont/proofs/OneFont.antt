@@ -26,7 +26,7 @@ below-none x xs e rising lt = find-none (x ∷ xs) e (λ k d within same. elim (
 tail-none : (x : Glyph) (xs : List Glyph) → IsRising (x ∷ xs) → find (has_encoding x.encoding) xs ≡ None
 tail-none x xs rising = find-none xs x.encoding (λ k d within same. omega (arith, rising 0 (suc k) d (omega arith) (omega arith)))
 
--- an encoding that the first one hasn't is looked for after it
+-- an encoding that the first one doesn't have is searched for after it
 skip-head : (x : Glyph) (xs : List Glyph) (e : ℕ) → (x.encoding == e) ≡ false → find (has_encoding e) (x ∷ xs) ≡ find (has_encoding e) xs
 skip-head x xs e other = rw other refl
 

@@ -55,7 +55,7 @@ north-text z = record {
       ∙ rw (before-at is_edge (written z) tail 60 (written-lacks is_edge edge-elsewhere z) refl, lacks-is North (written z) (60 ∷ tail) (plain-lacks North (written z) (written-plain z))) refl;
 }
 
--- nothing in a side that is not looked for
+-- nothing in a side that the reader doesn't seek
 pub side-none : (s : Sought) (name : List ℕ) (z : ℤ) → lacks (60 ∷ beginning s) (opening name) ≡ true → lacks (60 ∷ beginning s) (ending name) ≡ true → Finds s (enclosed name (written z)) []
 unfolding enclosed
 side-none s name z opens ends = joined s _ _ [] [] (without s _ opens) (joined s _ _ [] [] (plain s (written z) (written-plain z)) (without s _ ends))

@@ -213,7 +213,7 @@ entry-found s layer =
     (none (opening (codes "MaxScaleDenominator")) refl s) (none (ending (codes "MaxScaleDenominator")) refl s))
     (none (markup part.LayerEnd) refl s)))))
 
--- the text of a layer that is looked for, if any is
+-- the text of a layer that the reader seeks, if it does
 abbrev texts_of : Sought → LayerFields → List (List ℕ)
 texts_of Titles layer = layer.title ∷ []
 texts_of Names layer = layer.name ∷ []
@@ -292,7 +292,7 @@ titles-law n m = document-reads Titles n m ∙ rw (append-nil, shown-texts Title
 pub names-law : NamesAreRead
 names-law n m = document-reads Names n m ∙ rw (append-nil, shown-texts Names (λ (layer : LayerFields). layer.name) (λ layer. refl) m.layers) refl
 
--- nothing of layers where the extent is looked for
+-- nothing in layers where the reader seeks the extent
 no-layers : (s : Sought) → ((layer : LayerFields) → texts_of s layer ≡ []) → (layers : List LayerFields) → layers_of s layers ≡ []
 no-layers s h [] = refl
 no-layers s h (layer ∷ layers) = one layer.on (no-layers s h layers)

@@ -10,7 +10,7 @@ use Rattle.capabilities.specs.Boxes.{is_edge, parts_behind}
 use Rattle.capabilities.specs.Element.{opening}
 use Rattle.capabilities.specs.Texts.{contents_of}
 
--- what is looked for: the titles, the names, the sides of the geographic box, or the boxes
+-- what the reader seeks: the titles, the names, the sides of the geographic box, or the boxes
 pub data Sought : Type 0 where
   Titles : Sought
   Names : Sought
@@ -82,7 +82,7 @@ abbrev pub lacks : List ℕ → List ℕ → Bool
 lacks ms [] = true
 lacks ms (b ∷ bs) = differs ms (b ∷ bs) && lacks ms bs
 
--- nor does any that is looked for
+-- nor does any tag that the reader seeks
 abbrev pub lacks-all : List ℕ → Bool
 lacks-all xs =
     lacks (60 ∷ beginning Titles) xs && (lacks (60 ∷ beginning Names) xs && (lacks (60 ∷ beginning West) xs && (lacks (60 ∷ beginning East) xs

@@ -9,13 +9,13 @@ pub fn texts_change_no_tags()
     ensures { TextsChangeNoTags }
 {}
 
-/// What stands in the elements `Title` of a document, unescaped, is the title of the map, of the service
+/// The contents of the elements `Title` of a document, unescaped, are the title of the map, of the service
 /// and of the outermost layer, and then the title of each layer that is switched on.
 pub fn titles_are_read()
     ensures { TitlesAreRead }
 {}
 
-/// What stands in its elements `Name` is the name of the service, and then that of each such layer.
+/// The contents of its elements `Name` are the name of the service, and then that of each such layer.
 pub fn names_are_read()
     ensures { NamesAreRead }
 {}

@@ -64,7 +64,7 @@ fn add_formats(out: &mut Vec<u8>, operation: Operation) -> Result<(), AllocError
     }
 }
 
-// Adds a request that is answered.
+// Adds a request that the service answers.
 #[tactic(auto, unfolding(crate::specs::Document::request))]
 fn add_request(out: &mut Vec<u8>, operation: Operation, url: &str) -> Result<(), AllocError>
     ensures { OnOk result (out.new.items ≡ out.old.items ++ request operation url.now) }

@@ -6,19 +6,19 @@ ghost use Rattle.clip.specs.EdgeClass.{class_of, IsClass, is_left_of_view, is_ri
 use crate::rows::{RowRange, rows_of};
 use geom::{Edge, PictureSide};
 
-/// What an edge does to the pixels of a picture.
+/// How an edge counts for the pixels of a picture.
 #[derive(Clone, Copy)]
 pub enum EdgeClass {
     /// It counts for no pixel: it crosses no row, or lies right of the view.
     Drop,
     /// It lies left of the view, and counts for each pixel of these rows.
     LeftOfView {
-        /// The rows that it crosses: one at least.
+        /// The rows that it crosses: at least one.
         rows: RowRange,
     },
     /// It counts for the pixels right of it in these rows.
     Walk {
-        /// The rows that it crosses: one at least.
+        /// The rows that it crosses: at least one.
         rows: RowRange,
     },
 }

@@ -15,7 +15,7 @@ pub struct RowRange {
 }
 
 impl RowRange {
-    /// Whether the row is one of them.
+    /// Whether the row is one of these.
     pub fn has(self, row: u16) -> bool
         ensures { result ≡ has_row self row }
     {
@@ -38,7 +38,7 @@ impl RowRange {
         }
     }
 
-    /// Whether there is none.
+    /// Whether there are no rows.
     pub fn is_empty(self) -> bool
         ensures { result ≡ nat_le self.to self.from }
     {

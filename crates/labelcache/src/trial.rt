@@ -74,7 +74,7 @@ fn first_free(
     None
 }
 
-// The first position where a candidate's text is free: of the automatic ones, or of the one that is given.
+// The first position where a candidate's text is free: of the automatic ones, or of the label's own one.
 fn first_position(
     placing: &Placing<'_>,
     page: &Page<'_>,

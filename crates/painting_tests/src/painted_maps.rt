@@ -349,7 +349,7 @@ fn ground_of(letters: &str) -> Option<(Option<Rgb>, u8)> {
 }
 
 // The picture of four degrees by four in four pixels by four, or of eight by eight in eight by eight where
-// the background is written twice: the pixel centres are at half degrees. The scale that is given is that
+// the background is written twice: the pixel centres are at half degrees. The scale is that
 // of 0.28 degrees in a pixel.
 fn drawn(
     alloc: Global,

@@ -5,7 +5,7 @@ use Rattle.std.specs.Prelude.{nat_le, nat_lt}
 use Rattle.scanfill.specs.Runs.{AreRunsFrom, has_column, is_in_spans}
 use Rattle.scanfill.specs.declared.span.Span.{Span}
 
--- no run holds a column before the one from which on they are looked for
+-- no run holds a column before the one from which the search starts
 spans-early : (test : ℕ → Bool) (from end i : ℕ) (spans : List Span) → AreRunsFrom test from end spans → i < from → is_in_spans spans i ≡ false
 spans-early test from end i [] runs h = refl
 spans-early test from end i (span ∷ spans) runs h = or_from (has_column span i) (is_in_spans spans i)

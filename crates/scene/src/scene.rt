@@ -16,7 +16,7 @@ use std::alloc::{AllocError, Global};
 use std::marker::Model;
 use viewport::{Projection, View};
 
-/// What is looked at: a map, the view of a picture, and the scale at which layers and classes show.
+/// The input of drawing: a map, the view of a picture, and the scale at which layers and classes show.
 #[derive(Drop)]
 pub struct Scene<'a> {
     map: &'a Map,
