@@ -8,8 +8,9 @@ use crate::clients::{ClientSide, serve_clients};
 use crate::logging::{Logs, start_log};
 use crate::port::Port;
 use crate::served::Served;
-use crate::serving::{IntoTransport, Network, Ports, Runtime};
+use crate::serving::{Administrators, IntoTransport, Network, PortFor, Ports, Runtime};
 use crate::signals::{ClientSignals, ClientStop, Wakers, signals_of};
+use accesslog::LogQueue;
 use console::{Failure, Writes};
 use eventloop::{Poller, Wakes};
 use history::Blank;
@@ -107,6 +108,31 @@ struct Started<P, R, W: Wakes> {
     has_failed: Arc<AtomicBool, Global>,
 }
 
+// The ports of a service as its sides: its wakers, the side of clients with their log, and the connections of administrators.
+fn sides_of<P, W, Q, I, R>(
+    ports: Ports<P, W, Q, I>,
+    log: Option<LogQueue<R>>,
+) -> (
+    Wakers<W, I>,
+    ClientSide<P, Q, R>,
+    Accepting<PortFor<Administrators, P>>,
+) {
+    let connections = ports.service.connections;
+    let wakers = Wakers {
+        administration: ports.waker,
+        clients: ports.clients_waker,
+        until: ports.until,
+    };
+    let side = ClientSide {
+        port: Accepting::new(ports.clients, connections),
+        pollers: ports.pollers,
+        service: ports.service,
+        log,
+    };
+    let administration = Accepting::new(ports.administration, connections);
+    (wakers, side, administration)
+}
+
 // Starts the threads of clients and of the input's end.
 fn start_sides<S, R, N>(
     rt: &R,
@@ -120,27 +146,8 @@ where
     N: Network,
     ensures failed { IfErr result (λ failure. is_service_failure failure ≡ true) }
 {
-    let Ports {
-        clients,
-        administration,
-        waker,
-        clients_waker,
-        pollers,
-        until,
-        service,
-    } = ports;
-    let wakers = Wakers {
-        administration: waker,
-        clients: clients_waker,
-        until,
-    };
+    let (wakers, side, port) = sides_of(ports, logs.clients);
     let signals = signals_of(rt, wakers)?;
-    let side = ClientSide {
-        port: Accepting::new(clients, service.connections),
-        pollers,
-        service,
-        log: logs.clients,
-    };
     let clients = start_clients::<S, R, N::Connection, N::Transport, N::Port, N::Poller, N::Waker>(
         rt,
         readers,
@@ -150,7 +157,7 @@ where
     Ok(Started {
         clients,
         administering: Administering {
-            port: Accepting::new(administration, service.connections),
+            port,
             is_given: signals.is_given,
             log: logs.administration,
         },
