@@ -11,9 +11,9 @@ use Rattle.maptree.specs.declared.context.Context.{Context}
 use Rattle.maptree.specs.declared.context.Move.{Move}
 use Rattle.maptree.specs.declared.context.Move.TheVariants.{GoesOn, Enters, Leaves}
 use Rattle.maptree.specs.declared.draft.Drafts.{Drafts}
-use Rattle.mapfaults.specs.declared.place.Explained.{Explained}
-use Rattle.mapfaults.specs.declared.place.Finding.{Finding}
-use Rattle.mapfaults.specs.declared.place.Finding.TheVariants as finding
+use Rattle.mapfaults.specs.declared.finding.Explained.{Explained}
+use Rattle.mapfaults.specs.declared.finding.Finding.{Finding}
+use Rattle.mapfaults.specs.declared.finding.Finding.TheVariants as finding
 use Rattle.mapwords.specs.declared.fault.Fault.{Fault}
 use Rattle.mapwords.specs.declared.keyword.Keyword.TheVariants as keyword
 use Rattle.mapwords.specs.declared.fault.ParseKind.{ParseKind}
@@ -69,22 +69,22 @@ module _ (t : TokenValue) (ts : List TokenValue) (tail : Tail) (d : Drafts) wher
   taken-in (o ∷ outer) s p = taken-step o outer s (read_token o.context d t) refl p
 
 -- a token that is taken, and then others
-walked-on : (s next end : Standing) (t : TokenValue) (front : List TokenValue) → stepped s t ≡ Ok next → walked next front ≡ Ok end →
-    walked s (t ∷ front) ≡ Ok end
+walked-on : (s next end : Standing) (t : TokenValue) (prefix : List TokenValue) → stepped s t ≡ Ok next → walked next prefix ≡ Ok end →
+    walked s (t ∷ prefix) ≡ Ok end
 unfolding walked
-walked-on s next end t front step p = rw step p
+walked-on s next end t prefix step p = rw step p
 
-after-back : (s next : Standing) (t : TokenValue) (front : List TokenValue) (openings : List OpeningValue) → stepped s t ≡ Ok next →
-    IsOpenAfter next front openings → IsOpenAfter s (t ∷ front) openings
-after-back s next t front openings step p = record {
+after-back : (s next : Standing) (t : TokenValue) (prefix : List TokenValue) (openings : List OpeningValue) → stepped s t ≡ Ok next →
+    IsOpenAfter next prefix openings → IsOpenAfter s (t ∷ prefix) openings
+after-back s next t prefix openings step p = record {
   drafts = p.drafts;
-  no_fault = walked-on s next (standing openings p.drafts) t front step p.no_fault;
+  no_fault = walked-on s next (standing openings p.drafts) t prefix step p.no_fault;
 }
 
-place-back : (s next : Standing) (t : TokenValue) (ts : List TokenValue) (fault : Fault) (openings : List OpeningValue) (token : Option TokenValue) → stepped s t ≡ Ok next →
+position-back : (s next : Standing) (t : TokenValue) (ts : List TokenValue) (fault : Fault) (openings : List OpeningValue) (token : Option TokenValue) → stepped s t ≡ Ok next →
     IsAt next ts fault openings token → IsAt s (t ∷ ts) fault openings token
-place-back s next t ts fault openings None step p = after-back s next t ts openings step p
-place-back s next t ts fault openings (Some found) step p = record {
+position-back s next t ts fault openings None step p = after-back s next t ts openings step p
+position-back s next t ts fault openings (Some found) step p = record {
   before = t ∷ p.before;
   after = p.after;
   cut = ap (λ us. t ∷ us) p.cut;
@@ -100,7 +100,7 @@ pub walked-back : (s next : Standing) (t : TokenValue) (left : Lexed) (f : Findi
 walked-back s next t left finding.Sound step p = (p.0, taken-in t left.tokens left.tail s.drafts s.openings next step ∙ p.1)
 walked-back s next t left (finding.Faulty e) step p = record {
   fault = taken-in t left.tokens left.tail s.drafts s.openings next step ∙ p.fault;
-  place = place-back s next t left.tokens (fault_in e) e.openings e.token step p.place;
+  position = position-back s next t left.tokens (fault_in e) e.openings e.token step p.position;
 }
 walked-back s next t left finding.NoMemory step p = tt
 
@@ -117,7 +117,7 @@ pub stopped-here : (s : Standing) (t : TokenValue) (left : Lexed) (e : Explained
     IsWalked s (with_token t left) (finding.Faulty e)
 stopped-here s t left e stop token = record {
   fault = refused-in t left.tokens left.tail s.drafts s.openings (fault_in e) stop.is_refused;
-  place = rw token (record {
+  position = rw token (record {
     before = [];
     after = left.tokens;
     cut = refl;
@@ -151,14 +151,14 @@ pub ends-here : (s : Standing) (line end : ℕ) (e : Explained) → (length s.op
     e.openings ≡ s.openings → e.token ≡ None → IsWalked s (stopped line (Ends end)) (finding.Faulty e)
 ends-here s line end e some is same token = record {
   fault = open-ends (Ends end) s.openings s.drafts some ∙ ap (λ x. Err x) (sym is);
-  place = rw token (open-here s e.openings same);
+  position = rw token (open-here s e.openings same);
 }
 
 pub breaks-here : (s : Standing) (line : ℕ) (f : LexFault) (e : Explained) → fault_in e ≡ lexical f →
     e.openings ≡ s.openings → e.token ≡ None → IsWalked s (stopped line (Breaks f)) (finding.Faulty e)
 breaks-here s line f e is same token = record {
   fault = answer-broken f (contexts s.openings) s.drafts ∙ ap (λ x. Err x) (sym is);
-  place = rw token (open-here s e.openings same);
+  position = rw token (open-here s e.openings same);
 }
 
 -- after MAP
@@ -166,7 +166,7 @@ pub after-map : (t : TokenValue) (left : Lexed) (f : Finding) → is_at keyword.
 after-map t left finding.Sound is p = (p.0, sym (same-meaning (t ∷ left.tokens) left.tail) ∙ rw is p.1)
 after-map t left (finding.Faulty e) is p = record {
   fault = sym (same-meaning (t ∷ left.tokens) left.tail) ∙ rw is p.fault;
-  place = rw is p.place;
+  position = rw is p.position;
 }
 after-map t left finding.NoMemory is p = tt
 
@@ -175,12 +175,12 @@ pub before-map : (t : TokenValue) (left : Lexed) (e : Explained) → is_at keywo
     e.openings ≡ [] → e.token ≡ Some t → IsFinding (with_token t left) (finding.Faulty e)
 before-map t left e is fault none token = record {
   fault = sym (same-meaning (t ∷ left.tokens) left.tail) ∙ rw (is, fault) refl;
-  place = rw (is, token, none) (record { after = left.tokens; is_first = refl; is_not_map = is; nothing_open = refl });
+  position = rw (is, token, none) (record { after = left.tokens; is_first = refl; is_not_map = is; nothing_open = refl });
 }
 
 pub without-map : (line : ℕ) (tail : Tail) (e : Explained) → fault_in e ≡ missing tail →
     e.openings ≡ [] → e.token ≡ None → IsFinding (stopped line tail) (finding.Faulty e)
 without-map line tail e fault none token = record {
   fault = sym (same-meaning [] tail) ∙ rw fault refl;
-  place = rw (token, none) (record { no_token = refl; nothing_open = refl });
+  position = rw (token, none) (record { no_token = refl; nothing_open = refl });
 }

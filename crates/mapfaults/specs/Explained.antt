@@ -1,13 +1,13 @@
--- Where the first fault of a mapfile stands (docs/MAPFILE.md, "Faults in words").
+-- Where the first fault of a mapfile is (docs/MAPFILE.md, "Faults in words").
 use Rattle.std.specs.Prelude.{◌≡◌, Bool, true, false, List, [], ◌∷◌, ◌++◌, map, Option, None, Some, Result, Ok, Err}
 use Rattle.maplex.specs.Lexed.{Lexed}
 use Rattle.maplex.specs.Token.{TokenValue}
 use Rattle.mapwords.specs.declared.role.Block.TheVariants as block
 use Rattle.maptree.specs.declared.context.Context.TheVariants.{Keywords}
 use Rattle.maptree.specs.declared.draft.Drafts.{Drafts}
-use Rattle.mapfaults.specs.declared.place.Explained.{Explained}
-use Rattle.mapfaults.specs.declared.place.Finding.{Finding}
-use Rattle.mapfaults.specs.declared.place.Finding.TheVariants as finding
+use Rattle.mapfaults.specs.declared.finding.Explained.{Explained}
+use Rattle.mapfaults.specs.declared.finding.Finding.{Finding}
+use Rattle.mapfaults.specs.declared.finding.Finding.TheVariants as finding
 use Rattle.mapwords.specs.declared.fault.Fault.{Fault}
 use Rattle.mapwords.specs.declared.fault.ParseFault.{ParseFault}
 use Rattle.mapwords.specs.declared.fault.ParseFault.TheVariants.{At, NoMemory}
@@ -51,9 +51,9 @@ walked s [] = Ok s
 walked s (t ∷ ts) = and_then (stepped s t) (λ next. walked next ts)
 
 -- these are open after some tokens that are read without a fault
-pub record IsOpenAfter (s : Standing) (front : List TokenValue) (openings : List OpeningValue) : Type 0 where
+pub record IsOpenAfter (s : Standing) (prefix : List TokenValue) (openings : List OpeningValue) : Type 0 where
   pub drafts : Drafts
-  pub no_fault : walked s front ≡ Ok (standing openings drafts)
+  pub no_fault : walked s prefix ≡ Ok (standing openings drafts)
 
 -- the tokens before this one are read without a fault, these are open then, and this one is refused with the fault
 pub record IsFoundAt (s : Standing) (tokens : List TokenValue) (fault : Fault) (openings : List OpeningValue) (found : TokenValue) : Type 0 where
@@ -68,14 +68,14 @@ abbrev pub IsAt : Standing → List TokenValue → Fault → List OpeningValue �
 IsAt s tokens fault openings None = IsOpenAfter s tokens openings
 IsAt s tokens fault openings (Some found) = IsFoundAt s tokens fault openings found
 
--- the fault that is told
+-- the fault that is reported
 abbrev pub fault_in : Explained → Fault
 fault_in e = record { line = e.line; kind = e.kind }
 
 -- what is left to be read has this fault, and there it is found
 pub record HasFault (reading : Result MapTree Fault) (s : Standing) (tokens : List TokenValue) (e : Explained) : Type 0 where
   pub fault : reading ≡ Err (fault_in e)
-  pub place : IsAt s tokens (fault_in e) e.openings e.token
+  pub position : IsAt s tokens (fault_in e) e.openings e.token
 
 -- what is left to be read is found to have no fault, or its first one
 abbrev pub IsFoundIn : Result MapTree Fault → Standing → List TokenValue → Finding → Type 0
@@ -119,19 +119,19 @@ IsWithoutMap tokens openings None = HasNoToken tokens openings
 IsWithoutMap tokens openings (Some found) = BeginsWithout tokens openings found
 
 -- the fault is found after a first token that is MAP, or without MAP
-abbrev pub IsPlacedBy : Bool → TokenValue → List TokenValue → Fault → List OpeningValue → Option TokenValue → Type 0
-IsPlacedBy true t ts fault openings token = IsAt (begun t) ts fault openings token
-IsPlacedBy false t ts fault openings token = IsWithoutMap (t ∷ ts) openings token
+abbrev pub IsLocatedBy : Bool → TokenValue → List TokenValue → Fault → List OpeningValue → Option TokenValue → Type 0
+IsLocatedBy true t ts fault openings token = IsAt (begun t) ts fault openings token
+IsLocatedBy false t ts fault openings token = IsWithoutMap (t ∷ ts) openings token
 
 -- where the first fault of a mapfile is found
-abbrev pub IsPlaced : List TokenValue → Fault → List OpeningValue → Option TokenValue → Type 0
-IsPlaced [] fault openings token = IsWithoutMap [] openings token
-IsPlaced (t ∷ ts) fault openings token = IsPlacedBy (is_at keyword.Map t) t ts fault openings token
+abbrev pub IsLocated : List TokenValue → Fault → List OpeningValue → Option TokenValue → Type 0
+IsLocated [] fault openings token = IsWithoutMap [] openings token
+IsLocated (t ∷ ts) fault openings token = IsLocatedBy (is_at keyword.Map t) t ts fault openings token
 
 -- a mapfile has this first fault, and there it is found
 pub record IsExplained (source : Lexed) (e : Explained) : Type 0 where
   pub fault : tree_of source ≡ Err (fault_in e)
-  pub place : IsPlaced source.tokens (fault_in e) e.openings e.token
+  pub position : IsLocated source.tokens (fault_in e) e.openings e.token
 
 -- what is found of a mapfile: a tree, or its first fault
 abbrev pub IsFinding : Lexed → Finding → Type 0

@@ -1,4 +1,4 @@
--- The words on a file that a mapfile names and that can't be read (docs/MAPFILE.md, "Faults in words").
+-- The message on a file that a mapfile names and that can't be read (docs/MAPFILE.md, "Faults in words").
 use Rattle.std.specs.Prelude.{◌≡◌, ◌==◌, ◌&&◌, ◌||◌, if◌then◌else◌, ℕ, nat_lt, Bool, false, List, [], ◌∷◌, ◌++◌, find, Option, Some, codes}
 use Rattle.std.specs.Option.{is_none}
 use Rattle.maptree.specs.declared.tree.MapTree.{MapTree}
@@ -24,9 +24,9 @@ abbrev pub has_control : List ℕ → Bool
 has_control [] = false
 has_control (b ∷ bs) = is_control_byte b || begins_with_late_control (b ∷ bs) || has_control bs
 
--- the words on a file that can't be read, by its name and the keyword that names it; a name with a control character isn't shown
-abbrev pub missing_words : List ℕ → List ℕ → List ℕ
-missing_words name keyword =
+-- the message on a file that can't be read, by its name and the keyword that names it; a name with a control character isn't shown
+abbrev pub missing_message : List ℕ → List ℕ → List ℕ
+missing_message name keyword =
     if has_control name
     then codes "the file that " ++ (keyword ++ codes " names can't be read")
     else codes "the file " ++ (name ++ (codes ", which " ++ (keyword ++ codes " names, can't be read")))
@@ -39,20 +39,20 @@ is_missing files name = is_none (bytes_in name files)
 abbrev pub first_missing : List FileBytes → List (List ℕ) → Option (List ℕ)
 first_missing files names = find (is_missing files) names
 
--- words name the first of the files that a mapfile uses and that isn't given
-pub record NamesMissing (files : List FileBytes) (tree : MapTree) (words : List ℕ) : Type 0 where
+-- a message names the first of the files that a mapfile uses and that is missing
+pub record NamesMissing (files : List FileBytes) (tree : MapTree) (message : List ℕ) : Type 0 where
   pub name : List ℕ
   pub is_first : first_missing files (uses_of tree) ≡ Some name
   pub keyword : List ℕ
-  pub says : words ≡ missing_words name keyword
+  pub says : message ≡ missing_message name keyword
 
--- words are on a file that has this cause: one that can't be read they name; what they say of another has no definition
+-- a message is on a file that has this cause: one that can't be read it names; what it says of another has no definition
 abbrev pub AreOnCause : FileCause → List FileBytes → MapTree → List ℕ → Type 0
-AreOnCause Missing files tree words = NamesMissing files tree words
-AreOnCause cause files tree words = Unit {0}
+AreOnCause Missing files tree message = NamesMissing files tree message
+AreOnCause cause files tree message = Unit {0}
 
--- words are on the first used of the files that have a fault
-pub record AreOnFiles (files : List FileBytes) (tree : MapTree) (words : List ℕ) : Type 0 where
+-- a message is on the first used of the files that have a fault
+pub record AreOnFiles (files : List FileBytes) (tree : MapTree) (message : List ℕ) : Type 0 where
   pub fault : FileFault
   pub is_first : files_fault files tree ≡ Some (fault_in fault)
-  pub on : AreOnCause fault.cause files tree words
+  pub on : AreOnCause fault.cause files tree message

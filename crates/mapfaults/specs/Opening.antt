@@ -12,9 +12,9 @@ pub record OpeningValue : Type 0 where
   pub word : List ℕ
   pub line : ℕ
 
--- a word opens a block, if not values that it wants
+-- a word opens a block, or values that it expects
 abbrev pub opens_block : Context → Bool
-opens_block (Values expected) = false
+opens_block (Values b expected) = false
 opens_block _ = true
 
 -- what a token opens

@@ -77,25 +77,25 @@ warnings map =
     ++ (warned (is_beyond_degrees map.extent) (on_service concern.BeyondDegrees)
     ++ layers_warnings (is_some map.font) 1 map.layers)))
 
--- what a warning is on, in words
+-- what a warning is on
 unfoldable pub subject_of : Option ℕ → List ℕ
 subject_of None = codes "the service"
 subject_of (Some number) = codes "LAYER " ++ decimal number
 
--- what isn't as it should be there, in words
-unfoldable pub words_of : Concern → List ℕ
-words_of concern.NoAddress = codes " has no wms_onlineresource, and http://localhost/wms? has no port"
-words_of concern.CommaInName = codes " has a NAME with a comma, so that LAYERS can't ask for it"
-words_of concern.ForbiddenInName = codes " has a NAME with a character that XML forbids"
-words_of concern.ForbiddenInTitle = codes " has a title with a character that XML forbids"
-words_of concern.ForbiddenInAddress = codes " has an address with a character that XML forbids"
-words_of concern.BeyondDegrees = codes " has an EXTENT beyond 180 degrees of longitude or 90 of latitude"
-words_of concern.UnknownLabelItem = codes " has a LABELITEM that is none of its items"
-words_of concern.UnknownClassItem = codes " has a CLASSITEM that is none of its items"
-words_of concern.UnknownItem = codes " has an EXPRESSION that looks at none of its items"
-words_of concern.NoFont = codes " has a LABEL, and the map has no LABELFONT"
-words_of concern.NoClass = codes " has features and no CLASS"
-words_of concern.BareClass = codes " has a CLASS without STYLE and LABEL"
+-- the message on what isn't as it should be there
+unfoldable pub message_of : Concern → List ℕ
+message_of concern.NoAddress = codes " has no wms_onlineresource, and http://localhost/wms? has no port"
+message_of concern.CommaInName = codes " has a NAME with a comma, so that LAYERS can't ask for it"
+message_of concern.ForbiddenInName = codes " has a NAME with a character that XML forbids"
+message_of concern.ForbiddenInTitle = codes " has a title with a character that XML forbids"
+message_of concern.ForbiddenInAddress = codes " has an address with a character that XML forbids"
+message_of concern.BeyondDegrees = codes " has an EXTENT beyond 180 degrees of longitude or 90 of latitude"
+message_of concern.UnknownLabelItem = codes " has a LABELITEM that is none of its items"
+message_of concern.UnknownClassItem = codes " has a CLASSITEM that is none of its items"
+message_of concern.UnknownItem = codes " has an EXPRESSION that looks at none of its items"
+message_of concern.NoFont = codes " has a LABEL, and the map has no LABELFONT"
+message_of concern.NoClass = codes " has features and no CLASS"
+message_of concern.BareClass = codes " has a CLASS without STYLE and LABEL"
 
 -- what stands between the name of a mapfile and a warning
 unfoldable pub marked : List ℕ
@@ -103,7 +103,7 @@ marked = codes ": warning: "
 
 -- the line of a warning, which begins with the name of the mapfile
 unfoldable pub warning_line : List ℕ → Warning → List ℕ
-warning_line name w = name ++ (marked ++ (subject_of w.layer ++ (words_of w.concern ++ codes "\n")))
+warning_line name w = name ++ (marked ++ (subject_of w.layer ++ (message_of w.concern ++ codes "\n")))
 
 -- the lines of all warnings on a map
 abbrev pub warning_lines : List ℕ → MapFields → List ℕ

@@ -2,6 +2,7 @@ use crate::sentence::{SHOWN, cut};
 use csvpoints::{CsvError, CsvFault, CsvKind};
 use mapparse::Files;
 use maptree::LayerTree;
+use mapwords::TextKeyword;
 use std::alloc::{AllocError, Global};
 use std::str;
 
@@ -10,11 +11,12 @@ const SHOWN_HEADER: usize = 200;
 
 // The names of the columns in which a layer looks for its coordinates.
 fn columns_of(layer: &LayerTree) -> (&str, &str) {
-    let x = match &layer.csv_x {
+    let values = &layer.body.values;
+    let x = match values.plain_text(TextKeyword::CsvX) {
         Some(name) => name.as_str(),
         None => "x",
     };
-    let y = match &layer.csv_y {
+    let y = match values.plain_text(TextKeyword::CsvY) {
         Some(name) => name.as_str(),
         None => "y",
     };
@@ -70,7 +72,12 @@ fn table_on(layers: &[LayerTree], line: u64) -> Option<&str> {
 
 /// Which columns are looked for in the table that is named on a line, and its header, where that lacks one. The source is
 /// parsed for the names of the columns.
-pub fn words_on_columns(alloc: Global, source: &[u8], files: &Files, line: u64) -> Option<String> {
+pub fn message_on_columns(
+    alloc: Global,
+    source: &[u8],
+    files: &Files,
+    line: u64,
+) -> Option<String> {
     let tree = maptree::read(alloc, source).ok()?;
     let layers = tree.layers.as_slice();
     let name = table_on(layers, line)?;

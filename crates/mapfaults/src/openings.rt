@@ -1,9 +1,9 @@
-ghost use Rattle.std.specs.Prelude.{◌≡◌, ◌==◌, [], ◌∷◌, length, reverse, OnOk, MatchOption};
+ghost use Rattle.std.specs.Prelude.{◌≡◌, OnOk};
 ghost use Rattle.mapfaults.specs.Opening.{opened, opening, opens_block};
 
 use maplex::Token;
-use maptree::{Context, Move};
-use std::alloc::{AllocError, Global};
+use maptree::{Context, Move, Stack};
+use std::alloc::AllocError;
 use std::marker::Model;
 
 /// A context that is open, with the word that opened it.
@@ -41,7 +41,7 @@ impl<'a> Opening<'a> {
     pub fn is_block(&self) -> bool
         ensures { result ≡ opens_block self.now.context }
     {
-        !matches!(self.context, Context::Values(_))
+        !matches!(self.context, Context::Values(..))
     }
 
     // The same word, which goes on in another context.
@@ -56,78 +56,22 @@ impl<'a> Opening<'a> {
     }
 }
 
-/// What is open, the innermost first.
-#[derive(Drop)]
-pub struct Openings<'a> {
-    // The outermost first.
-    open: Vec<Opening<'a>>,
-}
-
-impl<'a> Model for Openings<'a> {
-    ghost use Rattle.std.specs.Prelude.{List, reverse};
-    ghost use Rattle.mapfaults.specs.Opening.{OpeningValue};
-
-    ghost Value = { List OpeningValue };
-
-    ghost view = { λ o. reverse o.open.items };
-}
-
-impl<'a> Openings<'a> {
-    /// Nothing is open. It takes no memory.
-    pub fn new(alloc: Global) -> Self
-        ensures { result ≡ [] }
-    {
-        Openings {
-            open: Vec::new(alloc),
+/// Goes on after a token in what was the innermost opening, inside the others, the innermost of which is on top.
+pub fn go_on<'a>(
+    openings: &mut Stack<Opening<'a>>,
+    inner: Opening<'a>,
+    next: Move,
+    token: &Token<'a>,
+) -> Result<(), AllocError>
+    ensures { OnOk result (openings.new ≡ opened next token.now inner.entry openings.old) }
+{
+    match next {
+        Move::GoesOn(context) => openings.push(inner.becomes(context))?,
+        Move::Enters(context) => {
+            openings.push(inner)?;
+            openings.push(Opening::new(context, token))?;
         }
+        Move::Leaves => {}
     }
-
-    /// Adds the innermost.
-    pub fn push(&mut self, opening: Opening<'a>) -> Result<(), AllocError>
-        ensures { OnOk result (self.new ≡ opening.entry ∷ self.old) }
-    {
-        self.open.push(opening)?;
-        Ok(())
-    }
-
-    /// Removes the innermost.
-    pub fn pop(&mut self) -> Option<Opening<'a>>
-        ensures { MatchOption result ((self.old ≡ []) × (self.new ≡ [])) (λ opening. self.old ≡ opening ∷ self.new) }
-    {
-        self.open.pop()
-    }
-
-    /// Whether nothing is open.
-    pub fn is_empty(&self) -> bool
-        ensures { result ≡ (length self.now == 0) }
-    {
-        self.open.is_empty()
-    }
-
-    /// Goes on after a token in what was the innermost, inside these.
-    pub fn go_on(
-        &mut self,
-        inner: Opening<'a>,
-        next: Move,
-        token: &Token<'a>,
-    ) -> Result<(), AllocError>
-        ensures { OnOk result (self.new ≡ opened next token.now inner.entry self.old) }
-    {
-        match next {
-            Move::GoesOn(context) => self.push(inner.becomes(context))?,
-            Move::Enters(context) => {
-                self.push(inner)?;
-                self.push(Opening::new(context, token))?;
-            }
-            Move::Leaves => {}
-        }
-        Ok(())
-    }
-
-    /// All that is open, the outermost first.
-    pub fn as_slice(&self) -> &[Opening<'a>]
-        ensures { self.now ≡ reverse result.now }
-    {
-        &self.open
-    }
+    Ok(())
 }

@@ -1,7 +1,7 @@
+use crate::expected_text::expected_text;
+use crate::finding::{Explained, Finding, explain};
 use crate::foreign::{advice, has_tilde};
 use crate::openings::Opening;
-use crate::place::{Explained, Finding, explain};
-use crate::wanted::wanted;
 use expressions::{ExprError, read};
 use mapdefs::{
     MAX_CLASSES, MAX_FEATURES, MAX_ITEMS, MAX_LAYERS, MAX_STYLES, MAX_SYMBOLS, MAX_VERTICES, Text,
@@ -66,7 +66,7 @@ fn block(alloc: Global, openings: &[Opening]) -> Result<String, AllocError> {
     }
 }
 
-// The words on a keyword of MapServer that isn't read in a block. There are none on another token.
+// The message on a keyword of MapServer that isn't read in a block. There are none on another token.
 fn foreign_word(
     alloc: Global,
     context: Context,
@@ -77,37 +77,37 @@ fn foreign_word(
         return Ok(None);
     };
     if token.text.starts_with("/*") {
-        let words = format!(in alloc;
+        let message = format!(in alloc;
             "{shown} begins a comment of MapServer, which isn't supported: begin each of its lines with #"
         )?;
-        return Ok(Some(words));
+        return Ok(Some(message));
     }
     match advice(alloc, block, token.text)? {
         Some(advice) => {
-            let words = format!(in alloc; "{shown} is MapServer's and isn't supported{advice}")?;
-            Ok(Some(words))
+            let message = format!(in alloc; "{shown} is MapServer's and isn't supported{advice}")?;
+            Ok(Some(message))
         }
         None => Ok(None),
     }
 }
 
-// The words on a token that is no keyword of a block.
+// The message on a token that is no keyword of a block.
 fn no_keyword(alloc: Global, opening: &Opening, token: &Token) -> Result<String, AllocError> {
     let shown = found(alloc, token)?;
     let name = opener(alloc, opening.word)?;
     match foreign_word(alloc, opening.context, token, shown.as_str())? {
-        Some(words) => Ok(words),
+        Some(message) => Ok(message),
         None => format!(in alloc; "{shown} is no keyword of {name}"),
     }
 }
 
-// The words on a token that stands where none of its kind may.
+// The message on a token that stands where none of its kind may.
 fn unknown_word(alloc: Global, e: &Explained, token: &Token) -> Result<String, AllocError> {
     match block_in(e.openings.as_slice()) {
         Some(opening) => no_keyword(alloc, opening, token),
         None => {
             let shown = found(alloc, token)?;
-            if e.noted.begun {
+            if e.hints.begun {
                 format!(in alloc; "{shown} stands after the END of MAP")
             } else if token.text.starts_with('\u{FEFF}') {
                 String::from_str(
@@ -129,7 +129,7 @@ fn unread(alloc: Global, text: &str) -> Option<&str> {
     }
 }
 
-// The words on what isn't read as a rule.
+// The message on what isn't read as a rule.
 fn no_expression(alloc: Global, token: &Token, shown: &str) -> Result<String, AllocError> {
     if token.shape == Shape::Word {
         return format!(in alloc;
@@ -149,13 +149,13 @@ fn no_expression(alloc: Global, token: &Token, shown: &str) -> Result<String, Al
     format!(in alloc; "{shown} is no expression: nothing is read from {rest} on")
 }
 
-// The words on a token that is no value.
+// The message on a token that is no value.
 fn wrong_value(alloc: Global, inner: &Opening, token: &str) -> Result<String, AllocError> {
     let name = opener(alloc, inner.word)?;
     match inner.context {
-        Context::Values(expected) => {
-            let wanted = wanted(expected);
-            format!(in alloc; "{token} is no value of {name}, which takes {wanted}")
+        Context::Values(_, expected) => {
+            let expected = expected_text(alloc, expected)?;
+            format!(in alloc; "{token} is no value of {name}, which takes {expected}")
         }
         Context::Keywords(Block::Points) => {
             format!(in alloc; "{token} is no longitude in {name}: a number from -1000 to 1000")
@@ -173,7 +173,7 @@ fn wrong_value(alloc: Global, inner: &Opening, token: &str) -> Result<String, Al
     }
 }
 
-// The words on an END before a value.
+// The message on an END before a value.
 fn no_value(alloc: Global, expected: Expected, name: &str) -> Result<String, AllocError> {
     match expected {
         Expected::Green(..)
@@ -186,18 +186,18 @@ fn no_value(alloc: Global, expected: Expected, name: &str) -> Result<String, All
     }
 }
 
-// The words on an END before all that has to be given.
+// The message on an END before a required keyword or value.
 fn missing_value(alloc: Global, e: &Explained, inner: &Opening) -> Result<String, AllocError> {
     let block = block(alloc, e.openings.as_slice())?;
     match inner.context {
-        Context::Values(expected) => {
+        Context::Values(_, expected) => {
             let name = opener(alloc, inner.word)?;
             no_value(alloc, expected, name.as_str())
         }
         Context::Latitude(_) => { format!(in alloc; "the last vertex of {block} has no latitude") }
         Context::Keywords(_) => {
-            let lacking = e.noted.lacking;
-            format!(in alloc; "{block} has no {lacking}")
+            let missing = e.hints.missing.unwrap_or("value");
+            format!(in alloc; "{block} has no {missing}")
         }
     }
 }
@@ -214,7 +214,7 @@ fn most_blocks(keyword: Option<Keyword>) -> Option<usize> {
     }
 }
 
-// The words on a block more than a block may have.
+// The message on a block more than a block may have.
 fn more_blocks(alloc: Global, block: &str, word: &str) -> Result<String, AllocError> {
     let name = opener(alloc, word)?;
     match most_blocks(Keyword::of(word)) {
@@ -223,10 +223,10 @@ fn more_blocks(alloc: Global, block: &str, word: &str) -> Result<String, AllocEr
     }
 }
 
-// The words on what is more than a map may have.
+// The message on what is more than a map may have.
 fn limit(alloc: Global, e: &Explained, inner: &Opening, word: &str) -> Result<String, AllocError> {
     match (inner.context, e.openings.as_slice()) {
-        (Context::Values(_), _) => {
+        (Context::Values(..), _) => {
             let name = opener(alloc, inner.word)?;
             format!(in alloc; "{name} names more than {MAX_ITEMS} items")
         }
@@ -257,7 +257,7 @@ fn line_at(source: &[u8], line: u64) -> &[u8] {
     }
 }
 
-// The words on a line with a byte that no token may have.
+// The message on a line with a byte that no token may have.
 fn bad_byte(line: &[u8]) -> &'static str {
     let is_control = |byte: &u8| (*byte < 32 && !matches!(*byte, 9..=13)) || *byte == 127;
     if str::from_utf8(line).is_err() {
@@ -270,8 +270,8 @@ fn bad_byte(line: &[u8]) -> &'static str {
 }
 
 impl<'a> Explained<'a> {
-    // The words on a fault at a token, inside the innermost of what is open.
-    fn words_inside(
+    // The message on a fault at a token, inside the innermost of what is open.
+    fn message_inside(
         &self,
         alloc: Global,
         inner: &Opening,
@@ -283,7 +283,7 @@ impl<'a> Explained<'a> {
             ParseKind::MissingValue => missing_value(alloc, self, inner),
             ParseKind::Limit => limit(alloc, self, inner, token.text),
             ParseKind::DuplicateName => {
-                let name = cut(alloc, self.noted.name, SHOWN)?;
+                let name = cut(alloc, self.hints.name, SHOWN)?;
                 format!(in alloc; "an earlier LAYER has the NAME {name}")
             }
             ParseKind::BadExpression => no_expression(alloc, token, found.as_str()),
@@ -291,18 +291,18 @@ impl<'a> Explained<'a> {
         }
     }
 
-    // The words on a mapfile that ends too early.
-    fn words_after(&self, alloc: Global) -> Result<String, AllocError> {
-        if !self.noted.begun {
+    // The message on a mapfile that ends too early.
+    fn message_after(&self, alloc: Global) -> Result<String, AllocError> {
+        if !self.hints.begun {
             return String::from_str(alloc, "the mapfile has no MAP");
         }
         let block = block(alloc, self.openings.as_slice())?;
         format!(in alloc; "the mapfile ends inside {block}, which has no END")
     }
 
-    /// The words on the fault, which is one of this source: one sentence without a full stop, which shows no control
+    /// The message on the fault, which is one of this source: one sentence without a full stop, which shows no control
     /// characters.
-    pub fn words(&self, alloc: Global, source: &[u8]) -> Result<String, AllocError> {
+    pub fn message(&self, alloc: Global, source: &[u8]) -> Result<String, AllocError> {
         match self.kind {
             ParseKind::Lex(LexKind::BadByte) => {
                 return String::from_str(alloc, bad_byte(line_at(source, self.line)));
@@ -311,18 +311,18 @@ impl<'a> Explained<'a> {
             _ => {}
         }
         match (&self.token, self.openings.as_slice()) {
-            (Some(token), [.., inner]) => self.words_inside(alloc, inner, token),
+            (Some(token), [.., inner]) => self.message_inside(alloc, inner, token),
             (Some(token), []) => unknown_word(alloc, self, token),
-            (None, _) => self.words_after(alloc),
+            (None, _) => self.message_after(alloc),
         }
     }
 }
 
-/// The words on the first fault of what is written in a mapfile. There are none where it has no such fault, or where
+/// The message on the first fault of what is written in a mapfile. There is none where it has no such fault, or where
 /// memory is refused.
-pub fn words_on_source(alloc: Global, source: &[u8]) -> Option<Text> {
+pub fn message_on_source(alloc: Global, source: &[u8]) -> Option<Text> {
     match explain(alloc, source) {
-        Finding::Faulty(explained) => Some(Text::of(explained.words(alloc, source).ok()?)),
+        Finding::Faulty(explained) => Some(Text::of(explained.message(alloc, source).ok()?)),
         Finding::Sound | Finding::NoMemory => None,
     }
 }

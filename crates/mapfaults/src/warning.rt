@@ -1,7 +1,7 @@
 ghost use Rattle.std.specs.Prelude.{◌≡◌, ◌++◌, IfOk, OnOk};
 ghost use Rattle.std.specs.List.{flat_map, list_any};
 ghost use Rattle.mapfaults.specs.Unused.{is_bare, lacks_of_rule};
-ghost use Rattle.mapfaults.specs.Warning.{drawing_warnings, is_beyond_degrees, is_comma, is_default_address, item_warnings, layer_warnings, layers_warnings, marked, subject_of, text_warnings, warned, warning_line, warning_lines, warnings, words_of};
+ghost use Rattle.mapfaults.specs.Warning.{drawing_warnings, is_beyond_degrees, is_comma, is_default_address, item_warnings, layer_warnings, layers_warnings, marked, subject_of, text_warnings, warned, warning_line, warning_lines, warnings, message_of};
 
 use crate::unused::{has_label, is_bare, is_unclassed, lacks_named, lacks_of_rule};
 use geom::{Micro, WorldBox};
@@ -49,10 +49,10 @@ pub struct Warning {
 }
 
 impl Concern {
-    // What is said of it, behind what it is of.
-    #[tactic(auto, unfolding(crate::specs::Warning::words_of))]
-    fn words(self) -> &'static str
-        ensures { result.now ≡ words_of self }
+    // The message on it, behind what it is of.
+    #[tactic(auto, unfolding(crate::specs::Warning::message_of))]
+    fn message(self) -> &'static str
+        ensures { result.now ≡ message_of self }
     {
         match self {
             Concern::NoAddress => {
@@ -274,7 +274,7 @@ fn add_line(out: &mut Vec<u8>, name: &str, warning: Warning) -> Result<(), Alloc
     out.extend_from_slice(name.as_bytes())?;
     out.extend_from_slice(mark().as_bytes())?;
     add_subject(out, warning.layer)?;
-    out.extend_from_slice(warning.concern.words().as_bytes())?;
+    out.extend_from_slice(warning.concern.message().as_bytes())?;
     out.extend_from_slice(b"\n")
 }
 

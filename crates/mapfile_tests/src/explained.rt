@@ -8,7 +8,7 @@ fn told(alloc: Global, source: &str) -> Result<String, AllocError> {
     match explain(alloc, source.as_bytes()) {
         Finding::Sound => String::from_str(alloc, "sound"),
         Finding::Faulty(fault) => {
-            let (line, words) = (fault.line, fault.words(alloc, source.as_bytes())?);
+            let (line, words) = (fault.line, fault.message(alloc, source.as_bytes())?);
             format!(in alloc; "{line}: {words}")
         }
         Finding::NoMemory => Err(AllocError),
@@ -155,7 +155,7 @@ fn told_of_bytes(alloc: Global, _row: &str) -> Result<String, AllocError> {
     let source = b"MAP\nNAME 'caf\xE9'\nEND";
     match explain(alloc, source) {
         Finding::Faulty(fault) => {
-            let (line, words) = (fault.line, fault.words(alloc, source)?);
+            let (line, words) = (fault.line, fault.message(alloc, source)?);
             format!(in alloc; "{line}: {words}")
         }
         Finding::Sound | Finding::NoMemory => Err(AllocError),

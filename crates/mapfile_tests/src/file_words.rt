@@ -1,5 +1,5 @@
 use mapdefs::{Items, Text};
-use mapfaults::{MapfileAtHand, words_on_files};
+use mapfaults::{MapfileAtHand, message_on_files};
 use mapparse::{Files, Mapfile};
 use std::alloc::{AllocError, Global};
 use test_tables::{TableFault, check_rows};
@@ -29,7 +29,7 @@ fn told_row(alloc: Global, row: &str) -> Result<String, AllocError> {
         mapfile: &mapfile,
         files: &files,
     };
-    let words = words_on_files(alloc, at_hand);
+    let words = message_on_files(alloc, at_hand);
     let words = words.as_ref().map_or("none", |words| words.as_str());
     let words = String::from_str(alloc, words);
     // Dropped by name, through the one drop of its type.

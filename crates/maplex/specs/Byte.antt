@@ -1,4 +1,4 @@
--- The bytes by which tokens are told apart (docs/MAPFILE.md, "Tokens").
+-- The bytes by which tokens are distinguished (docs/MAPFILE.md, "Tokens").
 use Rattle.std.specs.Prelude.{ℕ, Bool, not, ◌==◌, ◌||◌, ◌&&◌, nat_lt}
 
 -- a separator: space, tab, LF, CR or form feed

@@ -1,11 +1,11 @@
 //! Cuts the bytes of a mapfile into tokens.
 //!
 //! Proved: `Tokens::new` has the tokens and the tail that the definition `lexed` finds in the source.
-//! `Tokens::next` takes the first token that is left, by its clause `token`, or tells the fault that
+//! `Tokens::next` takes the first token that is left, by its clause `token`, or reports the fault that
 //! ends them, by `fault`. From then on it returns `None`. `laws` states that `lexed` finds the one
 //! reading of the source by its grammar, in which blanks, comments and tokens make up the source.
 //!
-//! Words: a *separator* is a space, tab, LF, CR or form feed. A *bare word* (`Shape::Word`) is a token
+//! Terms: a *separator* is a space, tab, LF, CR or form feed. A *bare word* (`Shape::Word`) is a token
 //! without quotes and brackets, a *quoted text* (`Shape::Text`) one between quotes, a *logical expression*
 //! (`Shape::Logic`) one between round brackets, and a *list* (`Shape::List`) one between curly brackets.
 //! A *position* in a source is the bytes that are left there, and their line. The *tail* is what comes

@@ -103,7 +103,7 @@ impl<'a> Tokens<'a> {
 
     /// The line that reading has reached, after blanks and comments. That is the line on which the next
     /// token begins, even where it has a fault further down. At the end it is the last line of the
-    /// source, and once a fault is told it is the fault's.
+    /// source, and once a fault is reported it is the fault's.
     pub fn line(&self) -> u64
         ensures { result ≡ self.now.line }
     {

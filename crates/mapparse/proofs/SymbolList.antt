@@ -17,7 +17,7 @@ module _ (files : List FileBytes) (done : List Symbol) where
   joined symbol (Err f) = refl
 
   pub one-more : (trees : List SymbolTree) (i : ℕ) (tree : SymbolTree) (made : Symbol) → i < length trees → tree ≡ get_or trees i tree →
-      (pixmap_in files tree.image ≡ Ok made.pixmap) × (made.name ≡ tree.name) →
+      (pixmap_in files tree.image ≡ Ok made.pixmap) × (made.name ≡ tree.name.text) →
       and_then (symbols_of files (drop (i + 1) trees)) (λ more. Ok ((done ++ made ∷ []) ++ more))
       ≡ and_then (symbols_of files (drop i trees)) (λ more. Ok (done ++ more))
   one-more trees i tree made below e is =

@@ -49,6 +49,6 @@ zip-at_most (layer ∷ layers) [] = omega arith
 zip-at_most (layer ∷ layers) (table ∷ tables) = let more = zip-at_most layers tables in omega (arith, more)
 
 -- a layer has room for the rows of its table behind the features that it is given
-pub room-fits : (layer : LayerTree) (table : Option TableFields) → length layer.features ≤ MAX_FEATURES → HasRoom layer table → length layer.features + length (rows_of table) ≤ MAX_FEATURES
+pub room-fits : (layer : LayerTree) (table : Option TableFields) → length layer.body.features ≤ MAX_FEATURES → HasRoom layer table → length layer.body.features + length (rows_of table) ≤ MAX_FEATURES
 room-fits layer None few room = omega (arith, few)
 room-fits layer (Some t) few room = room

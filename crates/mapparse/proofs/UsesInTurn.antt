@@ -1,6 +1,6 @@
 -- The uses of files are noted in turn.
 use Rattle.std.proofs.Common.{◌≡◌, List, [], ◌∷◌, ◌++◌, refl}
-use Rattle.maptree.specs.declared.tree.Named.{Named}
+use Rattle.mapwords.specs.declared.named.Named.{Named}
 use Rattle.mapparse.specs.Uses.{with_use, uses_after}
 
 -- those of some files, and then of others, are those of all

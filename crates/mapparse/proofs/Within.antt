@@ -5,13 +5,13 @@ use Rattle.std.specs.Option.{option_or}
 use Rattle.csvpoints.specs.declared.table.TableFields.{TableFields}
 use Rattle.mapdefs.specs.Name.{is_same_name}
 use Rattle.mapdefs.specs.declared.symbol.Symbol.{Symbol}
-use Rattle.maptree.specs.declared.tree.Named.{Named}
+use Rattle.mapwords.specs.declared.named.Named.{Named}
 use Rattle.mapparse.specs.Symbols.{last_named, symbol_index}
 use Rattle.std.specs.List.{All}
 use Rattle.std.proofs.lemmas.List.Elements.{All-map}
 use Rattle.mapdefs.specs.LayerLimits.{HasValues}
 use Rattle.mapdefs.specs.MapLimits.{NamesSymbolOf, ClassNamesSymbolsOf, LayerNamesSymbolsOf}
-use Rattle.maptree.specs.declared.tree.StyleTree.{StyleTree}
+use Rattle.mapwords.specs.declared.value.Value.{Value}
 use Rattle.maptree.specs.declared.tree.ClassTree.{ClassTree}
 use Rattle.maptree.specs.declared.tree.FeatureTree.{FeatureTree}
 use Rattle.maptree.specs.declared.tree.LayerTree.{LayerTree}
@@ -38,7 +38,7 @@ module _ (symbols : List Symbol) where
   named-within None = tt
   named-within (Some named) = last-within named.text symbols
 
-  pub style_symbols : (styles : List StyleTree) → All (NamesSymbolOf (length symbols)) (map (style_of symbols) styles)
+  pub style_symbols : (styles : List (List Value)) → All (NamesSymbolOf (length symbols)) (map (style_of symbols) styles)
   style_symbols styles = All-map (NamesSymbolOf (length symbols)) (style_of symbols) styles (λ k style below. named-within _)
 
   pub class_symbols : (classes : List ClassTree) → All (ClassNamesSymbolsOf (length symbols)) (map (class_of symbols) classes)

@@ -8,8 +8,7 @@ use Rattle.mapdefs.specs.declared.font.FontFields.{FontFields}
 use Rattle.mapdefs.specs.declared.font.Glyph.{Glyph}
 use Rattle.mapwords.specs.declared.fault.Fault.{Fault}
 use Rattle.mapwords.specs.Fault.{and_then}
-use Rattle.maptree.specs.declared.tree.FontTree.{FontTree}
-use Rattle.maptree.specs.declared.tree.Named.{Named}
+use Rattle.mapwords.specs.declared.named.Named.{Named}
 use Rattle.mapparse.specs.declared.files.FileBytes.{FileBytes}
 use Rattle.mapparse.specs.Files.{bytes_in, read_from}
 
@@ -40,9 +39,9 @@ abbrev pub font_in : List FileBytes → Named → Result FontFields Fault
 font_in files file = read_from font_of file.line (bytes_in file.text files)
 
 -- the font of a map, if it names one
-abbrev pub font_given : List FileBytes → Option FontTree → Result (Option FontFields) Fault
+abbrev pub font_given : List FileBytes → Option Named → Result (Option FontFields) Fault
 font_given files None = Ok None
-font_given files (Some font) = and_then (font_in files font.file) (λ read. Ok (Some read))
+font_given files (Some file) = and_then (font_in files file) (λ read. Ok (Some read))
 
 -- the error of a font: its fault, or that memory was refused
 abbrev pub IsFontErrorOf : Result FontFields FontFault → FontError → Type 0

@@ -5,7 +5,7 @@ use Rattle.mapdefs.specs.Name.{is_same_name}
 use Rattle.mapdefs.specs.declared.symbol.PixmapFields.{PixmapFields}
 use Rattle.mapdefs.specs.declared.symbol.Symbol.{Symbol}
 use Rattle.mapwords.specs.declared.fault.Fault.{Fault}
-use Rattle.maptree.specs.declared.tree.Named.{Named}
+use Rattle.mapwords.specs.declared.named.Named.{Named}
 use Rattle.maptree.specs.declared.tree.SymbolTree.{SymbolTree}
 use Rattle.mapwords.specs.Fault.{and_then}
 use Rattle.symbols.specs.Format.{pixmap_of}
@@ -31,4 +31,4 @@ abbrev pub symbols_of : List FileBytes → List SymbolTree → Result (List Symb
 symbols_of files [] = Ok []
 symbols_of files (tree ∷ trees) =
     and_then (pixmap_in files tree.image) (λ pixmap.
-    and_then (symbols_of files trees) (λ symbols. Ok (record { name = tree.name; pixmap = pixmap } ∷ symbols)))
+    and_then (symbols_of files trees) (λ symbols. Ok (record { name = tree.name.text; pixmap = pixmap } ∷ symbols)))

@@ -10,21 +10,23 @@ use Rattle.mapdefs.specs.declared.limits.TheConstants.{MAX_FEATURES}
 use Rattle.mapwords.specs.declared.fault.Fault.{Fault}
 use Rattle.mapwords.specs.Fault.{and_then}
 use Rattle.maptree.specs.declared.tree.LayerTree.{LayerTree}
-use Rattle.maptree.specs.declared.tree.Named.{Named}
+use Rattle.mapwords.specs.declared.named.Named.{Named}
+use Rattle.mapwords.specs.declared.table.TextKeyword.TheVariants.{CsvX, CsvY}
+use Rattle.maptree.specs.Values.{last, words_in}
 use Rattle.mapparse.specs.declared.files.FileBytes.{FileBytes}
 use Rattle.mapparse.specs.Files.{bytes_in, read_from}
 
--- the column of longitudes in a layer's tables is x where no other is given
+-- the column of longitudes in a layer's tables is x by default
 abbrev pub column_x : LayerTree → List ℕ
-column_x layer = unwrap_or layer.csv_x (codes "x")
+column_x layer = unwrap_or (last (words_in CsvX) layer.body.values) (codes "x")
 
--- the column of latitudes is y
+-- the column of latitudes is y by default
 abbrev pub column_y : LayerTree → List ℕ
-column_y layer = unwrap_or layer.csv_y (codes "y")
+column_y layer = unwrap_or (last (words_in CsvY) layer.body.values) (codes "y")
 
 -- so many rows a layer has room for, behind the features that the mapfile gives it
 abbrev pub room_in : LayerTree → ℕ
-room_in layer = MAX_FEATURES - length layer.features
+room_in layer = MAX_FEATURES - length layer.body.features
 
 -- the table that the bytes of a file are for a layer
 abbrev pub table_for : LayerTree → List ℕ → Result TableFields CsvFault
@@ -56,7 +58,7 @@ rows_of (Some table) = table.features
 
 -- a layer has room for the rows of its table, if it has one
 abbrev pub HasRoom : LayerTree → Option TableFields → Type 0
-HasRoom layer table = IfSome table (λ t. length layer.features + length t.features ≤ MAX_FEATURES)
+HasRoom layer table = IfSome table (λ t. length layer.body.features + length t.features ≤ MAX_FEATURES)
 
 -- each layer has a table, or none, and room for it
 abbrev pub HaveRoom : List LayerTree → List (Option TableFields) → Type 0

@@ -1,16 +1,17 @@
--- The files that a mapfile uses, and which of their faults is told (docs/MAPFILE.md, "Files").
+-- The files that a mapfile uses, and which of their faults is reported (docs/MAPFILE.md, "Files").
 use Rattle.std.specs.Prelude.{ℕ, Bool, false, ◌&&◌, ◌||◌, if◌then◌else◌, List, [], ◌∷◌, ◌++◌, map, take, drop, Option, None, Some}
 use Rattle.std.specs.List.{list_any}
 use Rattle.std.specs.Result.{is_err}
 use Rattle.mapdefs.specs.Name.{is_same_name}
 use Rattle.mapwords.specs.declared.fault.Fault.{Fault}
 use Rattle.mapwords.specs.declared.fault.ParseKind.TheVariants.{MissingFile, BadFile}
-use Rattle.maptree.specs.declared.tree.FontTree.{FontTree}
 use Rattle.maptree.specs.declared.tree.LayerTree.{LayerTree}
 use Rattle.maptree.specs.declared.tree.MapTree.{MapTree}
-use Rattle.maptree.specs.declared.tree.Named.{Named}
+use Rattle.mapwords.specs.declared.named.Named.{Named}
 use Rattle.maptree.specs.declared.tree.SymbolTree.{SymbolTree}
 use Rattle.maptree.specs.Symbol.{first_fault}
+use Rattle.maptree.specs.Values.{last, text_in}
+use Rattle.mapwords.specs.declared.table.TextKeyword.TheVariants.{LabelFont}
 use Rattle.symbols.specs.Format.{pixmap_of}
 use Rattle.mapparse.specs.declared.files.FileBytes.{FileBytes}
 use Rattle.mapparse.specs.Files.{bytes_in}
@@ -30,14 +31,18 @@ abbrev pub uses_after : List Named → List Named → List Named
 uses_after firsts [] = firsts
 uses_after firsts (file ∷ files) = uses_after (with_use firsts file) files
 
+-- the file that the font of the labels is in
+abbrev pub font_file : MapTree → Option Named
+font_file tree = last (text_in LabelFont) tree.values
+
 -- files, with that of a font behind those that are used before it
-abbrev pub with_font : Option FontTree → List Named → List Named
-with_font None files = files
-with_font (Some font) files = take font.before files ++ font.file ∷ drop font.before files
+abbrev pub with_font : Option Named → ℕ → List Named → List Named
+with_font None before files = files
+with_font (Some file) before files = take before files ++ file ∷ drop before files
 
 -- the first use of each file, in their order
 abbrev pub first_uses : MapTree → List Named
-first_uses tree = uses_after [] (with_font tree.font tree.files)
+first_uses tree = uses_after [] (with_font (font_file tree) tree.before_font tree.files)
 
 -- the names of the files that a mapfile uses, each once, in the order of their first use
 abbrev pub uses_of : MapTree → List (List ℕ)
@@ -57,14 +62,14 @@ abbrev pub lacks_table : List ℕ → List ℕ → LayerTree → Bool
 lacks_table name bytes layer = is_named name layer.table && is_err (table_for layer bytes)
 
 -- the map has its font in the file of this name, but its bytes are no font
-abbrev pub lacks_font : List ℕ → List ℕ → Option FontTree → Bool
+abbrev pub lacks_font : List ℕ → List ℕ → Option Named → Bool
 lacks_font name bytes None = false
-lacks_font name bytes (Some font) = is_same_name font.file.text name && is_err (font_of bytes)
+lacks_font name bytes (Some file) = is_same_name file.text name && is_err (font_of bytes)
 
 -- some use of the file of this name can't be made of its bytes
 abbrev pub is_bad : MapTree → List ℕ → List ℕ → Bool
 is_bad tree name bytes =
-    list_any (lacks_pixmap name bytes) tree.symbols || list_any (lacks_table name bytes) tree.layers || lacks_font name bytes tree.font
+    list_any (lacks_pixmap name bytes) tree.symbols || list_any (lacks_table name bytes) tree.layers || lacks_font name bytes (font_file tree)
 
 -- the fault of a file that is first used there, by its bytes
 abbrev pub fault_by : MapTree → Named → Option (List ℕ) → Option Fault
@@ -75,6 +80,6 @@ fault_by tree first (Some bytes) = if is_bad tree first.text bytes then Some (re
 abbrev pub file_fault : List FileBytes → MapTree → Named → Option Fault
 file_fault files tree first = fault_by tree first (bytes_in first.text files)
 
--- the fault that is told is that of the file which is used first
+-- the fault that is reported is that of the file which is used first
 abbrev pub files_fault : List FileBytes → MapTree → Option Fault
 files_fault files tree = first_fault (file_fault files tree) (first_uses tree)

@@ -9,7 +9,7 @@ use symbols::PixFault;
 /// Why a file isn't what a mapfile uses it as.
 #[derive(Clone, Copy)]
 pub enum FileCause {
-    /// It isn't given.
+    /// It is missing.
     Missing,
     /// It is no pixmap, as a symbol needs it.
     NoPixmap(PixFault),

@@ -1,11 +1,11 @@
-ghost use Rattle.std.specs.Prelude.{◌≡◌, Ok, IfOk, IfErr};
+ghost use Rattle.std.specs.Prelude.{◌≡◌, option_map, Ok, IfOk, IfErr};
 ghost use Rattle.mapwords.specs.Fault.{IsFaultOf};
 ghost use Rattle.mapparse.specs.Fonts.{font_of, font_in, font_given, IsFontErrorOf};
 
 use crate::files::Files;
 use bdffont::{FontError, read};
 use mapdefs::{Font, Shared};
-use maptree::{FontTree, Named, ParseFault, ParseKind};
+use maptree::{Named, ParseFault, ParseKind};
 use std::alloc::Global;
 
 /// The font that the bytes of a file are.
@@ -40,16 +40,16 @@ fn font_in(files: &Files, file: &Named, alloc: Global) -> Result<Font, ParseFaul
 
 /// The font of a map, if it names one.
 pub fn font_given(
-    font: &Option<FontTree>,
+    file: Option<&Named>,
     files: &Files,
     alloc: Global,
 ) -> Result<Option<Shared<Font>>, ParseFault>
-    ensures font { IfOk result (λ made. font_given files.now font.now ≡ Ok made) }
-    ensures fault { IfErr result (IsFaultOf (font_given files.now font.now)) }
+    ensures font { IfOk result (λ made. font_given files.now (option_map (λ x. x.now) file.entry) ≡ Ok made) }
+    ensures fault { IfErr result (IsFaultOf (font_given files.now (option_map (λ x. x.now) file.entry))) }
 {
-    match font {
-        Some(font) => {
-            let font = font_in(files, &font.file, alloc)?;
+    match file {
+        Some(file) => {
+            let font = font_in(files, file, alloc)?;
             Ok(Some(Shared::new(alloc, font)?))
         }
         None => Ok(None),

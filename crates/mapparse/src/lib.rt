@@ -1,11 +1,11 @@
 //! From the bytes of a mapfile to the map that it describes, or to its first fault.
 //!
 //! Proved: `parse` gives the map or the fault that the definition `parsed` has for the source, by its
-//! clauses `map` and `fault`. `parsed` is the map of what the blocks of the source say, with what stands
-//! for that which isn't given; `maptree` reads the blocks and tells the faults. A `Mapfile` is read once,
+//! clauses `map` and `fault`. `parsed` is the map of what the blocks of the source say, with defaults;
+//! `maptree` reads the blocks and reports the faults. A `Mapfile` is read once,
 //! names the files that it uses (`Mapfile::wanted`), and becomes the map with them (`Mapfile::into_map`).
 //!
-//! Words: the *tree* is the whole mapfile as it is written.
+//! Terms: the *tree* is the whole mapfile as it is written.
 #![tactic(auto)]
 
 mod fault;

@@ -37,9 +37,9 @@ impl Mapfile {
     ghost use Rattle.mapparse.specs.Uses.{files_fault, uses_of};
     ghost use Rattle.std.specs.Prelude.{option_map};
 
-    /// Reads a mapfile in one pass, or tells its first fault with its line.
+    /// Reads a mapfile in one pass, or reports its first fault with its line.
     ///
-    /// The memory that it takes is in proportion to the map, and a source that is refused leaves none
+    /// The memory that it takes is in proportion to the source, and a source that is refused leaves none
     /// behind.
     pub fn read(alloc: Global, source: &[u8]) -> Result<Self, ParseFault>
         ensures tree { IfOk result (λ mapfile. tree_of (lexed source.now) ≡ Ok mapfile) }
@@ -65,7 +65,7 @@ impl Mapfile {
     }
 
     /// The map that it describes with these files, or the first fault of a file: `MissingFile` for one
-    /// that isn't given, and `BadFile` for one that isn't what it is used as.
+    /// that is missing, and `BadFile` for one that isn't what it is used as.
     pub fn into_map(self, alloc: Global, files: &Files) -> Result<Map, ParseFault>
         ensures map { IfOk result (λ map. map_of files.now self ≡ Ok map) }
         ensures fault { IfErr result (IsFaultOf (map_of files.now self)) }

@@ -1,12 +1,16 @@
-ghost use Rattle.std.specs.Prelude.{◌≡◌, ◌+◌, ◌≤◌, List, map, zip, length, unwrap_or, Ok, IfOk, IfErr};
+ghost use Rattle.std.specs.Prelude.{◌≡◌, ◌+◌, ◌≤◌, List, map, zip, length, codes, option_map, unwrap_or, Ok, IfOk, IfErr};
 ghost use Rattle.mapdefs.specs.declared.symbol.Symbol.{Symbol as SymbolValue};
 ghost use Rattle.mapwords.specs.Fault.{IsFaultOf};
 ghost use Rattle.geom.specs.World.{IsExtent};
 ghost use Rattle.mapdefs.specs.declared.limits.TheConstants.{MAX_CLASSES, MAX_LINE_WIDTH, MAX_SQUARE, MAX_SYMBOLS, MAX_TOLERANCE};
 ghost use Rattle.mapdefs.specs.ClassLimits.{IsRuleWithinLimits};
 ghost use Rattle.mapdefs.specs.declared.class.Rule.TheVariants.{Always};
-ghost use Rattle.mapparse.specs.Mapping.{label_of, class_of, layer_of, tolerance_of, whole_world, map_with, made_of, map_of};
+ghost use Rattle.mapparse.specs.Mapping.{painted, either_text, service_title, label_of, class_of, layer_of, tolerance_of, whole_world, map_with, made_of, map_of};
+ghost use Rattle.mapwords.specs.Table.{least_of, most_of};
+ghost use Rattle.mapwords.specs.declared.table.TextKeyword.TheVariants.{ClassItem, CsvX, CsvY, LabelItem, OwsOnlineResource, OwsTitle, WmsOnlineResource, WmsTitle};
+ghost use Rattle.maptree.specs.Values.{count_in, last, words_in};
 ghost use Rattle.mapparse.specs.Fonts.{font_given};
+ghost use Rattle.mapparse.specs.Uses.{font_file};
 ghost use Rattle.mapparse.specs.Symbols.{symbols_of};
 ghost use Rattle.mapparse.specs.Tables.{tables_of, HasRoom, HaveRoom};
 
@@ -15,17 +19,19 @@ use crate::files::Files;
 use crate::font::font_given;
 use crate::symbol::{symbol_index, symbols_of};
 use crate::table::{LATITUDES, LONGITUDES, tables_of};
-use crate::uses::files_fault;
+use crate::uses::{files_fault, font_file};
 use csvpoints::Table;
 use geom::{Micro, WorldBox};
 use mapdefs::{
-    Class, ClassFields, Font, Geometry, Items, Label, LabelFields, Layer, LayerFields, MAX_CLASSES,
-    Map, MapFields, Position, Rgb, Rule, Shared, SharedItems, Style, StyleFields, Symbol, Text,
+    Class, ClassFields, Duplicate, Font, Geometry, Items, Label, LabelFields, Layer, LayerFields,
+    MAX_CLASSES, Map, MapFields, Position, Rgb, Rule, Shared, SharedItems, Style, StyleFields,
+    Symbol, Text,
 };
 use maptree::{
-    Bounded, Capped, ClassRule, ClassTree, Extent, LabelTree, LayerTree, MapTree, ParseFault,
-    StyleTree,
+    Capped, ClassRule, ClassTree, Extent, LayerBody, LayerTree, MapTree, Named, ParseFault, Values,
+    symbol_of,
 };
+use mapwords::{ColourKeyword, CountKeyword, FlagKeyword, ScaleKeyword, TextKeyword};
 use std::alloc::{AllocError, Global};
 
 // A tree of a block, from which a part of the map is made.
@@ -56,24 +62,28 @@ fn build_all<T: Build>(
     Ok(Items::of(parts))
 }
 
-// A count, or what stands for it where it isn't given.
-fn count_or<const LEAST: usize, const MOST: usize>(
-    count: Option<Bounded<LEAST, MOST>>,
-    default: u16,
-) -> u16
-    requires least { LEAST ≤ default }
-    requires most { default ≤ MOST }
-    ensures value { result ≡ unwrap_or count.entry default }
-    ensures least { LEAST ≤ result }
-    ensures most { result ≤ MOST }
+// The last count of a keyword, or its default.
+fn count_or(values: &Values, keyword: CountKeyword, default: u16) -> u16
+    requires least { least_of keyword ≤ default }
+    requires most { default ≤ most_of keyword }
+    ensures value { result ≡ unwrap_or (last (count_in keyword) values.now) default }
+    ensures least { least_of keyword ≤ result }
+    ensures most { result ≤ most_of keyword }
 {
-    match count {
-        Some(count) => count.get(),
+    match values.count(keyword) {
+        Some(count) => count,
         None => default,
     }
 }
 
-impl Build for StyleTree {
+// The colour that is painted: that of a keyword, if it has one that isn't none.
+fn painted(values: &Values, keyword: ColourKeyword) -> Option<Rgb>
+    ensures { result ≡ painted keyword values.now }
+{
+    values.colour(keyword)?
+}
+
+impl Build for Values {
     type Part = Style;
 
     ghost use Rattle.mapparse.specs.Mapping.{style_of};
@@ -82,11 +92,11 @@ impl Build for StyleTree {
 
     fn build(self, symbols: &[Symbol], _alloc: Global) -> Result<Style, AllocError> {
         Ok(Style::new(StyleFields {
-            colour: self.colour,
-            outline: self.outline,
-            width: count_or(self.width, 1) as u8,
-            size: count_or(self.size, 1),
-            symbol: symbol_index(&self.symbol, symbols),
+            colour: painted(&self, ColourKeyword::Color),
+            outline: painted(&self, ColourKeyword::OutlineColor),
+            width: count_or(&self, CountKeyword::Width, 1) as u8,
+            size: count_or(&self, CountKeyword::Size, 1),
+            symbol: symbol_index(symbol_of(&self), symbols),
         }))
     }
 }
@@ -103,23 +113,27 @@ fn rule_of(rule: Option<ClassRule>) -> Rule
 }
 
 // The label of a class.
-fn label_of(tree: LabelTree) -> Label
-    ensures { result ≡ label_of tree }
+fn label_of(values: Values) -> Label
+    ensures { result ≡ label_of values }
 {
     let black = Rgb {
         red: 0,
         green: 0,
         blue: 0,
     };
+    let colour = values.colour(ColourKeyword::Color);
+    let position = values.position();
+    let partials = values.flag(FlagKeyword::Partials);
+    let force = values.flag(FlagKeyword::Force);
     Label::new(LabelFields {
-        colour: tree.colour.unwrap_or(Some(black)),
-        outline: tree.outline,
-        priority: count_or(tree.priority, 1) as u8,
-        position: tree.position.unwrap_or(Position::Centre),
-        buffer: count_or(tree.buffer, 0) as u8,
-        mindistance: count_or(tree.distance, 0),
-        partials: tree.partials.unwrap_or(false),
-        force: tree.force.unwrap_or(false),
+        colour: colour.unwrap_or(Some(black)),
+        outline: painted(&values, ColourKeyword::OutlineColor),
+        priority: count_or(&values, CountKeyword::Priority, 1) as u8,
+        position: position.unwrap_or(Position::Centre),
+        buffer: count_or(&values, CountKeyword::Buffer, 0) as u8,
+        mindistance: count_or(&values, CountKeyword::MinDistance, 0),
+        partials: partials.unwrap_or(false),
+        force: force.unwrap_or(false),
     })
 }
 
@@ -132,14 +146,14 @@ impl Build for ClassTree {
 
     fn build(self, symbols: &[Symbol], alloc: Global) -> Result<Class, AllocError> {
         let ClassTree {
-            rule,
-            min,
-            max,
+            values,
             styles,
             label,
         } = self;
+        let min = values.scale(ScaleKeyword::Min);
+        let max = values.scale(ScaleKeyword::Max);
         Ok(Class::new(ClassFields {
-            rule: rule_of(rule),
+            rule: rule_of(values.into_rule()),
             min,
             max,
             styles: build_all(styles.into_vec(), symbols, alloc)?,
@@ -148,24 +162,44 @@ impl Build for ClassTree {
     }
 }
 
-// How far from the asked pixel a feature counts, in pixels.
-fn tolerance_of(kind: Geometry) -> u16
-    ensures value { result ≡ tolerance_of kind }
+// How far from the queried pixel a feature counts by default, in pixels.
+fn tolerance_of(geometry: Geometry) -> u16
+    ensures value { result ≡ tolerance_of geometry }
     ensures limit { result ≤ MAX_TOLERANCE }
 {
-    match kind {
+    match geometry {
         Geometry::Polygon => 0,
         Geometry::Point | Geometry::Line => 3,
     }
 }
 
-// A text, or what stands for it where it isn't given.
-fn text_or(text: Option<Text>, default: &str, alloc: Global) -> Result<Text, AllocError>
-    ensures { IfOk result (λ made. made ≡ unwrap_or text default.now) }
+// A copy of a text, or its default.
+fn text_or(text: Option<&Text>, default: &str, alloc: Global) -> Result<Text, AllocError>
+    ensures { IfOk result (λ made. made ≡ unwrap_or (option_map (λ x. x.now) text.entry) default.now) }
 {
     match text {
-        Some(text) => Ok(text),
+        Some(text) => text.duplicate(alloc),
         None => Text::from_str(alloc, default),
+    }
+}
+
+// A copy of the last text of a keyword, if there is one.
+fn text_of(values: &Values, keyword: TextKeyword, alloc: Global) -> Result<Option<Text>, AllocError>
+    ensures { IfOk result (λ made. made ≡ last (words_in keyword) values.now) }
+{
+    match values.plain_text(keyword) {
+        Some(text) => Ok(Some(text.duplicate(alloc)?)),
+        None => Ok(None),
+    }
+}
+
+// The last text of a keyword, else that of another one.
+fn either_text(values: &Values, first: TextKeyword, second: TextKeyword) -> Option<&Text>
+    ensures { option_map (λ x. x.now) result ≡ either_text first second values.now }
+{
+    match values.plain_text(first) {
+        Some(text) => Some(text),
+        None => values.plain_text(second),
     }
 }
 
@@ -182,6 +216,55 @@ fn classes_of(
     SharedItems::new(alloc, classes)
 }
 
+// The title of the service, if one is given.
+fn service_title(values: &Values) -> Option<&Text>
+    ensures { option_map (λ x. x.now) result ≡ service_title values.now }
+{
+    match either_text(values, TextKeyword::WmsTitle, TextKeyword::OwsTitle) {
+        Some(title) => Some(title),
+        None => values.plain_text(TextKeyword::Name),
+    }
+}
+
+// The address of the service, if one is given.
+fn service_url(values: &Values) -> Option<&Text>
+    ensures { option_map (λ x. x.now) result ≡ either_text WmsOnlineResource OwsOnlineResource values.now }
+{
+    either_text(
+        values,
+        TextKeyword::WmsOnlineResource,
+        TextKeyword::OwsOnlineResource,
+    )
+}
+
+// The texts of a layer.
+#[derive(Drop)]
+struct LayerTexts {
+    title: Text,
+    classitem: Option<Text>,
+    labelitem: Option<Text>,
+    csv_x: Text,
+    csv_y: Text,
+}
+
+// The texts of a layer of a name.
+fn layer_texts(values: &Values, name: &str, alloc: Global) -> Result<LayerTexts, AllocError>
+    ensures title { IfOk result (λ texts. texts.title ≡ unwrap_or (either_text WmsTitle OwsTitle values.now) name.now) }
+    ensures classitem { IfOk result (λ texts. texts.classitem ≡ last (words_in ClassItem) values.now) }
+    ensures labelitem { IfOk result (λ texts. texts.labelitem ≡ last (words_in LabelItem) values.now) }
+    ensures csv_x { IfOk result (λ texts. texts.csv_x ≡ unwrap_or (last (words_in CsvX) values.now) (codes "x")) }
+    ensures csv_y { IfOk result (λ texts. texts.csv_y ≡ unwrap_or (last (words_in CsvY) values.now) (codes "y")) }
+{
+    let title = either_text(values, TextKeyword::WmsTitle, TextKeyword::OwsTitle);
+    Ok(LayerTexts {
+        title: text_or(title, name, alloc)?,
+        classitem: text_of(values, TextKeyword::ClassItem, alloc)?,
+        labelitem: text_of(values, TextKeyword::LabelItem, alloc)?,
+        csv_x: text_or(values.plain_text(TextKeyword::CsvX), LONGITUDES, alloc)?,
+        csv_y: text_or(values.plain_text(TextKeyword::CsvY), LATITUDES, alloc)?,
+    })
+}
+
 // The layer of a tree, with its table, if it has one.
 fn layer_of(
     tree: LayerTree,
@@ -193,39 +276,33 @@ fn layer_of(
     ensures { IfOk result (λ made. made ≡ layer_of symbols.now (tree, table)) }
 {
     let LayerTree {
-        name,
-        kind,
-        classitem,
-        labelitem,
-        queryable,
-        tolerance,
-        min,
-        max,
-        items,
-        csv_x,
-        csv_y,
-        wms_title,
-        ows_title,
-        classes,
-        features,
+        name: Named { text: name, .. },
+        geometry: kind,
+        body,
         ..
     } = tree;
-    let (items, features) = with_items(items, features, table, alloc)?;
-    let title = text_or(wms_title.or(ows_title), name.as_str(), alloc)?;
-    let csv_x = text_or(csv_x, LONGITUDES, alloc)?;
-    let csv_y = text_or(csv_y, LATITUDES, alloc)?;
+    let LayerBody {
+        values,
+        classes,
+        features,
+    } = body;
+    let texts = layer_texts(&values, name.as_str(), alloc)?;
+    let queryable = values.text(TextKeyword::Template).is_some();
+    let tolerance = count_or(&values, CountKeyword::Tolerance, tolerance_of(kind)) as u8;
+    let min = values.scale(ScaleKeyword::Min);
+    let max = values.scale(ScaleKeyword::Max);
     let classes = classes_of(classes, symbols, alloc)?;
-    let tolerance = count_or(tolerance, tolerance_of(kind)) as u8;
+    let (items, features) = with_items(values.into_items(), features, table, alloc)?;
     Ok(Layer::new(LayerFields {
         name,
-        title,
+        title: texts.title,
         kind,
         on: true,
-        classitem,
-        labelitem,
+        classitem: texts.classitem,
+        labelitem: texts.labelitem,
         items,
-        csv_x,
-        csv_y,
+        csv_x: texts.csv_x,
+        csv_y: texts.csv_y,
         queryable,
         tolerance,
         min,
@@ -271,8 +348,8 @@ fn whole_world() -> WorldBox
 }
 
 // The part of the world that a map shows.
-fn area_of(extent: Option<Extent>) -> WorldBox
-    ensures value { result ≡ unwrap_or extent whole_world }
+fn area_of(extent: Option<&Extent>) -> WorldBox
+    ensures value { result ≡ unwrap_or (option_map (λ x. x.now) extent.entry) whole_world }
     ensures limits { IsExtent result }
 {
     match extent {
@@ -300,18 +377,9 @@ fn map_with(tree: MapTree, parts: FileParts, alloc: Global) -> Result<Map, Alloc
         tables,
         font,
     } = parts;
-    let MapTree {
-        name,
-        extent,
-        wms_title,
-        ows_title,
-        wms_url,
-        ows_url,
-        layers,
-        ..
-    } = tree;
-    let title = text_or(wms_title.or(ows_title).or(name), "WMS", alloc)?;
-    let url = text_or(wms_url.or(ows_url), "http://localhost/wms?", alloc)?;
+    let MapTree { values, layers, .. } = tree;
+    let title = text_or(service_title(&values), "WMS", alloc)?;
+    let url = text_or(service_url(&values), "http://localhost/wms?", alloc)?;
     let layers = layers_of(
         layers.into_vec(),
         tables.into_vec(),
@@ -321,7 +389,7 @@ fn map_with(tree: MapTree, parts: FileParts, alloc: Global) -> Result<Map, Alloc
     Ok(Map::new(MapFields {
         title,
         url,
-        extent: area_of(extent),
+        extent: area_of(values.extent()),
         font,
         symbols,
         layers,
@@ -332,7 +400,7 @@ fn map_with(tree: MapTree, parts: FileParts, alloc: Global) -> Result<Map, Alloc
 fn read_files(tree: &MapTree, files: &Files, alloc: Global) -> Result<FileParts, ParseFault>
     ensures symbols { IfOk result (λ made. symbols_of files.now tree.now.symbols ≡ Ok made.symbols) }
     ensures tables { IfOk result (λ made. tables_of files.now tree.now.layers ≡ Ok made.tables) }
-    ensures font { IfOk result (λ made. font_given files.now tree.now.font ≡ Ok made.font) }
+    ensures font { IfOk result (λ made. font_given files.now (font_file tree.now) ≡ Ok made.font) }
     ensures limit { IfOk result (λ made. length made.symbols ≤ MAX_SYMBOLS) }
     ensures room { IfOk result (λ made. HaveRoom tree.now.layers made.tables) }
     ensures fault { IfErr result (IsFaultOf (made_of files.now tree.now)) }
@@ -340,12 +408,12 @@ fn read_files(tree: &MapTree, files: &Files, alloc: Global) -> Result<FileParts,
     Ok(FileParts {
         symbols: symbols_of(tree.symbols.as_slice(), files, alloc)?,
         tables: tables_of(tree.layers.as_slice(), files, alloc)?,
-        font: font_given(&tree.font, files, alloc)?,
+        font: font_given(font_file(tree), files, alloc)?,
     })
 }
 
-// The fault that is told where a file has one: that of the first used of those that do.
-fn told_fault(tree: &MapTree, files: &Files, fault: ParseFault, alloc: Global) -> ParseFault
+// The fault that is reported where a file has one: that of the first used of those that do.
+fn reported_fault(tree: &MapTree, files: &Files, fault: ParseFault, alloc: Global) -> ParseFault
     requires { IsFaultOf (made_of files.now tree.now) fault }
     ensures { IsFaultOf (map_of files.now tree.now) result }
 {
@@ -366,6 +434,6 @@ pub fn map_of(tree: MapTree, files: &Files, alloc: Global) -> Result<Map, ParseF
 {
     match read_files(&tree, files, alloc) {
         Ok(parts) => Ok(map_with(tree, parts, alloc)?),
-        Err(fault) => Err(told_fault(&tree, files, fault, alloc)),
+        Err(fault) => Err(reported_fault(&tree, files, fault, alloc)),
     }
 }

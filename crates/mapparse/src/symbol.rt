@@ -1,4 +1,4 @@
-ghost use Rattle.std.specs.Prelude.{◌≡◌, length, Ok, IfOk, IfErr};
+ghost use Rattle.std.specs.Prelude.{◌≡◌, length, option_map, Ok, IfOk, IfErr};
 ghost use Rattle.mapwords.specs.Fault.{IsFaultOf};
 ghost use Rattle.mapparse.specs.Symbols.{last_named, symbol_index, pixmap_in, symbols_of};
 
@@ -22,8 +22,8 @@ fn last_named(name: &str, symbols: &[Symbol]) -> Option<usize>
 }
 
 /// The index of the symbol that a style names.
-pub fn symbol_index(named: &Option<Named>, symbols: &[Symbol]) -> Option<usize>
-    ensures { result ≡ symbol_index symbols.now named.now }
+pub fn symbol_index(named: Option<&Named>, symbols: &[Symbol]) -> Option<usize>
+    ensures { result ≡ symbol_index symbols.now (option_map (λ x. x.now) named.entry) }
 {
     match named {
         Some(named) => last_named(named.text.as_str(), symbols),
@@ -55,12 +55,12 @@ fn pixmap_in(files: &Files, image: &Named, alloc: Global) -> Result<Pixmap, Pars
 
 // The symbol of a tree, with the pixmap of its image.
 fn symbol_of(tree: &SymbolTree, files: &Files, alloc: Global) -> Result<Symbol, ParseFault>
-    ensures symbol { IfOk result (λ made. (pixmap_in files.now tree.now.image ≡ Ok made.pixmap) × (made.name ≡ tree.now.name)) }
+    ensures symbol { IfOk result (λ made. (pixmap_in files.now tree.now.image ≡ Ok made.pixmap) × (made.name ≡ tree.now.name.text)) }
     ensures fault { IfErr result (IsFaultOf (pixmap_in files.now tree.now.image)) }
 {
     let pixmap = pixmap_in(files, &tree.image, alloc)?;
     Ok(Symbol {
-        name: tree.name.duplicate(alloc)?,
+        name: tree.name.text.duplicate(alloc)?,
         pixmap,
     })
 }

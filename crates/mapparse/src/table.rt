@@ -2,25 +2,27 @@ ghost use Rattle.std.specs.Prelude.{◌≡◌, ◌+◌, ◌≤◌, length, unwra
 ghost use Rattle.csvpoints.specs.Fault.{IsFaultOf as IsCsvFaultOf};
 ghost use Rattle.mapdefs.specs.declared.limits.TheConstants.{MAX_FEATURES};
 ghost use Rattle.mapwords.specs.Fault.{IsFaultOf};
+ghost use Rattle.maptree.specs.Values.{last, words_in};
 ghost use Rattle.mapparse.specs.Tables.{table_for, table_in, table_given, tables_of, HasRoom, HaveRoom};
 
 use crate::files::Files;
 use csvpoints::{CsvError, Table, read};
-use mapdefs::{Items, MAX_FEATURES, Text};
+use mapdefs::{Items, MAX_FEATURES};
 use maptree::{LayerTree, Named, ParseFault, ParseKind};
+use mapwords::TextKeyword;
 use std::alloc::Global;
 
-/// The name of the column of longitudes where none is given.
+/// The name of the column of longitudes by default.
 pub const LONGITUDES: &str = "x";
 
-/// The name of the column of latitudes where none is given.
+/// The name of the column of latitudes by default.
 pub const LATITUDES: &str = "y";
 
-// A column's name, or its default.
-fn column<'a>(given: &'a Option<Text>, default: &'a str) -> &'a str
-    ensures { result.now ≡ unwrap_or given.now default.now }
+// The name of the column that a keyword names, or its default.
+fn column<'a>(layer: &'a LayerTree, keyword: TextKeyword, default: &'a str) -> &'a str
+    ensures { result.now ≡ unwrap_or (last (words_in keyword) layer.now.body.values) default.now }
 {
-    match given {
+    match layer.body.values.plain_text(keyword) {
         Some(name) => name.as_str(),
         None => default,
     }
@@ -30,14 +32,14 @@ fn column<'a>(given: &'a Option<Text>, default: &'a str) -> &'a str
 pub fn table_for(layer: &LayerTree, bytes: &[u8], alloc: Global) -> Result<Table, CsvError>
     ensures table { IfOk result (λ table. table_for layer.now bytes.now ≡ Ok table) }
     ensures fault { IfErr result (IsCsvFaultOf (table_for layer.now bytes.now)) }
-    ensures room { IfOk result (λ table. length layer.now.features + length table.features ≤ MAX_FEATURES) }
+    ensures room { IfOk result (λ table. length layer.now.body.features + length table.features ≤ MAX_FEATURES) }
 {
-    let room = MAX_FEATURES - layer.features.as_slice().len();
+    let room = MAX_FEATURES - layer.body.features.as_slice().len();
     read(
         alloc,
         bytes,
-        column(&layer.csv_x, LONGITUDES),
-        column(&layer.csv_y, LATITUDES),
+        column(layer, TextKeyword::CsvX, LONGITUDES),
+        column(layer, TextKeyword::CsvY, LATITUDES),
         room as u32,
     )
 }
@@ -51,7 +53,7 @@ fn table_in(
 ) -> Result<Table, ParseFault>
     ensures table { IfOk result (λ table. table_in files.now layer.now file.now ≡ Ok table) }
     ensures fault { IfErr result (IsFaultOf (table_in files.now layer.now file.now)) }
-    ensures room { IfOk result (λ table. length layer.now.features + length table.features ≤ MAX_FEATURES) }
+    ensures room { IfOk result (λ table. length layer.now.body.features + length table.features ≤ MAX_FEATURES) }
 {
     let line = file.line;
     let Some(bytes) = files.bytes(file.text.as_str()) else {

@@ -2,7 +2,7 @@ ghost use Rattle.std.specs.Prelude.{◌≡◌, [], Some, take, drop, is_some, op
 ghost use Rattle.std.specs.List.{list_any};
 ghost use Rattle.mapwords.specs.declared.fault.ParseKind.TheVariants.{BadFile};
 ghost use Rattle.mapparse.specs.Fault.{kind_of, fault_in};
-ghost use Rattle.mapparse.specs.Uses.{is_among, with_use, uses_after, with_font, first_uses, uses_of, is_named, lacks_pixmap, lacks_table, lacks_font, is_bad, file_fault, files_fault};
+ghost use Rattle.mapparse.specs.Uses.{is_among, with_use, uses_after, with_font, font_file, first_uses, uses_of, is_named, lacks_pixmap, lacks_table, lacks_font, is_bad, file_fault, files_fault};
 
 use crate::fault::{FileCause, FileFault};
 use crate::files::Files;
@@ -11,8 +11,8 @@ use crate::table::table_for;
 use bdffont::FontError;
 use csvpoints::CsvError;
 use mapdefs::{Duplicate, Items, Text};
-use maptree::{FontTree, LayerTree, MapTree, Named, SymbolTree};
-use mapwords::Keyword;
+use maptree::{LayerTree, MapTree, Named, SymbolTree};
+use mapwords::{Keyword, TextKeyword};
 use std::alloc::{AllocError, Global};
 use symbols::{PixFault, read};
 
@@ -56,14 +56,26 @@ fn parted(files: &[Named], count: usize) -> (&[Named], &[Named])
     }
 }
 
-// The first uses of files, among which that of a font is.
-fn uses_with_font(font: &FontTree, files: &[Named], alloc: Global) -> Result<Vec<Named>, AllocError>
-    ensures { IfOk result (λ firsts. firsts.items ≡ uses_after [] (with_font (Some font.now) files.now)) }
+/// The file that the font of the labels is in.
+pub fn font_file(tree: &MapTree) -> Option<&Named>
+    ensures { option_map (λ x. x.now) result ≡ font_file tree.now }
 {
-    let (before, after) = parted(files, font.before);
+    tree.values.text(TextKeyword::LabelFont)
+}
+
+// The first uses of files, among which that of a font is, behind so many.
+fn uses_with_font(
+    font: &Named,
+    before: usize,
+    files: &[Named],
+    alloc: Global,
+) -> Result<Vec<Named>, AllocError>
+    ensures { IfOk result (λ firsts. firsts.items ≡ uses_after [] (with_font (Some font.now) before files.now)) }
+{
+    let (before, after) = parted(files, before);
     let mut firsts = Vec::new(alloc);
     add_uses(&mut firsts, before, alloc)?;
-    add_use(&mut firsts, &font.file, alloc)?;
+    add_use(&mut firsts, font, alloc)?;
     add_uses(&mut firsts, after, alloc)?;
     Ok(firsts)
 }
@@ -82,8 +94,8 @@ fn first_uses(tree: &MapTree, alloc: Global) -> Result<Vec<Named>, AllocError>
     ensures { IfOk result (λ firsts. firsts.items ≡ first_uses tree.now) }
 {
     let files = tree.files.as_slice();
-    match &tree.font {
-        Some(font) => uses_with_font(font, files, alloc),
+    match font_file(tree) {
+        Some(font) => uses_with_font(font, tree.before_font, files, alloc),
         None => uses_without_font(files, alloc),
     }
 }
@@ -102,7 +114,7 @@ pub fn uses_of(tree: &MapTree, alloc: Global) -> Result<Items<Text>, AllocError>
 }
 
 // Why the bytes of the file of this name are no pixmap, where a symbol has it as its image.
-fn pixmap_lacking(
+fn pixmap_fault(
     name: &str,
     bytes: &[u8],
     symbols: &[SymbolTree],
@@ -134,7 +146,7 @@ fn is_named(name: &str, file: &Option<Named>) -> bool
 }
 
 // Why the bytes of the file of this name are no table, where a layer has its table in it.
-fn table_lacking(
+fn table_fault(
     name: &str,
     bytes: &[u8],
     layers: &[LayerTree],
@@ -156,17 +168,17 @@ fn table_lacking(
 }
 
 // Why the bytes of the file of this name are no font, where the map has its font in it.
-fn font_lacking(
+fn font_fault(
     name: &str,
     bytes: &[u8],
-    font: &Option<FontTree>,
+    font: Option<&Named>,
     alloc: Global,
 ) -> Result<Option<FileCause>, AllocError>
-    ensures found { IfOk result (λ found. is_some found ≡ lacks_font name.now bytes.now font.now) }
+    ensures found { IfOk result (λ found. is_some found ≡ lacks_font name.now bytes.now (option_map (λ x. x.now) font.entry)) }
     ensures kind { IfOk result (λ found. IfSome found (λ cause. kind_of cause ≡ BadFile)) }
 {
     match font {
-        Some(font) if font.file.text.as_str() == name => match font_of(bytes, alloc) {
+        Some(file) if file.text.as_str() == name => match font_of(bytes, alloc) {
             Ok(_) => Ok(None),
             Err(FontError::NoMemory) => Err(AllocError),
             Err(FontError::Fault(fault)) => Ok(Some(FileCause::NoFont(fault))),
@@ -185,13 +197,13 @@ fn cause_in(
     ensures found { IfOk result (λ found. is_some found ≡ is_bad tree.now name.now bytes.now) }
     ensures kind { IfOk result (λ found. IfSome found (λ cause. kind_of cause ≡ BadFile)) }
 {
-    if let Some(cause) = pixmap_lacking(name, bytes, tree.symbols.as_slice(), alloc)? {
+    if let Some(cause) = pixmap_fault(name, bytes, tree.symbols.as_slice(), alloc)? {
         return Ok(Some(cause));
     }
-    if let Some(cause) = table_lacking(name, bytes, tree.layers.as_slice(), alloc)? {
+    if let Some(cause) = table_fault(name, bytes, tree.layers.as_slice(), alloc)? {
         return Ok(Some(cause));
     }
-    font_lacking(name, bytes, &tree.font, alloc)
+    font_fault(name, bytes, font_file(tree), alloc)
 }
 
 // Whether two names of files are the same one, on the same line.
@@ -206,8 +218,8 @@ fn keyword_of(file: &Named, tree: &MapTree) -> Keyword {
             return Keyword::Image;
         }
     }
-    match &tree.font {
-        Some(font) if is_same_use(&font.file, file) => Keyword::Config,
+    match font_file(tree) {
+        Some(font) if is_same_use(font, file) => Keyword::Config,
         _ => Keyword::Data,
     }
 }

@@ -9,7 +9,7 @@ use Rattle.maptree.specs.Entries.{Entries, Nothing, with_block}
 use Rattle.mapwords.specs.Fault.{and_then}
 use Rattle.mapwords.specs.Given.{value_in}
 use Rattle.maptree.specs.Meaning.{latitude_in, block_in, CountIsEnough}
-use Rattle.maptree.specs.Says.{Saying, Ends, Opens, Takes, Longitude, Passes, says}
+use Rattle.maptree.specs.Says.{Saying, Ends, Opens, Takes, Longitude, Skips, says}
 use Rattle.maptree.proofs.OnePass.{BlockRead, block_after, value-left, latitude-left}
 
 -- at most so many tokens are left
@@ -35,7 +35,7 @@ module _ (tail : Tail) (n : ℕ) (below : (b : Block) (above own : Entries) (ts 
       leaves-and_then (block_in tail n c own Nothing ts) (λ e. length e.1 ≤ length ts) (length ts) _ (below c own Nothing ts) (λ e l. leaves_more (length e.1) (length ts) _ l (below b above _ e.1))
   leaves-saying (Takes e) b above own ts =
       leaves-and_then (value_in tail e ts) (λ v. length v.rest ≤ length ts) (length ts) _ (value-left tail e ts) (λ v l. leaves_more (length v.rest) (length ts) _ l (below b above _ v.rest))
-  leaves-saying Passes b above own ts = below b above own ts
+  leaves-saying Skips b above own ts = below b above own ts
   leaves-saying (Longitude x) b above own ts =
       leaves-and_then (latitude_in tail ts) (λ y. length y.1 ≤ length ts) (length ts) _ (latitude-left tail ts) (λ y l. leaves_more (length y.1) (length ts) _ l (below b above _ y.1))
 
@@ -60,7 +60,7 @@ module _ (tail : Tail) (n m : ℕ) (below : (b : Block) (above own : Entries) (t
       ∙ same-while (block_in tail m c own Nothing ts) (λ e. length e.1 ≤ length ts) _ _ (block-at_most tail m c own Nothing ts) (λ e l. below b above _ e.1 (omega arith) (omega arith))
   same-saying (Takes e) b above own ts p q =
       same-while (value_in tail e ts) (λ v. length v.rest ≤ length ts) _ _ (value-left tail e ts) (λ v l. below b above _ v.rest (omega arith) (omega arith))
-  same-saying Passes b above own ts p q = below b above own ts p q
+  same-saying Skips b above own ts p q = below b above own ts p q
   same-saying (Longitude x) b above own ts p q =
       same-while (latitude_in tail ts) (λ y. length y.1 ≤ length ts) _ _ (latitude-left tail ts) (λ y l. below b above _ y.1 (omega arith) (omega arith))
 

@@ -1,4 +1,4 @@
--- A fault in the front of a mapfile is its fault, whatever stands after it.
+-- A fault in the prefix of a mapfile is its fault, whatever stands after it.
 use Rattle.std.proofs.Common.{◌≡◌, ◌≢◌, ℕ, zero, suc, ◌≤◌, Bool, true, false, List, [], ◌∷◌, ◌++◌, length, refl, sym, ap, ◌∙◌, arith, length-append}
 use Rattle.std.specs.Prelude.{Result, Ok, Err, if◌then◌else◌}
 use Rattle.maplex.specs.declared.fault.LexFault.{LexFault}
@@ -19,7 +19,7 @@ use Rattle.mapwords.specs.Keyword.{is_at}
 use Rattle.maptree.specs.Draft.{fresh}
 use Rattle.maptree.specs.Step.{read_token}
 use Rattle.maptree.specs.Meaning as meaning
-use Rattle.maptree.specs.Meaning.{FirstFaultIsTold}
+use Rattle.maptree.specs.Meaning.{FirstFaultIsReported}
 use Rattle.maptree.specs.Pass.{reads, alone, map_body, passed}
 use Rattle.maptree.specs.Entries.{Entries}
 use Rattle.maptree.proofs.OnePass.{to_tree, same-meaning}
@@ -78,7 +78,7 @@ err-from : (g : Fault) (r : Result Entries Fault) → and_then r to_tree ≡ Err
 err-from g (Ok own) p = let no : ⊥ = cc in absurd no
 err-from g (Err h) p = let same : h ≡ g = cc in ap (λ x. Err x) same
 
-pub first_fault : FirstFaultIsTold
+pub first_fault : FirstFaultIsReported
 first_fault front rest f g tail p differs =
     err-from g (meaning.meaning (front ++ rest) tail)
     (sym (same-meaning (front ++ rest) tail)

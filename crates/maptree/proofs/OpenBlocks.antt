@@ -1,42 +1,38 @@
 -- What the open blocks say, and the drafts that keep it.
-use Rattle.std.proofs.Common.{◌≡◌, List, [], ◌∷◌, length, map, refl, sym, ap, ◌++◌, Bool, true, false, ◌∙◌}
+use Rattle.std.proofs.Common.{◌≡◌, List, [], ◌∷◌, length, map, refl, sym, ap, ◌∙◌, ◌++◌, append_assoc, Bool, true, false}
 use Rattle.std.specs.Prelude.{ℕ, if◌then◌else◌, nat_le, ◌==◌, Option, None, Some, option_map, option_and_then, is_some, unwrap_or, Result, Ok, Err}
-use Rattle.std.specs.Option.{option_map_or, option_or}
 use Rattle.std.proofs.lemmas.List.{map-append, length-map}
 use Rattle.maplex.specs.Token.{TokenValue}
 use Rattle.mapdefs.specs.declared.layer.Geometry.{Geometry}
 use Rattle.mapdefs.specs.declared.layer.Geometry.TheVariants.{Polygon}
 use Rattle.mapdefs.specs.declared.limits.TheConstants.{MAX_SYMBOLS, MAX_LAYERS, MAX_CLASSES, MAX_STYLES, MAX_FEATURES}
+use Rattle.mapwords.specs.declared.named.Named.{Named}
 use Rattle.mapwords.specs.declared.role.Block.{Block}
 use Rattle.mapwords.specs.declared.role.Block.TheVariants as block
-use Rattle.mapwords.specs.declared.role.TextKeyword.TheVariants.{MapName, LayerName, ClassItem, LabelItem, Template, LayerData, CsvX, CsvY, ServiceWmsTitle, ServiceOwsTitle, ServiceWmsUrl, ServiceOwsUrl, LayerWmsTitle, LayerOwsTitle, SymbolName, SymbolImage, StyleSymbol, FeatureText, FeatureItems, LabelFont}
-use Rattle.mapwords.specs.declared.role.ColourKeyword.TheVariants.{StyleColour, StyleOutline, LabelColour, LabelOutline}
-use Rattle.mapwords.specs.declared.role.ScaleKeyword.TheVariants.{LayerMin, LayerMax, ClassMin, ClassMax}
-use Rattle.mapwords.specs.declared.role.Expected.{Expected}
-use Rattle.mapwords.specs.declared.role.Expected.TheVariants as expected
 use Rattle.mapwords.specs.declared.role.Role.{Role}
 use Rattle.mapwords.specs.declared.role.Role.TheVariants as role
+use Rattle.mapwords.specs.declared.table.TextKeyword.TheVariants as text
+use Rattle.mapwords.specs.declared.value.Value.{Value}
 use Rattle.maptree.specs.declared.draft.Drafts.{Drafts}
-use Rattle.maptree.specs.declared.draft.LayerDraft.{LayerDraft}
-use Rattle.maptree.specs.declared.tree.Named.{Named}
+use Rattle.maptree.specs.declared.tree.LayerBody.{LayerBody}
 use Rattle.mapwords.specs.declared.fault.Fault.{Fault}
 use Rattle.mapwords.specs.declared.fault.ParseKind.TheVariants.{DuplicateName}
 use Rattle.mapwords.specs.declared.keyword.Keyword.{Keyword}
 use Rattle.mapwords.specs.declared.keyword.Keyword.TheVariants as keyword
 use Rattle.maptree.specs.declared.tree.LayerTree.{LayerTree}
+use Rattle.maptree.specs.declared.tree.SymbolTree.{SymbolTree}
 use Rattle.maptree.specs.Data.{table_fault, with_table}
 use Rattle.maptree.specs.Draft as draft
-use Rattle.maptree.specs.End.{layer_with, finished_layer, finished_symbol, ends}
+use Rattle.maptree.specs.End.{layer_with, finished_layer, symbol_with, ends}
 use Rattle.maptree.specs.End as end
 use Rattle.maptree.specs.Symbol.{symbol_fault, map_fault}
-use Rattle.maptree.specs.declared.tree.SymbolTree.{SymbolTree}
-use Rattle.maptree.specs.Entries.{Entries, Nothing, Inside, with_block, last, blocks, last_block, last_within, vertices}
+use Rattle.maptree.specs.Entries.{Entries, Nothing, Inside, with_block, values, blocks, last_block, vertices}
 use Rattle.mapwords.specs.Fault.{and_then}
 use Rattle.maptree.specs.Name.{is_taken}
 use Rattle.maptree.specs.Says.{layer_end_fault, closing_fault, is_full}
-use Rattle.mapwords.specs.Table.{map_role, web_role, symbol_role, layer_role, class_role, style_role, label_role, feature_role, passed_role, passed_label_role, end_role, role_of}
-use Rattle.maptree.specs.Tree.{style_tree, label_tree, class_tree, feature_tree, layer_name, layer_kind, class_item, label_item, template, layer_tolerance, layer_min, layer_max, layer_items, layer_table, layer_csv_x, layer_csv_y, layer_wms_title, layer_ows_title, feature_text, feature_items, layer_tree, symbol_name, symbol_kind, symbol_image, symbol_tree, service_wms_title, service_ows_title, service_wms_url, service_ows_url, web_text, service_text, files_used, map_tree}
-use Rattle.mapwords.specs.declared.value.Value.{Value}
+use Rattle.mapwords.specs.Table.{map_role, web_role, symbol_role, layer_role, class_role, style_role, label_role, feature_role, skipped_role, skipped_label_role, end_role, role_of}
+use Rattle.maptree.specs.Tree.{class_tree, feature_tree, layer_body, layer_tree, no_name, symbol_tree, files_used, map_tree}
+use Rattle.maptree.specs.Values.{geometry_in, has_pixmap, last, text_in, words_in}
 
 -- what the open blocks say so far; a block that isn't open says nothing
 pub record OpenBlocks : Type 0 where
@@ -52,49 +48,19 @@ pub record OpenBlocks : Type 0 where
   pub feature : Entries
   pub points : Entries
 
--- the last of a service's texts, of the open METADATA first, and then of the open WEB
-abbrev open_text : (Value → ℕ → Option (List ℕ)) → OpenBlocks → Option (List ℕ)
-open_text wanted o = option_or (last wanted o.web_metadata) (option_or (web_text wanted o.web) (service_text wanted o.map))
-
--- the last of a layer's texts, of the open METADATA first
-abbrev layer_text : (Value → ℕ → Option (List ℕ)) → OpenBlocks → Option (List ℕ)
-layer_text wanted o = option_or (last wanted o.layer_metadata) (last_within block.LayerMetadata (last wanted) o.layer)
-
 -- the drafts that keep it
 abbrev pub drafts_of : OpenBlocks → Drafts
 drafts_of o = record {
-  map = record (map_tree o.map) {
-    wms_title = open_text service_wms_title o;
-    ows_title = open_text service_ows_title o;
-    wms_url = open_text service_wms_url o;
-    ows_url = open_text service_ows_url o;
-  };
-  symbol = record { name = last symbol_name o.symbol; pixmap = is_some (last symbol_kind o.symbol); image = last symbol_image o.symbol };
-  layer = record {
-    name = last layer_name o.layer;
-    kind = last layer_kind o.layer;
-    classitem = last class_item o.layer;
-    labelitem = last label_item o.layer;
-    queryable = is_some (last template o.layer);
-    tolerance = last layer_tolerance o.layer;
-    min = last layer_min o.layer;
-    max = last layer_max o.layer;
-    items = last layer_items o.layer;
-    table = last layer_table o.layer;
-    csv_x = last layer_csv_x o.layer;
-    csv_y = last layer_csv_y o.layer;
-    wms_title = layer_text layer_wms_title o;
-    ows_title = layer_text layer_ows_title o;
-    classes = map class_tree (blocks block.Class o.layer);
-    features = map feature_tree (blocks block.Feature o.layer);
-  };
+  map = record (map_tree o.map) { values = values o.web_metadata ++ (values o.web ++ values o.map) };
+  symbol = values o.symbol;
+  layer = record (layer_body o.layer) { values = values o.layer_metadata ++ values o.layer };
   class = class_tree o.class;
-  style = style_tree o.style;
-  label = label_tree o.label;
+  style = values o.style;
+  label = values o.label;
   feature = record {
     parts = record { whole = map vertices (blocks block.Points o.feature); next = vertices o.points };
-    text = last feature_text o.feature;
-    items = last feature_items o.feature;
+    text = last (words_in text.Text) (values o.feature);
+    items = last (words_in text.Items) (values o.feature);
   };
 }
 
@@ -165,78 +131,17 @@ pub record Nests (c b : Block) : Type 0 where
   pub parent : (own : Entries) (o : OpenBlocks) → above c own (in_block b own o) ≡ own
   pub ended : (inner own : Entries) (o : OpenBlocks) → after_end c inner (in_block b own o) ≡ in_block b (with_block c inner own) o
 
--- the keyword of a value is one of the block; a value without effect may stand in each
-abbrev pub Suits : Expected → Block → Type 0
-Suits (expected.Text MapName) b = b ≡ block.Map
-Suits (expected.Text LabelFont) b = b ≡ block.Map
-Suits expected.ConfigKey b = b ≡ block.Map
-Suits (expected.Text SymbolName) b = b ≡ block.Symbol
-Suits (expected.Text SymbolImage) b = b ≡ block.Symbol
-Suits (expected.Text StyleSymbol) b = b ≡ block.Style
-Suits expected.Pixmap b = b ≡ block.Symbol
-Suits (expected.Text LayerName) b = b ≡ block.Layer
-Suits (expected.Text ClassItem) b = b ≡ block.Layer
-Suits (expected.Text LabelItem) b = b ≡ block.Layer
-Suits (expected.Text Template) b = b ≡ block.Layer
-Suits (expected.Text LayerData) b = b ≡ block.Layer
-Suits (expected.Text CsvX) b = b ≡ block.Layer
-Suits (expected.Text CsvY) b = b ≡ block.Layer
-Suits (expected.Text ServiceWmsTitle) b = b ≡ block.WebMetadata
-Suits (expected.Text ServiceOwsTitle) b = b ≡ block.WebMetadata
-Suits (expected.Text ServiceWmsUrl) b = b ≡ block.WebMetadata
-Suits (expected.Text ServiceOwsUrl) b = b ≡ block.WebMetadata
-Suits (expected.Text LayerWmsTitle) b = b ≡ block.LayerMetadata
-Suits (expected.Text LayerOwsTitle) b = b ≡ block.LayerMetadata
-Suits (expected.Text FeatureText) b = b ≡ block.Feature
-Suits (expected.Text FeatureItems) b = b ≡ block.Feature
-Suits expected.Priority b = b ≡ block.Label
-Suits expected.Buffer b = b ≡ block.Label
-Suits expected.Distance b = b ≡ block.Label
-Suits expected.Position b = b ≡ block.Label
-Suits (expected.Flag keyword) b = b ≡ block.Label
-Suits (expected.Scale LayerMin) b = b ≡ block.Layer
-Suits (expected.Scale LayerMax) b = b ≡ block.Layer
-Suits (expected.Scale ClassMin) b = b ≡ block.Class
-Suits (expected.Scale ClassMax) b = b ≡ block.Class
-Suits expected.Rule b = b ≡ block.Class
-Suits expected.Setting b = b ≡ block.Layer
-Suits expected.West b = b ≡ block.Map
-Suits (expected.South x) b = b ≡ block.Map
-Suits (expected.East x y) b = b ≡ block.Map
-Suits (expected.North x y east) b = b ≡ block.Map
-Suits expected.Width b = b ≡ block.Style
-Suits expected.Size b = b ≡ block.Style
-Suits expected.Tolerance b = b ≡ block.Layer
-Suits expected.Geometry b = b ≡ block.Layer
-Suits expected.Table b = b ≡ block.Layer
-Suits (expected.Colour StyleColour) b = b ≡ block.Style
-Suits (expected.Green StyleColour r) b = b ≡ block.Style
-Suits (expected.Blue StyleColour r g) b = b ≡ block.Style
-Suits (expected.Colour StyleOutline) b = b ≡ block.Style
-Suits (expected.Green StyleOutline r) b = b ≡ block.Style
-Suits (expected.Blue StyleOutline r g) b = b ≡ block.Style
-Suits (expected.Colour LabelColour) b = b ≡ block.Label
-Suits (expected.Green LabelColour r) b = b ≡ block.Label
-Suits (expected.Blue LabelColour r g) b = b ≡ block.Label
-Suits (expected.Colour LabelOutline) b = b ≡ block.Label
-Suits (expected.Green LabelOutline r) b = b ≡ block.Label
-Suits (expected.Blue LabelOutline r g) b = b ≡ block.Label
-Suits _ b = Unit {0}
-
--- a keyword of a block opens a block inside of it, or takes a value of it
+-- where a keyword of a block opens a block, that one is inside of it
 abbrev pub Fits : Block → Option Role → Type 0
 Fits b None = Unit {0}
 Fits b (Some role.Closes) = Unit {0}
 Fits b (Some (role.Opens c)) = Nests c b
-Fits b (Some (role.Takes e)) = Suits e b
+Fits b (Some (role.Takes e)) = Unit {0}
 
 nests : {c b : Block} → ((own : Entries) (o : OpenBlocks) → in_block c Nothing (in_block b own o) ≡ in_block b own o) → ((own : Entries) (o : OpenBlocks) → above c own (in_block b own o) ≡ own) → ((inner own : Entries) (o : OpenBlocks) → after_end c inner (in_block b own o) ≡ in_block b (with_block c inner own) o) → Nests c b
 nests p q r = record { opened = p; parent = q; ended = r }
 
 fits-map : (k : Keyword) → Fits block.Map (map_role k)
-fits-map keyword.Name = refl
-fits-map keyword.Extent = refl
-fits-map keyword.Config = refl
 fits-map keyword.Web = nests (λ own o. refl) (λ own o. refl) (λ inner own o. refl)
 fits-map keyword.Symbol = nests (λ own o. refl) (λ own o. refl) (λ inner own o. refl)
 fits-map keyword.Layer = nests (λ own o. refl) (λ own o. refl) (λ inner own o. refl)
@@ -254,22 +159,10 @@ fits-web keyword.Validation = nests (λ own o. refl) (λ own o. refl) (λ inner 
 fits-web _ = tt
 
 fits-symbol : (k : Keyword) → Fits block.Symbol (symbol_role k)
-fits-symbol keyword.Name = refl
-fits-symbol keyword.GeometryType = refl
-fits-symbol keyword.Image = refl
+fits-symbol keyword.End = tt
 fits-symbol _ = tt
 
 fits-layer : (k : Keyword) → Fits block.Layer (layer_role k)
-fits-layer keyword.Name = refl
-fits-layer keyword.GeometryType = refl
-fits-layer keyword.ClassItem = refl
-fits-layer keyword.LabelItem = refl
-fits-layer keyword.Data = refl
-fits-layer keyword.Template = refl
-fits-layer keyword.Tolerance = refl
-fits-layer keyword.MinScaleDenom = refl
-fits-layer keyword.MaxScaleDenom = refl
-fits-layer keyword.Processing = refl
 fits-layer keyword.Metadata = nests (λ own o. refl) (λ own o. refl) (λ inner own o. refl)
 fits-layer keyword.Class = nests (λ own o. refl) (λ own o. refl) (λ inner own o. refl)
 fits-layer keyword.Feature = nests (λ own o. refl) (λ own o. refl) (λ inner own o. refl)
@@ -280,49 +173,32 @@ fits-layer _ = tt
 fits-class : (k : Keyword) → Fits block.Class (class_role k)
 fits-class keyword.Style = nests (λ own o. refl) (λ own o. refl) (λ inner own o. refl)
 fits-class keyword.Label = nests (λ own o. refl) (λ own o. refl) (λ inner own o. refl)
-fits-class keyword.Expression = refl
-fits-class keyword.MinScaleDenom = refl
-fits-class keyword.MaxScaleDenom = refl
 fits-class _ = tt
 
 fits-style : (k : Keyword) → Fits block.Style (style_role k)
-fits-style keyword.Color = refl
-fits-style keyword.OutlineColor = refl
-fits-style keyword.Width = refl
-fits-style keyword.Size = refl
-fits-style keyword.Symbol = refl
+fits-style keyword.End = tt
 fits-style _ = tt
 
 fits-label : (k : Keyword) → Fits block.Label (label_role k)
-fits-label keyword.Color = refl
-fits-label keyword.OutlineColor = refl
-fits-label keyword.Priority = refl
-fits-label keyword.Position = refl
-fits-label keyword.Buffer = refl
-fits-label keyword.MinDistance = refl
-fits-label keyword.Partials = refl
-fits-label keyword.Force = refl
 fits-label keyword.Style = nests (λ own o. refl) (λ own o. refl) (λ inner own o. refl)
 fits-label _ = tt
 
 fits-feature : (k : Keyword) → Fits block.Feature (feature_role k)
-fits-feature keyword.Text = refl
-fits-feature keyword.Items = refl
 fits-feature keyword.Points = nests (λ own o. refl) (λ own o. refl) (λ inner own o. refl)
 fits-feature _ = tt
 
-fits-passed : (k : Keyword) → Fits block.Passed (passed_role k)
-fits-passed keyword.Label = nests (λ own o. refl) (λ own o. refl) (λ inner own o. refl)
-fits-passed keyword.Metadata = nests (λ own o. refl) (λ own o. refl) (λ inner own o. refl)
-fits-passed keyword.Validation = nests (λ own o. refl) (λ own o. refl) (λ inner own o. refl)
-fits-passed _ = tt
+fits-skipped : (k : Keyword) → Fits block.Skipped (skipped_role k)
+fits-skipped keyword.Label = nests (λ own o. refl) (λ own o. refl) (λ inner own o. refl)
+fits-skipped keyword.Metadata = nests (λ own o. refl) (λ own o. refl) (λ inner own o. refl)
+fits-skipped keyword.Validation = nests (λ own o. refl) (λ own o. refl) (λ inner own o. refl)
+fits-skipped _ = tt
 
-fits-passed_label : (k : Keyword) → Fits block.PassedLabel (passed_label_role k)
-fits-passed_label keyword.Label = nests (λ own o. refl) (λ own o. refl) (λ inner own o. refl)
-fits-passed_label keyword.Metadata = nests (λ own o. refl) (λ own o. refl) (λ inner own o. refl)
-fits-passed_label keyword.Validation = nests (λ own o. refl) (λ own o. refl) (λ inner own o. refl)
-fits-passed_label keyword.Style = nests (λ own o. refl) (λ own o. refl) (λ inner own o. refl)
-fits-passed_label _ = tt
+fits-skipped_label : (k : Keyword) → Fits block.SkippedLabel (skipped_label_role k)
+fits-skipped_label keyword.Label = nests (λ own o. refl) (λ own o. refl) (λ inner own o. refl)
+fits-skipped_label keyword.Metadata = nests (λ own o. refl) (λ own o. refl) (λ inner own o. refl)
+fits-skipped_label keyword.Validation = nests (λ own o. refl) (λ own o. refl) (λ inner own o. refl)
+fits-skipped_label keyword.Style = nests (λ own o. refl) (λ own o. refl) (λ inner own o. refl)
+fits-skipped_label _ = tt
 
 fits-end : (b : Block) (k : Keyword) → Fits b (end_role k)
 fits-end b keyword.End = tt
@@ -337,8 +213,8 @@ fits block.Web k = fits-web k
 fits block.Symbol k = fits-symbol k
 fits block.Label k = fits-label k
 fits block.Feature k = fits-feature k
-fits block.Passed k = fits-passed k
-fits block.PassedLabel k = fits-passed_label k
+fits block.Skipped k = fits-skipped k
+fits block.SkippedLabel k = fits-skipped_label k
 fits block.Points k = fits-end block.Points k
 fits block.Validation k = fits-end block.Validation k
 fits block.WebMetadata k = fits-end block.WebMetadata k
@@ -349,23 +225,23 @@ pub fits-option : (b : Block) (k : Option Keyword) → Fits b (option_and_then (
 fits-option b None = tt
 fits-option b (Some k) = fits b k
 
--- a block that may open inside one that is read over has no limit
+-- a block that may open inside one that is skipped has no limit
 abbrev pub Frees : Option Role → Type 0
 Frees (Some (role.Opens c)) = (own : Entries) → is_full c own ≡ false
 Frees _ = Unit {0}
 
-frees-passed : (k : Keyword) → Frees (passed_role k)
-frees-passed keyword.Label = λ own. refl
-frees-passed keyword.Metadata = λ own. refl
-frees-passed keyword.Validation = λ own. refl
-frees-passed _ = tt
+frees-skipped : (k : Keyword) → Frees (skipped_role k)
+frees-skipped keyword.Label = λ own. refl
+frees-skipped keyword.Metadata = λ own. refl
+frees-skipped keyword.Validation = λ own. refl
+frees-skipped _ = tt
 
-frees-passed_label : (k : Keyword) → Frees (passed_label_role k)
-frees-passed_label keyword.Label = λ own. refl
-frees-passed_label keyword.Metadata = λ own. refl
-frees-passed_label keyword.Validation = λ own. refl
-frees-passed_label keyword.Style = λ own. refl
-frees-passed_label _ = tt
+frees-skipped_label : (k : Keyword) → Frees (skipped_label_role k)
+frees-skipped_label keyword.Label = λ own. refl
+frees-skipped_label keyword.Metadata = λ own. refl
+frees-skipped_label keyword.Validation = λ own. refl
+frees-skipped_label keyword.Style = λ own. refl
+frees-skipped_label _ = tt
 
 frees-end : (k : Keyword) → Frees (end_role k)
 frees-end keyword.End = tt
@@ -376,15 +252,15 @@ pub projection-frees : (k : Option Keyword) → Frees (option_and_then end_role 
 projection-frees None = tt
 projection-frees (Some k) = frees-end k
 
-pub passed-frees : (k : Option Keyword) → Frees (option_and_then passed_role k)
-passed-frees None = tt
-passed-frees (Some k) = frees-passed k
+pub skipped-frees : (k : Option Keyword) → Frees (option_and_then skipped_role k)
+skipped-frees None = tt
+skipped-frees (Some k) = frees-skipped k
 
-pub label-frees : (k : Option Keyword) → Frees (option_and_then passed_label_role k)
+pub label-frees : (k : Option Keyword) → Frees (option_and_then skipped_label_role k)
 label-frees None = tt
-label-frees (Some k) = frees-passed_label k
+label-frees (Some k) = frees-skipped_label k
 
-is_some-map : (label : Option Entries) → is_some (option_map label_tree label) ≡ is_some label
+is_some-map : (label : Option Entries) → is_some (option_map values label) ≡ is_some label
 is_some-map (Some own) = refl
 is_some-map None = refl
 
@@ -393,7 +269,7 @@ pub same-room : (b : Block) (up own : Entries) (o : OpenBlocks) → draft.is_ful
 same-room block.Symbol up own o = ap (nat_le MAX_SYMBOLS) (length-map (blocks block.Symbol o.map) symbol_tree)
 same-room block.Layer up own o = ap (nat_le MAX_LAYERS) (length-map (blocks block.Layer o.map) layer_tree)
 same-room block.Class up own o = ap (nat_le MAX_CLASSES) (length-map (blocks block.Class o.layer) class_tree)
-same-room block.Style up own o = ap (nat_le MAX_STYLES) (length-map (blocks block.Style o.class) style_tree)
+same-room block.Style up own o = ap (nat_le MAX_STYLES) (length-map (blocks block.Style o.class) values)
 same-room block.Feature up own o = ap (nat_le MAX_FEATURES) (length-map (blocks block.Feature o.layer) feature_tree)
 same-room block.Label up own o = is_some-map (last_block block.Label o.class)
 same-room _ up own o = refl
@@ -403,20 +279,20 @@ abbrev pub unless_fault : {A : Type 0} → Option Fault → A → Result A Fault
 unless_fault None a = Ok a
 unless_fault (Some f) a = Err f
 
-module _ (earlier : List LayerTree) (t : TokenValue) (layer : LayerDraft) (with_layer : LayerTree → Drafts) where
-  taken-ends : (name : Named) (kind : Geometry) (taken : Bool) (table : Option Fault) →
-      and_then (if taken then Err (record { line = name.line; kind = DuplicateName }) else end.unless_fault table (layer_with name.text kind layer)) (λ made. Ok (with_layer made))
-      ≡ unless_fault (if taken then Some (record { line = name.line; kind = DuplicateName }) else table) (with_layer (layer_with name.text kind layer))
-  taken-ends name kind true table = refl
-  taken-ends name kind false None = refl
-  taken-ends name kind false (Some f) = refl
+module _ (earlier : List LayerTree) (t : TokenValue) (body : LayerBody) (with_layer : LayerTree → Drafts) where
+  taken-ends : (name : Named) (geometry : Geometry) (taken : Bool) (table : Option Fault) →
+      and_then (if taken then Err (record { line = name.line; kind = DuplicateName }) else end.unless_fault table (layer_with name geometry body)) (λ made. Ok (with_layer made))
+      ≡ unless_fault (if taken then Some (record { line = name.line; kind = DuplicateName }) else table) (with_layer (layer_with name geometry body))
+  taken-ends name geometry true table = refl
+  taken-ends name geometry false None = refl
+  taken-ends name geometry false (Some f) = refl
 
-  layer-ends : (name : Option Named) (kind : Option Geometry) →
-      and_then (finished_layer name kind layer earlier t) (λ made. Ok (with_layer made))
-      ≡ unless_fault (layer_end_fault name kind layer.table earlier t) (with_layer (layer_with (option_map_or (λ (n : Named). n.text) name []) (unwrap_or kind Polygon) layer))
-  layer-ends (Some name) (Some kind) = taken-ends name kind (is_taken name.text earlier) (table_fault kind layer.table)
+  layer-ends : (name : Option Named) (geometry : Option Geometry) →
+      and_then (finished_layer name geometry body earlier t) (λ made. Ok (with_layer made))
+      ≡ unless_fault (layer_end_fault name geometry (last (text_in text.Data) body.values) earlier t) (with_layer (layer_with (unwrap_or name no_name) (unwrap_or geometry Polygon) body))
+  layer-ends (Some name) (Some geometry) = taken-ends name geometry (is_taken name.text earlier) (table_fault geometry (last (text_in text.Data) body.values))
   layer-ends (Some name) None = refl
-  layer-ends None (Some kind) = refl
+  layer-ends None (Some geometry) = refl
   layer-ends None None = refl
 
 -- a fault refuses the drafts
@@ -424,9 +300,9 @@ unless-same : (fault : Option Fault) (d : Drafts) → end.unless_fault fault d �
 unless-same None d = refl
 unless-same (Some f) d = refl
 
-symbol-ends : (with_symbol : SymbolTree → Drafts) (t : TokenValue) (name : Option (List ℕ)) (pixmap : Bool) (image : Option Named) →
-    and_then (finished_symbol name pixmap image t) (λ made. Ok (with_symbol made))
-    ≡ unless_fault (symbol_fault name pixmap image t) (with_symbol (record { name = unwrap_or name []; image = unwrap_or image (record { text = []; line = 0 }) }))
+symbol-ends : (with_symbol : SymbolTree → Drafts) (t : TokenValue) (name : Option Named) (pixmap : Bool) (image : Option Named) →
+    and_then (symbol_with name pixmap image t) (λ made. Ok (with_symbol made))
+    ≡ unless_fault (symbol_fault name pixmap image t) (with_symbol (record { name = unwrap_or name no_name; image = unwrap_or image no_name }))
 symbol-ends with_symbol t (Some name) true (Some image) = refl
 symbol-ends with_symbol t (Some name) true None = refl
 symbol-ends with_symbol t (Some name) false image = refl
@@ -436,36 +312,28 @@ given-unless : {A : Type 0} (none : Bool) (f : Fault) (a b : A) → a ≡ b → 
 given-unless true f a b p = refl
 given-unless false f a b p = ap (λ x. Ok x) p
 
-or-assoc : {A : Type 0} (a b c : Option A) → option_or a (option_or b c) ≡ option_or (option_or a b) c
-or-assoc (Some x) b c = refl
-or-assoc None b c = refl
-
--- the METADATA of a WEB is the last of those that the WEB has
+-- the METADATA of a WEB speaks for the WEB
 pub metadata-ends : (own : Entries) (o : OpenBlocks) → drafts_of (in_block block.WebMetadata own o) ≡ drafts_of (after_end block.WebMetadata own o)
 metadata-ends own o =
-    rw (
-      or-assoc (last service_wms_title own) (web_text service_wms_title o.web) (service_text service_wms_title o.map),
-      or-assoc (last service_ows_title own) (web_text service_ows_title o.web) (service_text service_ows_title o.map),
-      or-assoc (last service_wms_url own) (web_text service_wms_url o.web) (service_text service_wms_url o.map),
-      or-assoc (last service_ows_url own) (web_text service_ows_url o.web) (service_text service_ows_url o.map),
-    ) refl
+    ap (λ (given : List Value). record (drafts_of (in_block block.Web o.web o)) { map = record (map_tree o.map) { values = given } })
+    (sym (append_assoc (values own) (values o.web) (values o.map)))
 
 -- the END of a block, in drafts and by what it says
 pub same-end : (b : Block) (up own : Entries) (o : OpenBlocks) (t : TokenValue) → ends b (drafts_of (in_block b own o)) t ≡ unless_fault (closing_fault b (above b up o) own t) (drafts_of (after_end b own o))
 same-end block.Map up own o t = unless-same (map_fault (map_tree own).symbols (map_tree own).layers) (drafts_of (in_block block.Map own o))
 same-end block.Symbol up own o t =
     symbol-ends (λ symbol. record (drafts_of (in_block block.Map o.map o)) { map = record (map_tree o.map) { symbols = (map_tree o.map).symbols ++ symbol ∷ []; files = files_used o.map ++ symbol.image ∷ [] } })
-    t (last symbol_name own) (is_some (last symbol_kind own)) (last symbol_image own)
+    t (last (text_in text.Name) (values own)) (has_pixmap (values own)) (last (text_in text.Image) (values own))
     ∙ ap (λ (symbols : List SymbolTree). unless_fault (closing_fault block.Symbol o.map own t) (record (drafts_of (in_block block.Map o.map o)) { map = record (map_tree o.map) { symbols = symbols; files = files_used o.map ++ (symbol_tree own).image ∷ [] } }))
     (sym (map-append symbol_tree (blocks block.Symbol o.map) (own ∷ [])))
 same-end block.Layer up own o t =
     layer-ends (map_tree o.map).layers t (drafts_of (in_block block.Layer own o)).layer
     (λ layer. record (drafts_of (in_block block.Map o.map o)) { map = record (map_tree o.map) { layers = (map_tree o.map).layers ++ layer ∷ []; files = with_table layer.table (files_used o.map) } })
-    (last layer_name own) (last layer_kind own)
-    ∙ ap (λ (layers : List LayerTree). unless_fault (closing_fault block.Layer o.map own t) (record (drafts_of (in_block block.Map o.map o)) { map = record (map_tree o.map) { layers = layers; files = with_table (last layer_table own) (files_used o.map) } }))
+    (last (text_in text.Name) (values own)) (last geometry_in (values own))
+    ∙ ap (λ (layers : List LayerTree). unless_fault (closing_fault block.Layer o.map own t) (record (drafts_of (in_block block.Map o.map o)) { map = record (map_tree o.map) { layers = layers; files = with_table (last (text_in text.Data) (values own)) (files_used o.map) } }))
     (sym (map-append layer_tree (blocks block.Layer o.map) (own ∷ [])))
 same-end block.Class up own o t = rw (map-append class_tree (blocks block.Class o.layer) (own ∷ [])) refl
-same-end block.Style up own o t = rw (map-append style_tree (blocks block.Style o.class) (own ∷ [])) refl
+same-end block.Style up own o t = rw (map-append values (blocks block.Style o.class) (own ∷ [])) refl
 same-end block.Feature up own o t =
     rw (map-append feature_tree (blocks block.Feature o.layer) (own ∷ []), length-map (blocks block.Points own) vertices)
     (given-unless (length (blocks block.Points own) == 0) _ _ _ refl)

@@ -1,6 +1,6 @@
 -- What a mapfile may say is read of it where it is written out.
-use Rattle.std.proofs.Common.{◌≡◌, ℕ, zero, suc, ℤ, pos, negsuc, unsigned_abs, ◌/◌, ◌^◌, ◌+◌, ◌<◌, ◌≤◌, Bool, true, false, ◌||◌, List, [], ◌∷◌, ◌++◌, length, length-append, append_assoc, append-nil, refl, sym, ap, ◌∙◌, arith, codes, None, Some, Ok}
-use Rattle.std.specs.Prelude.{not, option_map, int_lt, ◌<ℤ◌}
+use Rattle.std.proofs.Common.{◌≡◌, ℕ, zero, suc, ℤ, pos, negsuc, unsigned_abs, ◌/◌, ◌^◌, ◌+◌, ◌<◌, ◌≤◌, Bool, true, false, ◌||◌, List, [], ◌∷◌, ◌++◌, length, length-append, append_assoc, append-nil, refl, sym, ap, ◌∙◌, arith, codes, Option, None, Some, Ok}
+use Rattle.std.specs.Prelude.{not, option_map, option_and_then, int_lt, ◌<ℤ◌}
 use Rattle.std.proofs.lemmas.Int.{ints}
 use Rattle.std.specs.Result.{result_ok}
 use Rattle.std.specs.Char.{is_ascii_digit}
@@ -20,28 +20,35 @@ use Rattle.geom.proofs.Written.{numeral, written-law as number-law, coordinate-s
 use Rattle.maplex.specs.declared.fault.Tail.{Tail}
 use Rattle.maplex.specs.declared.fault.Tail.TheVariants as tails
 use Rattle.maplex.specs.Token.{TokenValue}
-use Rattle.mapdefs.specs.declared.limits.TheConstants.{MAX_VERTICES, MAX_LINE_WIDTH, MAX_SQUARE, MAX_TOLERANCE, MAX_PRIORITY, MAX_BUFFER, MAX_DISTANCE, MAX_ITEMS}
+use Rattle.mapdefs.specs.declared.limits.TheConstants.{MAX_VERTICES, MAX_ITEMS}
 use Rattle.mapdefs.specs.declared.layer.Geometry.TheVariants.{Point, Line, Polygon}
 use Rattle.mapdefs.specs.declared.label.Position.{Position}
 use Rattle.mapdefs.specs.declared.label.Position.TheVariants.{UpperLeft, UpperCentre, UpperRight, CentreLeft, Centre, CentreRight, LowerLeft, LowerCentre, LowerRight, Automatic}
-use Rattle.mapwords.specs.declared.role.ColourKeyword.TheVariants.{StyleColour, StyleOutline, LabelColour, LabelOutline}
 use Rattle.mapwords.specs.Rule.{is_comma}
 use Rattle.mapwords.specs.Setting.{setting_in}
-use Rattle.mapwords.specs.Label.{position_of, flag_of, distance_of}
+use Rattle.mapwords.specs.Label.{position_of, flag_of}
 use Rattle.mapwords.specs.declared.role.Block.{Block}
 use Rattle.mapwords.specs.declared.role.Block.TheVariants as block
+use Rattle.mapwords.specs.declared.role.Expected.{Expected}
+use Rattle.mapwords.specs.declared.role.Role.TheVariants as role
+use Rattle.mapwords.specs.declared.keyword.Keyword.{Keyword}
+use Rattle.mapwords.specs.declared.keyword.Keyword.TheVariants as keyword
 use Rattle.mapwords.specs.declared.keyword.Keyword.TheVariants.{End}
+use Rattle.mapwords.specs.declared.table.CountKeyword.{CountKeyword}
+use Rattle.mapwords.specs.declared.table.CountKeyword.TheVariants as count
 use Rattle.mapwords.specs.declared.value.Value.{Value}
 use Rattle.mapwords.specs.declared.value.Value.TheVariants as value
 use Rattle.mapdefs.specs.declared.class.Rule.TheVariants.{OneOf}
-use Rattle.mapwords.specs.Count.{bounded_of, number_in}
-use Rattle.maptree.specs.Entries.{Entries, Nothing, Said, Vertex, Inside, vertex_count}
+use Rattle.mapwords.specs.Count.{count_in, none_as_zero, number_in}
+use Rattle.mapwords.specs.Table.{end_role, skipped_role, skipped_label_role, role_of, least_of, most_of}
+use Rattle.maptree.specs.Entries.{Entries, Nothing, Said, Vertex, Inside, with_said, vertex_count}
 use Rattle.mapwords.specs.Fault.{and_then}
-use Rattle.mapwords.specs.Keyword.{spelling, is_spelt}
+use Rattle.mapwords.specs.Keyword.{spelling, is_spelt, keyword_of}
 use Rattle.mapwords.specs.Given.{value_in}
 use Rattle.maptree.specs.Meaning.{block_in, alone}
-use Rattle.maptree.specs.Says.{closing_fault, is_full}
-use Rattle.maptree.specs.Written.{bare, written_value, block_text, written_out, position_text, flag_text, HasNoComma, IsValueIn, map_name, label_font, map_extent, service_wms_title, service_ows_title, service_wms_url, service_ows_url, layer_wms_title, layer_ows_title, symbol_name, symbol_kind, symbol_image, style_symbol, layer_name, class_item, label_item, template, layer_data, csv_x, csv_y, layer_items, layer_min, layer_max, class_min, class_max, class_equals, class_one_of, label_priority, label_buffer, label_distance, label_position, label_partials, label_force, no_label_colour, label_colour, no_label_outline, label_outline, feature_text, feature_items, style_width, style_size, layer_tolerance, layer_kind, no_colour, style_colour, no_outline, style_outline, IsBlockIn, symbol, layer, class, feature, style, points, label, web, web_metadata, layer_metadata, MaySay, nothing, said, vertex, inside, WrittenIsRead}
+use Rattle.maptree.specs.Says.{Takes, closing_fault, is_full, role_says, says}
+use Rattle.maptree.specs.Written.{bare, block_text, position_text, flag_text, HasNoComma, IsKeyword, IsWritten, text, table, font, web_text, layer_text, csv_x, csv_y, items, flag, scale, no_colour, some_colour, geometry, pixmap, position, equals, one_of, extent, IsBlockIn, symbol, layer, class, feature, style, points, label, web, web_metadata, layer_metadata, IsWrittenOut, nothing, said, vertex, inside, WrittenIsRead}
+use Rattle.maptree.specs.Written as written_as
 use Rattle.maptree.proofs.Blocks.{block-enough}
 use Rattle.mapwords.proofs.Colours.{counts_of}
 
@@ -64,12 +71,30 @@ count-not_end n small =
     let is = numeral n small in
     ap (λ text. is_spelt text End) (sym (append-nil (decimal n))) ∙ digits-not_end (decimal n) [] is.digits is.some
 
+-- a count is below each bound of a machine's numbers
+most-small : (keyword : CountKeyword) → most_of keyword ≤ 65535
+most-small count.Width = omega arith
+most-small count.Size = omega arith
+most-small count.Tolerance = omega arith
+most-small count.Priority = omega arith
+most-small count.Buffer = omega arith
+most-small count.MinDistance = omega arith
+
+none-pos : (keyword : CountKeyword) (n : ℕ) → none_as_zero keyword (pos n) ≡ pos n
+none-pos count.Width n = refl
+none-pos count.Size n = refl
+none-pos count.Tolerance n = refl
+none-pos count.Priority n = refl
+none-pos count.Buffer n = refl
+none-pos count.MinDistance n = refl
+
 -- a count that is written out is read as that count
-bounded-read : (least most n : ℕ) → least ≤ n → n ≤ most → most ≤ 65535 → bounded_of least most (decimal n) ≡ Some n
-bounded-read least most n above below small =
-    let count : count_of (decimal n) ≡ Some (pos n) =
+count-read : (keyword : CountKeyword) (n : ℕ) → least_of keyword ≤ n → n ≤ most_of keyword → count_in keyword (decimal n) ≡ Some (record { keyword = keyword; number = n })
+count-read keyword n above below =
+    let small : most_of keyword ≤ 65535 = most-small keyword in
+    let written : count_of (decimal n) ≡ Some (pos n) =
     ap (λ r. option_map whole_of (result_ok r)) (numeral-read n NUMBER_LIMIT (omega arith) (omega arith)) ∙ ap (λ z. Some z) (whole-read n) in
-    rw (count, le-leb least n above, le-leb n most below) refl
+    rw (written, none-pos keyword n, le-leb (least_of keyword) n above, le-leb n (most_of keyword) below) refl
 
 size-not_end : (n : ℕ) → n < 2 ^ 64 → is_spelt (written (pos n)) End ≡ false
 size-not_end n small =
@@ -90,12 +115,6 @@ number-not_end (negsuc n) small = refl
 -- and is read as that number
 number-read : (z : ℤ) → unsigned_abs z ≤ NUMBER_LIMIT → number_in (written z) ≡ Some z
 number-read z small = ap result_ok (number-law z NUMBER_LIMIT small (omega arith))
-
-distance-read : (n : ℕ) → n ≤ MAX_DISTANCE → distance_of (decimal n) ≡ Some n
-distance-read n below =
-    let count : count_of (decimal n) ≡ Some (pos n) =
-    ap (λ r. option_map whole_of (result_ok r)) (numeral-read n NUMBER_LIMIT (omega arith) (omega arith)) ∙ ap (λ z. Some z) (whole-read n) in
-    rw (count, le-leb 0 n (omega arith), le-leb n MAX_DISTANCE below) refl
 
 position-read : (position : Position) → position_of (position_text position) ≡ Some position
 position-read UpperLeft = refl
@@ -140,129 +159,129 @@ names-cut (name ∷ other ∷ names) some none =
     ∙ ap (λ (rest : List (List ℕ)). name ∷ rest) (names-cut (other ∷ names) (omega arith) (λ k d below. none (suc k) d (omega arith)))
 
 -- a setting is cut at its first equals sign
-items-cut : (text : List ℕ) → setting_in (codes "ITEMS" ++ (61 ∷ text)) ≡ Some (codes "ITEMS", text)
-items-cut text = rw (lt-ltb 5 (length (codes "ITEMS" ++ (61 ∷ text))) (omega arith)) refl
+items-cut : (given : List ℕ) → setting_in (codes "ITEMS" ++ (61 ∷ given)) ≡ Some (codes "ITEMS", given)
+items-cut given = rw (lt-ltb 5 (length (codes "ITEMS" ++ (61 ∷ given))) (omega arith)) refl
 
-csv_x-cut : (text : List ℕ) → setting_in (codes "CSV_X" ++ (61 ∷ text)) ≡ Some (codes "CSV_X", text)
-csv_x-cut text = rw (lt-ltb 5 (length (codes "CSV_X" ++ (61 ∷ text))) (omega arith)) refl
+csv_x-cut : (given : List ℕ) → setting_in (codes "CSV_X" ++ (61 ∷ given)) ≡ Some (codes "CSV_X", given)
+csv_x-cut given = rw (lt-ltb 5 (length (codes "CSV_X" ++ (61 ∷ given))) (omega arith)) refl
 
-csv_y-cut : (text : List ℕ) → setting_in (codes "CSV_Y" ++ (61 ∷ text)) ≡ Some (codes "CSV_Y", text)
-csv_y-cut text = rw (lt-ltb 5 (length (codes "CSV_Y" ++ (61 ∷ text))) (omega arith)) refl
+csv_y-cut : (given : List ℕ) → setting_in (codes "CSV_Y" ++ (61 ∷ given)) ≡ Some (codes "CSV_Y", given)
+csv_y-cut given = rw (lt-ltb 5 (length (codes "CSV_Y" ++ (61 ∷ given))) (omega arith)) refl
+
+-- no keyword of a block without keywords takes a value
+end-takes : (k : Keyword) (e : Expected) → end_role k ≡ Some (role.Takes e) → ⊥
+end-takes keyword.End e p = let no : ⊥ = cc in no
+end-takes _ e p = let no : ⊥ = cc in no
+
+skipped-takes : (k : Keyword) (e : Expected) → skipped_role k ≡ Some (role.Takes e) → ⊥
+skipped-takes keyword.Label e p = let no : ⊥ = cc in no
+skipped-takes keyword.Metadata e p = let no : ⊥ = cc in no
+skipped-takes keyword.Validation e p = let no : ⊥ = cc in no
+skipped-takes keyword.End e p = let no : ⊥ = cc in no
+skipped-takes _ e p = let no : ⊥ = cc in no
+
+skipped_label-takes : (k : Keyword) (e : Expected) → skipped_label_role k ≡ Some (role.Takes e) → ⊥
+skipped_label-takes keyword.Label e p = let no : ⊥ = cc in no
+skipped_label-takes keyword.Metadata e p = let no : ⊥ = cc in no
+skipped_label-takes keyword.Style e p = let no : ⊥ = cc in no
+skipped_label-takes keyword.Validation e p = let no : ⊥ = cc in no
+skipped_label-takes keyword.End e p = let no : ⊥ = cc in no
+skipped_label-takes _ e p = let no : ⊥ = cc in no
+
+role-takes : (b : Block) (found : Option Keyword) (k : Keyword) (e : Expected) (above own : Entries) (t : TokenValue) → found ≡ Some k → role_of b k ≡ Some (role.Takes e) →
+    role_says b (option_and_then (role_of b) found) above own t ≡ Ok (Takes e)
+role-takes b found k e above own t is takes = rw (is, takes) refl
+
+-- a keyword takes what it takes in its block
+keyword-says : (b : Block) (word : List ℕ) (e : Expected) (line : ℕ) (above own : Entries) → IsKeyword b word e → says b above own (bare line word) ≡ Ok (Takes e)
+keyword-says block.Map word e line above own is = role-takes block.Map (keyword_of word) is.keyword e above own (bare line word) is.is_spelt is.takes
+keyword-says block.Web word e line above own is = role-takes block.Web (keyword_of word) is.keyword e above own (bare line word) is.is_spelt is.takes
+keyword-says block.Symbol word e line above own is = role-takes block.Symbol (keyword_of word) is.keyword e above own (bare line word) is.is_spelt is.takes
+keyword-says block.Layer word e line above own is = role-takes block.Layer (keyword_of word) is.keyword e above own (bare line word) is.is_spelt is.takes
+keyword-says block.Class word e line above own is = role-takes block.Class (keyword_of word) is.keyword e above own (bare line word) is.is_spelt is.takes
+keyword-says block.Style word e line above own is = role-takes block.Style (keyword_of word) is.keyword e above own (bare line word) is.is_spelt is.takes
+keyword-says block.Label word e line above own is = role-takes block.Label (keyword_of word) is.keyword e above own (bare line word) is.is_spelt is.takes
+keyword-says block.Feature word e line above own is = role-takes block.Feature (keyword_of word) is.keyword e above own (bare line word) is.is_spelt is.takes
+keyword-says block.Points word e line above own is = absurd (end-takes is.keyword e is.takes)
+keyword-says block.WebMetadata word e line above own is = absurd (end-takes is.keyword e is.takes)
+keyword-says block.LayerMetadata word e line above own is = absurd (end-takes is.keyword e is.takes)
+keyword-says block.Validation word e line above own is = absurd (end-takes is.keyword e is.takes)
+keyword-says block.Projection word e line above own is = absurd (end-takes is.keyword e is.takes)
+keyword-says block.Skipped word e line above own is = absurd (skipped-takes is.keyword e is.takes)
+keyword-says block.SkippedLabel word e line above own is = absurd (skipped_label-takes is.keyword e is.takes)
 
 module _ (tail : Tail) (k : ℕ) where
   -- what is left is read with one token less in the bound
   on : (b : Block) (above own : Entries) (rest : List TokenValue) → length rest ≤ k → block_in tail k b above own rest ≡ block_in tail (suc k) b above own rest
   on b above own rest p = block-enough tail k (suc k) b above own rest p (omega arith)
 
+  -- after a keyword its value is read
+  keyword-takes : (b : Block) (above before : Entries) (word : List ℕ) (e : Expected) (line : ℕ) (ts : List TokenValue) → IsKeyword b word e →
+      block_in tail (suc k) b above before (bare line word ∷ ts) ≡ and_then (value_in tail e ts) (λ v. block_in tail k b above (with_said v.value before) v.rest)
+  unfolding block_in
+  keyword-takes b above before word e line ts is = rw (keyword-says b word e line above before is) refl
+
   -- a value is read in its block
-  value-read : (b : Block) (above before : Entries) (v : Value) (line : ℕ) (rest : List TokenValue) → IsValueIn b v → length (written_value v line ++ rest) ≤ suc k →
-      block_in tail (suc k) b above before (written_value v line ++ rest) ≡ block_in tail (suc k) b above (Said v line before) rest
+  value-read : (b : Block) (above before : Entries) (v : Value) (ts rest : List TokenValue) → IsWritten b v ts → length (ts ++ rest) ≤ suc k →
+      block_in tail (suc k) b above before (ts ++ rest) ≡ block_in tail (suc k) b above (Said v before) rest
   unfolding block_in value_in spelling nearest
-  value-read b above before v line rest (map_name text) p = on b above (Said v line before) rest (omega arith)
-  value-read b above before v line rest (label_font text) p = on b above (Said v line before) rest (omega arith)
-  value-read b above before v line rest (symbol_name text) p = on b above (Said v line before) rest (omega arith)
-  value-read b above before v line rest symbol_kind p = on b above (Said v line before) rest (omega arith)
-  value-read b above before v line rest (symbol_image text) p = on b above (Said v line before) rest (omega arith)
-  value-read b above before v line rest (style_symbol text) p = on b above (Said v line before) rest (omega arith)
-  value-read b above before v line rest (layer_name text) p = on b above (Said v line before) rest (omega arith)
-  value-read b above before v line rest (class_item text) p = on b above (Said v line before) rest (omega arith)
-  value-read b above before v line rest (label_item text) p = on b above (Said v line before) rest (omega arith)
-  value-read b above before v line rest (template text) p = on b above (Said v line before) rest (omega arith)
-  value-read b above before v line rest (layer_kind Point) p = on b above (Said v line before) rest (omega arith)
-  value-read b above before v line rest (layer_kind Line) p = on b above (Said v line before) rest (omega arith)
-  value-read b above before v line rest (layer_kind Polygon) p = on b above (Said v line before) rest (omega arith)
-  value-read b above before v line rest (feature_text text) p = on b above (Said v line before) rest (omega arith)
-  value-read b above before v line rest (layer_data text is) p = rw is (on b above (Said v line before) rest (omega arith))
-  value-read b above before v line rest (csv_x text) p = rw (csv_x-cut text) (on b above (Said v line before) rest (omega arith))
-  value-read b above before v line rest (csv_y text) p = rw (csv_y-cut text) (on b above (Said v line before) rest (omega arith))
-  value-read b above before v line rest (feature_items text) p = on b above (Said v line before) rest (omega arith)
-  value-read b above before v line rest (service_wms_title text) p = on b above (Said v line before) rest (omega arith)
-  value-read b above before v line rest (service_ows_title text) p = on b above (Said v line before) rest (omega arith)
-  value-read b above before v line rest (service_wms_url text) p = on b above (Said v line before) rest (omega arith)
-  value-read b above before v line rest (service_ows_url text) p = on b above (Said v line before) rest (omega arith)
-  value-read b above before v line rest (layer_wms_title text) p = on b above (Said v line before) rest (omega arith)
-  value-read b above before v line rest (layer_ows_title text) p = on b above (Said v line before) rest (omega arith)
-  value-read b above before v line rest (class_equals text) p = on b above (Said v line before) rest (omega arith)
-  value-read b above before v line rest (map_extent area is) p =
-      rw (
-        not_end area.minx is.world.west,
-        coordinate-written area.minx is.world.west,
-        not_end area.miny is.world.south,
-        coordinate-written area.miny is.world.south,
-        not_end area.maxx is.world.east,
-        coordinate-written area.maxx is.world.east,
-        is_lt area.minx area.maxx is.columns,
-        not_end area.maxy is.world.north,
-        coordinate-written area.maxy is.world.north,
-        le-leb (unsigned_abs area.minx) COORDINATE_LIMIT (coordinate-size area.minx is.world.west),
-        le-leb (unsigned_abs area.miny) COORDINATE_LIMIT (coordinate-size area.miny is.world.south),
-        le-leb (unsigned_abs area.maxx) COORDINATE_LIMIT (coordinate-size area.maxx is.world.east),
-        le-leb (unsigned_abs area.maxy) COORDINATE_LIMIT (coordinate-size area.maxy is.world.north),
-        is_lt area.minx area.maxx is.columns,
-        is_lt area.miny area.maxy is.rows,
-      )
-      (on b above (Said v line before) rest (omega arith))
-  value-read b above before v line rest (layer_items names some few none) p =
+  value-read b above before v ts rest (text c word w given line is) p =
+      keyword-takes b above before word _ line _ is ∙ on b above (Said v before) rest (omega arith)
+  value-read b above before v ts rest (table c word given line is named) p =
+      keyword-takes b above before word _ line _ is ∙ rw named (on b above (Said v before) rest (omega arith))
+  value-read b above before v ts rest (font given line) p = on b above (Said v before) rest (omega arith)
+  value-read b above before v ts rest (web_text key w given line is) p = rw is (on b above (Said v before) rest (omega arith))
+  value-read b above before v ts rest (layer_text key w given line is) p = rw is (on b above (Said v before) rest (omega arith))
+  value-read b above before v ts rest (csv_x given line) p = rw (csv_x-cut given) (on b above (Said v before) rest (omega arith))
+  value-read b above before v ts rest (csv_y given line) p = rw (csv_y-cut given) (on b above (Said v before) rest (omega arith))
+  value-read b above before v ts rest (items names line some few none) p =
       rw (items-cut (join_with_byte 44 names), names-cut names some none, le-ltb MAX_ITEMS (length names) few)
-      (on b above (Said v line before) rest (omega arith))
-  value-read b above before v line rest (layer_min scale small) p =
-      rw (number-not_end scale small, number-read scale small)
-      (on b above (Said v line before) rest (omega arith))
-  value-read b above before v line rest (layer_max scale small) p =
-      rw (number-not_end scale small, number-read scale small)
-      (on b above (Said v line before) rest (omega arith))
-  value-read b above before v line rest (class_min scale small) p =
-      rw (number-not_end scale small, number-read scale small)
-      (on b above (Said v line before) rest (omega arith))
-  value-read b above before v line rest (class_max scale small) p =
-      rw (number-not_end scale small, number-read scale small)
-      (on b above (Said v line before) rest (omega arith))
-  value-read b above before v line rest (class_one_of texts some none) p =
-      ap (λ (cut : List (List ℕ)). block_in tail k block.Class above (Said (value.Rule (OneOf cut)) line before) rest) (names-cut texts some none)
-      ∙ on b above (Said v line before) rest (omega arith)
-  value-read b above before v line rest (label_priority n least most) p =
-      rw (count-not_end n (omega arith), bounded-read 1 MAX_PRIORITY n least most (omega arith))
-      (on b above (Said v line before) rest (omega arith))
-  value-read b above before v line rest (label_buffer n most) p =
-      rw (count-not_end n (omega arith), bounded-read 0 MAX_BUFFER n (omega arith) most (omega arith))
-      (on b above (Said v line before) rest (omega arith))
-  value-read b above before v line rest (label_distance n most) p =
-      rw (count-not_end n (omega arith), distance-read n most)
-      (on b above (Said v line before) rest (omega arith))
-  value-read b above before v line rest (label_position position) p =
-      rw (position-not_end position, position-read position)
-      (on b above (Said v line before) rest (omega arith))
-  value-read b above before v line rest (label_partials flag) p =
-      rw (flag-not_end flag, flag-read flag)
-      (on b above (Said v line before) rest (omega arith))
-  value-read b above before v line rest (label_force flag) p =
-      rw (flag-not_end flag, flag-read flag)
-      (on b above (Said v line before) rest (omega arith))
-  value-read b above before v line rest no_label_colour p = on b above (Said v line before) rest (omega arith)
-  value-read b above before v line rest no_label_outline p = on b above (Said v line before) rest (omega arith)
-  value-read b above before v line rest (style_width n least most) p =
-      rw (count-not_end n (omega arith), bounded-read 1 MAX_LINE_WIDTH n least most (omega arith))
-      (on b above (Said v line before) rest (omega arith))
-  value-read b above before v line rest (style_size n least most) p =
-      rw (count-not_end n (omega arith), bounded-read 1 MAX_SQUARE n least most (omega arith))
-      (on b above (Said v line before) rest (omega arith))
-  value-read b above before v line rest (layer_tolerance n most) p =
-      rw (count-not_end n (omega arith), bounded-read 0 MAX_TOLERANCE n (omega arith) most (omega arith))
-      (on b above (Said v line before) rest (omega arith))
-  value-read b above before v line rest no_colour p = on b above (Said v line before) rest (omega arith)
-  value-read b above before v line rest no_outline p = on b above (Said v line before) rest (omega arith)
-  value-read b above before v line rest (style_outline colour is) p =
-      rw (counts_of StyleOutline colour.red colour.green colour.blue is.red is.green is.blue tail (bare line (decimal colour.red)) (bare line (decimal colour.green)) (bare line (decimal colour.blue)) rest refl refl refl refl refl refl)
-      (on b above (Said v line before) rest (omega arith))
-  value-read b above before v line rest (style_colour colour is) p =
-      rw (counts_of StyleColour colour.red colour.green colour.blue is.red is.green is.blue tail (bare line (decimal colour.red)) (bare line (decimal colour.green)) (bare line (decimal colour.blue)) rest refl refl refl refl refl refl)
-      (on b above (Said v line before) rest (omega arith))
-  value-read b above before v line rest (label_colour colour is) p =
-      rw (counts_of LabelColour colour.red colour.green colour.blue is.red is.green is.blue tail (bare line (decimal colour.red)) (bare line (decimal colour.green)) (bare line (decimal colour.blue)) rest refl refl refl refl refl refl)
-      (on b above (Said v line before) rest (omega arith))
-  value-read b above before v line rest (label_outline colour is) p =
-      rw (counts_of LabelOutline colour.red colour.green colour.blue is.red is.green is.blue tail (bare line (decimal colour.red)) (bare line (decimal colour.green)) (bare line (decimal colour.blue)) rest refl refl refl refl refl refl)
-      (on b above (Said v line before) rest (omega arith))
+      (on b above (Said v before) rest (omega arith))
+  value-read b above before v ts rest (written_as.count c word w n line is least most) p =
+      let small : most_of w ≤ 65535 = most-small w in
+      keyword-takes b above before word _ line _ is
+      ∙ rw (count-not_end n (omega arith), count-read w n least most) (on b above (Said v before) rest (omega arith))
+  value-read b above before v ts rest (flag c word w f line is) p =
+      keyword-takes b above before word _ line _ is ∙ rw (flag-not_end f, flag-read f) (on b above (Said v before) rest (omega arith))
+  value-read b above before v ts rest (scale c word w number line is small) p =
+      keyword-takes b above before word _ line _ is ∙ rw (number-not_end number small, number-read number small) (on b above (Said v before) rest (omega arith))
+  value-read b above before v ts rest (no_colour c word w line is effect) p =
+      keyword-takes b above before word _ line _ is ∙ rw effect (on b above (Said v before) rest (omega arith))
+  value-read b above before v ts rest (some_colour c word w rgb line is effect bytes) p =
+      keyword-takes b above before word _ line _ is
+      ∙ rw (counts_of w rgb.red rgb.green rgb.blue bytes.red bytes.green bytes.blue tail (bare line (decimal rgb.red)) (bare line (decimal rgb.green)) (bare line (decimal rgb.blue)) rest refl refl refl refl refl refl, effect)
+      (on b above (Said v before) rest (omega arith))
+  value-read b above before v ts rest (geometry c word Point line is) p = keyword-takes b above before word _ line _ is ∙ on b above (Said v before) rest (omega arith)
+  value-read b above before v ts rest (geometry c word Line line is) p = keyword-takes b above before word _ line _ is ∙ on b above (Said v before) rest (omega arith)
+  value-read b above before v ts rest (geometry c word Polygon line is) p = keyword-takes b above before word _ line _ is ∙ on b above (Said v before) rest (omega arith)
+  value-read b above before v ts rest (pixmap c word line is) p = keyword-takes b above before word _ line _ is ∙ on b above (Said v before) rest (omega arith)
+  value-read b above before v ts rest (position c word at line is) p =
+      keyword-takes b above before word _ line _ is ∙ rw (position-not_end at, position-read at) (on b above (Said v before) rest (omega arith))
+  value-read b above before v ts rest (equals c word given line is) p = keyword-takes b above before word _ line _ is ∙ on b above (Said v before) rest (omega arith)
+  value-read b above before v ts rest (one_of c word texts line is some none) p =
+      keyword-takes b above before word _ line _ is
+      ∙ ap (λ (cut : List (List ℕ)). block_in tail k b above (Said (value.Rule (OneOf cut)) before) rest) (names-cut texts some none)
+      ∙ on b above (Said v before) rest (omega arith)
+  value-read b above before v ts rest (extent c word area line is within) p =
+      keyword-takes b above before word _ line _ is
+      ∙ rw (
+        not_end area.minx within.world.west,
+        coordinate-written area.minx within.world.west,
+        not_end area.miny within.world.south,
+        coordinate-written area.miny within.world.south,
+        not_end area.maxx within.world.east,
+        coordinate-written area.maxx within.world.east,
+        is_lt area.minx area.maxx within.columns,
+        not_end area.maxy within.world.north,
+        coordinate-written area.maxy within.world.north,
+        le-leb (unsigned_abs area.minx) COORDINATE_LIMIT (coordinate-size area.minx within.world.west),
+        le-leb (unsigned_abs area.miny) COORDINATE_LIMIT (coordinate-size area.miny within.world.south),
+        le-leb (unsigned_abs area.maxx) COORDINATE_LIMIT (coordinate-size area.maxx within.world.east),
+        le-leb (unsigned_abs area.maxy) COORDINATE_LIMIT (coordinate-size area.maxy within.world.north),
+        is_lt area.minx area.maxx within.columns,
+        is_lt area.miny area.maxy within.rows,
+      )
+      (on b above (Said v before) rest (omega arith))
 
   -- a vertex is read in POINTS
   vertex-read : (above before : Entries) (place : Place) (rest : List TokenValue) → IsCoordinate place.x → IsCoordinate place.y → vertex_count above before < MAX_VERTICES → length rest + 2 ≤ suc k →
@@ -303,125 +322,101 @@ module _ (tail : Tail) (k : ℕ) where
   block-ends block.WebMetadata before inner rest fine = refl
   block-ends block.LayerMetadata before inner rest fine = refl
   block-ends block.Projection before inner rest fine = refl
-  block-ends block.Passed before inner rest fine = refl
-  block-ends block.PassedLabel before inner rest fine = refl
+  block-ends block.Skipped before inner rest fine = refl
+  block-ends block.SkippedLabel before inner rest fine = refl
   block-ends block.Points before inner rest fine = rw (fine (bare 1 (codes "END"))) refl
 
+-- a value has a token
+some-token : (b : Block) (v : Value) (ts : List TokenValue) → IsWritten b v ts → 1 ≤ length ts
+some-token b v ts (text c word w given line is) = omega arith
+some-token b v ts (table c word given line is named) = omega arith
+some-token b v ts (font given line) = omega arith
+some-token b v ts (web_text key w given line is) = omega arith
+some-token b v ts (layer_text key w given line is) = omega arith
+some-token b v ts (csv_x given line) = omega arith
+some-token b v ts (csv_y given line) = omega arith
+some-token b v ts (items names line some few none) = omega arith
+some-token b v ts (written_as.count c word w n line is least most) = omega arith
+some-token b v ts (flag c word w f line is) = omega arith
+some-token b v ts (scale c word w number line is small) = omega arith
+some-token b v ts (no_colour c word w line is effect) = omega arith
+some-token b v ts (some_colour c word w rgb line is effect bytes) = omega arith
+some-token b v ts (geometry c word is_kind line is) = omega arith
+some-token b v ts (pixmap c word line is) = omega arith
+some-token b v ts (position c word at line is) = omega arith
+some-token b v ts (equals c word given line is) = omega arith
+some-token b v ts (one_of c word texts line is some none) = omega arith
+some-token b v ts (extent c word area line is within) = omega arith
+
 -- a value in its block
-value-here : (tail : Tail) (n : ℕ) (b : Block) (above before : Entries) (v : Value) (line : ℕ) (rest : List TokenValue) → IsValueIn b v → length (written_value v line ++ rest) ≤ n →
-    block_in tail n b above before (written_value v line ++ rest) ≡ block_in tail n b above (Said v line before) rest
-value-here tail (suc k) b above before v line rest is p = value-read tail k b above before v line rest is p
-value-here tail zero b above before v line rest (map_name text) p = absurd (omega arith)
-value-here tail zero b above before v line rest (label_font text) p = absurd (omega arith)
-value-here tail zero b above before v line rest (symbol_name text) p = absurd (omega arith)
-value-here tail zero b above before v line rest symbol_kind p = absurd (omega arith)
-value-here tail zero b above before v line rest (symbol_image text) p = absurd (omega arith)
-value-here tail zero b above before v line rest (style_symbol text) p = absurd (omega arith)
-value-here tail zero b above before v line rest (layer_name text) p = absurd (omega arith)
-value-here tail zero b above before v line rest (class_item text) p = absurd (omega arith)
-value-here tail zero b above before v line rest (label_item text) p = absurd (omega arith)
-value-here tail zero b above before v line rest (template text) p = absurd (omega arith)
-value-here tail zero b above before v line rest (feature_text text) p = absurd (omega arith)
-value-here tail zero b above before v line rest (layer_data text is) p = absurd (omega arith)
-value-here tail zero b above before v line rest (csv_x text) p = absurd (omega arith)
-value-here tail zero b above before v line rest (csv_y text) p = absurd (omega arith)
-value-here tail zero b above before v line rest (feature_items text) p = absurd (omega arith)
-value-here tail zero b above before v line rest (service_wms_title text) p = absurd (omega arith)
-value-here tail zero b above before v line rest (service_ows_title text) p = absurd (omega arith)
-value-here tail zero b above before v line rest (service_wms_url text) p = absurd (omega arith)
-value-here tail zero b above before v line rest (service_ows_url text) p = absurd (omega arith)
-value-here tail zero b above before v line rest (layer_wms_title text) p = absurd (omega arith)
-value-here tail zero b above before v line rest (layer_ows_title text) p = absurd (omega arith)
-value-here tail zero b above before v line rest (class_equals text) p = absurd (omega arith)
-value-here tail zero b above before v line rest (map_extent area is) p = absurd (omega arith)
-value-here tail zero b above before v line rest (layer_items names some few none) p = absurd (omega arith)
-value-here tail zero b above before v line rest (layer_min scale small) p = absurd (omega arith)
-value-here tail zero b above before v line rest (layer_max scale small) p = absurd (omega arith)
-value-here tail zero b above before v line rest (class_min scale small) p = absurd (omega arith)
-value-here tail zero b above before v line rest (class_max scale small) p = absurd (omega arith)
-value-here tail zero b above before v line rest (class_one_of texts some none) p = absurd (omega arith)
-value-here tail zero b above before v line rest (label_priority n least most) p = absurd (omega arith)
-value-here tail zero b above before v line rest (label_buffer n most) p = absurd (omega arith)
-value-here tail zero b above before v line rest (label_distance n most) p = absurd (omega arith)
-value-here tail zero b above before v line rest (label_position position) p = absurd (omega arith)
-value-here tail zero b above before v line rest (label_partials flag) p = absurd (omega arith)
-value-here tail zero b above before v line rest (label_force flag) p = absurd (omega arith)
-value-here tail zero b above before v line rest no_label_colour p = absurd (omega arith)
-value-here tail zero b above before v line rest no_label_outline p = absurd (omega arith)
-value-here tail zero b above before v line rest (label_colour colour is) p = absurd (omega arith)
-value-here tail zero b above before v line rest (label_outline colour is) p = absurd (omega arith)
-value-here tail zero b above before v line rest (style_width n least most) p = absurd (omega arith)
-value-here tail zero b above before v line rest (style_size n least most) p = absurd (omega arith)
-value-here tail zero b above before v line rest (layer_tolerance n most) p = absurd (omega arith)
-value-here tail zero b above before v line rest (layer_kind Point) p = absurd (omega arith)
-value-here tail zero b above before v line rest (layer_kind Line) p = absurd (omega arith)
-value-here tail zero b above before v line rest (layer_kind Polygon) p = absurd (omega arith)
-value-here tail zero b above before v line rest no_colour p = absurd (omega arith)
-value-here tail zero b above before v line rest no_outline p = absurd (omega arith)
-value-here tail zero b above before v line rest (style_outline colour is) p = absurd (omega arith)
-value-here tail zero b above before v line rest (style_colour colour is) p = absurd (omega arith)
+value-here : (tail : Tail) (n : ℕ) (b : Block) (above before : Entries) (v : Value) (ts rest : List TokenValue) → IsWritten b v ts → length (ts ++ rest) ≤ n →
+    block_in tail n b above before (ts ++ rest) ≡ block_in tail n b above (Said v before) rest
+value-here tail (suc k) b above before v ts rest is p = value-read tail k b above before v ts rest is p
+value-here tail zero b above before v ts rest is p =
+    let some : 1 ≤ length ts = some-token b v ts is in
+    absurd (omega (arith, length-append ts rest))
 
 vertex-here : (tail : Tail) (n : ℕ) (above before : Entries) (place : Place) (rest : List TokenValue) → IsCoordinate place.x → IsCoordinate place.y → vertex_count above before < MAX_VERTICES → length rest + 2 ≤ n →
     block_in tail n block.Points above before (bare 1 (written place.x) ∷ bare 1 (written place.y) ∷ rest) ≡ block_in tail n block.Points above (Vertex place before) rest
 vertex-here tail zero above before place rest x y room p = absurd (omega arith)
 vertex-here tail (suc k) above before place rest x y room p = vertex-read tail k above before place rest x y room p
 
--- the tokens of an inner block after its keyword
-abbrev inner_tokens : Entries → List TokenValue
-inner_tokens inner = written_out inner ++ (bare 1 (codes "END") ∷ [])
+-- the tokens of an inner block after its keyword, by those of its entries
+abbrev inner_tokens : List TokenValue → List TokenValue
+inner_tokens us = us ++ (bare 1 (codes "END") ∷ [])
 
 -- an inner block, which is read as it is written out
-inside-here : (tail : Tail) (k : ℕ) (b c : Block) (above before inner : Entries) (rest : List TokenValue) → IsBlockIn b c → is_full c before ≡ false → ((t : TokenValue) → closing_fault c before inner t ≡ None) →
-    length (written_out inner ++ (bare 1 (codes "END") ∷ rest)) ≤ k →
-    block_in tail k c before Nothing (written_out inner ++ (bare 1 (codes "END") ∷ rest)) ≡ block_in tail k c before inner (bare 1 (codes "END") ∷ rest) →
-    block_in tail (suc k) b above before (bare 1 (block_text c) ∷ (inner_tokens inner ++ rest)) ≡ block_in tail (suc k) b above (Inside c inner before) rest
-inside-here tail zero b c above before inner rest in_b room fine p q = absurd (omega (arith, length-append (written_out inner) (bare 1 (codes "END") ∷ rest)))
-inside-here tail (suc j) b c above before inner rest in_b room fine p q =
-    block-opens tail (suc j) b c above before (inner_tokens inner ++ rest) in_b room
-    ∙ ap (λ ts. and_then (block_in tail (suc j) c before Nothing ts) (λ e. block_in tail (suc j) b above (Inside c e.0 before) e.1)) (append_assoc (written_out inner) (bare 1 (codes "END") ∷ []) rest)
+inside-here : (tail : Tail) (k : ℕ) (b c : Block) (above before inner : Entries) (us rest : List TokenValue) → IsBlockIn b c → is_full c before ≡ false → ((t : TokenValue) → closing_fault c before inner t ≡ None) →
+    length (us ++ (bare 1 (codes "END") ∷ rest)) ≤ k →
+    block_in tail k c before Nothing (us ++ (bare 1 (codes "END") ∷ rest)) ≡ block_in tail k c before inner (bare 1 (codes "END") ∷ rest) →
+    block_in tail (suc k) b above before (bare 1 (block_text c) ∷ (inner_tokens us ++ rest)) ≡ block_in tail (suc k) b above (Inside c inner before) rest
+inside-here tail zero b c above before inner us rest in_b room fine p q = absurd (omega (arith, length-append us (bare 1 (codes "END") ∷ rest)))
+inside-here tail (suc j) b c above before inner us rest in_b room fine p q =
+    block-opens tail (suc j) b c above before (inner_tokens us ++ rest) in_b room
+    ∙ ap (λ ts. and_then (block_in tail (suc j) c before Nothing ts) (λ e. block_in tail (suc j) b above (Inside c e.0 before) e.1)) (append_assoc us (bare 1 (codes "END") ∷ []) rest)
     ∙ ap (λ r. and_then r (λ e. block_in tail (suc j) b above (Inside c e.0 before) e.1)) (q ∙ block-ends tail j c before inner rest fine)
-    ∙ on tail (suc j) b above (Inside c inner before) rest (omega (arith, length-append (written_out inner) (bare 1 (codes "END") ∷ rest)))
+    ∙ on tail (suc j) b above (Inside c inner before) rest (omega (arith, length-append us (bare 1 (codes "END") ∷ rest)))
 
 -- an inner block after its keyword
-opened-here : (tail : Tail) (n : ℕ) (b c : Block) (above before inner : Entries) (rest : List TokenValue) → IsBlockIn b c → is_full c before ≡ false → ((t : TokenValue) → closing_fault c before inner t ≡ None) →
-    ((k : ℕ) (after : List TokenValue) → length (written_out inner ++ after) ≤ k → block_in tail k c before Nothing (written_out inner ++ after) ≡ block_in tail k c before inner after) →
-    length (bare 1 (block_text c) ∷ (inner_tokens inner ++ rest)) ≤ n →
-    block_in tail n b above before (bare 1 (block_text c) ∷ (inner_tokens inner ++ rest)) ≡ block_in tail n b above (Inside c inner before) rest
-opened-here tail zero b c above before inner rest in_b room fine read p = absurd (omega arith)
-opened-here tail (suc k) b c above before inner rest in_b room fine read p =
-    let same = append_assoc (written_out inner) (bare 1 (codes "END") ∷ []) rest in
-    let l : length (written_out inner ++ (bare 1 (codes "END") ∷ rest)) ≤ k = omega (arith, ap length same) in
-    inside-here tail k b c above before inner rest in_b room fine l (read k (bare 1 (codes "END") ∷ rest) l)
+opened-here : (tail : Tail) (n : ℕ) (b c : Block) (above before inner : Entries) (us rest : List TokenValue) → IsBlockIn b c → is_full c before ≡ false → ((t : TokenValue) → closing_fault c before inner t ≡ None) →
+    ((k : ℕ) (after : List TokenValue) → length (us ++ after) ≤ k → block_in tail k c before Nothing (us ++ after) ≡ block_in tail k c before inner after) →
+    length (bare 1 (block_text c) ∷ (inner_tokens us ++ rest)) ≤ n →
+    block_in tail n b above before (bare 1 (block_text c) ∷ (inner_tokens us ++ rest)) ≡ block_in tail n b above (Inside c inner before) rest
+opened-here tail zero b c above before inner us rest in_b room fine read p = absurd (omega arith)
+opened-here tail (suc k) b c above before inner us rest in_b room fine read p =
+    let same = append_assoc us (bare 1 (codes "END") ∷ []) rest in
+    let l : length (us ++ (bare 1 (codes "END") ∷ rest)) ≤ k = omega (arith, ap length same) in
+    inside-here tail k b c above before inner us rest in_b room fine l (read k (bare 1 (codes "END") ∷ rest) l)
 
 -- a block that is written out is read up to what comes after it
-reading : (tail : Tail) (n : ℕ) (b : Block) (above own : Entries) (rest : List TokenValue) → MaySay b above own → length (written_out own ++ rest) ≤ n →
-    block_in tail n b above Nothing (written_out own ++ rest) ≡ block_in tail n b above own rest
-reading tail n b above own rest (nothing c over) p = refl
-reading tail n b above own rest (said c over before v line may is) p =
-    let same = append_assoc (written_out before) (written_value v line) rest in
+reading : (tail : Tail) (n : ℕ) (b : Block) (above own : Entries) (ts rest : List TokenValue) → IsWrittenOut b above own ts → length (ts ++ rest) ≤ n →
+    block_in tail n b above Nothing (ts ++ rest) ≡ block_in tail n b above own rest
+reading tail n b above own ts rest (nothing c over) p = refl
+reading tail n b above own ts rest (said c over before us v vs may is) p =
+    let same = append_assoc us vs rest in
     ap (block_in tail n b above Nothing) same
-    ∙ reading tail n b above before (written_value v line ++ rest) may (omega (arith, ap length same))
-    ∙ value-here tail n b above before v line rest is (omega (arith, ap length same, length-append (written_out before) (written_value v line ++ rest)))
-reading tail n b above own rest (vertex over before place may x y room) p =
+    ∙ reading tail n b above before us (vs ++ rest) may (omega (arith, ap length same))
+    ∙ value-here tail n b above before v vs rest is (omega (arith, ap length same, length-append us (vs ++ rest)))
+reading tail n b above own ts rest (vertex over before us place may x y room) p =
     let tokens = bare 1 (written place.x) ∷ bare 1 (written place.y) ∷ [] in
-    let same = append_assoc (written_out before) tokens rest in
+    let same = append_assoc us tokens rest in
     ap (block_in tail n b above Nothing) same
-    ∙ reading tail n b above before (tokens ++ rest) may (omega (arith, ap length same))
-    ∙ vertex-here tail n above before place rest x y room (omega (arith, ap length same, length-append (written_out before) (tokens ++ rest)))
-reading tail n b above own rest (inside d c over before inner may in_b room may_inner fine) p =
-    let tokens = bare 1 (block_text c) ∷ inner_tokens inner in
-    let same = append_assoc (written_out before) tokens rest in
+    ∙ reading tail n b above before us (tokens ++ rest) may (omega (arith, ap length same))
+    ∙ vertex-here tail n above before place rest x y room (omega (arith, ap length same, length-append us (tokens ++ rest)))
+reading tail n b above own ts rest (inside d c over before inner us vs may in_b room may_inner fine) p =
+    let tokens = bare 1 (block_text c) ∷ inner_tokens vs in
+    let same = append_assoc us tokens rest in
     ap (block_in tail n b above Nothing) same
-    ∙ reading tail n b above before (tokens ++ rest) may (omega (arith, ap length same))
-    ∙ opened-here tail n b c above before inner rest in_b room fine (λ k after l. reading tail k c before inner after may_inner l) (omega (arith, ap length same, length-append (written_out before) (tokens ++ rest)))
+    ∙ reading tail n b above before us (tokens ++ rest) may (omega (arith, ap length same))
+    ∙ opened-here tail n b c above before inner vs rest in_b room fine (λ k after l. reading tail k c before inner vs after may_inner l) (omega (arith, ap length same, length-append us (tokens ++ rest)))
 
 -- a mapfile that is written out is read as what it says
 pub written-law : WrittenIsRead
 unfolding spelling
-written-law own line may fine =
-    let tokens = written_out own ++ (bare 1 (codes "END") ∷ []) in
+written-law own ts line may fine =
+    let tokens = ts ++ (bare 1 (codes "END") ∷ []) in
     ap (λ r. and_then r (λ e. alone (tails.Ends line) e.0 e.1)) (whole (length tokens) (omega arith))
   where
-    whole : (n : ℕ) → length (written_out own ++ (bare 1 (codes "END") ∷ [])) ≤ n → block_in (tails.Ends line) n block.Map Nothing Nothing (written_out own ++ (bare 1 (codes "END") ∷ [])) ≡ Ok (own, [])
-    whole zero p = absurd (omega (arith, length-append (written_out own) (bare 1 (codes "END") ∷ [])))
-    whole (suc k) p = reading (tails.Ends line) (suc k) block.Map Nothing own (bare 1 (codes "END") ∷ []) may p ∙ block-ends (tails.Ends line) k block.Map Nothing own [] fine
+    whole : (n : ℕ) → length (ts ++ (bare 1 (codes "END") ∷ [])) ≤ n → block_in (tails.Ends line) n block.Map Nothing Nothing (ts ++ (bare 1 (codes "END") ∷ [])) ≡ Ok (own, [])
+    whole zero p = absurd (omega (arith, length-append ts (bare 1 (codes "END") ∷ [])))
+    whole (suc k) p = reading (tails.Ends line) (suc k) block.Map Nothing own ts (bare 1 (codes "END") ∷ []) may p ∙ block-ends (tails.Ends line) k block.Map Nothing own [] fine

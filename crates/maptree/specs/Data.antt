@@ -4,13 +4,13 @@ use Rattle.mapdefs.specs.declared.layer.Geometry.{Geometry}
 use Rattle.mapdefs.specs.declared.layer.Geometry.TheVariants.{Point}
 use Rattle.mapwords.specs.declared.fault.Fault.{Fault}
 use Rattle.mapwords.specs.declared.fault.ParseKind.TheVariants.{WrongValue}
-use Rattle.maptree.specs.declared.tree.Named.{Named}
+use Rattle.mapwords.specs.declared.named.Named.{Named}
 
--- a table has points, so that no layer of another kind may have one; the fault is at the line of the file's name
+-- a table has points, so that no layer of another geometry may have one; the fault is at the line of the file's name
 abbrev pub table_fault : Geometry → Option Named → Option Fault
 table_fault Point table = None
-table_fault kind None = None
-table_fault kind (Some table) = Some (record { line = table.line; kind = WrongValue })
+table_fault geometry None = None
+table_fault geometry (Some table) = Some (record { line = table.line; kind = WrongValue })
 
 -- the files that are used, with the file of a layer's table behind them, if it has one
 abbrev pub with_table : Option Named → List Named → List Named

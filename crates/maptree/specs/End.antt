@@ -1,5 +1,5 @@
 -- What an END does, and what is checked at it (docs/MAPFILE.md, "Blocks and words").
-use Rattle.std.specs.Prelude.{ℕ, ◌==◌, if◌then◌else◌, List, [], ◌∷◌, ◌++◌, length, Bool, true, Option, None, Some, Result, Ok, Err}
+use Rattle.std.specs.Prelude.{◌==◌, if◌then◌else◌, List, [], ◌∷◌, ◌++◌, length, Bool, true, Option, None, Some, Result, Ok, Err}
 use Rattle.maplex.specs.Token.{TokenValue}
 use Rattle.mapdefs.specs.declared.layer.Geometry.{Geometry}
 use Rattle.maptree.specs.Name.{is_taken}
@@ -7,57 +7,43 @@ use Rattle.mapwords.specs.declared.role.Block.{Block}
 use Rattle.mapwords.specs.declared.role.Block.TheVariants as block
 use Rattle.mapwords.specs.declared.fault.Fault.{Fault}
 use Rattle.mapwords.specs.declared.fault.ParseKind.TheVariants.{MissingValue, DuplicateName}
+use Rattle.mapwords.specs.declared.named.Named.{Named}
+use Rattle.mapwords.specs.declared.table.TextKeyword.TheVariants as text
+use Rattle.mapwords.specs.declared.value.Value.{Value}
+use Rattle.maptree.specs.declared.tree.LayerBody.{LayerBody}
 use Rattle.maptree.specs.declared.tree.LayerTree.{LayerTree}
 use Rattle.maptree.specs.declared.tree.SymbolTree.{SymbolTree}
-use Rattle.maptree.specs.declared.tree.Named.{Named}
-use Rattle.maptree.specs.declared.draft.LayerDraft.{LayerDraft}
 use Rattle.maptree.specs.declared.draft.Drafts.{Drafts}
 use Rattle.mapwords.specs.Fault.{refused, and_then}
 use Rattle.maptree.specs.Data.{table_fault, with_table}
 use Rattle.maptree.specs.Parts.{with_part}
 use Rattle.maptree.specs.Symbol.{map_fault}
-use Rattle.maptree.specs.Draft.{new_symbol, new_layer, new_class, new_style, new_label, new_feature}
+use Rattle.maptree.specs.Draft.{new_layer, new_class, new_feature}
+use Rattle.maptree.specs.Values.{geometry_in, has_pixmap, last, text_in}
 
--- a layer with this name and this kind, and what else its draft has
-abbrev pub layer_with : List ℕ → Geometry → LayerDraft → LayerTree
-layer_with name kind layer = record {
-  name = name;
-  kind = kind;
-  classitem = layer.classitem;
-  labelitem = layer.labelitem;
-  queryable = layer.queryable;
-  tolerance = layer.tolerance;
-  min = layer.min;
-  max = layer.max;
-  items = layer.items;
-  table = layer.table;
-  csv_x = layer.csv_x;
-  csv_y = layer.csv_y;
-  wms_title = layer.wms_title;
-  ows_title = layer.ows_title;
-  classes = layer.classes;
-  features = layer.features;
-}
+-- a layer with this name and this geometry, and with what it says
+abbrev pub layer_with : Named → Geometry → LayerBody → LayerTree
+layer_with name geometry body = record { name = name; geometry = geometry; table = last (text_in text.Data) body.values; body = body }
 
 -- what was read, unless there is a fault
 abbrev pub unless_fault : {A : Type 0} → Option Fault → A → Result A Fault
 unless_fault None a = Ok a
 unless_fault (Some f) a = Err f
 
--- a layer with its name and its kind, unless an earlier layer has the name, or its table can't be of the kind
-abbrev pub named_layer : Named → Geometry → LayerDraft → List LayerTree → Result LayerTree Fault
-named_layer name kind layer earlier =
+-- a layer with its name and its geometry, unless an earlier layer has the name, or its table can't be of the geometry
+abbrev pub named_layer : Named → Geometry → LayerBody → List LayerTree → Result LayerTree Fault
+named_layer name geometry body earlier =
     if is_taken name.text earlier then Err (record { line = name.line; kind = DuplicateName })
-    else unless_fault (table_fault kind layer.table) (layer_with name.text kind layer)
+    else unless_fault (table_fault geometry (last (text_in text.Data) body.values)) (layer_with name geometry body)
 
--- a layer has a name and a kind
-abbrev pub finished_layer : Option Named → Option Geometry → LayerDraft → List LayerTree → TokenValue → Result LayerTree Fault
-finished_layer (Some name) (Some kind) layer earlier t = named_layer name kind layer earlier
-finished_layer _ _ layer earlier t = refused MissingValue t
+-- a layer has a name and a geometry
+abbrev pub finished_layer : Option Named → Option Geometry → LayerBody → List LayerTree → TokenValue → Result LayerTree Fault
+finished_layer (Some name) (Some geometry) body earlier t = named_layer name geometry body earlier
+finished_layer _ _ body earlier t = refused MissingValue t
 
 -- at the END of a LAYER the map has it, and uses the file of its table
 abbrev pub layer_end : Drafts → TokenValue → Result Drafts Fault
-layer_end d t = and_then (finished_layer d.layer.name d.layer.kind d.layer d.map.layers t) (λ layer.
+layer_end d t = and_then (finished_layer (last (text_in text.Name) d.layer.values) (last geometry_in d.layer.values) d.layer d.map.layers t) (λ layer.
     Ok (record d { map = record d.map { layers = d.map.layers ++ layer ∷ []; files = with_table layer.table d.map.files }; layer = new_layer }))
 
 -- at the END of a CLASS the layer has it
@@ -66,11 +52,11 @@ class_end d = record d { layer = record d.layer { classes = d.layer.classes ++ d
 
 -- at the END of a STYLE the class has it
 abbrev pub style_end : Drafts → Drafts
-style_end d = record d { class = record d.class { styles = d.class.styles ++ d.style ∷ [] }; style = new_style }
+style_end d = record d { class = record d.class { styles = d.class.styles ++ d.style ∷ [] }; style = [] }
 
 -- at the END of a LABEL the class has it
 abbrev pub label_end : Drafts → Drafts
-label_end d = record d { class = record d.class { label = Some d.label }; label = new_label }
+label_end d = record d { class = record d.class { label = Some d.label }; label = [] }
 
 -- at the END of a FEATURE, which has parts, the layer has it
 abbrev pub feature_end : Drafts → TokenValue → Result Drafts Fault
@@ -88,14 +74,18 @@ points_end d t =
     else Ok (record d { feature = record d.feature { parts = with_part d.feature.parts } })
 
 -- a symbol has a name, a kind and an image
-abbrev pub finished_symbol : Option (List ℕ) → Bool → Option Named → TokenValue → Result SymbolTree Fault
-finished_symbol (Some name) true (Some image) t = Ok (record { name = name; image = image })
-finished_symbol _ _ _ t = refused MissingValue t
+abbrev pub symbol_with : Option Named → Bool → Option Named → TokenValue → Result SymbolTree Fault
+symbol_with (Some name) true (Some image) t = Ok (record { name = name; image = image })
+symbol_with _ _ _ t = refused MissingValue t
+
+-- the symbol with these values
+abbrev pub finished_symbol : List Value → TokenValue → Result SymbolTree Fault
+finished_symbol vs t = symbol_with (last (text_in text.Name) vs) (has_pixmap vs) (last (text_in text.Image) vs) t
 
 -- at the END of a SYMBOL the map has it, and uses the file of its image
 abbrev pub symbol_end : Drafts → TokenValue → Result Drafts Fault
-symbol_end d t = and_then (finished_symbol d.symbol.name d.symbol.pixmap d.symbol.image t) (λ symbol.
-    Ok (record d { map = record d.map { symbols = d.map.symbols ++ symbol ∷ []; files = d.map.files ++ symbol.image ∷ [] }; symbol = new_symbol }))
+symbol_end d t = and_then (finished_symbol d.symbol t) (λ symbol.
+    Ok (record d { map = record d.map { symbols = d.map.symbols ++ symbol ∷ []; files = d.map.files ++ symbol.image ∷ [] }; symbol = [] }))
 
 -- at the END of MAP its styles name symbols that it has
 abbrev pub map_end : Drafts → Result Drafts Fault

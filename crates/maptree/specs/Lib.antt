@@ -12,4 +12,5 @@ pub mod Source
 pub mod Step
 pub mod Symbol
 pub mod Tree
+pub mod Values
 pub mod Written

@@ -13,7 +13,7 @@ use Rattle.mapwords.specs.declared.fault.ParseKind.TheVariants.{UnknownWord, Wro
 use Rattle.maptree.specs.Entries.{Entries, Nothing, Vertex, with_said, with_block}
 use Rattle.mapwords.specs.Fault.{fault_of, refused, lexical, missing, and_then}
 use Rattle.mapwords.specs.Keyword.{is_at, is_end}
-use Rattle.maptree.specs.Says.{says, Ends, Opens, Takes, Longitude, Passes}
+use Rattle.maptree.specs.Says.{says, Ends, Opens, Takes, Longitude, Skips}
 use Rattle.mapwords.specs.Given.{value_in}
 use Rattle.mapwords.specs.Value.{coordinate_in}
 
@@ -32,9 +32,9 @@ block_in tail zero b above own (t ∷ ts) = Err (missing tail)
 block_in tail (suc n) b above own (t ∷ ts) = and_then (says b above own t) (λ saying. elim saying [
   | Ends ↦ Ok (own, ts)
   | Opens c ↦ and_then (block_in tail n c own Nothing ts) (λ inner. block_in tail n b above (with_block c inner.0 own) inner.1)
-  | Takes expected ↦ and_then (value_in tail expected ts) (λ v. block_in tail n b above (with_said v.value v.line own) v.rest)
+  | Takes expected ↦ and_then (value_in tail expected ts) (λ v. block_in tail n b above (with_said v.value own) v.rest)
   | Longitude x ↦ and_then (latitude_in tail ts) (λ y. block_in tail n b above (Vertex (record { x = x; y = y.0 }) own) y.1)
-  | Passes ↦ block_in tail n b above own ts
+  | Skips ↦ block_in tail n b above own ts
 ])
 
 -- after the END of MAP stands nothing
@@ -57,8 +57,8 @@ abbrev pub CountIsEnough : Type 0
 CountIsEnough = (tail : Tail) (n m : ℕ) (b : Block) (above own : Entries) (ts : List TokenValue) →
     length ts ≤ n → length ts ≤ m → block_in tail n b above own ts ≡ block_in tail m b above own ts
 
--- the law that the first fault is told: where some tokens with a lexical fault after them have another fault, this is
+-- the law that the first fault is reported: where some tokens with a lexical fault after them have another fault, this is
 -- the fault of every mapfile that begins with them
-abbrev pub FirstFaultIsTold : Type 0
-FirstFaultIsTold = (front rest : List TokenValue) (f : LexFault) (g : Fault) (tail : Tail) →
-    meaning front (tails.Breaks f) ≡ Err g → g ≢ lexical f → meaning (front ++ rest) tail ≡ Err g
+abbrev pub FirstFaultIsReported : Type 0
+FirstFaultIsReported = (prefix rest : List TokenValue) (f : LexFault) (g : Fault) (tail : Tail) →
+    meaning prefix (tails.Breaks f) ≡ Err g → g ≢ lexical f → meaning (prefix ++ rest) tail ≡ Err g

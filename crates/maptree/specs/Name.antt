@@ -6,4 +6,4 @@ use Rattle.maptree.specs.declared.tree.LayerTree.{LayerTree}
 
 -- one of the layers has this name
 abbrev pub is_taken : List ℕ → List LayerTree → Bool
-is_taken name layers = list_any (λ (layer : LayerTree). is_same_name layer.name name) layers
+is_taken name layers = list_any (λ (layer : LayerTree). is_same_name layer.name.text name) layers

@@ -9,12 +9,13 @@ use Rattle.mapwords.specs.declared.role.Block.TheVariants as block
 use Rattle.mapwords.specs.declared.role.Expected.{Expected}
 use Rattle.mapwords.specs.declared.role.Role.{Role}
 use Rattle.mapwords.specs.declared.role.Role.TheVariants as role
-use Rattle.maptree.specs.declared.tree.Named.{Named}
+use Rattle.mapwords.specs.declared.named.Named.{Named}
+use Rattle.mapwords.specs.declared.table.TextKeyword.TheVariants as text
 use Rattle.mapwords.specs.declared.fault.Fault.{Fault}
 use Rattle.mapwords.specs.declared.fault.ParseKind.TheVariants.{UnknownWord, WrongValue, MissingValue, Limit, DuplicateName}
 use Rattle.maptree.specs.declared.tree.LayerTree.{LayerTree}
 use Rattle.maptree.specs.Data.{table_fault}
-use Rattle.maptree.specs.Entries.{Entries, last, blocks, last_block, vertices, vertex_count}
+use Rattle.maptree.specs.Entries.{Entries, values, blocks, last_block, vertices, vertex_count}
 use Rattle.mapwords.specs.Fault.{fault_of, refused, and_then}
 use Rattle.maptree.specs.Name.{is_taken}
 use Rattle.mapwords.specs.Setting.{pair_expects}
@@ -22,7 +23,8 @@ use Rattle.mapwords.specs.Keyword.{keyword_at, is_end}
 use Rattle.mapwords.specs.Table.{role_of}
 use Rattle.maptree.specs.Symbol.{symbol_fault, map_fault}
 use Rattle.mapwords.specs.Value.{is_value, coordinate_in}
-use Rattle.maptree.specs.Tree.{symbol_name, symbol_kind, symbol_image, layer_name, layer_kind, layer_table, map_tree}
+use Rattle.maptree.specs.Tree.{map_tree}
+use Rattle.maptree.specs.Values.{geometry_in, has_pixmap, last, text_in}
 
 -- what a token says: the block ends, an inner block opens, a keyword takes values, a vertex has this longitude, or nothing
 pub data Saying : Type 0 where
@@ -30,21 +32,21 @@ pub data Saying : Type 0 where
   Opens : Block → Saying
   Takes : Expected → Saying
   Longitude : ℤ → Saying
-  Passes : Saying
+  Skips : Saying
 
 -- the END of a LAYER asks for a NAME, which none of the earlier layers has, and a TYPE, of which a table may be
 abbrev pub layer_end_fault : Option Named → Option Geometry → Option Named → List LayerTree → TokenValue → Option Fault
-layer_end_fault (Some name) (Some kind) table earlier t =
-    if is_taken name.text earlier then Some (record { line = name.line; kind = DuplicateName }) else table_fault kind table
+layer_end_fault (Some name) (Some geometry) table earlier t =
+    if is_taken name.text earlier then Some (record { line = name.line; kind = DuplicateName }) else table_fault geometry table
 layer_end_fault _ _ table earlier t = Some (fault_of MissingValue t)
 
 -- what is wrong at the END of a block, by what its parent says before it and what it says itself
 abbrev pub closing_fault : Block → Entries → Entries → TokenValue → Option Fault
 closing_fault block.Map above own t = map_fault (map_tree own).symbols (map_tree own).layers
 closing_fault block.Symbol above own t =
-    symbol_fault (last symbol_name own) (is_some (last symbol_kind own)) (last symbol_image own) t
+    symbol_fault (last (text_in text.Name) (values own)) (has_pixmap (values own)) (last (text_in text.Image) (values own)) t
 closing_fault block.Layer above own t =
-    layer_end_fault (last layer_name own) (last layer_kind own) (last layer_table own) (map_tree above).layers t
+    layer_end_fault (last (text_in text.Name) (values own)) (last geometry_in (values own)) (last (text_in text.Data) (values own)) (map_tree above).layers t
 closing_fault block.Feature above own t = if length (blocks block.Points own) == 0 then Some (fault_of MissingValue t) else None
 closing_fault block.Points above own t = if length (vertices own) == 0 then Some (fault_of MissingValue t) else None
 closing_fault _ above own t = None
@@ -85,11 +87,11 @@ points_say above own t = if is_end t then ends_unless (closing_fault block.Point
 abbrev pub pair_says : Block → TokenValue → Result Saying Fault
 pair_says b t = if is_end t then Ok Ends else (if is_value t.shape then Ok (Takes (pair_expects b t.text)) else refused WrongValue t)
 
--- in a block that is read over a token says nothing, unless it ends the block or opens another one
-abbrev pub passed_says : Option Role → Result Saying Fault
-passed_says (Some role.Closes) = Ok Ends
-passed_says (Some (role.Opens inner)) = Ok (Opens inner)
-passed_says _ = Ok Passes
+-- in a block that is skipped a token says nothing, unless it ends the block or opens another one
+abbrev pub skipped_says : Option Role → Result Saying Fault
+skipped_says (Some role.Closes) = Ok Ends
+skipped_says (Some (role.Opens inner)) = Ok (Opens inner)
+skipped_says _ = Ok Skips
 
 -- what a token does in a block, if it is a keyword of the block
 abbrev pub role_at : Block → TokenValue → Option Role
@@ -101,7 +103,7 @@ says block.Points above own t = points_say above own t
 says block.Validation above own t = pair_says block.Validation t
 says block.WebMetadata above own t = pair_says block.WebMetadata t
 says block.LayerMetadata above own t = pair_says block.LayerMetadata t
-says block.Projection above own t = passed_says (role_at block.Projection t)
-says block.Passed above own t = passed_says (role_at block.Passed t)
-says block.PassedLabel above own t = passed_says (role_at block.PassedLabel t)
+says block.Projection above own t = skipped_says (role_at block.Projection t)
+says block.Skipped above own t = skipped_says (role_at block.Skipped t)
+says block.SkippedLabel above own t = skipped_says (role_at block.SkippedLabel t)
 says b above own t = role_says b (role_at b t) above own t

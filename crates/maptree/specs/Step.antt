@@ -35,21 +35,21 @@ abbrev pub read_role : Block → Option Role → Drafts → TokenValue → Resul
 read_role b None d t = refused UnknownWord t
 read_role b (Some Closes) d t = read_end b d t
 read_role b (Some (Opens inner)) d t = if is_full inner d then refused Limit t else Ok (Enters (Keywords inner), d)
-read_role b (Some (Takes expected)) d t = Ok (Enters (Values expected), d)
+read_role b (Some (Takes expected)) d t = Ok (Enters (Values b expected), d)
 
 -- a token is read as a keyword of a block
 abbrev pub read_keyword : Block → Drafts → TokenValue → Result (Move × Drafts) Fault
 read_keyword b d t = read_role b (option_and_then (role_of b) (keyword_at t)) d t
 
 -- a whole value is noted, and of another one more is expected
-abbrev pub note_step : Result ValueStep Fault → Drafts → TokenValue → Result (Move × Drafts) Fault
-note_step (Err f) d t = Err f
-note_step (Ok (More next)) d t = Ok (GoesOn (Values next), d)
-note_step (Ok (Whole value)) d t = Ok (Leaves, with_value value t.line d)
+abbrev pub note_step : Block → Result ValueStep Fault → Drafts → Result (Move × Drafts) Fault
+note_step b (Err f) d = Err f
+note_step b (Ok (More next)) d = Ok (GoesOn (Values b next), d)
+note_step b (Ok (Whole value)) d = Ok (Leaves, with_value b value d)
 
--- a token is read as a value
-abbrev pub read_value : Expected → Drafts → TokenValue → Result (Move × Drafts) Fault
-read_value expected d t = if is_end t then refused MissingValue t else note_step (value_step expected t) d t
+-- a token is read as a value of a block
+abbrev pub read_value : Block → Expected → Drafts → TokenValue → Result (Move × Drafts) Fault
+read_value b expected d t = if is_end t then refused MissingValue t else note_step b (value_step expected t) d
 
 -- the coordinate that a token is, of a vertex that the feature must have room for
 abbrev pub coordinate_at : Drafts → TokenValue → Result ℤ Fault
@@ -73,17 +73,17 @@ read_latitude x d t =
     if is_end t then refused MissingValue t
     else and_then (coordinate_at d t) (λ y. Ok (GoesOn (Keywords block.Points), adds_vertex x y d))
 
--- a token is read over, unless it ends the block or opens another one
-abbrev pub pass_over : Block → Option Role → Drafts → Result (Move × Drafts) Fault
-pass_over b (Some Closes) d = Ok (Leaves, d)
-pass_over b (Some (Opens inner)) d = Ok (Enters (Keywords inner), d)
-pass_over b _ d = Ok (GoesOn (Keywords b), d)
+-- a token is skipped, unless it ends the block or opens another one
+abbrev pub skip : Block → Option Role → Drafts → Result (Move × Drafts) Fault
+skip b (Some Closes) d = Ok (Leaves, d)
+skip b (Some (Opens inner)) d = Ok (Enters (Keywords inner), d)
+skip b _ d = Ok (GoesOn (Keywords b), d)
 
 -- a token is read in METADATA or VALIDATION: its END, or a key
 abbrev pub read_pair : Block → Drafts → TokenValue → Result (Move × Drafts) Fault
 read_pair b d t =
     if is_end t then Ok (Leaves, d)
-    else (if is_value t.shape then Ok (Enters (Values (pair_expects b t.text)), d) else refused WrongValue t)
+    else (if is_value t.shape then Ok (Enters (Values b (pair_expects b t.text)), d) else refused WrongValue t)
 
 -- a token is read in its context: how reading goes on, and what was read of the open blocks
 abbrev pub read_token : Context → Drafts → TokenValue → Result (Move × Drafts) Fault
@@ -91,9 +91,9 @@ read_token (Keywords block.Points) d t = read_longitude d t
 read_token (Keywords block.Validation) d t = read_pair block.Validation d t
 read_token (Keywords block.WebMetadata) d t = read_pair block.WebMetadata d t
 read_token (Keywords block.LayerMetadata) d t = read_pair block.LayerMetadata d t
-read_token (Keywords block.Projection) d t = pass_over block.Projection (option_and_then (role_of block.Projection) (keyword_at t)) d
-read_token (Keywords block.Passed) d t = pass_over block.Passed (option_and_then (role_of block.Passed) (keyword_at t)) d
-read_token (Keywords block.PassedLabel) d t = pass_over block.PassedLabel (option_and_then (role_of block.PassedLabel) (keyword_at t)) d
+read_token (Keywords block.Projection) d t = skip block.Projection (option_and_then (role_of block.Projection) (keyword_at t)) d
+read_token (Keywords block.Skipped) d t = skip block.Skipped (option_and_then (role_of block.Skipped) (keyword_at t)) d
+read_token (Keywords block.SkippedLabel) d t = skip block.SkippedLabel (option_and_then (role_of block.SkippedLabel) (keyword_at t)) d
 read_token (Keywords b) d t = read_keyword b d t
-read_token (Values expected) d t = read_value expected d t
+read_token (Values b expected) d t = read_value b expected d t
 read_token (Latitude x) d t = read_latitude x d t

@@ -1,13 +1,18 @@
+ghost use Rattle.std.specs.Prelude.{◌≡◌, OnOk};
+ghost use Rattle.maptree.specs.Answer.{moved};
+
+use crate::stack::Stack;
 use geom::Coordinate;
 use mapwords::{Block, Expected};
+use std::alloc::AllocError;
 
 /// What a token is read as.
 #[derive(Clone, Copy)]
 pub enum Context {
     /// A keyword of a block.
     Keywords(Block),
-    /// A value.
-    Values(Expected),
+    /// A value of a block.
+    Values(Block, Expected),
     /// The latitude of a vertex, after this longitude.
     Latitude(Coordinate),
 }
@@ -21,4 +26,19 @@ pub enum Move {
     Enters(Context),
     /// The present context ends.
     Leaves,
+}
+
+/// Goes on after a token of a context, inside the contexts that are open, the innermost on top.
+pub fn go_on(contexts: &mut Stack<Context>, context: Context, next: Move) -> Result<(), AllocError>
+    ensures { OnOk result (contexts.new ≡ moved next context contexts.old) }
+{
+    match next {
+        Move::GoesOn(next) => contexts.push(next)?,
+        Move::Enters(inner) => {
+            contexts.push(context)?;
+            contexts.push(inner)?;
+        }
+        Move::Leaves => {}
+    }
+    Ok(())
 }

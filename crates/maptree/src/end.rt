@@ -1,17 +1,20 @@
-ghost use Rattle.std.specs.Prelude.{◌≡◌, ◌<◌, false, length, Ok, OnOk, MatchResult};
+ghost use Rattle.std.specs.Prelude.{◌≡◌, ◌<◌, false, length, option_map, Ok, IfOk, OnOk, MatchResult};
 ghost use Rattle.mapdefs.specs.declared.limits.TheConstants.{MAX_SYMBOLS, MAX_LAYERS, MAX_CLASSES, MAX_STYLES, MAX_FEATURES};
 ghost use Rattle.maptree.specs.Data.{table_fault, with_table};
 ghost use Rattle.maptree.specs.Draft.{is_full};
 ghost use Rattle.maptree.specs.End.{finished_layer, layer_end, finished_symbol, symbol_end, map_end, class_end, style_end, label_end, feature_end, points_end, ends};
 ghost use Rattle.mapwords.specs.Fault.{IsErrorOf};
+ghost use Rattle.mapwords.specs.declared.table.TextKeyword.TheVariants.{Name};
 ghost use Rattle.maptree.specs.Name.{is_taken};
+ghost use Rattle.maptree.specs.Values.{geometry_in, last, text_in};
 
-use crate::draft::{Drafts, FeatureDraft, LayerDraft, SymbolDraft};
+use crate::draft::{Drafts, FeatureDraft};
 use crate::symbol::map_fault;
-use crate::tree::{ClassTree, FeatureTree, LabelTree, LayerTree, Named, StyleTree, SymbolTree};
+use crate::tree::{ClassTree, FeatureTree, LayerBody, LayerTree, SymbolTree};
+use crate::values::Values;
 use mapdefs::{Duplicate, Geometry, Items};
 use maplex::Token;
-use mapwords::{Block, Fault, ParseFault, ParseKind, fault_of};
+use mapwords::{Block, Fault, Named, ParseFault, ParseKind, TextKeyword, fault_of};
 use std::alloc::{AllocError, Global};
 use std::mem;
 
@@ -19,14 +22,14 @@ use std::mem;
 fn is_taken(name: &str, layers: &[LayerTree]) -> bool
     ensures { result ≡ is_taken name.now layers.now }
 {
-    layers.iter().any(|layer| layer.name.as_str() == name)
+    layers.iter().any(|layer| layer.name.text.as_str() == name)
 }
 
-// The fault of a table in a layer of a kind that has none.
-fn table_fault(kind: Geometry, table: &Option<Named>) -> Option<Fault>
-    ensures { result ≡ table_fault kind table.now }
+// The fault of a table in a layer of a geometry that has none.
+fn table_fault(geometry: Geometry, table: Option<&Named>) -> Option<Fault>
+    ensures { result ≡ table_fault geometry (option_map (λ x. x.now) table.entry) }
 {
-    match (kind, table) {
+    match (geometry, table) {
         (Geometry::Line | Geometry::Polygon, Some(table)) => Some(Fault {
             line: table.line,
             kind: ParseKind::WrongValue,
@@ -35,39 +38,46 @@ fn table_fault(kind: Geometry, table: &Option<Named>) -> Option<Fault>
     }
 }
 
-// The layer of a draft at its END, after the earlier layers.
-fn finished_layer(draft: LayerDraft, earlier: &[LayerTree], end: &Token) -> Result<LayerTree, Fault>
-    ensures { result ≡ finished_layer draft.name draft.kind draft earlier.now end.now }
+// A copy of a text, if there is one.
+fn copied(named: Option<&Named>, alloc: Global) -> Result<Option<Named>, AllocError>
+    ensures { IfOk result (λ made. made ≡ option_map (λ x. x.now) named.entry) }
 {
-    let (Some(name), Some(kind)) = (draft.name, draft.kind) else {
-        return Err(fault_of(ParseKind::MissingValue, end));
+    match named {
+        Some(named) => Ok(Some(named.duplicate(alloc)?)),
+        None => Ok(None),
+    }
+}
+
+// The layer with what it says at its END, after the earlier layers.
+fn finished_layer(
+    body: LayerBody,
+    earlier: &[LayerTree],
+    end: &Token,
+    alloc: Global,
+) -> Result<LayerTree, ParseFault>
+    ensures { MatchResult result
+        (λ layer. finished_layer (last (text_in Name) body.values) (last geometry_in body.values) body earlier.now end.now ≡ Ok layer)
+        (IsErrorOf (finished_layer (last (text_in Name) body.values) (last geometry_in body.values) body earlier.now end.now)) }
+{
+    let name = body.values.text(TextKeyword::Name);
+    let (Some(name), Some(geometry)) = (name, body.values.geometry()) else {
+        return Err(fault_of(ParseKind::MissingValue, end).into());
     };
     if is_taken(name.text.as_str(), earlier) {
-        return Err(Fault {
-            line: name.line,
-            kind: ParseKind::DuplicateName,
-        });
+        let kind = ParseKind::DuplicateName;
+        let line = name.line;
+        return Err(Fault { line, kind }.into());
     }
-    if let Some(fault) = table_fault(kind, &draft.table) {
-        return Err(fault);
+    let table = body.values.text(TextKeyword::Data);
+    if let Some(fault) = table_fault(geometry, table) {
+        return Err(fault.into());
     }
+    let (name, table) = (name.duplicate(alloc)?, copied(table, alloc)?);
     Ok(LayerTree {
-        name: name.text,
-        kind,
-        classitem: draft.classitem,
-        labelitem: draft.labelitem,
-        queryable: draft.queryable,
-        tolerance: draft.tolerance,
-        min: draft.min,
-        max: draft.max,
-        items: draft.items,
-        table: draft.table,
-        csv_x: draft.csv_x,
-        csv_y: draft.csv_y,
-        wms_title: draft.wms_title,
-        ows_title: draft.ows_title,
-        classes: draft.classes,
-        features: draft.features,
+        name,
+        geometry,
+        table,
+        body,
     })
 }
 
@@ -92,25 +102,27 @@ fn end_layer(drafts: &mut Drafts, end: &Token, alloc: Global) -> Result<(), Pars
         (λ _. layer_end drafts.old end.now ≡ Ok drafts.new)
         (IsErrorOf (layer_end drafts.old end.now)) }
 {
-    let draft = mem::replace(&mut drafts.layer, LayerDraft::new(alloc));
-    let layer = finished_layer(draft, drafts.map.layers.as_slice(), end)?;
+    let body = mem::replace(&mut drafts.layer, LayerBody::new(alloc));
+    let layer = finished_layer(body, drafts.map.layers.as_slice(), end, alloc)?;
     add_table(&mut drafts.map.files, &layer.table, alloc)?;
     drafts.map.layers.push(layer)?;
     Ok(())
 }
 
-// The symbol of a draft at its END.
-fn finished_symbol(draft: SymbolDraft, end: &Token) -> Result<SymbolTree, Fault>
-    ensures { result ≡ finished_symbol draft.name draft.pixmap draft.image end.now }
+// The symbol with its values at its END.
+fn finished_symbol(values: &Values, end: &Token, alloc: Global) -> Result<SymbolTree, ParseFault>
+    ensures { MatchResult result
+        (λ symbol. finished_symbol values.now end.now ≡ Ok symbol)
+        (IsErrorOf (finished_symbol values.now end.now)) }
 {
-    let SymbolDraft {
-        name,
-        pixmap,
-        image,
-    } = draft;
-    match (name, pixmap, image) {
-        (Some(name), true, Some(image)) => Ok(SymbolTree { name, image }),
-        _ => Err(fault_of(ParseKind::MissingValue, end)),
+    let name = values.text(TextKeyword::Name);
+    let image = values.text(TextKeyword::Image);
+    match (name, values.has_pixmap(), image) {
+        (Some(name), true, Some(image)) => Ok(SymbolTree {
+            name: name.duplicate(alloc)?,
+            image: image.duplicate(alloc)?,
+        }),
+        _ => Err(fault_of(ParseKind::MissingValue, end).into()),
     }
 }
 
@@ -121,8 +133,8 @@ fn end_symbol(drafts: &mut Drafts, end: &Token, alloc: Global) -> Result<(), Par
         (λ _. symbol_end drafts.old end.now ≡ Ok drafts.new)
         (IsErrorOf (symbol_end drafts.old end.now)) }
 {
-    let draft = mem::replace(&mut drafts.symbol, SymbolDraft::new());
-    let symbol = finished_symbol(draft, end)?;
+    let values = mem::replace(&mut drafts.symbol, Values::new(alloc));
+    let symbol = finished_symbol(&values, end, alloc)?;
     drafts.map.files.push(symbol.image.duplicate(alloc)?)?;
     drafts.map.symbols.push(symbol)?;
     Ok(())
@@ -150,19 +162,19 @@ fn end_class(drafts: &mut Drafts, alloc: Global) -> Result<(), AllocError>
 }
 
 // Ends a STYLE: the class gets it.
-fn end_style(drafts: &mut Drafts) -> Result<(), AllocError>
+fn end_style(drafts: &mut Drafts, alloc: Global) -> Result<(), AllocError>
     requires { length drafts.old.class.styles < MAX_STYLES }
     ensures { OnOk result (drafts.new ≡ style_end drafts.old) }
 {
-    let style = mem::replace(&mut drafts.style, StyleTree::new());
+    let style = mem::replace(&mut drafts.style, Values::new(alloc));
     drafts.class.styles.push(style)
 }
 
 // Ends a LABEL: the class gets it.
-fn end_label(drafts: &mut Drafts)
+fn end_label(drafts: &mut Drafts, alloc: Global)
     ensures { drafts.new ≡ label_end drafts.old }
 {
-    let label = mem::replace(&mut drafts.label, LabelTree::new());
+    let label = mem::replace(&mut drafts.label, Values::new(alloc));
     drafts.class.label = Some(label);
 }
 
@@ -216,8 +228,8 @@ pub fn close(
         Block::Symbol => end_symbol(drafts, end, alloc)?,
         Block::Layer => end_layer(drafts, end, alloc)?,
         Block::Class => end_class(drafts, alloc)?,
-        Block::Style => end_style(drafts)?,
-        Block::Label => end_label(drafts),
+        Block::Style => end_style(drafts, alloc)?,
+        Block::Label => end_label(drafts, alloc),
         Block::Feature => end_feature(drafts, end, alloc)?,
         Block::Points => end_points(drafts, end, alloc)?,
         // There is nothing to check, and nothing to keep.
@@ -226,8 +238,23 @@ pub fn close(
         | Block::LayerMetadata
         | Block::Validation
         | Block::Projection
-        | Block::Passed
-        | Block::PassedLabel => {}
+        | Block::Skipped
+        | Block::SkippedLabel => {}
     }
     Ok(())
+}
+
+/// What the open block lacks first of what its END requires, as its keyword or in a word, if it lacks something.
+pub fn missing_part(block: Block, drafts: &Drafts) -> Option<&'static str> {
+    let layer = &drafts.layer.values;
+    match block {
+        Block::Symbol if drafts.symbol.text(TextKeyword::Name).is_none() => Some("NAME"),
+        Block::Symbol if !drafts.symbol.has_pixmap() => Some("TYPE"),
+        Block::Symbol if drafts.symbol.text(TextKeyword::Image).is_none() => Some("IMAGE"),
+        Block::Layer if layer.text(TextKeyword::Name).is_none() => Some("NAME"),
+        Block::Layer if layer.geometry().is_none() => Some("TYPE"),
+        Block::Feature if drafts.feature.parts.is_empty() => Some("POINTS"),
+        Block::Points if drafts.feature.parts.is_next_empty() => Some("vertex"),
+        _ => None,
+    }
 }

@@ -1,7 +1,7 @@
 //! Laws of the definitions that the contracts cite. A law is a function without arguments whose
 //! contract states it.
 
-ghost use Rattle.maptree.specs.Meaning.{CountIsEnough, FirstFaultIsTold};
+ghost use Rattle.maptree.specs.Meaning.{CountIsEnough, FirstFaultIsReported};
 ghost use Rattle.maptree.specs.Written.{WrittenIsRead};
 
 /// A mapfile that is written out from what it says is read as that: no word is lost, none is taken for
@@ -17,6 +17,6 @@ pub fn count_is_enough()
 {}
 
 /// The first fault in the order of tokens is the fault of the mapfile, whatever stands after it.
-pub fn first_fault_is_told()
-    ensures { FirstFaultIsTold }
+pub fn first_fault_is_reported()
+    ensures { FirstFaultIsReported }
 {}

@@ -5,7 +5,7 @@
 //! entries, and what a token says depends on the entries of its own block and of the parent alone. What a
 //! token means by itself is said by `mapwords`. Three laws say more of the definitions: that a mapfile
 //! which is written out from what it says is read as that (`laws::written_mapfile_is_read`), that what
-//! stands after a fault plays no part in it (`laws::first_fault_is_told`), and that the number by which
+//! follows a fault plays no part in it (`laws::first_fault_is_reported`), and that the number by which
 //! the definition of reading ends plays none (`laws::count_is_enough`). The reader goes over the tokens
 //! once, with a draft for each kind of block; that this gives what the blocks say is a theorem
 //! (`proofs/OnePass`).
@@ -14,29 +14,32 @@
 //!
 //! What takes no memory fails with a `Fault` alone.
 //!
-//! Words: a *context* is what a token is read as: a keyword of a block, a value, or a latitude. The
+//! Terms: a *context* is what a token is read as: a keyword of a block, a value, or a latitude. The
 //! *drafts* are what was read of the open blocks, and the *tree* is the whole mapfile as it is written.
 //! The *tail* is what stands after the last token.
 #![tactic(auto)]
 
 mod context;
-mod contexts;
 mod draft;
 mod end;
 pub mod laws;
 mod mapfile;
 mod parts;
 mod reader;
+mod stack;
 mod step;
 mod symbol;
 mod tree;
+mod values;
 
 pub use context::{Context, Move};
 pub use draft::Drafts;
+pub use end::missing_part;
 pub use mapfile::{next_token, read};
-pub use mapwords::{Bounded, Capped, ClassRule, Extent, ParseFault, ParseKind};
+pub use mapwords::{Capped, ClassRule, Extent, Named, ParseFault, ParseKind};
 pub use parts::Parts;
+pub use stack::Stack;
 pub use step::read_token;
-pub use tree::{
-    ClassTree, FeatureTree, FontTree, LabelTree, LayerTree, MapTree, Named, StyleTree, SymbolTree,
-};
+pub use symbol::symbol_of;
+pub use tree::{ClassTree, FeatureTree, LayerBody, LayerTree, MapTree, SymbolTree};
+pub use values::Values;

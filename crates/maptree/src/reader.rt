@@ -3,9 +3,9 @@ ghost use Rattle.maplex.specs.Token.{TokenValue};
 ghost use Rattle.maplex.specs.declared.fault.Tail.{Tail};
 ghost use Rattle.maptree.specs.Pass.{map_body};
 
-use crate::context::Context;
-use crate::contexts::Contexts;
+use crate::context::{Context, go_on};
 use crate::draft::Drafts;
+use crate::stack::Stack;
 use crate::step::read_token;
 use crate::tree::MapTree;
 use maplex::{Tail, Token};
@@ -16,7 +16,7 @@ use std::alloc::{AllocError, Global};
 #[derive(Drop)]
 pub struct Reader {
     /// What the next token is read as, and the contexts round that. There is none after the END of MAP.
-    pub contexts: Contexts,
+    pub contexts: Stack<Context>,
     /// What was read of the open blocks.
     pub drafts: Drafts,
 }
@@ -29,7 +29,7 @@ impl Reader {
         ensures { IfOk result (λ reader.
             (ts : List TokenValue) (tail : Tail) → answer reader ts tail ≡ map_body tail ts) }
     {
-        let mut contexts = Contexts::new(alloc);
+        let mut contexts = Stack::new(alloc);
         contexts.push(Context::Keywords(Block::Map))?;
         Ok(Reader {
             contexts,
@@ -47,7 +47,7 @@ impl Reader {
             return Err(fault_of(ParseKind::UnknownWord, token).into());
         };
         let next = read_token(alloc, &context, &mut self.drafts, token)?;
-        self.contexts.go_on(context, next)?;
+        go_on(&mut self.contexts, context, next)?;
         Ok(())
     }
 

@@ -5,7 +5,7 @@ ghost use Rattle.maptree.specs.declared.draft.Drafts.{Drafts as DraftsValue};
 ghost use Rattle.mapwords.specs.Keyword.{keyword_at};
 ghost use Rattle.maptree.specs.Parts.{vertex_count};
 ghost use Rattle.mapwords.specs.Table.{role_of};
-ghost use Rattle.maptree.specs.Step.{read_end, read_keyword, read_value, coordinate_at, read_longitude, read_latitude, pass_over, read_pair, read_token};
+ghost use Rattle.maptree.specs.Step.{read_end, read_keyword, read_value, coordinate_at, read_longitude, read_latitude, skip, read_pair, read_token};
 
 use crate::context::{Context, Move};
 use crate::draft::Drafts;
@@ -58,28 +58,29 @@ fn read_keyword(
             Err(fault_of(ParseKind::Limit, token).into())
         }
         Some(Role::Opens(inner)) => Ok(Move::Enters(Context::Keywords(inner))),
-        Some(Role::Takes(expected)) => Ok(Move::Enters(Context::Values(expected))),
+        Some(Role::Takes(expected)) => Ok(Move::Enters(Context::Values(block, expected))),
     }
 }
 
-// Reads a value.
+// Reads a value of a block.
 fn read_value(
+    block: Block,
     expected: Expected,
     drafts: &mut Drafts,
     token: &Token,
     alloc: Global,
 ) -> Result<Move, ParseFault>
     ensures { MatchResult result
-        (λ next. read_value expected drafts.old token.now ≡ Ok (next, drafts.new))
-        (IsErrorOf (read_value expected drafts.old token.now)) }
+        (λ next. read_value block expected drafts.old token.now ≡ Ok (next, drafts.new))
+        (IsErrorOf (read_value block expected drafts.old token.now)) }
 {
     if is_end(token) {
         return Err(fault_of(ParseKind::MissingValue, token).into());
     }
     match value_step(expected, token, alloc)? {
-        ValueStep::More(next) => Ok(Move::GoesOn(Context::Values(next))),
+        ValueStep::More(next) => Ok(Move::GoesOn(Context::Values(block, next))),
         ValueStep::Whole(value) => {
-            drafts.set(value, token.line);
+            drafts.set(block, value)?;
             Ok(Move::Leaves)
         }
     }
@@ -131,9 +132,9 @@ fn read_latitude(
     Ok(Move::GoesOn(Context::Keywords(Block::Points)))
 }
 
-// Reads over a token, unless it ends the block or opens another one.
-fn pass_over(block: Block, token: &Token) -> Move
-    ensures { (d : DraftsValue) → pass_over block (option_and_then (role_of block) (keyword_at token.now)) d ≡ Ok (result, d) }
+// Skips a token, unless it ends the block or opens another one.
+fn skip(block: Block, token: &Token) -> Move
+    ensures { (d : DraftsValue) → skip block (option_and_then (role_of block) (keyword_at token.now)) d ≡ Ok (result, d) }
 {
     let role = match Keyword::at(token) {
         Some(keyword) => role_of(block, keyword),
@@ -158,7 +159,8 @@ fn read_pair(block: Block, token: &Token) -> Result<Move, Fault>
     if !is_value(token) {
         return Err(fault_of(ParseKind::WrongValue, token));
     }
-    Ok(Move::Enters(Context::Values(pair_expects(block, token.text))))
+    let expected = pair_expects(block, token.text);
+    Ok(Move::Enters(Context::Values(block, expected)))
 }
 
 /// Reads a token in its context, and notes what was read. The result is how reading goes on. After an error
@@ -179,7 +181,7 @@ pub fn read_token(
             Block::Validation => Ok(read_pair(Block::Validation, token)?),
             Block::WebMetadata => Ok(read_pair(Block::WebMetadata, token)?),
             Block::LayerMetadata => Ok(read_pair(Block::LayerMetadata, token)?),
-            Block::Projection | Block::Passed | Block::PassedLabel => Ok(pass_over(block, token)),
+            Block::Projection | Block::Skipped | Block::SkippedLabel => Ok(skip(block, token)),
             Block::Map
             | Block::Web
             | Block::Symbol
@@ -189,7 +191,7 @@ pub fn read_token(
             | Block::Label
             | Block::Feature => read_keyword(block, drafts, token, alloc),
         },
-        Context::Values(expected) => read_value(expected, drafts, token, alloc),
+        Context::Values(block, expected) => read_value(block, expected, drafts, token, alloc),
         Context::Latitude(longitude) => read_latitude(longitude, drafts, token),
     }
 }

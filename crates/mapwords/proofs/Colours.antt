@@ -13,8 +13,8 @@ use Rattle.mapwords.specs.declared.colour.Component.{Component}
 use Rattle.mapwords.specs.declared.colour.Component.TheVariants.{Level, Absent}
 use Rattle.maplex.specs.Token.{TokenValue}
 use Rattle.mapwords.specs.declared.keyword.Keyword.TheVariants.{End}
-use Rattle.mapwords.specs.declared.role.ColourKeyword.{ColourKeyword}
-use Rattle.mapwords.specs.declared.role.ColourKeyword.TheVariants.{StyleColour}
+use Rattle.mapwords.specs.declared.table.ColourKeyword.{ColourKeyword}
+use Rattle.mapwords.specs.declared.table.ColourKeyword.TheVariants.{Color}
 use Rattle.mapwords.specs.declared.role.Expected.TheVariants as expected
 use Rattle.mapwords.specs.declared.value.Value.TheVariants as value
 use Rattle.mapwords.specs.declared.value.ValueStep.TheVariants.{More, Whole}
@@ -115,7 +115,7 @@ pub counts_of : (w : ColourKeyword) (red green blue : ℕ) → red < 256 → gre
     IsTrue (is_value r.shape) → IsTrue (is_value g.shape) → IsTrue (is_value b.shape) →
     r.text ≡ decimal red → g.text ≡ decimal green → b.text ≡ decimal blue →
     value_in tail (expected.Colour w) (r ∷ g ∷ b ∷ ts)
-    ≡ Ok (record { value = value.Colour w (Some (record { red = red; green = green; blue = blue })); line = b.line; rest = ts })
+    ≡ Ok (record { value = value.Colour w (Some (record { red = red; green = green; blue = blue })); rest = ts })
 unfolding value_in
 counts_of w red green blue p q s tail r g b ts vr vg vb er eg eb =
     rw (
@@ -128,4 +128,4 @@ counts_of w red green blue p q s tail r g b ts vr vg vb er eg eb =
     ) refl
 
 pub counts : CountsAreColour
-counts = counts_of StyleColour
+counts = counts_of Color

@@ -1,33 +1,42 @@
--- A keyword is found among those whose spelling has the length of the text.
-use Rattle.std.proofs.Common.{◌≡◌, ℕ, Bool, true, false, List, [], ◌∷◌, length, refl, sym, ap, ◌∙◌}
-use Rattle.std.specs.Prelude.{find, filter, map}
-use Rattle.std.specs.Char.{to_ascii_lowercase}
-use Rattle.std.proofs.lemmas.List.{length-map}
-use Rattle.std.proofs.lemmas.Bool.{eq-eqb}
-use Rattle.std.proofs.lemmas.Slice.Eq.{bytes_eq-Decides}
+-- A keyword is found by its spelling in a table of both.
+use Rattle.std.proofs.Common.{◌≡◌, ℕ, Bool, true, false, List, [], ◌∷◌, refl, sym, ap, ◌∙◌, Bor, Option}
+use Rattle.std.specs.Prelude.{find, map, option_map}
+use Rattle.std.specs.Str.{str_eq_ignore_ascii_case}
 use Rattle.mapwords.specs.declared.keyword.Keyword.{Keyword}
-use Rattle.mapwords.specs.Keyword.{spelling, keywords, has_length, is_spelt, keyword_of}
+use Rattle.mapwords.specs.Keyword.{is_spelt, plain, spelt}
 
-module _ {X : Type 0} (p q : X → Bool) (weaker : (x : X) → p x ≡ true → q x ≡ true) where
-  -- one element more, by what both tests say of it
-  one-more : (x : X) (xs : List X) (a b : Bool) → p x ≡ a → q x ≡ b → find p (filter q xs) ≡ find p xs → find p (filter q (x ∷ xs)) ≡ find p (x ∷ xs)
-  one-more x xs true b is same h = rw (weaker x is, is) refl
-  one-more x xs false true is same h = rw (same, is) h
-  one-more x xs false false is same h = rw (same, is) h
+module _ (text : List ℕ) where
+  -- the texts of a table are looked at where they stand
+  by-text : (pairs : List (Keyword × Bor (List ℕ))) →
+      option_map (λ (pair : Keyword × Bor (List ℕ)). pair.0) (find (λ (pair : Keyword × Bor (List ℕ)). str_eq_ignore_ascii_case text pair.1.now) pairs)
+      ≡ option_map (λ (pair : Keyword × List ℕ). pair.0) (find (λ (pair : Keyword × List ℕ). str_eq_ignore_ascii_case text pair.1) (map plain pairs))
+  by-text [] = refl
+  by-text (pair ∷ pairs) = at (str_eq_ignore_ascii_case text pair.1.now) refl (by-text pairs)
+    where
+      at : (same : Bool) → str_eq_ignore_ascii_case text pair.1.now ≡ same →
+          option_map (λ (p : Keyword × Bor (List ℕ)). p.0) (find (λ (p : Keyword × Bor (List ℕ)). str_eq_ignore_ascii_case text p.1.now) pairs)
+          ≡ option_map (λ (p : Keyword × List ℕ). p.0) (find (λ (p : Keyword × List ℕ). str_eq_ignore_ascii_case text p.1) (map plain pairs)) →
+          option_map (λ (p : Keyword × Bor (List ℕ)). p.0) (find (λ (p : Keyword × Bor (List ℕ)). str_eq_ignore_ascii_case text p.1.now) (pair ∷ pairs))
+          ≡ option_map (λ (p : Keyword × List ℕ). p.0) (find (λ (p : Keyword × List ℕ). str_eq_ignore_ascii_case text p.1) (map plain (pair ∷ pairs)))
+      at true is rest = rw is refl
+      at false is rest = rw is rest
 
-  -- what a test finds, it finds among those that a weaker test leaves
-  find-filter : (xs : List X) → find p (filter q xs) ≡ find p xs
-  find-filter [] = refl
-  find-filter (x ∷ xs) = one-more x xs (p x) (q x) refl refl (find-filter xs)
+  -- in the table of some keywords the first is found that the text is
+  by-spelling : (keywords : List Keyword) → option_map (λ (pair : Keyword × List ℕ). pair.0) (find (λ (pair : Keyword × List ℕ). str_eq_ignore_ascii_case text pair.1) (map spelt keywords)) ≡ find (is_spelt text) keywords
+  by-spelling [] = refl
+  by-spelling (k ∷ keywords) = at (is_spelt text k) refl (by-spelling keywords)
+    where
+      at : (same : Bool) → is_spelt text k ≡ same →
+          option_map (λ (p : Keyword × List ℕ). p.0) (find (λ (p : Keyword × List ℕ). str_eq_ignore_ascii_case text p.1) (map spelt keywords)) ≡ find (is_spelt text) keywords →
+          option_map (λ (p : Keyword × List ℕ). p.0) (find (λ (p : Keyword × List ℕ). str_eq_ignore_ascii_case text p.1) (map spelt (k ∷ keywords))) ≡ find (is_spelt text) (k ∷ keywords)
+      at true is rest = rw is refl
+      at false is rest = rw is rest
 
--- a text that is a keyword has the length of its spelling
-same-length : (text : List ℕ) (keyword : Keyword) → is_spelt text keyword ≡ true → has_length (length text) keyword ≡ true
-same-length text keyword is =
-    let same : map to_ascii_lowercase text ≡ map to_ascii_lowercase (spelling keyword) =
-    (bytes_eq-Decides (map to_ascii_lowercase text) (map to_ascii_lowercase (spelling keyword))).0 is in
-    eq-eqb (length (spelling keyword)) (length text)
-    (sym (length-map (spelling keyword) to_ascii_lowercase) ∙ ap length (sym same) ∙ length-map text to_ascii_lowercase)
-
--- the keywords of other lengths are not looked at
-pub found-by-length : (text : List ℕ) → find (is_spelt text) (filter (has_length (length text)) keywords) ≡ keyword_of text
-found-by-length text = find-filter (is_spelt text) (has_length (length text)) (same-length text) keywords
+  pub found-in-table : (keywords : List Keyword) (pairs : List (Keyword × Bor (List ℕ))) (found : Option (Keyword × Bor (List ℕ))) →
+      found ≡ find (λ (pair : Keyword × Bor (List ℕ)). str_eq_ignore_ascii_case text pair.1.now) pairs → map plain pairs ≡ map spelt keywords →
+      option_map (λ (pair : Keyword × Bor (List ℕ)). pair.0) found ≡ find (is_spelt text) keywords
+  found-in-table keywords pairs found is same =
+      ap (option_map (λ (pair : Keyword × Bor (List ℕ)). pair.0)) is
+      ∙ by-text pairs
+      ∙ ap (λ table. option_map (λ (pair : Keyword × List ℕ). pair.0) (find (λ (pair : Keyword × List ℕ). str_eq_ignore_ascii_case text pair.1) table)) same
+      ∙ by-spelling keywords

@@ -3,7 +3,7 @@ use Rattle.std.specs.Prelude.{◌≡◌, ℕ, ◌<◌, if◌then◌else◌, List
 use Rattle.std.specs.Fmt.{decimal}
 use Rattle.maplex.specs.declared.fault.Tail.{Tail}
 use Rattle.maplex.specs.Token.{TokenValue}
-use Rattle.mapwords.specs.declared.role.ColourKeyword.TheVariants.{StyleColour}
+use Rattle.mapwords.specs.declared.table.ColourKeyword.TheVariants.{Color}
 use Rattle.mapwords.specs.declared.role.Expected.{Expected}
 use Rattle.mapwords.specs.declared.role.Expected.TheVariants as expected
 use Rattle.mapwords.specs.declared.value.Value.{Value}
@@ -15,10 +15,9 @@ use Rattle.mapwords.specs.Fault.{refused, missing, and_then}
 use Rattle.mapwords.specs.Keyword.{is_end}
 use Rattle.mapwords.specs.Value.{is_value, value_step}
 
--- a value that was given, the line of its last token, and the tokens after it
+-- a value that was given, and the tokens after it
 pub record Given : Type 0 where
   pub value : Value
-  pub line : ℕ
   pub rest : List TokenValue
 
 -- the value that a keyword takes of the tokens after it
@@ -26,14 +25,14 @@ unfoldable pub value_in : Tail → Expected → List TokenValue → Result Given
 value_in tail expected [] = Err (missing tail)
 value_in tail expected (t ∷ ts) = if is_end t then refused MissingValue t else and_then (value_step expected t) (λ step. elim step [
   | More next ↦ value_in tail next ts
-  | Whole value ↦ Ok (record { value = value; line = t.line; rest = ts })
+  | Whole value ↦ Ok (record { value = value; rest = ts })
 ])
 
--- the law that three counts after COLOR, bare or quoted and in decimals, are the red, the green and the blue of the style's colour
+-- the law that three counts after COLOR, bare or quoted and in decimals, are the red, the green and the blue of a colour
 abbrev pub CountsAreColour : Type 0
 CountsAreColour = (red green blue : ℕ) → red < 256 → green < 256 → blue < 256 →
     (tail : Tail) (r g b : TokenValue) (ts : List TokenValue) →
     IsTrue (is_value r.shape) → IsTrue (is_value g.shape) → IsTrue (is_value b.shape) →
     r.text ≡ decimal red → g.text ≡ decimal green → b.text ≡ decimal blue →
-    value_in tail (expected.Colour StyleColour) (r ∷ g ∷ b ∷ ts)
-    ≡ Ok (record { value = value.Colour StyleColour (Some (record { red = red; green = green; blue = blue })); line = b.line; rest = ts })
+    value_in tail (expected.Colour Color) (r ∷ g ∷ b ∷ ts)
+    ≡ Ok (record { value = value.Colour Color (Some (record { red = red; green = green; blue = blue })); rest = ts })

@@ -1,34 +1,46 @@
 -- Keywords, and how they are written (docs/MAPFILE.md, "Blocks and words").
-use Rattle.std.specs.Prelude.{ℕ, Bool, false, List, [], ◌∷◌, length, ◌==◌, Option, None, codes, find}
+use Rattle.std.specs.Prelude.{ℕ, Bool, false, List, [], ◌∷◌, Option, None, codes, find}
+use Rattle.std.specs.Borrow.{Bor}
 use Rattle.std.specs.Str.{str_eq_ignore_ascii_case}
 use Rattle.maplex.specs.declared.token.Shape.{Shape}
 use Rattle.maplex.specs.declared.token.Shape.TheVariants.{Word}
 use Rattle.maplex.specs.Token.{TokenValue}
 use Rattle.mapwords.specs.declared.keyword.Keyword.{Keyword}
-use Rattle.mapwords.specs.declared.keyword.Keyword.TheVariants.{Map, Layer, Name, GeometryType, Class, Style, Color, Feature, Points, Angle, Antialias, Buffer, ClassItem, Config, Debug, Dump, Empty, Encoding, Error, Expression, Extent, Font, FontSet, Footer, Force, Group, Header, ImageColor, ImagePath, ImageType, ImageUrl, Items, Label, LabelCache, LabelItem, LabelMaxScaleDenom, LabelMinScaleDenom, Legend, Log, MaxScaleDenom, MaxSize, MaxWidth, Metadata, MinDistance, MinFeatureSize, MinScaleDenom, MinSize, MinWidth, Offset, OutlineColor, OutlineWidth, OutputFormat, Partials, Position, Priority, Processing, Projection, QueryMap, Reference, RepeatDistance, Resolution, ScaleBar, ShapePath, Size, Status, Template, Text, Title, Tolerance, ToleranceUnits, Units, Validation, Web, Width, Symbol, Image, Transparent, AnchorPoint, Data, End}
+use Rattle.mapwords.specs.declared.keyword.Keyword.TheVariants.{End, Points, Feature, Text, Items, Layer, Class, Style, Label, Name, GeometryType, Expression, Color, OutlineColor, Width, Size, Symbol, Priority, Position, AnchorPoint, Angle, Antialias, Buffer, ClassItem, Config, Data, Debug, Dump, Empty, Encoding, Error, Extent, Font, FontSet, Footer, Force, Group, Header, Image, ImageColor, ImagePath, ImageType, ImageUrl, LabelCache, LabelItem, LabelMaxScaleDenom, LabelMinScaleDenom, Legend, Log, Map, MaxScaleDenom, MaxSize, MaxWidth, Metadata, MinDistance, MinFeatureSize, MinScaleDenom, MinSize, MinWidth, Offset, OutlineWidth, OutputFormat, Partials, Processing, Projection, QueryMap, Reference, RepeatDistance, Resolution, ScaleBar, ShapePath, Status, Template, Title, Tolerance, ToleranceUnits, Transparent, Units, Validation, Web}
 
 -- how a keyword is written
 unfoldable pub spelling : Keyword → List ℕ
-spelling Map = codes "MAP"
+spelling End = codes "END"
+spelling Points = codes "POINTS"
+spelling Feature = codes "FEATURE"
+spelling Text = codes "TEXT"
+spelling Items = codes "ITEMS"
 spelling Layer = codes "LAYER"
-spelling Name = codes "NAME"
-spelling GeometryType = codes "TYPE"
 spelling Class = codes "CLASS"
 spelling Style = codes "STYLE"
+spelling Label = codes "LABEL"
+spelling Name = codes "NAME"
+spelling GeometryType = codes "TYPE"
+spelling Expression = codes "EXPRESSION"
 spelling Color = codes "COLOR"
-spelling Feature = codes "FEATURE"
-spelling Points = codes "POINTS"
+spelling OutlineColor = codes "OUTLINECOLOR"
+spelling Width = codes "WIDTH"
+spelling Size = codes "SIZE"
+spelling Symbol = codes "SYMBOL"
+spelling Priority = codes "PRIORITY"
+spelling Position = codes "POSITION"
+spelling AnchorPoint = codes "ANCHORPOINT"
 spelling Angle = codes "ANGLE"
 spelling Antialias = codes "ANTIALIAS"
 spelling Buffer = codes "BUFFER"
 spelling ClassItem = codes "CLASSITEM"
 spelling Config = codes "CONFIG"
+spelling Data = codes "DATA"
 spelling Debug = codes "DEBUG"
 spelling Dump = codes "DUMP"
 spelling Empty = codes "EMPTY"
 spelling Encoding = codes "ENCODING"
 spelling Error = codes "ERROR"
-spelling Expression = codes "EXPRESSION"
 spelling Extent = codes "EXTENT"
 spelling Font = codes "FONT"
 spelling FontSet = codes "FONTSET"
@@ -36,18 +48,18 @@ spelling Footer = codes "FOOTER"
 spelling Force = codes "FORCE"
 spelling Group = codes "GROUP"
 spelling Header = codes "HEADER"
+spelling Image = codes "IMAGE"
 spelling ImageColor = codes "IMAGECOLOR"
 spelling ImagePath = codes "IMAGEPATH"
 spelling ImageType = codes "IMAGETYPE"
 spelling ImageUrl = codes "IMAGEURL"
-spelling Items = codes "ITEMS"
-spelling Label = codes "LABEL"
 spelling LabelCache = codes "LABELCACHE"
 spelling LabelItem = codes "LABELITEM"
 spelling LabelMaxScaleDenom = codes "LABELMAXSCALEDENOM"
 spelling LabelMinScaleDenom = codes "LABELMINSCALEDENOM"
 spelling Legend = codes "LEGEND"
 spelling Log = codes "LOG"
+spelling Map = codes "MAP"
 spelling MaxScaleDenom = codes "MAXSCALEDENOM"
 spelling MaxSize = codes "MAXSIZE"
 spelling MaxWidth = codes "MAXWIDTH"
@@ -58,12 +70,9 @@ spelling MinScaleDenom = codes "MINSCALEDENOM"
 spelling MinSize = codes "MINSIZE"
 spelling MinWidth = codes "MINWIDTH"
 spelling Offset = codes "OFFSET"
-spelling OutlineColor = codes "OUTLINECOLOR"
 spelling OutlineWidth = codes "OUTLINEWIDTH"
 spelling OutputFormat = codes "OUTPUTFORMAT"
 spelling Partials = codes "PARTIALS"
-spelling Position = codes "POSITION"
-spelling Priority = codes "PRIORITY"
 spelling Processing = codes "PROCESSING"
 spelling Projection = codes "PROJECTION"
 spelling QueryMap = codes "QUERYMAP"
@@ -72,39 +81,35 @@ spelling RepeatDistance = codes "REPEATDISTANCE"
 spelling Resolution = codes "RESOLUTION"
 spelling ScaleBar = codes "SCALEBAR"
 spelling ShapePath = codes "SHAPEPATH"
-spelling Size = codes "SIZE"
 spelling Status = codes "STATUS"
 spelling Template = codes "TEMPLATE"
-spelling Text = codes "TEXT"
 spelling Title = codes "TITLE"
 spelling Tolerance = codes "TOLERANCE"
 spelling ToleranceUnits = codes "TOLERANCEUNITS"
+spelling Transparent = codes "TRANSPARENT"
 spelling Units = codes "UNITS"
 spelling Validation = codes "VALIDATION"
 spelling Web = codes "WEB"
-spelling Width = codes "WIDTH"
-spelling Symbol = codes "SYMBOL"
-spelling Image = codes "IMAGE"
-spelling Transparent = codes "TRANSPARENT"
-spelling AnchorPoint = codes "ANCHORPOINT"
-spelling Data = codes "DATA"
-spelling End = codes "END"
 
 -- all keywords
 abbrev pub keywords : List Keyword
 keywords =
-    Map ∷ Layer ∷ Name ∷ GeometryType ∷ Class ∷ Style ∷ Color ∷ Feature ∷ Points ∷ Angle ∷ Antialias ∷ Buffer ∷ ClassItem ∷
-    Config ∷ Debug ∷ Dump ∷ Empty ∷ Encoding ∷ Error ∷ Expression ∷ Extent ∷ Font ∷ FontSet ∷ Footer ∷ Force ∷ Group
-    ∷ Header ∷ ImageColor ∷ ImagePath ∷ ImageType ∷ ImageUrl ∷ Items ∷ Label ∷ LabelCache ∷ LabelItem ∷
-    LabelMaxScaleDenom ∷ LabelMinScaleDenom ∷ Legend ∷ Log ∷ MaxScaleDenom ∷ MaxSize ∷ MaxWidth ∷ Metadata ∷
-    MinDistance ∷ MinFeatureSize ∷ MinScaleDenom ∷ MinSize ∷ MinWidth ∷ Offset ∷ OutlineColor ∷ OutlineWidth ∷
-    OutputFormat ∷ Partials ∷ Position ∷ Priority ∷ Processing ∷ Projection ∷ QueryMap ∷ Reference ∷ RepeatDistance
-    ∷ Resolution ∷ ScaleBar ∷ ShapePath ∷ Size ∷ Status ∷ Template ∷ Text ∷ Title ∷ Tolerance ∷ ToleranceUnits ∷
-    Units ∷ Validation ∷ Web ∷ Width ∷ Symbol ∷ Image ∷ Transparent ∷ AnchorPoint ∷ Data ∷ End ∷ []
+    End ∷ Points ∷ Feature ∷ Text ∷ Items ∷ Layer ∷ Class ∷ Style ∷ Label ∷ Name ∷ GeometryType ∷ Expression ∷ Color ∷
+    OutlineColor ∷ Width ∷ Size ∷ Symbol ∷ Priority ∷ Position ∷ AnchorPoint ∷ Angle ∷ Antialias ∷ Buffer ∷ ClassItem ∷
+    Config ∷ Data ∷ Debug ∷ Dump ∷ Empty ∷ Encoding ∷ Error ∷ Extent ∷ Font ∷ FontSet ∷ Footer ∷ Force ∷ Group ∷ Header
+    ∷ Image ∷ ImageColor ∷ ImagePath ∷ ImageType ∷ ImageUrl ∷ LabelCache ∷ LabelItem ∷ LabelMaxScaleDenom ∷
+    LabelMinScaleDenom ∷ Legend ∷ Log ∷ Map ∷ MaxScaleDenom ∷ MaxSize ∷ MaxWidth ∷ Metadata ∷ MinDistance ∷
+    MinFeatureSize ∷ MinScaleDenom ∷ MinSize ∷ MinWidth ∷ Offset ∷ OutlineWidth ∷ OutputFormat ∷ Partials ∷ Processing ∷
+    Projection ∷ QueryMap ∷ Reference ∷ RepeatDistance ∷ Resolution ∷ ScaleBar ∷ ShapePath ∷ Status ∷ Template ∷ Title ∷
+    Tolerance ∷ ToleranceUnits ∷ Transparent ∷ Units ∷ Validation ∷ Web ∷ []
 
--- the spelling of a keyword has this length
-abbrev pub has_length : ℕ → Keyword → Bool
-has_length n keyword = length (spelling keyword) == n
+-- a keyword with its spelling
+abbrev pub spelt : Keyword → Keyword × List ℕ
+spelt keyword = (keyword, spelling keyword)
+
+-- a keyword with a text that stands somewhere, as the two of them
+abbrev pub plain : Keyword × Bor (List ℕ) → Keyword × List ℕ
+plain pair = (pair.0, pair.1.now)
 
 -- a text is a keyword, in letters of either case
 abbrev pub is_spelt : List ℕ → Keyword → Bool

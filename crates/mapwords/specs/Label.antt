@@ -1,11 +1,8 @@
 -- What a LABEL says (docs/MAPFILE.md, "Labels").
-use Rattle.std.specs.Prelude.{ℕ, ℤ, pos, negsuc, zero, suc, Bool, true, false, if◌then◌else◌, List, codes, Option, None, Some, option_and_then}
+use Rattle.std.specs.Prelude.{ℕ, Bool, true, false, if◌then◌else◌, List, codes, Option, None, Some}
 use Rattle.std.specs.Str.{str_eq_ignore_ascii_case}
-use Rattle.geom.specs.Number.{count_of}
 use Rattle.mapdefs.specs.declared.label.Position.{Position}
 use Rattle.mapdefs.specs.declared.label.Position.TheVariants.{UpperLeft, UpperCentre, UpperRight, CentreLeft, Centre, CentreRight, LowerLeft, LowerCentre, LowerRight, Automatic}
-use Rattle.mapdefs.specs.declared.limits.TheConstants.{MAX_DISTANCE}
-use Rattle.mapwords.specs.Count.{bounded}
 
 -- a position is named by its height, upper, centred or lower, and then by its side
 abbrev pub position_of : List ℕ → Option Position
@@ -28,13 +25,3 @@ flag_of text =
     if str_eq_ignore_ascii_case text (codes "TRUE") then Some true
     else if str_eq_ignore_ascii_case text (codes "FALSE") then Some false
     else None
-
--- a distance is a count up to its limit, or -1 for none
-abbrev pub distance_in : ℤ → Option ℕ
-distance_in (pos n) = bounded 0 MAX_DISTANCE (pos n)
-distance_in (negsuc zero) = Some 0
-distance_in (negsuc (suc n)) = None
-
--- the distance that a text stands for
-abbrev pub distance_of : List ℕ → Option ℕ
-distance_of text = option_and_then distance_in (count_of text)

@@ -8,7 +8,8 @@ use Rattle.mapwords.specs.declared.role.Block.{Block}
 use Rattle.mapwords.specs.declared.role.Block.TheVariants as block
 use Rattle.mapwords.specs.declared.role.Expected.{Expected}
 use Rattle.mapwords.specs.declared.role.Expected.TheVariants as expected
-use Rattle.mapwords.specs.declared.role.TextKeyword.TheVariants.{CsvX, CsvY, ServiceWmsTitle, ServiceOwsTitle, ServiceWmsUrl, ServiceOwsUrl, LayerWmsTitle, LayerOwsTitle}
+use Rattle.mapwords.specs.declared.named.Named.{Named}
+use Rattle.mapwords.specs.declared.table.TextKeyword.TheVariants as text
 use Rattle.mapwords.specs.declared.fault.Fault.{Fault}
 use Rattle.mapwords.specs.declared.fault.ParseKind.TheVariants.{Limit}
 use Rattle.mapwords.specs.declared.value.Value.TheVariants as value
@@ -20,17 +21,17 @@ use Rattle.mapwords.specs.Rule.{is_comma}
 -- a WEB's METADATA gives the title and the address of the service; other keys have no effect
 abbrev pub web_expects : List ℕ → Expected
 web_expects key =
-    if is_same_name key (codes "wms_title") then expected.Text ServiceWmsTitle
-    else if is_same_name key (codes "ows_title") then expected.Text ServiceOwsTitle
-    else if is_same_name key (codes "wms_onlineresource") then expected.Text ServiceWmsUrl
-    else if is_same_name key (codes "ows_onlineresource") then expected.Text ServiceOwsUrl
+    if is_same_name key (codes "wms_title") then expected.Text text.WmsTitle
+    else if is_same_name key (codes "ows_title") then expected.Text text.OwsTitle
+    else if is_same_name key (codes "wms_onlineresource") then expected.Text text.WmsOnlineResource
+    else if is_same_name key (codes "ows_onlineresource") then expected.Text text.OwsOnlineResource
     else expected.Unused 0
 
 -- a LAYER's METADATA gives its title
 abbrev pub layer_expects : List ℕ → Expected
 layer_expects key =
-    if is_same_name key (codes "wms_title") then expected.Text LayerWmsTitle
-    else if is_same_name key (codes "ows_title") then expected.Text LayerOwsTitle
+    if is_same_name key (codes "wms_title") then expected.Text text.WmsTitle
+    else if is_same_name key (codes "ows_title") then expected.Text text.OwsTitle
     else expected.Unused 0
 
 -- what a key takes in a block of keys and values
@@ -55,10 +56,10 @@ names_step names t = if nat_lt MAX_ITEMS (length names) then refused Limit t els
 
 -- ITEMS has the names of the items between commas, CSV_X and CSV_Y the columns of tables; other keys have no effect
 abbrev pub keyed_step : List ℕ → List ℕ → TokenValue → Result ValueStep Fault
-keyed_step key text t =
-    if is_same_name key (codes "ITEMS") then names_step (slice_split is_comma text) t
-    else if is_same_name key (codes "CSV_X") then Ok (Whole (value.Text CsvX text))
-    else if is_same_name key (codes "CSV_Y") then Ok (Whole (value.Text CsvY text))
+keyed_step key setting t =
+    if is_same_name key (codes "ITEMS") then names_step (slice_split is_comma setting) t
+    else if is_same_name key (codes "CSV_X") then Ok (Whole (value.Text text.CsvX (record { text = setting; line = t.line })))
+    else if is_same_name key (codes "CSV_Y") then Ok (Whole (value.Text text.CsvY (record { text = setting; line = t.line })))
     else Ok (Whole value.Nothing)
 
 -- a setting without an equals sign has no effect

@@ -11,30 +11,34 @@ use Rattle.mapdefs.specs.declared.colour.Rgb.{Rgb}
 use Rattle.mapdefs.specs.declared.layer.Geometry.{Geometry}
 use Rattle.mapdefs.specs.declared.layer.Geometry.TheVariants.{Point, Line, Polygon}
 use Rattle.mapwords.specs.declared.colour.Component.{Component}
-use Rattle.mapwords.specs.declared.role.ColourKeyword.{ColourKeyword}
-use Rattle.mapwords.specs.declared.role.TextKeyword.TheVariants.{LabelFont, LayerData}
-use Rattle.mapwords.specs.declared.role.OnlyWord.{OnlyWord}
-use Rattle.mapwords.specs.declared.role.OnlyWord.TheVariants.{Pixels, On}
+use Rattle.mapwords.specs.declared.named.Named.{Named}
+use Rattle.mapwords.specs.declared.table.ColourKeyword.{ColourKeyword}
+use Rattle.mapwords.specs.declared.table.TextKeyword.TheVariants.{LabelFont, Data}
+use Rattle.mapwords.specs.declared.table.OnlyWord.{OnlyWord}
+use Rattle.mapwords.specs.declared.table.OnlyWord.TheVariants.{Pixels, On}
 use Rattle.mapwords.specs.declared.role.Expected.{Expected}
 use Rattle.mapwords.specs.declared.role.Expected.TheVariants as expected
 use Rattle.mapwords.specs.declared.value.Value.TheVariants as value
 use Rattle.mapwords.specs.declared.value.ValueStep.{ValueStep}
 use Rattle.mapwords.specs.declared.value.ValueStep.TheVariants.{More, Whole}
-use Rattle.mapdefs.specs.declared.limits.TheConstants.{MAX_LINE_WIDTH, MAX_SQUARE, MAX_TOLERANCE, MAX_PRIORITY, MAX_BUFFER}
 use Rattle.mapdefs.specs.Name.{is_same_name}
 use Rattle.mapwords.specs.declared.fault.Fault.{Fault}
 use Rattle.mapwords.specs.declared.fault.ParseKind.TheVariants.{WrongValue, BadExpression}
 use Rattle.mapwords.specs.Fault.{fault_of, refused}
 use Rattle.mapwords.specs.Extent.{extent_of}
-use Rattle.mapwords.specs.Label.{position_of, flag_of, distance_of}
+use Rattle.mapwords.specs.Label.{position_of, flag_of}
 use Rattle.mapwords.specs.Rule.{rule_of}
 use Rattle.mapwords.specs.Setting.{setting_step}
-use Rattle.mapwords.specs.Count.{bounded_of, number_in}
+use Rattle.mapwords.specs.Count.{count_in, number_in}
 use Rattle.mapwords.specs.Colour.{component_of, rgb_of, hex_colour}
 
--- the kind of a layer's features that a text is
-abbrev pub kind_of : List ℕ → Option Geometry
-kind_of text =
+-- a text that a keyword was given, and the line of its token
+abbrev pub named : List ℕ → ℕ → Named
+named text line = record { text = text; line = line }
+
+-- the geometry that a text is
+abbrev pub geometry_of : List ℕ → Option Geometry
+geometry_of text =
     if str_eq_ignore_ascii_case text (codes "POINT") then Some Point
     else if str_eq_ignore_ascii_case text (codes "LINE") then Some Line
     else if str_eq_ignore_ascii_case text (codes "POLYGON") then Some Polygon
@@ -94,14 +98,9 @@ config_step key = if is_same_name key (codes "LABELFONT") then More (expected.Te
 
 -- a token as a value of which nothing is kept but numbers, if it is such a value
 abbrev pub plain_step : Expected → TokenValue → Option ValueStep
-plain_step expected.Geometry t = option_map (λ kind. Whole (value.Geometry kind)) (kind_of t.text)
+plain_step expected.Geometry t = option_map (λ geometry. Whole (value.Geometry geometry)) (geometry_of t.text)
 plain_step expected.Pixmap t = pixmap_step t.text
-plain_step expected.Width t = option_map (λ n. Whole (value.Width n)) (bounded_of 1 MAX_LINE_WIDTH t.text)
-plain_step expected.Size t = option_map (λ n. Whole (value.Size n)) (bounded_of 1 MAX_SQUARE t.text)
-plain_step expected.Tolerance t = option_map (λ n. Whole (value.Tolerance n)) (bounded_of 0 MAX_TOLERANCE t.text)
-plain_step expected.Priority t = option_map (λ n. Whole (value.Priority n)) (bounded_of 1 MAX_PRIORITY t.text)
-plain_step expected.Buffer t = option_map (λ n. Whole (value.Buffer n)) (bounded_of 0 MAX_BUFFER t.text)
-plain_step expected.Distance t = option_map (λ n. Whole (value.Distance n)) (distance_of t.text)
+plain_step (expected.Count keyword) t = option_map (λ count. Whole (value.Count count)) (count_in keyword t.text)
 plain_step expected.Position t = option_map (λ p. Whole (value.Position p)) (position_of t.text)
 plain_step (expected.Flag keyword) t = option_map (λ flag. Whole (value.Flag keyword flag)) (flag_of t.text)
 plain_step (expected.Scale keyword) t = option_map (λ scale. Whole (value.Scale keyword scale)) (number_in t.text)
@@ -127,11 +126,11 @@ is_table_name name = ends_with eqb name (codes ".csv")
 
 -- a DATA takes the name of such a file
 abbrev pub table_step : TokenValue → Result ValueStep Fault
-table_step t = if is_table_name t.text then Ok (Whole (value.Text LayerData t.text)) else refused WrongValue t
+table_step t = if is_table_name t.text then Ok (Whole (value.Text Data (named t.text t.line))) else refused WrongValue t
 
 -- a token as a value that a keyword expects
 abbrev pub step_in : Expected → TokenValue → Result ValueStep Fault
-step_in (expected.Text keyword) t = Ok (Whole (value.Text keyword t.text))
+step_in (expected.Text keyword) t = Ok (Whole (value.Text keyword (named t.text t.line)))
 step_in expected.Table t = table_step t
 step_in expected.Rule t = rule_step t
 step_in expected.Setting t = setting_step t

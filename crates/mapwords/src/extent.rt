@@ -51,11 +51,10 @@ impl Extent {
     }
 
     /// The box of the world.
-    pub fn get(self) -> WorldBox
-        ensures value { result ≡ self }
+    pub fn get(&self) -> WorldBox
+        ensures value { result ≡ self.now }
         ensures limits { IsExtent result }
     {
-        let Extent { area } = self;
-        area
+        self.area
     }
 }

@@ -20,13 +20,13 @@ pub enum ParseKind {
     /// The source ends before the END of MAP. The line is the last of the source.
     #[error("the mapfile ends where an END is missing")]
     MissingEnd,
-    /// An END before a value, a keyword, a block or a vertex that has to be given.
-    #[error("an END before all that has to be given was given")]
+    /// An END before a required value, keyword, block or vertex.
+    #[error("an END before a required keyword or value")]
     MissingValue,
     /// A block, a vertex or an item more than a map may have.
     #[error("more symbols, layers, classes, styles, labels, features, vertices or items than a map may have")]
     Limit,
-    /// A file that isn't given. The line is that of its first use.
+    /// A file that is missing. The line is that of its first use.
     #[error("a file that can't be read")]
     MissingFile,
     /// A layer whose name an earlier layer has. The line is that of the name.

@@ -1,31 +1,43 @@
-ghost use Rattle.std.specs.Prelude.{◌≡◌, filter, find};
-ghost use Rattle.mapwords.specs.Keyword.{spelling, keywords, has_length, is_spelt, keyword_of, keyword_at, is_at, is_end};
+ghost use Rattle.std.specs.Prelude.{◌≡◌, find, map};
+ghost use Rattle.std.specs.Str.{str_eq_ignore_ascii_case};
+ghost use Rattle.mapwords.specs.Keyword.{spelling, spelt, plain, keywords, is_spelt, keyword_of, keyword_at, is_at, is_end};
 
 use maplex::{Shape, Token};
 
 /// The keywords of the language.
 #[derive(Clone, Copy)]
 pub enum Keyword {
-    Map,
+    End,
+    Points,
+    Feature,
+    Text,
+    Items,
     Layer,
-    Name,
-    GeometryType,
     Class,
     Style,
+    Label,
+    Name,
+    GeometryType,
+    Expression,
     Color,
-    Feature,
-    Points,
+    OutlineColor,
+    Width,
+    Size,
+    Symbol,
+    Priority,
+    Position,
+    AnchorPoint,
     Angle,
     Antialias,
     Buffer,
     ClassItem,
     Config,
+    Data,
     Debug,
     Dump,
     Empty,
     Encoding,
     Error,
-    Expression,
     Extent,
     Font,
     FontSet,
@@ -33,18 +45,18 @@ pub enum Keyword {
     Force,
     Group,
     Header,
+    Image,
     ImageColor,
     ImagePath,
     ImageType,
     ImageUrl,
-    Items,
-    Label,
     LabelCache,
     LabelItem,
     LabelMaxScaleDenom,
     LabelMinScaleDenom,
     Legend,
     Log,
+    Map,
     MaxScaleDenom,
     MaxSize,
     MaxWidth,
@@ -55,12 +67,9 @@ pub enum Keyword {
     MinSize,
     MinWidth,
     Offset,
-    OutlineColor,
     OutlineWidth,
     OutputFormat,
     Partials,
-    Position,
-    Priority,
     Processing,
     Projection,
     QueryMap,
@@ -69,228 +78,100 @@ pub enum Keyword {
     Resolution,
     ScaleBar,
     ShapePath,
-    Size,
     Status,
     Template,
-    Text,
     Title,
     Tolerance,
     ToleranceUnits,
+    Transparent,
     Units,
     Validation,
     Web,
-    Width,
-    Symbol,
-    Image,
-    Transparent,
-    AnchorPoint,
-    Data,
-    End,
 }
 
-// The keywords whose spelling has this length.
-const THREE: [Keyword; 4] = [Keyword::Map, Keyword::Log, Keyword::Web, Keyword::End];
-
-// The keywords whose spelling has this length.
-const FOUR: [Keyword; 7] = [
-    Keyword::Name,
-    Keyword::GeometryType,
-    Keyword::Dump,
-    Keyword::Font,
-    Keyword::Size,
-    Keyword::Text,
-    Keyword::Data,
-];
-
-// The keywords whose spelling has this length.
-const FIVE: [Keyword; 16] = [
-    Keyword::Layer,
-    Keyword::Class,
-    Keyword::Style,
-    Keyword::Color,
-    Keyword::Angle,
-    Keyword::Debug,
-    Keyword::Empty,
-    Keyword::Error,
-    Keyword::Force,
-    Keyword::Group,
-    Keyword::Items,
-    Keyword::Label,
-    Keyword::Title,
-    Keyword::Units,
-    Keyword::Width,
-    Keyword::Image,
-];
-
-// The keywords whose spelling has this length.
-const SIX: [Keyword; 10] = [
-    Keyword::Points,
-    Keyword::Buffer,
-    Keyword::Config,
-    Keyword::Extent,
-    Keyword::Footer,
-    Keyword::Header,
-    Keyword::Legend,
-    Keyword::Offset,
-    Keyword::Status,
-    Keyword::Symbol,
-];
-
-// The keywords whose spelling has this length.
-const SEVEN: [Keyword; 4] = [
-    Keyword::Feature,
-    Keyword::FontSet,
-    Keyword::MaxSize,
-    Keyword::MinSize,
-];
-
-// The keywords whose spelling has this length.
-const EIGHT: [Keyword; 11] = [
-    Keyword::Encoding,
-    Keyword::ImageUrl,
-    Keyword::MaxWidth,
-    Keyword::Metadata,
-    Keyword::MinWidth,
-    Keyword::Partials,
-    Keyword::Position,
-    Keyword::Priority,
-    Keyword::QueryMap,
-    Keyword::ScaleBar,
-    Keyword::Template,
-];
-
-// The keywords whose spelling has this length.
-const NINE: [Keyword; 8] = [
-    Keyword::Antialias,
-    Keyword::ClassItem,
-    Keyword::ImagePath,
-    Keyword::ImageType,
-    Keyword::LabelItem,
-    Keyword::Reference,
-    Keyword::ShapePath,
-    Keyword::Tolerance,
-];
-
-// The keywords whose spelling has this length.
-const TEN: [Keyword; 7] = [
-    Keyword::Expression,
-    Keyword::ImageColor,
-    Keyword::LabelCache,
-    Keyword::Processing,
-    Keyword::Projection,
-    Keyword::Resolution,
-    Keyword::Validation,
-];
-
-// The keywords whose spelling has this length.
-const ELEVEN: [Keyword; 3] = [
-    Keyword::MinDistance,
-    Keyword::Transparent,
-    Keyword::AnchorPoint,
-];
-
-// The keywords whose spelling has this length.
-const TWELVE: [Keyword; 3] = [
-    Keyword::OutlineColor,
-    Keyword::OutlineWidth,
-    Keyword::OutputFormat,
-];
-
-// The keywords whose spelling has this length.
-const THIRTEEN: [Keyword; 2] = [Keyword::MaxScaleDenom, Keyword::MinScaleDenom];
-
-// The keywords whose spelling has this length.
-const FOURTEEN: [Keyword; 3] = [
-    Keyword::MinFeatureSize,
-    Keyword::RepeatDistance,
-    Keyword::ToleranceUnits,
-];
-
-// The keywords whose spelling has this length.
-const EIGHTEEN: [Keyword; 2] = [Keyword::LabelMaxScaleDenom, Keyword::LabelMinScaleDenom];
-
-// The spelling of each keyword, in their order.
-const SPELLINGS: [&str; 80] = [
-    "MAP",
-    "LAYER",
-    "NAME",
-    "TYPE",
-    "CLASS",
-    "STYLE",
-    "COLOR",
-    "FEATURE",
-    "POINTS",
-    "ANGLE",
-    "ANTIALIAS",
-    "BUFFER",
-    "CLASSITEM",
-    "CONFIG",
-    "DEBUG",
-    "DUMP",
-    "EMPTY",
-    "ENCODING",
-    "ERROR",
-    "EXPRESSION",
-    "EXTENT",
-    "FONT",
-    "FONTSET",
-    "FOOTER",
-    "FORCE",
-    "GROUP",
-    "HEADER",
-    "IMAGECOLOR",
-    "IMAGEPATH",
-    "IMAGETYPE",
-    "IMAGEURL",
-    "ITEMS",
-    "LABEL",
-    "LABELCACHE",
-    "LABELITEM",
-    "LABELMAXSCALEDENOM",
-    "LABELMINSCALEDENOM",
-    "LEGEND",
-    "LOG",
-    "MAXSCALEDENOM",
-    "MAXSIZE",
-    "MAXWIDTH",
-    "METADATA",
-    "MINDISTANCE",
-    "MINFEATURESIZE",
-    "MINSCALEDENOM",
-    "MINSIZE",
-    "MINWIDTH",
-    "OFFSET",
-    "OUTLINECOLOR",
-    "OUTLINEWIDTH",
-    "OUTPUTFORMAT",
-    "PARTIALS",
-    "POSITION",
-    "PRIORITY",
-    "PROCESSING",
-    "PROJECTION",
-    "QUERYMAP",
-    "REFERENCE",
-    "REPEATDISTANCE",
-    "RESOLUTION",
-    "SCALEBAR",
-    "SHAPEPATH",
-    "SIZE",
-    "STATUS",
-    "TEMPLATE",
-    "TEXT",
-    "TITLE",
-    "TOLERANCE",
-    "TOLERANCEUNITS",
-    "UNITS",
-    "VALIDATION",
-    "WEB",
-    "WIDTH",
-    "SYMBOL",
-    "IMAGE",
-    "TRANSPARENT",
-    "ANCHORPOINT",
-    "DATA",
-    "END",
+// Each keyword with its spelling, in the order of the enum: those first that mapfiles have most often, since a word is
+// compared with them in this order.
+const KEYWORDS: [(Keyword, &str); 80] = [
+    (Keyword::End, "END"),
+    (Keyword::Points, "POINTS"),
+    (Keyword::Feature, "FEATURE"),
+    (Keyword::Text, "TEXT"),
+    (Keyword::Items, "ITEMS"),
+    (Keyword::Layer, "LAYER"),
+    (Keyword::Class, "CLASS"),
+    (Keyword::Style, "STYLE"),
+    (Keyword::Label, "LABEL"),
+    (Keyword::Name, "NAME"),
+    (Keyword::GeometryType, "TYPE"),
+    (Keyword::Expression, "EXPRESSION"),
+    (Keyword::Color, "COLOR"),
+    (Keyword::OutlineColor, "OUTLINECOLOR"),
+    (Keyword::Width, "WIDTH"),
+    (Keyword::Size, "SIZE"),
+    (Keyword::Symbol, "SYMBOL"),
+    (Keyword::Priority, "PRIORITY"),
+    (Keyword::Position, "POSITION"),
+    (Keyword::AnchorPoint, "ANCHORPOINT"),
+    (Keyword::Angle, "ANGLE"),
+    (Keyword::Antialias, "ANTIALIAS"),
+    (Keyword::Buffer, "BUFFER"),
+    (Keyword::ClassItem, "CLASSITEM"),
+    (Keyword::Config, "CONFIG"),
+    (Keyword::Data, "DATA"),
+    (Keyword::Debug, "DEBUG"),
+    (Keyword::Dump, "DUMP"),
+    (Keyword::Empty, "EMPTY"),
+    (Keyword::Encoding, "ENCODING"),
+    (Keyword::Error, "ERROR"),
+    (Keyword::Extent, "EXTENT"),
+    (Keyword::Font, "FONT"),
+    (Keyword::FontSet, "FONTSET"),
+    (Keyword::Footer, "FOOTER"),
+    (Keyword::Force, "FORCE"),
+    (Keyword::Group, "GROUP"),
+    (Keyword::Header, "HEADER"),
+    (Keyword::Image, "IMAGE"),
+    (Keyword::ImageColor, "IMAGECOLOR"),
+    (Keyword::ImagePath, "IMAGEPATH"),
+    (Keyword::ImageType, "IMAGETYPE"),
+    (Keyword::ImageUrl, "IMAGEURL"),
+    (Keyword::LabelCache, "LABELCACHE"),
+    (Keyword::LabelItem, "LABELITEM"),
+    (Keyword::LabelMaxScaleDenom, "LABELMAXSCALEDENOM"),
+    (Keyword::LabelMinScaleDenom, "LABELMINSCALEDENOM"),
+    (Keyword::Legend, "LEGEND"),
+    (Keyword::Log, "LOG"),
+    (Keyword::Map, "MAP"),
+    (Keyword::MaxScaleDenom, "MAXSCALEDENOM"),
+    (Keyword::MaxSize, "MAXSIZE"),
+    (Keyword::MaxWidth, "MAXWIDTH"),
+    (Keyword::Metadata, "METADATA"),
+    (Keyword::MinDistance, "MINDISTANCE"),
+    (Keyword::MinFeatureSize, "MINFEATURESIZE"),
+    (Keyword::MinScaleDenom, "MINSCALEDENOM"),
+    (Keyword::MinSize, "MINSIZE"),
+    (Keyword::MinWidth, "MINWIDTH"),
+    (Keyword::Offset, "OFFSET"),
+    (Keyword::OutlineWidth, "OUTLINEWIDTH"),
+    (Keyword::OutputFormat, "OUTPUTFORMAT"),
+    (Keyword::Partials, "PARTIALS"),
+    (Keyword::Processing, "PROCESSING"),
+    (Keyword::Projection, "PROJECTION"),
+    (Keyword::QueryMap, "QUERYMAP"),
+    (Keyword::Reference, "REFERENCE"),
+    (Keyword::RepeatDistance, "REPEATDISTANCE"),
+    (Keyword::Resolution, "RESOLUTION"),
+    (Keyword::ScaleBar, "SCALEBAR"),
+    (Keyword::ShapePath, "SHAPEPATH"),
+    (Keyword::Status, "STATUS"),
+    (Keyword::Template, "TEMPLATE"),
+    (Keyword::Title, "TITLE"),
+    (Keyword::Tolerance, "TOLERANCE"),
+    (Keyword::ToleranceUnits, "TOLERANCEUNITS"),
+    (Keyword::Transparent, "TRANSPARENT"),
+    (Keyword::Units, "UNITS"),
+    (Keyword::Validation, "VALIDATION"),
+    (Keyword::Web, "WEB"),
 ];
 
 impl Keyword {
@@ -299,7 +180,7 @@ impl Keyword {
     pub fn spelling(self) -> &'static str
         ensures { result.now ≡ spelling self }
     {
-        SPELLINGS[self as usize]
+        KEYWORDS[self as usize].1
     }
 
     // Whether the text is the keyword, in letters of either case.
@@ -309,44 +190,32 @@ impl Keyword {
         text.eq_ignore_ascii_case(self.spelling())
     }
 
-    // The keywords whose spelling has this length.
+    // All keywords, each with its spelling.
     #[tactic(auto, unfolding(crate::specs::Keyword::spelling))]
-    fn of_length(length: usize) -> &'static [Keyword]
-        ensures { result.now ≡ filter (has_length length) keywords }
+    fn table() -> &'static [(Keyword, &'static str)]
+        ensures { map plain result.now ≡ map spelt keywords }
     {
-        match length {
-            3 => &THREE,
-            4 => &FOUR,
-            5 => &FIVE,
-            6 => &SIX,
-            7 => &SEVEN,
-            8 => &EIGHT,
-            9 => &NINE,
-            10 => &TEN,
-            11 => &ELEVEN,
-            12 => &TWELVE,
-            13 => &THIRTEEN,
-            14 => &FOURTEEN,
-            18 => &EIGHTEEN,
-            _ => &[],
-        }
+        &KEYWORDS
     }
 
-    // The first of these keywords that the text is.
-    fn first_of(keywords: &[Keyword], text: &str) -> Option<Keyword>
-        ensures { result ≡ find (is_spelt text.now) keywords.now }
+    // The first of these keywords with their spellings of which the text is one.
+    fn first_of<'a>(keywords: &'a [(Keyword, &'a str)], text: &str) -> Option<(Keyword, &'a str)>
+        ensures { result ≡ find (λ pair. str_eq_ignore_ascii_case text.now pair.1.now) keywords.now }
     {
         keywords
             .iter()
             .copied()
-            .find(|keyword| keyword.is_spelt(text))
+            .find(|pair| text.eq_ignore_ascii_case(pair.1))
     }
 
-    /// The keyword that the text is. Only those of its length are compared with it.
+    /// The keyword that the text is, in letters of either case.
     pub fn of(text: &str) -> Option<Keyword>
         ensures { result ≡ keyword_of text.now }
     {
-        Keyword::first_of(Keyword::of_length(text.len()), text)
+        match Keyword::first_of(Keyword::table(), text) {
+            Some((keyword, _)) => Some(keyword),
+            None => None,
+        }
     }
 
     /// The keyword that the token is. Only a bare word is a keyword.

@@ -1,9 +1,6 @@
 ghost use Rattle.std.specs.Prelude.{◌≡◌};
-ghost use Rattle.mapwords.specs.Label.{position_of, flag_of, distance_of};
+ghost use Rattle.mapwords.specs.Label.{position_of, flag_of};
 
-use crate::bounded::Bounded;
-use crate::bounds::Distance;
-use geom::Micro;
 use mapdefs::Position;
 
 /// The position that a text names, in letters of either case.
@@ -45,16 +42,5 @@ pub fn flag_of(text: &str) -> Option<bool>
         Some(false)
     } else {
         None
-    }
-}
-
-/// How far labels of one text stay apart, in pixels. The count -1 stands for 0.
-pub fn distance_of(text: &str) -> Option<Distance>
-    ensures { result ≡ distance_of text.now }
-{
-    match Micro::read_count(text.as_bytes()) {
-        Some(-1) => Bounded::of(0),
-        Some(count) => Bounded::of(count),
-        None => None,
     }
 }

@@ -9,7 +9,7 @@ pub fn hex_digits_are_colour()
     ensures { HexDigitsAreColour }
 {}
 
-/// Three counts after COLOR are the red, the green and the blue of the style's colour.
+/// Three counts after COLOR are the red, the green and the blue of its colour.
 pub fn counts_are_colour()
     ensures { CountsAreColour }
 {}

@@ -8,20 +8,20 @@
 //!
 //! What takes no memory fails with a `Fault` alone.
 //!
-//! Words: a *keyword* is a bare word of a block. A *block* opens with its keyword and closes with END. The
+//! Terms: a *keyword* is a bare word of a block. A *block* opens with its keyword and closes with END. The
 //! *role* of a keyword is what it does in its block. A *value* stands after the keyword that takes it. What
 //! is *expected* is the value, or the next token of it.
 #![tactic(auto)]
 
-mod bounded;
-mod bounds;
 mod capped;
 mod colour;
+mod count;
 mod extent;
 mod fault;
 mod keyword;
 mod label;
 pub mod laws;
+mod named;
 mod number;
 mod role;
 mod rule;
@@ -30,17 +30,17 @@ mod table;
 mod texts;
 mod value;
 
-pub use bounded::Bounded;
-pub use bounds::{Buffer, Distance, LineWidth, Priority, SquareSide, Tolerance};
 pub use capped::Capped;
+pub use count::Count;
 pub use extent::Extent;
 pub use fault::{Fault, ParseFault, ParseKind, fault_of, missing};
 pub use keyword::{Keyword, is_end};
-pub use role::{
-    Block, ColourKeyword, Expected, FlagKeyword, OnlyWord, Role, ScaleKeyword, TextKeyword,
-};
+pub use named::Named;
+pub use role::{Block, Expected, Role};
 pub use rule::ClassRule;
 pub use setting::pair_expects;
-pub use table::role_of;
+pub use table::{
+    ColourKeyword, CountKeyword, FlagKeyword, OnlyWord, ScaleKeyword, TextKeyword, role_of,
+};
 pub use texts::texts_of;
 pub use value::{Value, ValueStep, coordinate_in, is_value, value_step};

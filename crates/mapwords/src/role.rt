@@ -1,4 +1,5 @@
 use crate::colour::Component;
+use crate::table::{ColourKeyword, CountKeyword, FlagKeyword, OnlyWord, ScaleKeyword, TextKeyword};
 
 /// The blocks of the language.
 #[derive(Clone, Copy)]
@@ -19,78 +20,12 @@ pub enum Block {
     LayerMetadata,
     /// Pairs of values that have no effect.
     Validation,
-    /// It is read over up to the next bare word END.
+    /// It is skipped up to the next bare word END.
     Projection,
-    /// It is read over. LABEL, METADATA and VALIDATION open blocks inside it, which are read over too.
-    Passed,
-    /// A LABEL inside a block that is read over. STYLE opens a block inside it too.
-    PassedLabel,
-}
-
-/// The keywords that take a text.
-#[derive(Clone, Copy)]
-pub enum TextKeyword {
-    MapName,
-    LayerName,
-    ClassItem,
-    LabelItem,
-    Template,
-    FeatureText,
-    FeatureItems,
-    /// The name of the file that a layer's table is in.
-    LayerData,
-    /// The columns of longitude and latitude in a layer's tables.
-    CsvX,
-    CsvY,
-    /// The keys of a WEB's METADATA.
-    ServiceWmsTitle,
-    ServiceOwsTitle,
-    ServiceWmsUrl,
-    ServiceOwsUrl,
-    /// The keys of a LAYER's METADATA.
-    LayerWmsTitle,
-    LayerOwsTitle,
-    SymbolName,
-    /// The name of the file that a symbol's pixmap is in.
-    SymbolImage,
-    /// The name of the symbol that a style draws points with.
-    StyleSymbol,
-    /// The name of the file that the font of the labels is in.
-    LabelFont,
-}
-
-/// The keywords that take a colour.
-#[derive(Clone, Copy)]
-pub enum ColourKeyword {
-    StyleColour,
-    StyleOutline,
-    LabelColour,
-    LabelOutline,
-    /// A MAP's IMAGECOLOR, which has no effect.
-    ImageColour,
-}
-
-/// The words that are the only value of a keyword.
-#[derive(Clone, Copy)]
-pub enum OnlyWord {
-    Pixels,
-    On,
-}
-
-/// The keywords that take TRUE or FALSE.
-#[derive(Clone, Copy)]
-pub enum FlagKeyword {
-    Partials,
-    Force,
-}
-
-/// The keywords that take a scale denominator.
-#[derive(Clone, Copy)]
-pub enum ScaleKeyword {
-    LayerMin,
-    LayerMax,
-    ClassMin,
-    ClassMax,
+    /// It is skipped. LABEL, METADATA and VALIDATION open blocks inside it, which are skipped too.
+    Skipped,
+    /// A LABEL inside a block that is skipped. STYLE opens a block inside it too.
+    SkippedLabel,
 }
 
 /// What a keyword still expects, with the values that were read for it.
@@ -98,24 +33,14 @@ pub enum ScaleKeyword {
 pub enum Expected {
     /// A text.
     Text(TextKeyword),
-    /// The kind of a layer's features.
+    /// The geometry of a layer's features.
     Geometry,
     /// The name of the file of a layer's table.
     Table,
     /// The kind of a symbol, which is PIXMAP.
     Pixmap,
-    /// The width of a style.
-    Width,
-    /// The size of a style.
-    Size,
-    /// The tolerance of a layer.
-    Tolerance,
-    /// The priority of a label.
-    Priority,
-    /// How far a label's box is widened.
-    Buffer,
-    /// How far labels of one text stay apart.
-    Distance,
+    /// A count.
+    Count(CountKeyword),
     /// Where a label stands.
     Position,
     /// TRUE or FALSE.

@@ -6,10 +6,12 @@ ghost use Rattle.mapwords.specs.Setting.{web_expects, layer_expects, pair_expect
 
 use crate::capped::Capped;
 use crate::fault::{ParseFault, ParseKind, fault_of};
-use crate::role::{Block, Expected, TextKeyword};
+use crate::named::Named;
+use crate::role::{Block, Expected};
+use crate::table::TextKeyword;
 use crate::texts::{comma_count, comma_parts, texts_of};
 use crate::value::{Value, ValueStep};
-use mapdefs::{MAX_ITEMS, Text};
+use mapdefs::MAX_ITEMS;
 use maplex::Token;
 use std::alloc::Global;
 
@@ -18,13 +20,13 @@ fn web_expects(key: &str) -> Expected
     ensures { result ≡ web_expects key.now }
 {
     if key == "wms_title" {
-        Expected::Text(TextKeyword::ServiceWmsTitle)
+        Expected::Text(TextKeyword::WmsTitle)
     } else if key == "ows_title" {
-        Expected::Text(TextKeyword::ServiceOwsTitle)
+        Expected::Text(TextKeyword::OwsTitle)
     } else if key == "wms_onlineresource" {
-        Expected::Text(TextKeyword::ServiceWmsUrl)
+        Expected::Text(TextKeyword::WmsOnlineResource)
     } else if key == "ows_onlineresource" {
-        Expected::Text(TextKeyword::ServiceOwsUrl)
+        Expected::Text(TextKeyword::OwsOnlineResource)
     } else {
         Expected::Unused(0)
     }
@@ -35,9 +37,9 @@ fn layer_expects(key: &str) -> Expected
     ensures { result ≡ layer_expects key.now }
 {
     if key == "wms_title" {
-        Expected::Text(TextKeyword::LayerWmsTitle)
+        Expected::Text(TextKeyword::WmsTitle)
     } else if key == "ows_title" {
-        Expected::Text(TextKeyword::LayerOwsTitle)
+        Expected::Text(TextKeyword::OwsTitle)
     } else {
         Expected::Unused(0)
     }
@@ -87,11 +89,11 @@ fn keyed_step(key: &str, value: &str, token: &Token, alloc: Global) -> Result<Va
         return names_step(value, token, alloc);
     }
     if key == "CSV_X" {
-        let column = Text::from_str(alloc, value)?;
+        let column = Named::read(alloc, value, token.line)?;
         return Ok(ValueStep::Whole(Value::Text(TextKeyword::CsvX, column)));
     }
     if key == "CSV_Y" {
-        let column = Text::from_str(alloc, value)?;
+        let column = Named::read(alloc, value, token.line)?;
         return Ok(ValueStep::Whole(Value::Text(TextKeyword::CsvY, column)));
     }
     Ok(ValueStep::Whole(Value::Nothing))

@@ -1,10 +1,153 @@
-ghost use Rattle.std.specs.Prelude.{◌≡◌};
-ghost use Rattle.mapwords.specs.Table.{map_role, web_role, symbol_role, layer_role, class_role, style_role, label_role, feature_role, passed_role, passed_label_role, end_role, role_of};
+ghost use Rattle.std.specs.Prelude.{◌≡◌, ◌≤◌};
+ghost use Rattle.mapwords.specs.Table.{least_of, most_of, text_number, count_number, flag_number, scale_number, colour_number, map_role, web_role, symbol_role, layer_role, class_role, style_role, label_role, feature_role, skipped_role, skipped_label_role, end_role, role_of};
 
 use crate::keyword::Keyword;
-use crate::role::{
-    Block, ColourKeyword, Expected, FlagKeyword, OnlyWord, Role, ScaleKeyword, TextKeyword,
-};
+use crate::role::{Block, Expected, Role};
+use mapdefs::{MAX_BUFFER, MAX_DISTANCE, MAX_LINE_WIDTH, MAX_PRIORITY, MAX_SQUARE, MAX_TOLERANCE};
+
+/// The keywords that take a text, and the keys of METADATA, CONFIG and PROCESSING that do.
+#[derive(Clone, Copy)]
+pub enum TextKeyword {
+    Name,
+    ClassItem,
+    LabelItem,
+    Template,
+    /// The name of the file that a layer's table is in.
+    Data,
+    /// The column of longitudes in a layer's table.
+    CsvX,
+    /// The column of latitudes.
+    CsvY,
+    WmsTitle,
+    OwsTitle,
+    /// The address of the service.
+    WmsOnlineResource,
+    OwsOnlineResource,
+    /// The name of the file that a symbol's pixmap is in.
+    Image,
+    /// The name of the symbol that a style draws points with.
+    Symbol,
+    /// The name of the file that the font of the labels is in.
+    LabelFont,
+    Text,
+    Items,
+}
+
+/// The keywords that take a count.
+#[derive(Clone, Copy)]
+pub enum CountKeyword {
+    /// The width of a line, in pixels.
+    Width,
+    /// The side of a point's square, in pixels.
+    Size,
+    /// How far from the queried pixel a feature counts, in pixels.
+    Tolerance,
+    /// The priority of a label.
+    Priority,
+    /// How far labels stay apart, in pixels.
+    Buffer,
+    /// How far labels of one text stay apart, in pixels.
+    MinDistance,
+}
+
+/// The keywords that take TRUE or FALSE.
+#[derive(Clone, Copy)]
+pub enum FlagKeyword {
+    Partials,
+    Force,
+}
+
+/// The keywords that take a scale denominator.
+#[derive(Clone, Copy)]
+pub enum ScaleKeyword {
+    Min,
+    Max,
+}
+
+/// The keywords that take a colour.
+#[derive(Clone, Copy)]
+pub enum ColourKeyword {
+    Color,
+    OutlineColor,
+    /// A MAP's IMAGECOLOR, which has no effect.
+    ImageColor,
+}
+
+/// The words that are the only value of a keyword.
+#[derive(Clone, Copy)]
+pub enum OnlyWord {
+    Pixels,
+    On,
+}
+
+impl TextKeyword {
+    /// Its number, by which it is known from others.
+    pub fn number(self) -> u8
+        ensures { result ≡ text_number self }
+    {
+        self as u8
+    }
+}
+
+impl CountKeyword {
+    /// Its number, by which it is known from others.
+    pub fn number(self) -> u8
+        ensures { result ≡ count_number self }
+    {
+        self as u8
+    }
+
+    /// The least count that it takes.
+    pub fn least(self) -> u16
+        ensures { result ≡ least_of self }
+    {
+        match self {
+            CountKeyword::Width | CountKeyword::Size | CountKeyword::Priority => 1,
+            CountKeyword::Tolerance | CountKeyword::Buffer | CountKeyword::MinDistance => 0,
+        }
+    }
+
+    /// The greatest count that it takes.
+    pub fn most(self) -> u16
+        ensures { result ≡ most_of self }
+    {
+        match self {
+            CountKeyword::Width => MAX_LINE_WIDTH.into(),
+            CountKeyword::Size => MAX_SQUARE,
+            CountKeyword::Tolerance => MAX_TOLERANCE.into(),
+            CountKeyword::Priority => MAX_PRIORITY.into(),
+            CountKeyword::Buffer => MAX_BUFFER.into(),
+            CountKeyword::MinDistance => MAX_DISTANCE,
+        }
+    }
+}
+
+impl FlagKeyword {
+    /// Its number, by which it is known from others.
+    pub fn number(self) -> u8
+        ensures { result ≡ flag_number self }
+    {
+        self as u8
+    }
+}
+
+impl ScaleKeyword {
+    /// Its number, by which it is known from others.
+    pub fn number(self) -> u8
+        ensures { result ≡ scale_number self }
+    {
+        self as u8
+    }
+}
+
+impl ColourKeyword {
+    /// Its number, by which it is known from others.
+    pub fn number(self) -> u8
+        ensures { result ≡ colour_number self }
+    {
+        self as u8
+    }
+}
 
 // The keywords of MAP.
 fn map_role(keyword: Keyword) -> Option<Role>
@@ -14,7 +157,7 @@ fn map_role(keyword: Keyword) -> Option<Role>
         Keyword::Layer => Some(Role::Opens(Block::Layer)),
         Keyword::Web => Some(Role::Opens(Block::Web)),
         Keyword::Symbol => Some(Role::Opens(Block::Symbol)),
-        Keyword::Name => Some(Role::Takes(Expected::Text(TextKeyword::MapName))),
+        Keyword::Name => Some(Role::Takes(Expected::Text(TextKeyword::Name))),
         Keyword::Extent => Some(Role::Takes(Expected::West)),
         Keyword::Config => Some(Role::Takes(Expected::ConfigKey)),
         Keyword::Angle
@@ -27,12 +170,12 @@ fn map_role(keyword: Keyword) -> Option<Role>
         | Keyword::Status
         | Keyword::Units => Some(Role::Takes(Expected::Unused(0))),
         Keyword::Size => Some(Role::Takes(Expected::Unused(1))),
-        Keyword::ImageColor => Some(Role::Takes(Expected::Colour(ColourKeyword::ImageColour))),
+        Keyword::ImageColor => Some(Role::Takes(Expected::Colour(ColourKeyword::ImageColor))),
         Keyword::Legend
         | Keyword::OutputFormat
         | Keyword::QueryMap
         | Keyword::Reference
-        | Keyword::ScaleBar => Some(Role::Opens(Block::Passed)),
+        | Keyword::ScaleBar => Some(Role::Opens(Block::Skipped)),
         Keyword::Projection => Some(Role::Opens(Block::Projection)),
         Keyword::End => Some(Role::Closes),
         _ => None,
@@ -66,9 +209,9 @@ fn symbol_role(keyword: Keyword) -> Option<Role>
     ensures { result ≡ symbol_role keyword }
 {
     match keyword {
-        Keyword::Name => Some(Role::Takes(Expected::Text(TextKeyword::SymbolName))),
+        Keyword::Name => Some(Role::Takes(Expected::Text(TextKeyword::Name))),
         Keyword::GeometryType => Some(Role::Takes(Expected::Pixmap)),
-        Keyword::Image => Some(Role::Takes(Expected::Text(TextKeyword::SymbolImage))),
+        Keyword::Image => Some(Role::Takes(Expected::Text(TextKeyword::Image))),
         Keyword::Transparent => Some(Role::Takes(Expected::Unused(0))),
         Keyword::AnchorPoint => Some(Role::Takes(Expected::Unused(1))),
         Keyword::End => Some(Role::Closes),
@@ -81,15 +224,15 @@ fn layer_role(keyword: Keyword) -> Option<Role>
     ensures { result ≡ layer_role keyword }
 {
     match keyword {
-        Keyword::Name => Some(Role::Takes(Expected::Text(TextKeyword::LayerName))),
+        Keyword::Name => Some(Role::Takes(Expected::Text(TextKeyword::Name))),
         Keyword::GeometryType => Some(Role::Takes(Expected::Geometry)),
         Keyword::ClassItem => Some(Role::Takes(Expected::Text(TextKeyword::ClassItem))),
         Keyword::LabelItem => Some(Role::Takes(Expected::Text(TextKeyword::LabelItem))),
         Keyword::Data => Some(Role::Takes(Expected::Table)),
         Keyword::Template => Some(Role::Takes(Expected::Text(TextKeyword::Template))),
-        Keyword::Tolerance => Some(Role::Takes(Expected::Tolerance)),
-        Keyword::MinScaleDenom => Some(Role::Takes(Expected::Scale(ScaleKeyword::LayerMin))),
-        Keyword::MaxScaleDenom => Some(Role::Takes(Expected::Scale(ScaleKeyword::LayerMax))),
+        Keyword::Tolerance => Some(Role::Takes(Expected::Count(CountKeyword::Tolerance))),
+        Keyword::MinScaleDenom => Some(Role::Takes(Expected::Scale(ScaleKeyword::Min))),
+        Keyword::MaxScaleDenom => Some(Role::Takes(Expected::Scale(ScaleKeyword::Max))),
         Keyword::Processing => Some(Role::Takes(Expected::Setting)),
         Keyword::Metadata => Some(Role::Opens(Block::LayerMetadata)),
         Keyword::Class => Some(Role::Opens(Block::Class)),
@@ -121,8 +264,8 @@ fn class_role(keyword: Keyword) -> Option<Role>
         Keyword::Style => Some(Role::Opens(Block::Style)),
         Keyword::Label => Some(Role::Opens(Block::Label)),
         Keyword::Expression => Some(Role::Takes(Expected::Rule)),
-        Keyword::MinScaleDenom => Some(Role::Takes(Expected::Scale(ScaleKeyword::ClassMin))),
-        Keyword::MaxScaleDenom => Some(Role::Takes(Expected::Scale(ScaleKeyword::ClassMax))),
+        Keyword::MinScaleDenom => Some(Role::Takes(Expected::Scale(ScaleKeyword::Min))),
+        Keyword::MaxScaleDenom => Some(Role::Takes(Expected::Scale(ScaleKeyword::Max))),
         Keyword::Group | Keyword::Name | Keyword::Status | Keyword::Template | Keyword::Title =>
             Some(Role::Takes(Expected::Unused(0))),
         Keyword::End => Some(Role::Closes),
@@ -135,11 +278,11 @@ fn style_role(keyword: Keyword) -> Option<Role>
     ensures { result ≡ style_role keyword }
 {
     match keyword {
-        Keyword::Color => Some(Role::Takes(Expected::Colour(ColourKeyword::StyleColour))),
-        Keyword::OutlineColor => Some(Role::Takes(Expected::Colour(ColourKeyword::StyleOutline))),
-        Keyword::Width => Some(Role::Takes(Expected::Width)),
-        Keyword::Size => Some(Role::Takes(Expected::Size)),
-        Keyword::Symbol => Some(Role::Takes(Expected::Text(TextKeyword::StyleSymbol))),
+        Keyword::Color => Some(Role::Takes(Expected::Colour(ColourKeyword::Color))),
+        Keyword::OutlineColor => Some(Role::Takes(Expected::Colour(ColourKeyword::OutlineColor))),
+        Keyword::Width => Some(Role::Takes(Expected::Count(CountKeyword::Width))),
+        Keyword::Size => Some(Role::Takes(Expected::Count(CountKeyword::Size))),
+        Keyword::Symbol => Some(Role::Takes(Expected::Text(TextKeyword::Symbol))),
         Keyword::Antialias
         | Keyword::MaxSize
         | Keyword::MaxWidth
@@ -155,12 +298,12 @@ fn label_role(keyword: Keyword) -> Option<Role>
     ensures { result ≡ label_role keyword }
 {
     match keyword {
-        Keyword::Color => Some(Role::Takes(Expected::Colour(ColourKeyword::LabelColour))),
-        Keyword::OutlineColor => Some(Role::Takes(Expected::Colour(ColourKeyword::LabelOutline))),
-        Keyword::Priority => Some(Role::Takes(Expected::Priority)),
+        Keyword::Color => Some(Role::Takes(Expected::Colour(ColourKeyword::Color))),
+        Keyword::OutlineColor => Some(Role::Takes(Expected::Colour(ColourKeyword::OutlineColor))),
+        Keyword::Priority => Some(Role::Takes(Expected::Count(CountKeyword::Priority))),
         Keyword::Position => Some(Role::Takes(Expected::Position)),
-        Keyword::Buffer => Some(Role::Takes(Expected::Buffer)),
-        Keyword::MinDistance => Some(Role::Takes(Expected::Distance)),
+        Keyword::Buffer => Some(Role::Takes(Expected::Count(CountKeyword::Buffer))),
+        Keyword::MinDistance => Some(Role::Takes(Expected::Count(CountKeyword::MinDistance))),
         Keyword::Partials => Some(Role::Takes(Expected::Flag(FlagKeyword::Partials))),
         Keyword::Force => Some(Role::Takes(Expected::Flag(FlagKeyword::Force))),
         Keyword::Antialias
@@ -174,7 +317,7 @@ fn label_role(keyword: Keyword) -> Option<Role>
         | Keyword::RepeatDistance
         | Keyword::Size => Some(Role::Takes(Expected::Unused(0))),
         Keyword::Offset => Some(Role::Takes(Expected::Unused(1))),
-        Keyword::Style => Some(Role::Opens(Block::Passed)),
+        Keyword::Style => Some(Role::Opens(Block::Skipped)),
         Keyword::End => Some(Role::Closes),
         _ => None,
     }
@@ -186,33 +329,33 @@ fn feature_role(keyword: Keyword) -> Option<Role>
 {
     match keyword {
         Keyword::Points => Some(Role::Opens(Block::Points)),
-        Keyword::Text => Some(Role::Takes(Expected::Text(TextKeyword::FeatureText))),
-        Keyword::Items => Some(Role::Takes(Expected::Text(TextKeyword::FeatureItems))),
+        Keyword::Text => Some(Role::Takes(Expected::Text(TextKeyword::Text))),
+        Keyword::Items => Some(Role::Takes(Expected::Text(TextKeyword::Items))),
         Keyword::End => Some(Role::Closes),
         _ => None,
     }
 }
 
-// What opens blocks inside a block that is read over.
-fn passed_role(keyword: Keyword) -> Option<Role>
-    ensures { result ≡ passed_role keyword }
+// What opens blocks inside a block that is skipped.
+fn skipped_role(keyword: Keyword) -> Option<Role>
+    ensures { result ≡ skipped_role keyword }
 {
     match keyword {
-        Keyword::Label => Some(Role::Opens(Block::PassedLabel)),
-        Keyword::Metadata => Some(Role::Opens(Block::Passed)),
+        Keyword::Label => Some(Role::Opens(Block::SkippedLabel)),
+        Keyword::Metadata => Some(Role::Opens(Block::Skipped)),
         Keyword::Validation => Some(Role::Opens(Block::Projection)),
         Keyword::End => Some(Role::Closes),
         _ => None,
     }
 }
 
-// What opens blocks inside a LABEL that is read over.
-fn passed_label_role(keyword: Keyword) -> Option<Role>
-    ensures { result ≡ passed_label_role keyword }
+// What opens blocks inside a LABEL that is skipped.
+fn skipped_label_role(keyword: Keyword) -> Option<Role>
+    ensures { result ≡ skipped_label_role keyword }
 {
     match keyword {
-        Keyword::Label => Some(Role::Opens(Block::PassedLabel)),
-        Keyword::Metadata | Keyword::Style => Some(Role::Opens(Block::Passed)),
+        Keyword::Label => Some(Role::Opens(Block::SkippedLabel)),
+        Keyword::Metadata | Keyword::Style => Some(Role::Opens(Block::Skipped)),
         Keyword::Validation => Some(Role::Opens(Block::Projection)),
         Keyword::End => Some(Role::Closes),
         _ => None,
@@ -242,8 +385,8 @@ pub fn role_of(block: Block, keyword: Keyword) -> Option<Role>
         Block::Style => style_role(keyword),
         Block::Label => label_role(keyword),
         Block::Feature => feature_role(keyword),
-        Block::Passed => passed_role(keyword),
-        Block::PassedLabel => passed_label_role(keyword),
+        Block::Skipped => skipped_role(keyword),
+        Block::SkippedLabel => skipped_label_role(keyword),
         Block::Points
         | Block::WebMetadata
         | Block::LayerMetadata

@@ -3,19 +3,20 @@ ghost use Rattle.mapwords.specs.declared.value.ValueStep.TheVariants.{Whole, Mor
 ghost use Rattle.mapwords.specs.Fault.{IsErrorOf};
 ghost use Rattle.mapwords.specs.declared.value.Value.TheVariants as ValueTree;
 ghost use Rattle.mapwords.specs.Colour.{component_of};
-ghost use Rattle.mapwords.specs.Value.{kind_of, pixmap_step, is_value, hex_at, colour_step, only_text, only_step, unused_step, east_step, north_step, config_step, is_table_name, table_step, rule_step, plain_step, step_in, may_take, value_step, coordinate_in};
+ghost use Rattle.mapwords.specs.Value.{geometry_of, pixmap_step, is_value, hex_at, colour_step, only_text, only_step, unused_step, east_step, north_step, config_step, is_table_name, table_step, rule_step, plain_step, step_in, may_take, value_step, coordinate_in};
 
-use crate::bounded::Bounded;
-use crate::bounds::{Buffer, Distance, LineWidth, Priority, SquareSide, Tolerance};
 use crate::capped::Capped;
 use crate::colour::{Component, hex_colour, rgb_of};
+use crate::count::Count;
 use crate::extent::Extent;
 use crate::fault::{ParseFault, ParseKind, fault_of};
-use crate::label::{distance_of, flag_of, position_of};
+use crate::label::{flag_of, position_of};
+use crate::named::Named;
 use crate::number::read_number;
-use crate::role::{ColourKeyword, Expected, FlagKeyword, OnlyWord, ScaleKeyword, TextKeyword};
+use crate::role::Expected;
 use crate::rule::{ClassRule, RuleError};
 use crate::setting::setting_step;
+use crate::table::{ColourKeyword, FlagKeyword, OnlyWord, ScaleKeyword, TextKeyword};
 use geom::{Coordinate, Micro};
 use mapdefs::{Geometry, MAX_ITEMS, Position, Rgb, Text};
 use maplex::{Shape, Token};
@@ -24,20 +25,15 @@ use std::alloc::Global;
 /// A whole value, with its keyword.
 #[derive(Drop)]
 pub enum Value {
-    Text(TextKeyword, Text),
+    Text(TextKeyword, Named),
+    Count(Count),
+    Flag(FlagKeyword, bool),
+    Scale(ScaleKeyword, Micro),
+    Colour(ColourKeyword, Option<Rgb>),
     Geometry(Geometry),
     /// The kind of a symbol.
     Pixmap,
-    Colour(ColourKeyword, Option<Rgb>),
-    Width(LineWidth),
-    Size(SquareSide),
-    Tolerance(Tolerance),
-    Priority(Priority),
-    Buffer(Buffer),
-    Distance(Distance),
     Position(Position),
-    Flag(FlagKeyword, bool),
-    Scale(ScaleKeyword, Micro),
     Rule(ClassRule),
     /// The names of a layer's items.
     Items(Capped<Text, MAX_ITEMS>),
@@ -65,9 +61,9 @@ pub fn is_value(token: &Token) -> bool
     }
 }
 
-// The kind of a layer's features that the text is.
-fn kind_of(text: &str) -> Option<Geometry>
-    ensures { result ≡ kind_of text.now }
+// The geometry that the text is.
+fn geometry_of(text: &str) -> Option<Geometry>
+    ensures { result ≡ geometry_of text.now }
 {
     if text.eq_ignore_ascii_case("POINT") {
         Some(Geometry::Point)
@@ -140,7 +136,7 @@ fn whole(value: Option<Value>) -> Option<ValueStep>
     value.map(ValueStep::Whole)
 }
 
-// Passes over a value that has no effect, before so many more.
+// Skips a value that has no effect, before so many more.
 fn unused_step(more: u8) -> ValueStep
     ensures { result ≡ unused_step more }
 {
@@ -198,14 +194,9 @@ fn plain_step(expected: Expected, token: &Token) -> Option<ValueStep>
 {
     let text = token.text;
     match expected {
-        Expected::Geometry => whole(kind_of(text).map(Value::Geometry)),
+        Expected::Geometry => whole(geometry_of(text).map(Value::Geometry)),
         Expected::Pixmap => pixmap_step(text),
-        Expected::Width => whole(Bounded::read(text).map(Value::Width)),
-        Expected::Size => whole(Bounded::read(text).map(Value::Size)),
-        Expected::Tolerance => whole(Bounded::read(text).map(Value::Tolerance)),
-        Expected::Priority => whole(Bounded::read(text).map(Value::Priority)),
-        Expected::Buffer => whole(Bounded::read(text).map(Value::Buffer)),
-        Expected::Distance => whole(distance_of(text).map(Value::Distance)),
+        Expected::Count(keyword) => whole(Count::read(keyword, text).map(Value::Count)),
         Expected::Position => whole(position_of(text).map(Value::Position)),
         Expected::Flag(keyword) => whole(flag_of(text).map(|flag| Value::Flag(keyword, flag))),
         Expected::Scale(keyword) => whole(read_number(text).map(|scale| Value::Scale(
@@ -264,8 +255,8 @@ fn table_step(token: &Token, alloc: Global) -> Result<ValueStep, ParseFault>
     if !is_table_name(token.text) {
         return Err(fault_of(ParseKind::WrongValue, token).into());
     }
-    let name = Text::from_str(alloc, token.text)?;
-    Ok(ValueStep::Whole(Value::Text(TextKeyword::LayerData, name)))
+    let name = Named::read(alloc, token.text, token.line)?;
+    Ok(ValueStep::Whole(Value::Text(TextKeyword::Data, name)))
 }
 
 // Reads a token of a value.
@@ -276,7 +267,7 @@ fn step_in(expected: Expected, token: &Token, alloc: Global) -> Result<ValueStep
 {
     match expected {
         Expected::Text(keyword) => {
-            let text = Text::from_str(alloc, token.text)?;
+            let text = Named::read(alloc, token.text, token.line)?;
             Ok(ValueStep::Whole(Value::Text(keyword, text)))
         }
         Expected::Table => table_step(token, alloc),

@@ -14,7 +14,7 @@ use Rattle.mapparse.specs.declared.fault.FileCause.{FileCause}
 use Rattle.mapparse.specs.declared.fault.FileCause.TheVariants.{Missing, NoFont, NoPixmap, NoTable}
 use Rattle.mapparse.specs.declared.files.FileBytes.{FileBytes}
 use Rattle.mapparse.specs.Fault.{fault_in, kind_of}
-use Rattle.mapparse.specs.Mapping.{map_of, told_by}
+use Rattle.mapparse.specs.Mapping.{map_of, reported_by}
 use Rattle.mapparse.specs.Uses.{uses_of}
 use Rattle.mapfaults.specs.Missing.{AreOnCause, AreOnFiles, NamesMissing}
 use Rattle.subcommands.specs.Explained.{IsMapFault, NamesFirst, with_words}
@@ -22,9 +22,9 @@ use Rattle.subcommands.specs.Folder.{ComesTo, FilesOf, Giving}
 use Rattle.subcommands.specs.Mapfiles.{HasReadFile, HasReadMapfile}
 
 -- the fault that is reported is that of the first file that has one
-told : (first : Fault) (made : Result MapFields Fault) (fault : Fault) → told_by (Some first) made ≡ Err fault → first ≡ fault
-told first (Ok map) fault e = absurd (cc e)
-told first (Err other) fault e = cc e
+reported : (first : Fault) (made : Result MapFields Fault) (fault : Fault) → reported_by (Some first) made ≡ Err fault → first ≡ fault
+reported first (Ok map) fault e = absurd (cc e)
+reported first (Err other) fault e = cc e
 
 -- the message on a file that can't be read names it
 names : (cause : FileCause) (files : List FileBytes) (tree : MapTree) (words : List ℕ) → kind_of cause ≡ MissingFile → AreOnCause cause files tree words →
@@ -38,7 +38,7 @@ named : (mapfile : List ℕ) (tree : MapTree) (files : List FileBytes) (fault : 
     map_of files tree ≡ Err fault → IfSome words (AreOnFiles files tree) → fault.kind ≡ MissingFile → IfSome words (NamesFirst files mapfile)
 named mapfile tree files fault None read is on e = tt
 named mapfile tree files fault (Some words) read is on e =
-    let same : fault_in on.fault ≡ fault = told _ _ fault (rw on.is_first at is) in
+    let same : fault_in on.fault ≡ fault = reported _ _ fault (rw on.is_first at is) in
     record { tree = tree; is_read = read; names = names on.fault.cause files tree words (ap (λ (f : Fault). f.kind) same ∙ e) on.on }
 
 -- the fault of a file, with the message on it

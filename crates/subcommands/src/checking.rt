@@ -5,8 +5,8 @@ ghost use Rattle.subcommands.specs.Reports.{ReadFile};
 
 use crate::folder::Folder;
 use crate::job::Job;
+use crate::map_summary::summary;
 use crate::reading::{read_explained, report_warnings};
-use crate::summary::summary;
 use crate::unread::HasCause;
 use console::{Console, Failure, Reads, Terminal, Writes, flush};
 use mapdefs::Map;

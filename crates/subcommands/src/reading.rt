@@ -12,7 +12,7 @@ use crate::reports::{report_explained, report_file};
 use crate::unread::HasCause;
 use console::{Failure, ReadFault, Reads, Writes, read_all, report};
 use mapdefs::{Map, Text};
-use mapfaults::{MapfileAtHand, warning_lines, words_on_files, words_on_source};
+use mapfaults::{MapfileAtHand, message_on_files, message_on_source, warning_lines};
 use mapparse::{Files, Mapfile, ParseFault, ParseKind};
 use std::alloc::Global;
 use streams::{Sink, Source};
@@ -28,7 +28,7 @@ fn source_words(alloc: Global, explains: bool, source: &[u8], fault: &ParseFault
             kind: ParseKind::MissingFile,
             ..
         } => None,
-        ParseFault::At { .. } if explains => words_on_source(alloc, source),
+        ParseFault::At { .. } if explains => message_on_source(alloc, source),
         _ => None,
     }
 }
@@ -39,7 +39,7 @@ fn file_words(alloc: Global, explains: bool, at_hand: MapfileAtHand<'_>) -> Opti
     ensures on { IfSome result (AreOnFiles at_hand.entry.files.now at_hand.entry.mapfile.now) }
 {
     if explains {
-        words_on_files(alloc, at_hand)
+        message_on_files(alloc, at_hand)
     } else {
         None
     }

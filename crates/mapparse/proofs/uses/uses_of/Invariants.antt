@@ -1,6 +1,6 @@
 use Rattle.std.proofs.Common.{◌≡◌, ◌++◌, map}
 use Rattle.std.specs.Vec.Iter.{into_iter_items}
-use Rattle.maptree.specs.declared.tree.Named.{Named}
+use Rattle.mapwords.specs.declared.named.Named.{Named}
 use Rattle.mapparse.specs.Uses.{uses_of}
 use Rattle.mapparse.proofs.uses.uses_of.Given as goal
 

@@ -4,6 +4,5 @@ use Rattle.mapparse.proofs.uses.uses_with_font.Goals as goal
 
 pub returns : goal.returns
 returns c =
-    let font = c.args.font.now in
     rw (c.in_ok-add_uses-2.ensures, c.in_ok-add_use.ensures, c.in_ok-add_uses.ensures, c.new-firsts.ensures.items, c.parted.ensures.before, c.parted.ensures.after)
-    (sym (uses_in_turn [] (take font.before c.args.files.now) (font.file ∷ drop font.before c.args.files.now)))
+    (sym (uses_in_turn [] (take c.args.before c.args.files.now) (c.args.font.now ∷ drop c.args.before c.args.files.now)))

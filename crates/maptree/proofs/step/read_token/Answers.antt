@@ -7,17 +7,17 @@ use Rattle.maptree.specs.declared.context.Move.{Move}
 use Rattle.maptree.specs.declared.draft.Drafts.{Drafts}
 use Rattle.mapwords.specs.declared.fault.Fault.{Fault}
 use Rattle.mapwords.specs.Keyword.{keyword_at}
-use Rattle.maptree.specs.Step.{pass_over, read_token}
+use Rattle.maptree.specs.Step.{skip, read_token}
 use Rattle.mapwords.specs.Table.{role_of}
 use Rattle.maptree.proofs.step.read_token.Goals as goal
 
--- a block that is read over
-over-read : (b : Block) (d : Drafts) (t : TokenValue) (r : Result (Move × Drafts) Fault) → (b ≡ block.Projection) ⊎ ((b ≡ block.Passed) ⊎ (b ≡ block.PassedLabel)) → pass_over b (option_and_then (role_of b) (keyword_at t)) d ≡ r → read_token (Keywords b) d t ≡ r
-over-read b d t r (inl p) h = rw p (subst (λ v. pass_over v (option_and_then (role_of v) (keyword_at t)) d ≡ r) p h)
-over-read b d t r (inr (inl p)) h = rw p (subst (λ v. pass_over v (option_and_then (role_of v) (keyword_at t)) d ≡ r) p h)
-over-read b d t r (inr (inr p)) h = rw p (subst (λ v. pass_over v (option_and_then (role_of v) (keyword_at t)) d ≡ r) p h)
+-- a block that is skipped
+skip-read : (b : Block) (d : Drafts) (t : TokenValue) (r : Result (Move × Drafts) Fault) → (b ≡ block.Projection) ⊎ ((b ≡ block.Skipped) ⊎ (b ≡ block.SkippedLabel)) → skip b (option_and_then (role_of b) (keyword_at t)) d ≡ r → read_token (Keywords b) d t ≡ r
+skip-read b d t r (inl p) h = rw p (subst (λ v. skip v (option_and_then (role_of v) (keyword_at t)) d ≡ r) p h)
+skip-read b d t r (inr (inl p)) h = rw p (subst (λ v. skip v (option_and_then (role_of v) (keyword_at t)) d ≡ r) p h)
+skip-read b d t r (inr (inr p)) h = rw p (subst (λ v. skip v (option_and_then (role_of v) (keyword_at t)) d ≡ r) p h)
 
 pub returns-in-Projection : goal.returns-in-Projection
 returns-in-Projection c =
     rw c.in-Keywords.is
-    (over-read c.in-Keywords.block c.args.drafts.now c.args.token.now _ c.in-Projection.is (c.pass_over.ensures c.args.drafts.now))
+    (skip-read c.in-Keywords.block c.args.drafts.now c.args.token.now _ c.in-Projection.is (c.skip.ensures c.args.drafts.now))

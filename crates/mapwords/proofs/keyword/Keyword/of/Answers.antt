@@ -1,9 +1,16 @@
-use Rattle.std.proofs.Common.{◌∙◌, ap}
-use Rattle.std.specs.Prelude.{find}
-use Rattle.mapwords.specs.Keyword.{is_spelt}
-use Rattle.mapwords.proofs.Lookup.{found-by-length}
+use Rattle.std.proofs.Common.{◌∙◌, sym, ap, ℕ, List, Bor}
+use Rattle.std.specs.Prelude.{option_map}
+use Rattle.mapwords.specs.declared.keyword.Keyword.{Keyword}
+use Rattle.mapwords.specs.Keyword.{keywords}
+use Rattle.mapwords.proofs.Lookup.{found-in-table}
 use Rattle.mapwords.proofs.keyword.Keyword.of.Goals as goal
 
-pub returns : goal.returns
-returns c =
-    c.first_of.ensures ∙ ap (find (is_spelt c.args.text.now)) c.of_length.ensures ∙ found-by-length c.args.text.now
+pub returns-in-Some : goal.returns-in-Some
+returns-in-Some c =
+    ap (option_map (λ (pair : Keyword × Bor (List ℕ)). pair.0)) (sym c.in-Some.is)
+    ∙ found-in-table c.args.text.now keywords c.table.result.now c.first_of.result c.first_of.ensures c.table.ensures
+
+pub returns-in-None : goal.returns-in-None
+returns-in-None c =
+    ap (option_map (λ (pair : Keyword × Bor (List ℕ)). pair.0)) (sym c.in-None.is)
+    ∙ found-in-table c.args.text.now keywords c.table.result.now c.first_of.result c.first_of.ensures c.table.ensures

@@ -1,0 +1,157 @@
+ghost use Rattle.std.specs.Prelude.{◌≡◌, option_map, IfOk, IfSome};
+ghost use Rattle.mapfaults.specs.Missing.{AreOnCause, AreOnFiles, NamesMissing, begins_with_late_control, first_missing, has_control, is_control_byte, is_missing, missing_message};
+
+use crate::columns::message_on_columns;
+use csvpoints::{CsvFault, CsvKind};
+use mapdefs::Text;
+use mapparse::{FileCause, FileFault, Files, Mapfile};
+use std::alloc::{AllocError, Global};
+
+/// A mapfile that is at hand: its source, what was parsed of it, and the files that it is given.
+#[derive(Clone, Copy)]
+pub struct MapfileAtHand<'a> {
+    /// The source.
+    pub source: &'a [u8],
+    /// What was parsed of it.
+    pub mapfile: &'a Mapfile,
+    /// The files.
+    pub files: &'a Files,
+}
+
+// Whether a byte is a character below U+0020, or U+007F.
+fn is_control_byte(byte: u8) -> bool
+    ensures { result ≡ is_control_byte byte }
+{
+    byte < 32 || byte == 127
+}
+
+// Whether bytes begin with a character from U+0080 to U+009F.
+fn begins_with_late_control(bytes: &[u8]) -> bool
+    ensures { result ≡ begins_with_late_control bytes.now }
+{
+    match bytes {
+        [first, second, ..] => *first == 194 && *second < 160,
+        _ => false,
+    }
+}
+
+// Whether a name has a control character.
+fn has_control(name: &str) -> bool
+    ensures { result ≡ has_control name.now }
+{
+    let bytes = name.as_bytes();
+    for i in 0..bytes.len() {
+        if is_control_byte(bytes[i]) || begins_with_late_control(&bytes[i..]) {
+            return true;
+        }
+    }
+    false
+}
+
+// The message on a file that can't be read, by its name and the keyword that names it.
+fn missing_message(alloc: Global, name: &str, keyword: &str) -> Result<Text, AllocError>
+    ensures { IfOk result (λ message. message ≡ missing_message name.now keyword.now) }
+{
+    if has_control(name) {
+        return Ok(Text::of(format!(in alloc; "the file that {keyword} names can't be read")?));
+    }
+    Ok(Text::of(format!(in alloc; "the file {name}, which {keyword} names, can't be read")?))
+}
+
+// Whether a file isn't among those that are given.
+fn is_missing(files: &Files, name: &str) -> bool
+    ensures { result ≡ is_missing files.now name.now }
+{
+    match files.bytes(name) {
+        Some(_) => false,
+        None => true,
+    }
+}
+
+// The first of some files that isn't among those that are given.
+fn first_missing<'a>(names: &'a [Text], files: &Files) -> Option<&'a Text>
+    ensures { option_map (λ name. name.now) result ≡ first_missing files.now names.now }
+{
+    for name in names {
+        if is_missing(files, name.as_str()) {
+            return Some(name);
+        }
+    }
+    None
+}
+
+// The message on the first of the files that a mapfile uses and that is missing, by the keyword that names it.
+fn message_on_missing(
+    alloc: Global,
+    mapfile: &Mapfile,
+    files: &Files,
+    keyword: &str,
+) -> Option<Text>
+    ensures { IfSome result (NamesMissing files.now mapfile.now) }
+{
+    let Ok(names) = mapfile.wanted(alloc) else {
+        return None;
+    };
+    let Some(name) = first_missing(names.as_slice(), files) else {
+        return None;
+    };
+    match missing_message(alloc, name.as_str(), keyword) {
+        Ok(message) => Some(message),
+        Err(_) => None,
+    }
+}
+
+// The message on a file that is no table. Where its header lacks a column, the columns are shown.
+fn message_on_table(
+    alloc: Global,
+    at_hand: MapfileAtHand<'_>,
+    fault: FileFault,
+    cause: CsvFault,
+) -> Option<Text> {
+    let keyword = fault.keyword.spelling();
+    let message = format!(in alloc;
+        "the file that {keyword} names is no table of points: {cause}"
+    ).ok()?;
+    let columns = match cause.kind {
+        CsvKind::NoColumn => message_on_columns(alloc, at_hand.source, at_hand.files, fault.line),
+        _ => None,
+    };
+    match columns {
+        Some(columns) => Some(Text::of(format!(in alloc; "{message}: {columns}").ok()?)),
+        None => Some(Text::of(message)),
+    }
+}
+
+// The message on the fault of a file.
+fn message_on_file(alloc: Global, at_hand: MapfileAtHand<'_>, fault: FileFault) -> Option<Text>
+    ensures { IfSome result (AreOnCause fault.cause at_hand.entry.files.now at_hand.entry.mapfile.now) }
+{
+    let keyword = fault.keyword.spelling();
+    let message = match fault.cause {
+        FileCause::Missing => {
+            return message_on_missing(alloc, at_hand.mapfile, at_hand.files, keyword);
+        }
+        FileCause::NoTable(cause) => return message_on_table(alloc, at_hand, fault, cause),
+        FileCause::NoPixmap(_) => format!(in alloc;
+            "the file that {keyword} names is no pixmap in Netpbm's P6 format of at most 256 by 256 pixels"
+        ),
+        FileCause::NoFont(cause) => format!(in alloc;
+            "the file that {keyword} names is no font: {cause}"
+        ),
+    };
+    match message {
+        Ok(message) => Some(Text::of(message)),
+        Err(_) => None,
+    }
+}
+
+/// The message on the first used of the files that have a fault. There is none where no file has one, or where memory is
+/// refused.
+pub fn message_on_files(alloc: Global, at_hand: MapfileAtHand<'_>) -> Option<Text>
+    ensures { IfSome result (AreOnFiles at_hand.entry.files.now at_hand.entry.mapfile.now) }
+{
+    match at_hand.mapfile.files_fault(alloc, at_hand.files) {
+        Ok(Some(fault)) => message_on_file(alloc, at_hand, fault),
+        Ok(None) | Err(_) => None,
+    }
+}

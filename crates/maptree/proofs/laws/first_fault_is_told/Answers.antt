@@ -1,5 +1,0 @@
-use Rattle.maptree.proofs.FirstFault.{first_fault}
-use Rattle.maptree.proofs.laws.first_fault_is_told.Goals as goal
-
-pub returns : goal.returns
-returns c = first_fault
