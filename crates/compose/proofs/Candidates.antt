@@ -17,23 +17,23 @@ use Rattle.mapdefs.proofs.Containing.{first_or}
 use Rattle.compose.proofs.Finding.{here, there}
 
 -- shapes of which none covers the pixel leave its colour
-pub quiet : (background : Option Rgb) (things : List PaintedShape) (i j : ℕ) → list_any (λ t. covers t i j) things ≡ false → colour_at background things i j ≡ background
+pub quiet : (background : Option Rgb) (shapes : List PaintedShape) (i j : ℕ) → list_any (λ t. covers t i j) shapes ≡ false → colour_at background shapes i j ≡ background
 quiet background [] i j h = colour_at-none background i j
-quiet background (t ∷ things) i j h =
-    let both = or_parts (covers t i j) (list_any (λ t. covers t i j) things) h in
+quiet background (t ∷ shapes) i j h =
+    let both = or_parts (covers t i j) (list_any (λ t. covers t i j) shapes) h in
     let one : colour_at background (t ∷ []) i j ≡ background = colour_at-one background t i j ∙ ap (λ (b : Bool). cond b (colour_in t i j) background) both.0 in
-    colour_at-append background (t ∷ []) things i j
-    ∙ (ap (λ (c : Option Rgb). colour_at c things i j) one ∙ quiet background things i j both.1)
+    colour_at-append background (t ∷ []) shapes i j
+    ∙ (ap (λ (c : Option Rgb). colour_at c shapes i j) one ∙ quiet background shapes i j both.1)
 
 -- indices from one on
-pub at-start : {A : Type 0} (h : ℕ → A) (things : A) (from : ℕ) → h (from + 0) ≡ things → h from ≡ things
-at-start h things from e = ap h (turn from) ∙ e
+pub at-start : {A : Type 0} (h : ℕ → A) (shapes : A) (from : ℕ) → h (from + 0) ≡ shapes → h from ≡ shapes
+at-start h shapes from e = ap h (turn from) ∙ e
   where
     turn : (n : ℕ) → n ≡ n + 0
     turn n = omega arith
 
-pub one-on : {A : Type 0} (h : ℕ → A) (things : A) (from k : ℕ) → h (from + suc k) ≡ things → h (from + 1 + k) ≡ things
-one-on h things from k e = ap h (turn from k) ∙ e
+pub one-on : {A : Type 0} (h : ℕ → A) (shapes : A) (from k : ℕ) → h (from + suc k) ≡ shapes → h (from + 1 + k) ≡ shapes
+one-on h shapes from k e = ap h (turn from k) ∙ e
   where
     turn : (n k : ℕ) → n + 1 + k ≡ n + suc k
     turn n k = omega arith

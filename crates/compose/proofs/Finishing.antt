@@ -17,7 +17,7 @@ use Rattle.compose.specs.Drawn.{DrawingValue, HasLabels, IsDrawn}
 use Rattle.compose.specs.Labels.{ArePlaced, candidate_list, ink_list}
 use Rattle.compose.specs.Paint.{paint_list}
 use Rattle.compose.specs.Picture.{HasOnePicture, IsPictureOf, colour_at}
-use Rattle.compose.specs.Walk.{met_list}
+use Rattle.compose.specs.Walk.{classified_list}
 use Rattle.compose.proofs.Painting.{painted-append, painted-area, painted-pixels}
 use Rattle.compose.proofs.Walking.{paint-list-of-the-met}
 
@@ -27,16 +27,16 @@ blank_of view background = record { canvas = record { width = view.width; height
 
 -- from a canvas on which all classified features were drawn, and labels of the candidates were painted
 finished-canvas : (scene : SceneValue) (chosen : List ℕ) (background : Option Rgb) (b : DrawingValue) (c : PictureFields) →
-    IsDrawn scene (blank_of scene.view background) b (met_list scene.scale scene.map chosen) → HasLabels scene b.labels b.canvas c →
+    IsDrawn scene (blank_of scene.view background) b (classified_list scene.scale scene.map chosen) → HasLabels scene b.labels b.canvas c →
     IsPictureOf scene.map scene.view scene.scale chosen background c
 finished-canvas scene chosen background b c drawn labelled =
     let view = scene.view in
-    let things = paint_list view scene.scale scene.map chosen in
+    let shapes = paint_list view scene.scale scene.map chosen in
     let labels = rw drawn.labelled at labelled.placed in
     let ink = rw drawn.labelled at labelled.painted in
     let blank = (blank_of view background).canvas in
     let painted = rw (← paint-list-of-the-met view scene.scale scene.map chosen) at drawn.painted in
-    let all = painted-append blank b.canvas c things (ink_list scene.map.font (candidate_list view scene.scale scene.map chosen) labelled.labels) painted ink in
+    let all = painted-append blank b.canvas c shapes (ink_list scene.map.font (candidate_list view scene.scale scene.map chosen) labelled.labels) painted ink in
     record {
       labels = labelled.labels;
       placed = labels;
@@ -47,9 +47,9 @@ finished-canvas scene chosen background b c drawn labelled =
     }
 
 pub finished : (scene : SceneValue) (chosen : List ℕ) (background : Option Rgb) (a b : DrawingValue) (c : PictureFields) → a ≡ blank_of scene.view background →
-    IsDrawn scene a b (met_list scene.scale scene.map chosen) → HasLabels scene b.labels b.canvas c → IsPictureOf scene.map scene.view scene.scale chosen background c
+    IsDrawn scene a b (classified_list scene.scale scene.map chosen) → HasLabels scene b.labels b.canvas c → IsPictureOf scene.map scene.view scene.scale chosen background c
 finished scene chosen background a b c e drawn labelled =
-    finished-canvas scene chosen background b c (subst (λ (x : DrawingValue). IsDrawn scene x b (met_list scene.scale scene.map chosen)) e drawn) labelled
+    finished-canvas scene chosen background b c (subst (λ (x : DrawingValue). IsDrawn scene x b (classified_list scene.scale scene.map chosen)) e drawn) labelled
 
 -- candidates have one list of labels
 one-labelling : (view : ViewValue) (font : Option FontFields) (candidates : List CandidateValue) (a b : List Placed) → ArePlaced view font candidates a → ArePlaced view font candidates b → a ≡ b

@@ -72,16 +72,16 @@ filling-last flips left colour a b none is = record {
 }
 
 -- a picture that is filled where a shape covers its pixels is painted over with the shape
-pub painted-within : (thing : PaintedShape) (test : ℕ → ℕ → Bool) (colour : ℕ → ℕ → Option Rgb) (a b : PictureFields) → length a.pixels ≡ a.width * a.height →
-    ((i j : ℕ) → i < a.width → j < a.height → covers thing i j ≡ test i j) →
-    ((i j : ℕ) → colour_in thing i j ≡ colour i j) → IsFilled test colour a b → IsPainted a b (thing ∷ [])
-painted-within thing test colour a b area same shown f = record {
+pub painted-within : (shape : PaintedShape) (test : ℕ → ℕ → Bool) (colour : ℕ → ℕ → Option Rgb) (a b : PictureFields) → length a.pixels ≡ a.width * a.height →
+    ((i j : ℕ) → i < a.width → j < a.height → covers shape i j ≡ test i j) →
+    ((i j : ℕ) → colour_in shape i j ≡ colour i j) → IsFilled test colour a b → IsPainted a b (shape ∷ [])
+painted-within shape test colour a b area same shown f = record {
   width = f.width;
   height = f.height;
   area = f.area;
   pixels = λ at h.
       let some = some-columns at a.width a.height (omega (arith, h, area)) in
       f.filled at h
-      ∙ sym (colour_at-one (colour_of a.pixels at) thing (at % a.width) (at / a.width)
+      ∙ sym (colour_at-one (colour_of a.pixels at) shape (at % a.width) (at / a.width)
       ∙ rw (same (at % a.width) (at / a.width) (mod_below at a.width some) (div_below at a.width a.height some (omega (arith, h, area))), shown (at % a.width) (at / a.width)) refl);
 }

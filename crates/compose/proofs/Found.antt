@@ -18,8 +18,8 @@ use Rattle.mapdefs.specs.declared.label.LabelFields.{LabelFields}
 use Rattle.mapdefs.specs.declared.layer.LayerFields.{LayerFields}
 use Rattle.viewport.specs.View.{ViewValue, window}
 use Rattle.compose.specs.Anchor.{shown_anchor}
-use Rattle.compose.specs.Labels.{FoundLabelAll, candidate_at, label_text, met_candidates}
-use Rattle.compose.specs.Walk.{given_at, met_feature}
+use Rattle.compose.specs.Labels.{FoundLabelAll, candidate_at, label_text, classified_candidates}
+use Rattle.compose.specs.Walk.{given_at, classified_feature}
 use Rattle.compose.proofs.Candidates.{AreFrom, at-start, first-below, first-least, one-on}
 use Rattle.mapdefs.proofs.Containing.{first_or}
 use Rattle.compose.proofs.Finding.{here, there}
@@ -90,7 +90,7 @@ module _ (view : ViewValue) (margin : ℕ) (layer : LayerFields) (feature : Feat
   by-label (Some label) = by-anchor label (shown_anchor view layer.kind feature) refl
 
   by-class : (font : Option FontFields) (o : Option ClassFields) →
-      (flat_map (met_candidates view font) (option_map_or (λ (class : ClassFields). record { layer = layer; feature = feature; class = class } ∷ []) o []) ≡ []) ⊎ HasBoxIn (window view margin) feature
+      (flat_map (classified_candidates view font) (option_map_or (λ (class : ClassFields). record { layer = layer; feature = feature; class = class } ∷ []) o []) ≡ []) ⊎ HasBoxIn (window view margin) feature
   by-class font None = inl refl
   by-class None (Some class) = inl refl
   by-class (Some font) (Some class) = by-label class.label
@@ -106,10 +106,10 @@ given-nested {X} {Y} {Z} f g h same xs found = nested f (given_at g xs) (given_a
 
 pub found-label-all : FoundLabelAll
 found-label-all view margin scale font layer found extent width height are =
-    let candidates = met_candidates view font in
-    let each = λ (feature : FeatureFields). flat_map candidates (met_feature scale layer feature) in
-    sym (given-nested candidates (met_feature scale layer) each (λ feature. refl) layer.features found)
+    let candidates = classified_candidates view font in
+    let each = λ (feature : FeatureFields). flat_map candidates (classified_feature scale layer feature) in
+    sym (given-nested candidates (classified_feature scale layer) each (λ feature. refl) layer.features found)
     ∙ (found-all each layer.features found are.rising are.indices
     (λ k feature is missed. ⊎_elim (λ (e : each feature ≡ []). e) (λ (meets : HasBoxIn (window view margin) feature). absurd (missed (are.each k feature is meets)))
     (by-class view margin layer feature extent width height font (class_of scale layer feature)))
-    ∙ nested candidates (met_feature scale layer) each (λ feature. refl) layer.features)
+    ∙ nested candidates (classified_feature scale layer) each (λ feature. refl) layer.features)

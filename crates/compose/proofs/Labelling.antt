@@ -18,21 +18,21 @@ use Rattle.mapdefs.specs.declared.font.FontFields.{FontFields}
 use Rattle.mapdefs.specs.declared.picture.PictureFields.{PictureFields}
 use Rattle.scene.specs.Scene.{SceneValue}
 use Rattle.compose.specs.Drawn.{HasLabels}
-use Rattle.compose.specs.Labels.{ArePlaced, candidate_at, ink_list, label_text, label_things, met_candidates}
+use Rattle.compose.specs.Labels.{ArePlaced, candidate_at, ink_list, label_text, label_shapes, classified_candidates}
 use Rattle.compose.specs.Paint.{Inked, Outlined, Written}
 use Rattle.compose.specs.Painted.{IsFilled, IsPainted}
-use Rattle.compose.proofs.Painting.{painted-none, painted-thing}
+use Rattle.compose.proofs.Painting.{painted-none, painted-shape}
 
 module _ (w : Written) (glyphs : List GlyphValue) (colour : Rgb) (a b : PictureFields) (are : glyphs ≡ glyphs_from w.font w.at 0 w.characters) where
   -- the pixels of a text's glyphs
   pub inked : IsFilled (λ i j. list_any (λ g. covers_glyph g (pos i) (pos j)) glyphs) (λ i j. Some colour) a b → IsPainted a b (Inked w colour ∷ [])
-  inked filled = painted-thing (Inked w colour) (λ i j. list_any (λ g. covers_glyph g (pos i) (pos j)) glyphs) (λ i j. Some colour) a b
+  inked filled = painted-shape (Inked w colour) (λ i j. list_any (λ g. covers_glyph g (pos i) (pos j)) glyphs) (λ i j. Some colour) a b
       (λ i j. ink-is-of-glyphs w.font w.characters w.at (pos i) (pos j) ∙ ap (λ (gs : List GlyphValue). list_any (λ g. covers_glyph g (pos i) (pos j)) gs) (sym are))
       (λ i j. refl) filled
 
   -- and those of their outlines
   pub outlined : IsFilled (λ i j. list_any (λ g. outlines_glyph g (pos i) (pos j)) glyphs) (λ i j. Some colour) a b → IsPainted a b (Outlined w colour ∷ [])
-  outlined filled = painted-thing (Outlined w colour) (λ i j. list_any (λ g. outlines_glyph g (pos i) (pos j)) glyphs) (λ i j. Some colour) a b
+  outlined filled = painted-shape (Outlined w colour) (λ i j. list_any (λ g. outlines_glyph g (pos i) (pos j)) glyphs) (λ i j. Some colour) a b
       (λ i j. outline-of-glyphs w.font w.characters w.at (pos i) (pos j) ∙ ap (λ (gs : List GlyphValue). list_any (λ g. outlines_glyph g (pos i) (pos j)) gs) (sym are))
       (λ i j. refl) filled
 
@@ -47,7 +47,7 @@ unlabelled scene candidates a e = record {
 -- with one they are those that are placed and painted
 pub labelled : (scene : SceneValue) (font : FontFields) (candidates : List CandidateValue) (labels : List Placed) (a b : PictureFields) → Some font ≡ scene.map.font →
     IsPlacement (setting (record { width = scene.view.width; height = scene.view.height; font = font }) candidates) labels →
-    IsPainted a b (flat_map (label_things font candidates) labels) → HasLabels scene candidates a b
+    IsPainted a b (flat_map (label_shapes font candidates) labels) → HasLabels scene candidates a b
 labelled scene font candidates labels a b e placed painted = record {
   labels = labels;
   placed = subst (λ (font : Option FontFields). ArePlaced scene.view font candidates labels) e placed;
@@ -57,7 +57,7 @@ labelled scene font candidates labels a b e placed painted = record {
 -- what may be placed of a feature whose class has a label, which has a text and an anchor in the picture
 pub candidate-is : (view : ViewValue) (font : Option FontFields) (f : FontFields) (met : ClassifiedFeatureValue) (label : LabelFields) (text : List ℕ) (p : PixelValue) → Some f ≡ font → met.class.label ≡ Some label →
     text ≡ label_text met.layer met.feature → (length text == 0) ≡ false → shown_anchor view met.layer.kind met.feature ≡ Some p →
-    met_candidates view font met ≡ record { text = text; anchor = p; label = label } ∷ []
+    classified_candidates view font met ≡ record { text = text; anchor = p; label = label } ∷ []
 candidate-is view font f met label text p has labelled written some at = rw (← has, labelled, at, ← written) (go text some)
   where
     go : (text : List ℕ) → (length text == 0) ≡ false → candidate_at label text p ≡ record { text = text; anchor = p; label = label } ∷ []

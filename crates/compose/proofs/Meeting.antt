@@ -6,8 +6,8 @@ use Rattle.std.specs.List.{flat_map}
 use Rattle.labelcache.specs.Candidate.{CandidateValue}
 use Rattle.scene.specs.Scene.{SceneValue}
 use Rattle.compose.specs.Drawn.{DrawingValue, IsDrawn}
-use Rattle.compose.specs.Labels.{met_candidates}
-use Rattle.compose.specs.Walk.{ClassifiedFeatureValue, met_things}
+use Rattle.compose.specs.Labels.{classified_candidates}
+use Rattle.compose.specs.Walk.{ClassifiedFeatureValue, classified_shapes}
 use Rattle.compose.proofs.Painting.{painted-append, painted-none}
 
 -- where no feature is classified, all stays
@@ -17,10 +17,10 @@ drawn-none scene a = record { painted = painted-none a.canvas; labelled = sym (a
 -- drawing goes on
 pub drawn-append : (scene : SceneValue) (a b c : DrawingValue) (xs ys : List ClassifiedFeatureValue) → IsDrawn scene a b xs → IsDrawn scene b c ys → IsDrawn scene a c (xs ++ ys)
 drawn-append scene a b c xs ys p q =
-    let things = met_things scene.view scene.map.symbols in
-    let candidates = met_candidates scene.view scene.map.font in
+    let shapes = classified_shapes scene.view scene.map.symbols in
+    let candidates = classified_candidates scene.view scene.map.font in
     record {
-      painted = rw (flat_map-append things xs ys) (painted-append a.canvas b.canvas c.canvas (flat_map things xs) (flat_map things ys) p.painted q.painted);
+      painted = rw (flat_map-append shapes xs ys) (painted-append a.canvas b.canvas c.canvas (flat_map shapes xs) (flat_map shapes ys) p.painted q.painted);
       labelled = rw (flat_map-append candidates xs ys)
           (q.labelled ∙ ap (λ (z : List CandidateValue). z ++ flat_map candidates ys) p.labelled ∙ append_assoc a.labels (flat_map candidates xs) (flat_map candidates ys));
     }

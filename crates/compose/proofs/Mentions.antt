@@ -26,38 +26,38 @@ use Rattle.scene.specs.Scene.{SceneValue}
 use Rattle.viewport.specs.View.{ViewValue, window}
 use Rattle.compose.specs.Anchor.{shown_anchor}
 use Rattle.compose.specs.Drawn.{DrawingValue, IsDrawn, IsDrawnTo, IsMentioned}
-use Rattle.compose.specs.Labels.{candidate_at, candidate_list, has_label, label_text, met_candidates}
-use Rattle.compose.specs.Paint.{PaintedShape, chosen_things, colour_in, covers, paint_list}
+use Rattle.compose.specs.Labels.{candidate_at, candidate_list, has_label, label_text, classified_candidates}
+use Rattle.compose.specs.Paint.{PaintedShape, chosen_shapes, colour_in, covers, paint_list}
 use Rattle.compose.specs.Painted.{IsPainted, colour_of}
 use Rattle.compose.specs.Picture.{LastMentionsPaintAll, colour_at}
-use Rattle.compose.specs.Walk.{ClassifiedFeatureValue, given_at, met_chosen, met_feature, met_list}
+use Rattle.compose.specs.Walk.{ClassifiedFeatureValue, given_at, classified_chosen, classified_feature, classified_list}
 use Rattle.compose.proofs.Found.{found-label-all}
 use Rattle.compose.proofs.Painting.{colour_at-append, painted-append, painted-none}
 use Rattle.compose.proofs.Walking.{of-chosen, paint-list-of-the-met}
 
 -- shapes give a pixel the same colour over any background, or leave it as it is
 abbrev Hides : List PaintedShape → ℕ → ℕ → Type 0
-Hides things i j = (a b : Option Rgb) → colour_at a things i j ≡ colour_at b things i j
+Hides shapes i j = (a b : Option Rgb) → colour_at a shapes i j ≡ colour_at b shapes i j
 
 abbrev Leaves : List PaintedShape → ℕ → ℕ → Type 0
-Leaves things i j = (a : Option Rgb) → colour_at a things i j ≡ a
+Leaves shapes i j = (a : Option Rgb) → colour_at a shapes i j ≡ a
 
-hides-or-leaves : (things : List PaintedShape) (i j : ℕ) → Hides things i j ⊎ Leaves things i j
+hides-or-leaves : (shapes : List PaintedShape) (i j : ℕ) → Hides shapes i j ⊎ Leaves shapes i j
 unfolding colour_at
-hides-or-leaves things i j = go (find (λ thing. covers thing i j) (reverse things))
+hides-or-leaves shapes i j = go (find (λ shape. covers shape i j) (reverse shapes))
   where
     go : (o : Option PaintedShape) →
-        ((a b : Option Rgb) → option_map_or (λ thing. colour_in thing i j) o a ≡ option_map_or (λ thing. colour_in thing i j) o b)
-        ⊎ ((a : Option Rgb) → option_map_or (λ thing. colour_in thing i j) o a ≡ a)
+        ((a b : Option Rgb) → option_map_or (λ shape. colour_in shape i j) o a ≡ option_map_or (λ shape. colour_in shape i j) o b)
+        ⊎ ((a : Option Rgb) → option_map_or (λ shape. colour_in shape i j) o a ≡ a)
     go None = inr (λ a. refl)
-    go (Some thing) = inl (λ a b. refl)
+    go (Some shape) = inl (λ a b. refl)
 
 -- where a layer hides what was there, a list that has it does too
-hides-within : (view : ViewValue) (scale : PictureScale) (m : MapFields) (index i j : ℕ) → Hides (chosen_things view scale m index) i j →
+hides-within : (view : ViewValue) (scale : PictureScale) (m : MapFields) (index i j : ℕ) → Hides (chosen_shapes view scale m index) i j →
     (after : List ℕ) → Contains after index → Hides (paint_list view scale m after) i j
 hides-within view scale m index i j h [] c a b = absurd (omega (arith, c.1))
 hides-within view scale m index i j h (x ∷ xs) c a b =
-    let first = chosen_things view scale m x in
+    let first = chosen_shapes view scale m x in
     let rest = paint_list view scale m xs in
     rw (colour_at-append a first rest i j, colour_at-append b first rest i j)
     (⊎_elim
@@ -67,14 +67,14 @@ hides-within view scale m index i j h (x ∷ xs) c a b =
 
 pub last-mentions-paint-all : LastMentionsPaintAll
 last-mentions-paint-all view scale m before index after background i j c =
-    let things = chosen_things view scale m in
-    let early = flat_map things before in
-    let one = things index in
-    let late = flat_map things after in
+    let shapes = chosen_shapes view scale m in
+    let early = flat_map shapes before in
+    let one = shapes index in
+    let late = flat_map shapes after in
     let under = colour_at background early i j in
     rw (
-      flat_map-append things before (index ∷ after),
-      flat_map-append things before after,
+      flat_map-append shapes before (index ∷ after),
+      flat_map-append shapes before after,
       colour_at-append background early (one ++ late) i j,
       colour_at-append background early late i j,
       colour_at-append under one late i j,
@@ -107,11 +107,11 @@ drawn-to-first scene chosen a = record {
 
 -- the candidates of one more layer
 labelled-more : (scene : SceneValue) (done : List ℕ) (index : ℕ) (a b c : List CandidateValue) → b ≡ a ++ candidate_list scene.view scene.scale scene.map done →
-    c ≡ b ++ flat_map (met_candidates scene.view scene.map.font) (met_chosen scene.scale scene.map index) →
+    c ≡ b ++ flat_map (classified_candidates scene.view scene.map.font) (classified_chosen scene.scale scene.map index) →
     c ≡ a ++ candidate_list scene.view scene.scale scene.map (done ++ index ∷ [])
 labelled-more scene done index a b c p q =
-    let candidates = met_candidates scene.view scene.map.font in
-    let met = met_chosen scene.scale scene.map in
+    let candidates = classified_candidates scene.view scene.map.font in
+    let met = classified_chosen scene.scale scene.map in
     let early = flat_map candidates (flat_map met done) in
     let one = flat_map candidates (met index) in
     rw (flat_map-append met done (index ∷ []), append-nil (met index), flat_map-append candidates (flat_map met done) (met index))
@@ -128,20 +128,20 @@ drawn-to-next scene chosen index after a b c p (inl again) = record {
   labelled = labelled-more scene p.done index a.labels b.labels c.labels p.labelled again.1.labelled;
 }
 drawn-to-next scene chosen index after a b c p (inr drawn) =
-    let things = chosen_things scene.view scene.scale scene.map in
+    let shapes = chosen_shapes scene.view scene.scale scene.map in
     let one = rw (← of-chosen scene.view scene.scale scene.map index) at drawn.painted in
     record {
       done = p.done ++ index ∷ [];
       kept = p.kept ++ index ∷ [];
       is = p.is ∙ sym (append_assoc p.done (index ∷ []) after);
-      painted = rw (flat_map-append things p.kept (index ∷ []), append-nil (things index)) (painted-append a.canvas b.canvas c.canvas (flat_map things p.kept) (things index) p.painted one);
+      painted = rw (flat_map-append shapes p.kept (index ∷ []), append-nil (shapes index)) (painted-append a.canvas b.canvas c.canvas (flat_map shapes p.kept) (shapes index) p.painted one);
       same = λ background i j. rw (append_assoc p.kept (index ∷ []) after) (p.same background i j);
       labelled = labelled-more scene p.done index a.labels b.labels c.labels p.labelled drawn.labelled;
     }
 
 -- after the last one all classified features are drawn
 pub drawn-to-last : (scene : SceneValue) (chosen rest : List ℕ) (a b : DrawingValue) → length rest ≡ 0 → IsDrawnTo scene chosen rest a b →
-    IsDrawn scene a b (met_list scene.scale scene.map chosen)
+    IsDrawn scene a b (classified_list scene.scale scene.map chosen)
 drawn-to-last scene chosen (x ∷ xs) a b none p = absurd (omega (arith, none))
 drawn-to-last scene chosen [] a b none p =
     let all = paint_list scene.view scene.scale scene.map chosen in
@@ -169,11 +169,11 @@ labelled-at f g xs k x b c short is p = rw (slice_get-get_or xs k x short, ← i
 -- a layer that doesn't show has no candidates
 pub hidden-layer : (scene : SceneValue) (index : ℕ) (layer : LayerFields) (labels : List CandidateValue) → slice_get scene.map.layers index ≡ Some layer →
     is_visible_layer scene.scale layer ≡ false →
-    labels ≡ labels ++ flat_map (met_candidates scene.view scene.map.font) (met_chosen scene.scale scene.map index)
+    labels ≡ labels ++ flat_map (classified_candidates scene.view scene.map.font) (classified_chosen scene.scale scene.map index)
 hidden-layer scene index layer labels is hidden = rw (is, hidden) (sym (append-nil labels))
 
 -- nor has a layer without a class that has a label
-unlabelled-class : (view : ViewValue) (font : Option FontFields) (met : ClassifiedFeatureValue) → has_label met.class ≡ false → met_candidates view font met ≡ []
+unlabelled-class : (view : ViewValue) (font : Option FontFields) (met : ClassifiedFeatureValue) → has_label met.class ≡ false → classified_candidates view font met ≡ []
 unlabelled-class view None met none = refl
 unlabelled-class view (Some font) met none = go met.class.label none
   where
@@ -184,7 +184,7 @@ unlabelled-class view (Some font) met none = go met.class.label none
 
 unlabelled-feature : (view : ViewValue) (font : Option FontFields) (layer : LayerFields) (feature : FeatureFields) (f : ClassFields → Bool) (classes : List ClassFields) →
     list_any has_label classes ≡ false →
-    flat_map (met_candidates view font) (option_map_or (λ (class : ClassFields). record { layer = layer; feature = feature; class = class } ∷ []) (find f classes) []) ≡ []
+    flat_map (classified_candidates view font) (option_map_or (λ (class : ClassFields). record { layer = layer; feature = feature; class = class } ∷ []) (find f classes) []) ≡ []
 unlabelled-feature view font layer feature f [] none = refl
 unlabelled-feature view font layer feature f (c ∷ cs) none = go (f c) (unlabelled-feature view font layer feature f cs (later (has_label c) none))
   where
@@ -197,23 +197,23 @@ unlabelled-feature view font layer feature f (c ∷ cs) none = go (f c) (unlabel
     later false h = h
 
     go : (b : Bool) →
-        flat_map (met_candidates view font) (option_map_or (λ (class : ClassFields). record { layer = layer; feature = feature; class = class } ∷ []) (find f cs) []) ≡ [] →
-        flat_map (met_candidates view font) (option_map_or (λ (class : ClassFields). record { layer = layer; feature = feature; class = class } ∷ []) (cond b (Some c) (find f cs)) []) ≡ []
+        flat_map (classified_candidates view font) (option_map_or (λ (class : ClassFields). record { layer = layer; feature = feature; class = class } ∷ []) (find f cs) []) ≡ [] →
+        flat_map (classified_candidates view font) (option_map_or (λ (class : ClassFields). record { layer = layer; feature = feature; class = class } ∷ []) (cond b (Some c) (find f cs)) []) ≡ []
     go true rest = rw (unlabelled-class view font (record { layer = layer; feature = feature; class = c }) (here (has_label c) none)) refl
     go false rest = rest
 
 unlabelled-features : (view : ViewValue) (font : Option FontFields) (scale : PictureScale) (layer : LayerFields) (features : List FeatureFields) → list_any has_label layer.classes ≡ false →
-    flat_map (met_candidates view font) (flat_map (met_feature scale layer) features) ≡ []
+    flat_map (classified_candidates view font) (flat_map (classified_feature scale layer) features) ≡ []
 unlabelled-features view font scale layer [] none = refl
 unlabelled-features view font scale layer (x ∷ xs) none =
     rw (
-      flat_map-append (met_candidates view font) (met_feature scale layer x) (flat_map (met_feature scale layer) xs),
+      flat_map-append (classified_candidates view font) (classified_feature scale layer x) (flat_map (classified_feature scale layer) xs),
       unlabelled-feature view font layer x (admits scale layer x) layer.classes none,
     ) (unlabelled-features view font scale layer xs none)
 
 pub unlabelled-layer : (scene : SceneValue) (index : ℕ) (layer : LayerFields) (labels : List CandidateValue) → slice_get scene.map.layers index ≡ Some layer →
     is_visible_layer scene.scale layer ≡ true → list_any has_label layer.classes ≡ false →
-    labels ≡ labels ++ flat_map (met_candidates scene.view scene.map.font) (met_chosen scene.scale scene.map index)
+    labels ≡ labels ++ flat_map (classified_candidates scene.view scene.map.font) (classified_chosen scene.scale scene.map index)
 unlabelled-layer scene index layer labels is shown none =
     rw (is, shown, unlabelled-features scene.view scene.map.font scene.scale layer layer.features none) (sym (append-nil labels))
 
@@ -221,7 +221,7 @@ unlabelled-layer scene index layer labels is shown none =
 pub found-layer : (scene : SceneValue) (index : ℕ) (layer : LayerFields) (found : List ℕ) (a b : List CandidateValue) → slice_get scene.map.layers index ≡ Some layer →
     is_visible_layer scene.scale layer ≡ true → IsExtent scene.view.area → IsPictureSide scene.view.width → IsPictureSide scene.view.height →
     AreCandidates layer.features (window scene.view 0) found →
-    b ≡ a ++ flat_map (met_candidates scene.view scene.map.font) (flat_map (given_at (met_feature scene.scale layer) layer.features) found) →
-    b ≡ a ++ flat_map (met_candidates scene.view scene.map.font) (met_chosen scene.scale scene.map index)
+    b ≡ a ++ flat_map (classified_candidates scene.view scene.map.font) (flat_map (given_at (classified_feature scene.scale layer) layer.features) found) →
+    b ≡ a ++ flat_map (classified_candidates scene.view scene.map.font) (classified_chosen scene.scale scene.map index)
 found-layer scene index layer found a b is shown extent width height are p =
     rw (is, shown) (p ∙ ap (λ (z : List CandidateValue). a ++ z) (found-label-all scene.view 0 scene.scale scene.map.font layer found extent width height are))

@@ -4,7 +4,7 @@ use Rattle.std.proofs.Math.Nat.{le-max_left, le-max_right}
 use Rattle.std.proofs.lemmas.List.Folds.{list_any-append}
 use Rattle.std.specs.List.{Contains, flat_map, list_any, slice_get}
 use Rattle.std.specs.Option.{option_map_or}
-use Rattle.compose.specs.Paint.{PaintedShape, class_things, covers, fills, marks, parts_of, point_things, polygon_things, stamps, strokes, style_things}
+use Rattle.compose.specs.Paint.{PaintedShape, class_shapes, covers, fills, marks, parts_of, point_shapes, polygon_shapes, stamps, strokes, style_shapes}
 use lib.IntN.{pos}
 use Rattle.geom.specs.Device.{DevicePoint, pixel_centre, pixel_of}
 use Rattle.geom.specs.EvenOdd.{is_inside}
@@ -41,26 +41,26 @@ reach-furthest symbols (s ∷ styles) style c = ⊎_elim
     (first_or s style styles c)
 
 -- a list of one shape covers what the shape covers
-one-thing : (t : Bool) → (t || false) ≡ true → t ≡ true
-one-thing true h = refl
-one-thing false h = cc
+one-shape : (t : Bool) → (t || false) ≡ true → t ≡ true
+one-shape true h = refl
+one-shape false h = cc
 
 fills-cover : (rings : List (List DevicePoint)) (colour : Option Rgb) (i j : ℕ) → list_any (λ t. covers t i j) (fills rings colour) ≡ true →
     is_inside rings (pixel_centre (pos i) (pos j)) ≡ true
 fills-cover rings None i j h = absurd (cc)
-fills-cover rings (Some colour) i j h = one-thing (is_inside rings (pixel_centre (pos i) (pos j))) h
+fills-cover rings (Some colour) i j h = one-shape (is_inside rings (pixel_centre (pos i) (pos j))) h
 
 strokes-cover : (stroke : LineValue) (colour : Option Rgb) (i j : ℕ) → list_any (λ t. covers t i j) (strokes stroke colour) ≡ true → line.covers_pixel stroke (pos i) (pos j) ≡ true
 strokes-cover stroke None i j h = absurd (cc)
-strokes-cover stroke (Some colour) i j h = one-thing (line.covers_pixel stroke (pos i) (pos j)) h
+strokes-cover stroke (Some colour) i j h = one-shape (line.covers_pixel stroke (pos i) (pos j)) h
 
 marks-cover : (square : SquareValue) (colour : Option Rgb) (i j : ℕ) → list_any (λ t. covers t i j) (marks square colour) ≡ true → covers_square square (pos i) (pos j) ≡ true
 marks-cover square None i j h = absurd (cc)
-marks-cover square (Some colour) i j h = one-thing (covers_square square (pos i) (pos j)) h
+marks-cover square (Some colour) i j h = one-shape (covers_square square (pos i) (pos j)) h
 
 -- a polygon
 polygon-round : (view : ViewValue) (margin : ℕ) (feature : FeatureFields) (style : StyleFields) (i j : ℕ) → style.width ≤ margin → i < view.width → j < view.height →
-    list_any (λ t. covers t i j) (polygon_things (parts_of view feature) style) ≡ true → AreRound view margin (points_of feature)
+    list_any (λ t. covers t i j) (polygon_shapes (parts_of view feature) style) ≡ true → AreRound view margin (points_of feature)
 polygon-round view margin feature style i j wide column row h =
     let rings : List (List DevicePoint) = parts_of view feature in
     let first : List PaintedShape = fills rings style.colour in
@@ -76,7 +76,7 @@ stamped-by : (view : ViewValue) (margin : ℕ) (v : DevicePoint) (i j : ℕ) (sy
 stamped-by view margin v i j None most column row h = absurd (cc)
 stamped-by view margin v i j (Some symbol) most column row h =
     stamp-by view margin v symbol.pixmap i j (omega (arith, most, le-max_left symbol.pixmap.width symbol.pixmap.height)) (omega (arith, most, le-max_right symbol.pixmap.width symbol.pixmap.height)) column row
-    (one-thing (stamp.covers_pixel (record { pixmap = symbol.pixmap; pixel = pixel_of v }) (pos i) (pos j)) h)
+    (one-shape (stamp.covers_pixel (record { pixmap = symbol.pixmap; pixel = pixel_of v }) (pos i) (pos j)) h)
 
 -- a point
 point-by : (view : ViewValue) (margin : ℕ) (symbols : List Symbol) (v : DevicePoint) (size : ℕ) (colour : Option Rgb) (symbol : Option ℕ) (i j : ℕ) →
@@ -92,17 +92,17 @@ point-by view margin symbols v size colour (Some index) i j wide high column row
 -- the points of a feature, one of which is painted by a style
 points-round : (view : ViewValue) (margin : ℕ) (symbols : List Symbol) (feature : FeatureFields) (style : StyleFields) (i j : ℕ) →
     style.size ≤ margin → symbol_reach symbols style.symbol ≤ margin → i < view.width → j < view.height →
-    list_any (λ t. covers t i j) (flat_map (λ part. flat_map (point_things view symbols style) part) feature.parts) ≡ true → AreRound view margin (points_of feature)
+    list_any (λ t. covers t i j) (flat_map (λ part. flat_map (point_shapes view symbols style) part) feature.parts) ≡ true → AreRound view margin (points_of feature)
 points-round view margin symbols feature style i j wide high column row h =
-    let (part, among, e) = any-flat_map (λ t. covers t i j) (λ (part : List Place). flat_map (point_things view symbols style) part) feature.parts h in
-    let (q, there, f) = any-flat_map (λ t. covers t i j) (point_things view symbols style) part e in
+    let (part, among, e) = any-flat_map (λ t. covers t i j) (λ (part : List Place). flat_map (point_shapes view symbols style) part) feature.parts h in
+    let (q, there, f) = any-flat_map (λ t. covers t i j) (point_shapes view symbols style) part e in
     by-round view margin (points_of feature) q (contains-flat (λ (part : List Place). part) feature.parts part q among there)
     (point-by view margin symbols (device_point view q) style.size style.colour style.symbol i j wide high column row f)
 
 -- what a style paints of a feature of any kind
 style-round : (view : ViewValue) (margin : ℕ) (symbols : List Symbol) (k : Geometry) (feature : FeatureFields) (style : StyleFields) (i j : ℕ) →
     reach_of symbols style ≤ margin → i < view.width → j < view.height →
-    list_any (λ t. covers t i j) (style_things view symbols k feature style) ≡ true → AreRound view margin (points_of feature)
+    list_any (λ t. covers t i j) (style_shapes view symbols k feature style) ≡ true → AreRound view margin (points_of feature)
 style-round view margin symbols kind.Polygon feature style i j most column row h =
     let wide : style.width ≤ margin = omega (arith, most, le-max_left (max style.width style.size) (symbol_reach symbols style.symbol), le-max_left style.width style.size) in
     polygon-round view margin feature style i j wide column row h
@@ -117,10 +117,10 @@ style-round view margin symbols kind.Point feature style i j most column row h =
 -- what its class paints, if it has one
 classed-round : (view : ViewValue) (symbols : List Symbol) (layer : LayerFields) (feature : FeatureFields) (class : Option ClassFields) (i j : ℕ) →
     ((c : ClassFields) → class ≡ Some c → Contains layer.classes c) → i < view.width → j < view.height →
-    list_any (λ t. covers t i j) (option_map_or (class_things view symbols layer.kind feature) class []) ≡ true → AreRound view (margin_of symbols layer) (points_of feature)
+    list_any (λ t. covers t i j) (option_map_or (class_shapes view symbols layer.kind feature) class []) ≡ true → AreRound view (margin_of symbols layer) (points_of feature)
 classed-round view symbols layer feature None i j there column row h = absurd (cc)
 classed-round view symbols layer feature (Some class) i j there column row h =
-    let (style, among, e) = any-flat_map (λ t. covers t i j) (style_things view symbols layer.kind feature) class.styles h in
+    let (style, among, e) = any-flat_map (λ t. covers t i j) (style_shapes view symbols layer.kind feature) class.styles h in
     style-round view (margin_of symbols layer) symbols layer.kind feature style i j
     (reach-furthest symbols (flat_map (λ (c : ClassFields). c.styles) layer.classes) style
     (contains-flat (λ (c : ClassFields). c.styles) layer.classes class style (there class refl) among)) column row e

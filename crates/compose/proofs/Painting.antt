@@ -31,9 +31,9 @@ unfolding colour_at
 colour_at-none background i j = refl
 
 -- one shape is seen where it covers
-pub colour_at-one : (background : Option Rgb) (thing : PaintedShape) (i j : ℕ) → colour_at background (thing ∷ []) i j ≡ cond (covers thing i j) (colour_in thing i j) background
+pub colour_at-one : (background : Option Rgb) (shape : PaintedShape) (i j : ℕ) → colour_at background (shape ∷ []) i j ≡ cond (covers shape i j) (colour_in shape i j) background
 unfolding colour_at
-colour_at-one background thing i j = map_or-cond (λ (t : PaintedShape). colour_in t i j) (covers thing i j) thing background
+colour_at-one background shape i j = map_or-cond (λ (t : PaintedShape). colour_in t i j) (covers shape i j) shape background
 
 -- what is painted later is painted over what was painted before
 pub colour_at-append : (background : Option Rgb) (xs ys : List PaintedShape) (i j : ℕ) →
@@ -72,10 +72,10 @@ pub painted_end : {X : Type 0} (f : X → List PaintedShape) (xs : List X) (i : 
 painted_end f xs i a b e p = rw (take_all i xs (omega arith)) at p
 
 -- the pixels of a canvas of the background that is painted over have their colours
-pub painted-pixels : (view : ViewValue) (background : Option Rgb) (things : List PaintedShape) (b : PictureFields) →
-    IsPainted (record { width = view.width; height = view.height; pixels = replicate (view.width * view.height) background }) b things →
-    (i j : ℕ) → i < view.width → j < view.height → slice_get b.pixels (j * view.width + i) ≡ Some (colour_at background things i j)
-painted-pixels view background things b p i j left up =
+pub painted-pixels : (view : ViewValue) (background : Option Rgb) (shapes : List PaintedShape) (b : PictureFields) →
+    IsPainted (record { width = view.width; height = view.height; pixels = replicate (view.width * view.height) background }) b shapes →
+    (i j : ℕ) → i < view.width → j < view.height → slice_get b.pixels (j * view.width + i) ≡ Some (colour_at background shapes i j)
+painted-pixels view background shapes b p i j left up =
     let inside : j * view.width + i < view.width * view.height = omega (arith, mul-add-lt j view.width i view.height up left) in
     let first : j * view.width + i < length (replicate (view.width * view.height) background) = omega (arith, length-replicate {A = Option Rgb}) in
     let last : j * view.width + i < length b.pixels = omega (arith, p.area) in
@@ -83,32 +83,32 @@ painted-pixels view background things b p i j left up =
     slice_get-get_or b.pixels (j * view.width + i) None last ∙ ap Some colour
 
 -- there are as many as its sides say
-pub painted-area : (view : ViewValue) (background : Option Rgb) (things : List PaintedShape) (b : PictureFields) →
-    IsPainted (record { width = view.width; height = view.height; pixels = replicate (view.width * view.height) background }) b things →
+pub painted-area : (view : ViewValue) (background : Option Rgb) (shapes : List PaintedShape) (b : PictureFields) →
+    IsPainted (record { width = view.width; height = view.height; pixels = replicate (view.width * view.height) background }) b shapes →
     length b.pixels ≡ b.width * b.height
-painted-area view background things b p = p.area ∙ length-replicate (view.width * view.height) background ∙ rw (p.width, p.height)
+painted-area view background shapes b p = p.area ∙ length-replicate (view.width * view.height) background ∙ rw (p.width, p.height)
 
 -- pixels that have their colours where a shape covers them, and else are as they were, are painted over with the shape
-pub painted-thing : (thing : PaintedShape) (test : ℕ → ℕ → Bool) (colour : ℕ → ℕ → Option Rgb) (a b : PictureFields) → ((i j : ℕ) → covers thing i j ≡ test i j) →
-    ((i j : ℕ) → colour_in thing i j ≡ colour i j) → IsFilled test colour a b → IsPainted a b (thing ∷ [])
-painted-thing thing test colour a b same shown f = record {
+pub painted-shape : (shape : PaintedShape) (test : ℕ → ℕ → Bool) (colour : ℕ → ℕ → Option Rgb) (a b : PictureFields) → ((i j : ℕ) → covers shape i j ≡ test i j) →
+    ((i j : ℕ) → colour_in shape i j ≡ colour i j) → IsFilled test colour a b → IsPainted a b (shape ∷ [])
+painted-shape shape test colour a b same shown f = record {
   width = f.width;
   height = f.height;
   area = f.area;
   pixels = λ at h. f.filled at h
-      ∙ sym (colour_at-one (colour_of a.pixels at) thing (at % a.width) (at / a.width) ∙ rw (same (at % a.width) (at / a.width), shown (at % a.width) (at / a.width)) refl);
+      ∙ sym (colour_at-one (colour_of a.pixels at) shape (at % a.width) (at / a.width) ∙ rw (same (at % a.width) (at / a.width), shown (at % a.width) (at / a.width)) refl);
 }
 
 -- the same where the shape covers what the test says in the rows of the picture
-pub painted-rows : (thing : PaintedShape) (test : ℕ → ℕ → Bool) (colour : ℕ → ℕ → Option Rgb) (a b : PictureFields) → length a.pixels ≡ a.width * a.height →
-    ((i j : ℕ) → j < a.height → covers thing i j ≡ test i j) →
-    ((i j : ℕ) → colour_in thing i j ≡ colour i j) → IsFilled test colour a b → IsPainted a b (thing ∷ [])
-painted-rows thing test colour a b area same shown f = record {
+pub painted-rows : (shape : PaintedShape) (test : ℕ → ℕ → Bool) (colour : ℕ → ℕ → Option Rgb) (a b : PictureFields) → length a.pixels ≡ a.width * a.height →
+    ((i j : ℕ) → j < a.height → covers shape i j ≡ test i j) →
+    ((i j : ℕ) → colour_in shape i j ≡ colour i j) → IsFilled test colour a b → IsPainted a b (shape ∷ [])
+painted-rows shape test colour a b area same shown f = record {
   width = f.width;
   height = f.height;
   area = f.area;
   pixels = λ at h. f.filled at h
-      ∙ sym (colour_at-one (colour_of a.pixels at) thing (at % a.width) (at / a.width)
+      ∙ sym (colour_at-one (colour_of a.pixels at) shape (at % a.width) (at / a.width)
       ∙ rw (same (at % a.width) (at / a.width) (row-below at a.width a.height (rw area at h)), shown (at % a.width) (at / a.width)) refl);
 }
   where

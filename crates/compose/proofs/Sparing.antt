@@ -15,12 +15,12 @@ use Rattle.mapdefs.specs.declared.symbol.Symbol.{Symbol}
 use Rattle.viewport.specs.View.{ViewValue, window}
 use Rattle.compose.specs.Near.{margin_of}
 use Rattle.compose.specs.Drawn.{DrawingValue, IsDrawn}
-use Rattle.compose.specs.Walk.{ClassifiedFeatureValue, given_at, met_chosen, met_feature, met_layer, met_things}
+use Rattle.compose.specs.Walk.{ClassifiedFeatureValue, given_at, classified_chosen, classified_feature, classified_layer, classified_shapes}
 use Rattle.labelcache.specs.Candidate.{CandidateValue}
 use Rattle.scene.specs.Scene.{SceneValue}
 use Rattle.compose.proofs.Found.{found-label-all, given-nested}
 use Rattle.compose.proofs.Walking.{nested, of-feature}
-use Rattle.compose.specs.Paint.{feature_things}
+use Rattle.compose.specs.Paint.{feature_shapes}
 use Rattle.compose.specs.Painted.{IsPainted, colour_of}
 use Rattle.compose.proofs.Candidates.{paint-all}
 use Rattle.compose.proofs.NearThings.{paints-near}
@@ -48,8 +48,8 @@ column-below at w some = omega arith
 pub spared : (view : ViewValue) (scale : PictureScale) (symbols : List Symbol) (layer : LayerFields) (found : List ℕ) (a b : PictureFields) →
     IsExtent view.area → IsPictureSide view.width → IsPictureSide view.height → a.width ≡ view.width → a.height ≡ view.height → length a.pixels ≡ a.width * a.height →
     AreCandidates layer.features (window view (margin_of symbols layer)) found →
-    IsPainted a b (flat_map (given_at (feature_things view scale symbols layer) layer.features) found) →
-    IsPainted a b (flat_map (feature_things view scale symbols layer) layer.features)
+    IsPainted a b (flat_map (given_at (feature_shapes view scale symbols layer) layer.features) found) →
+    IsPainted a b (flat_map (feature_shapes view scale symbols layer) layer.features)
 spared view scale symbols layer found a b extent width height wide high area are p = record {
   width = p.width;
   height = p.height;
@@ -59,7 +59,7 @@ spared view scale symbols layer found a b extent width height wide high area are
       let column : at % a.width < view.width = omega (arith, wide, column-below at a.width some) in
       let row : at / a.width < view.height = omega (arith, high, div_below at a.width a.height some (omega (arith, area, h))) in
       p.pixels at h
-      ∙ paint-all (feature_things view scale symbols layer) layer.features found (colour_of a.pixels at) (at % a.width) (at / a.width) are.rising are.indices
+      ∙ paint-all (feature_shapes view scale symbols layer) layer.features found (colour_of a.pixels at) (at % a.width) (at / a.width) are.rising are.indices
       (λ k feature is covered. are.each k feature is (paints-near view scale symbols layer feature (at % a.width) (at / a.width) extent width height column row covered));
 }
 
@@ -68,18 +68,18 @@ pub spared-drawing : (scene : SceneValue) (layer : LayerFields) (found : List �
     IsExtent scene.view.area → IsPictureSide scene.view.width → IsPictureSide scene.view.height →
     a.canvas.width ≡ scene.view.width → a.canvas.height ≡ scene.view.height → length a.canvas.pixels ≡ a.canvas.width * a.canvas.height →
     AreCandidates layer.features (window scene.view (margin_of scene.map.symbols layer)) found →
-    IsDrawn scene a b (flat_map (given_at (met_feature scene.scale layer) layer.features) found) →
-    IsDrawn scene a b (flat_map (met_feature scene.scale layer) layer.features)
+    IsDrawn scene a b (flat_map (given_at (classified_feature scene.scale layer) layer.features) found) →
+    IsDrawn scene a b (flat_map (classified_feature scene.scale layer) layer.features)
 spared-drawing scene layer found a b extent width height wide high area are p =
     let view = scene.view in
     let symbols = scene.map.symbols in
-    let things = met_things view symbols in
-    let painted = feature_things view scene.scale symbols layer in
+    let shapes = classified_shapes view symbols in
+    let painted = feature_shapes view scene.scale symbols layer in
     let same = of-feature view scene.scale symbols layer in
     record {
-      painted = rw (← nested things (met_feature scene.scale layer) painted same layer.features)
+      painted = rw (← nested shapes (classified_feature scene.scale layer) painted same layer.features)
           (spared view scene.scale symbols layer found a.canvas b.canvas extent width height wide high area are
-          (rw (← given-nested things (met_feature scene.scale layer) painted same layer.features found) at p.painted));
+          (rw (← given-nested shapes (classified_feature scene.scale layer) painted same layer.features found) at p.painted));
       labelled = p.labelled
           ∙ ap (λ (z : List CandidateValue). a.labels ++ z)
           (found-label-all view (margin_of symbols layer) scene.scale scene.map.font layer found extent width height are);
@@ -87,5 +87,5 @@ spared-drawing scene layer found a b extent width height wide high area are p =
 
 -- the classified features of a layer are those of its index in the map
 pub drawn-chosen : (scene : SceneValue) (index : ℕ) (layer : LayerFields) (a b : DrawingValue) → slice_get scene.map.layers index ≡ Some layer →
-    IsDrawn scene a b (met_layer scene.scale layer) → IsDrawn scene a b (met_chosen scene.scale scene.map index)
+    IsDrawn scene a b (classified_layer scene.scale layer) → IsDrawn scene a b (classified_chosen scene.scale scene.map index)
 drawn-chosen scene index layer a b e p = rw e p

@@ -25,7 +25,7 @@ use Rattle.compose.specs.Paint.{Stroke}
 use Rattle.compose.specs.Painted.{IsFilled, IsPainted, colour_of}
 use Rattle.compose.specs.declared.trail.Trail.{Trail}
 use Rattle.compose.specs.Stroked.{HasAlready, IsOf, IsQuiet, IsTrail, PenValue, has_place, part_covers, pen_covers, rest_covers, segment_covers, step_covers, vertex_covers}
-use Rattle.compose.proofs.Painting.{painted-thing}
+use Rattle.compose.proofs.Painting.{painted-shape}
 use Rattle.compose.proofs.Filling.{filled-either, filled-nothing, filled-same, some-columns}
 
 -- what a test fills has its colour then
@@ -274,7 +274,7 @@ pub stroked : (pen : PenValue) (parts : List (List Place)) (closed : Bool) (widt
     IsFilled (λ i j. covers_pixel (line_of (map (map (device_point pen.view)) parts) closed pen.width) (pos i) (pos j)) (λ i j. Some pen.colour) a b →
     IsPainted a b (Stroke (line_of (map (map (device_point view)) parts) closed width) colour ∷ [])
 stroked pen parts closed width colour view a b e f =
-    painted-thing (Stroke (line_of (map (map (device_point view)) parts) closed width) colour) (λ i j. covers_pixel (line_of (map (map (device_point view)) parts) closed width) (pos i) (pos j)) (λ i j. Some colour)
+    painted-shape (Stroke (line_of (map (map (device_point view)) parts) closed width) colour) (λ i j. covers_pixel (line_of (map (map (device_point view)) parts) closed width) (pos i) (pos j)) (λ i j. Some colour)
     a b (λ i j. refl) (λ i j. refl) (rw e at f)
 
 -- what passes a test with its colour, passes a weaker one with it, off the picture too

@@ -6,11 +6,11 @@ use Rattle.labelcache.specs.declared.cache.Placed.{Placed}
 use Rattle.mapdefs.specs.declared.colour.Rgb.{Rgb}
 use Rattle.mapdefs.specs.declared.picture.PictureFields.{PictureFields}
 use Rattle.scene.specs.Scene.{SceneValue}
-use Rattle.compose.specs.Labels.{ArePlaced, candidate_list, ink_list, met_candidates}
+use Rattle.compose.specs.Labels.{ArePlaced, candidate_list, ink_list, classified_candidates}
 use Rattle.compose.specs.Paint.{paint_list}
 use Rattle.compose.specs.Painted.{IsPainted}
 use Rattle.compose.specs.Picture.{colour_at}
-use Rattle.compose.specs.Walk.{ClassifiedFeatureValue, met_chosen, met_things}
+use Rattle.compose.specs.Walk.{ClassifiedFeatureValue, classified_chosen, classified_shapes}
 
 -- a picture while it is drawn, and the candidates for its labels so far
 pub record DrawingValue : Type 0 where
@@ -19,18 +19,18 @@ pub record DrawingValue : Type 0 where
 
 -- the classified features have been painted over the picture, and their candidates are added
 pub record IsDrawn (scene : SceneValue) (old new : DrawingValue) (met : List ClassifiedFeatureValue) : Type 0 where
-  pub painted : IsPainted old.canvas new.canvas (flat_map (met_things scene.view scene.map.symbols) met)
-  pub labelled : new.labels ≡ old.labels ++ flat_map (met_candidates scene.view scene.map.font) met
+  pub painted : IsPainted old.canvas new.canvas (flat_map (classified_shapes scene.view scene.map.symbols) met)
+  pub labelled : new.labels ≡ old.labels ++ flat_map (classified_candidates scene.view scene.map.font) met
 
 -- the candidates of the classified features are added, and the picture is as it was
 pub record IsLabelled (scene : SceneValue) (old new : DrawingValue) (met : List ClassifiedFeatureValue) : Type 0 where
   pub canvas : new.canvas ≡ old.canvas
-  pub labelled : new.labels ≡ old.labels ++ flat_map (met_candidates scene.view scene.map.font) met
+  pub labelled : new.labels ≡ old.labels ++ flat_map (classified_candidates scene.view scene.map.font) met
 
 -- the layer at an index that stands before others in a list has been drawn; or it stands among these again, and only its candidates are added
 abbrev pub IsMentioned : SceneValue → ℕ → List ℕ → DrawingValue → DrawingValue → Type 0
 IsMentioned scene index after old new =
-    (Contains after index × IsLabelled scene old new (met_chosen scene.scale scene.map index)) ⊎ IsDrawn scene old new (met_chosen scene.scale scene.map index)
+    (Contains after index × IsLabelled scene old new (classified_chosen scene.scale scene.map index)) ⊎ IsDrawn scene old new (classified_chosen scene.scale scene.map index)
 
 -- of the chosen layers, the done ones have been mentioned, and the rest has not: what is painted are those that are kept, with which the rest
 -- gives each pixel the colour that all chosen layers give it

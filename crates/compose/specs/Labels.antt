@@ -24,7 +24,7 @@ use Rattle.viewport.specs.View.{ViewValue, window}
 use Rattle.compose.specs.Anchor.{shown_anchor}
 use Rattle.compose.specs.Paint.{PaintedShape, Written}
 use Rattle.compose.specs.Paint as paint
-use Rattle.compose.specs.Walk.{ClassifiedFeatureValue, given_at, met_feature, met_list}
+use Rattle.compose.specs.Walk.{ClassifiedFeatureValue, given_at, classified_feature, classified_list}
 
 -- the first so many characters of a text
 abbrev pub first_characters : ℕ → List ℕ → List ℕ
@@ -52,9 +52,9 @@ label_candidates view met =
     option_map_or (λ label. option_map_or (candidate_at label (label_text met.layer met.feature)) (shown_anchor view met.layer.kind met.feature) []) met.class.label []
 
 -- the same on a map, which has no labels without a font
-abbrev pub met_candidates : ViewValue → Option FontFields → ClassifiedFeatureValue → List CandidateValue
-met_candidates view None met = []
-met_candidates view (Some font) met = label_candidates view met
+abbrev pub classified_candidates : ViewValue → Option FontFields → ClassifiedFeatureValue → List CandidateValue
+classified_candidates view None met = []
+classified_candidates view (Some font) met = label_candidates view met
 
 -- whether features of a class may have labels
 abbrev pub has_label : ClassFields → Bool
@@ -62,14 +62,14 @@ has_label class = is_some class.label
 
 -- all candidates, by their numbers: those of the classified features, in order
 abbrev pub candidate_list : ViewValue → PictureScale → MapFields → List ℕ → List CandidateValue
-candidate_list view scale m chosen = flat_map (met_candidates view m.font) (met_list scale m chosen)
+candidate_list view scale m chosen = flat_map (classified_candidates view m.font) (classified_list scale m chosen)
 
 -- the law: what is found in a window of the picture, whatever its margin, gives the candidates that all features of the layer give, in the same order
 abbrev pub FoundLabelAll : Type 0
 FoundLabelAll = (view : ViewValue) (margin : ℕ) (scale : PictureScale) (font : Option FontFields) (layer : LayerFields) (found : List ℕ) →
     IsExtent view.area → IsPictureSide view.width → IsPictureSide view.height → AreCandidates layer.features (window view margin) found →
-    flat_map (met_candidates view font) (flat_map (given_at (met_feature scale layer) layer.features) found)
-    ≡ flat_map (met_candidates view font) (flat_map (met_feature scale layer) layer.features)
+    flat_map (classified_candidates view font) (flat_map (given_at (classified_feature scale layer) layer.features) found)
+    ≡ flat_map (classified_candidates view font) (flat_map (classified_feature scale layer) layer.features)
 
 -- labels are the placement of candidates in a font on the picture of a view; without a font there are none
 abbrev pub ArePlaced : ViewValue → Option FontFields → List CandidateValue → List Placed → Type 0
@@ -86,16 +86,16 @@ inks w None = []
 inks w (Some colour) = paint.Inked w colour ∷ []
 
 -- what is painted of a candidate whose text has its corner at a pixel: its outline, and then its glyphs
-abbrev pub candidate_things : FontFields → CandidateValue → PixelValue → List PaintedShape
-candidate_things font c at =
+abbrev pub candidate_shapes : FontFields → CandidateValue → PixelValue → List PaintedShape
+candidate_shapes font c at =
     let w : Written = record { font = font; characters = chars c.text; at = at } in
     outlines w c.label.outline ++ inks w c.label.colour
 
 -- what is painted of a label
-abbrev pub label_things : FontFields → List CandidateValue → Placed → List PaintedShape
-label_things font candidates label = option_map_or (λ c. candidate_things font c label.at) (slice_get candidates label.number) []
+abbrev pub label_shapes : FontFields → List CandidateValue → Placed → List PaintedShape
+label_shapes font candidates label = option_map_or (λ c. candidate_shapes font c label.at) (slice_get candidates label.number) []
 
 -- all that is painted of labels, in the order in which they were placed
 abbrev pub ink_list : Option FontFields → List CandidateValue → List Placed → List PaintedShape
 ink_list None candidates labels = []
-ink_list (Some font) candidates labels = flat_map (label_things font candidates) labels
+ink_list (Some font) candidates labels = flat_map (label_shapes font candidates) labels

@@ -14,7 +14,7 @@ use Rattle.mapdefs.specs.declared.layer.LayerFields.{LayerFields}
 use Rattle.mapdefs.specs.declared.style.StyleFields.{StyleFields}
 use Rattle.mapdefs.specs.declared.symbol.Symbol.{Symbol}
 use Rattle.viewport.specs.View.{ViewValue, window}
-use Rattle.compose.specs.Paint.{PaintedShape, covers, feature_things}
+use Rattle.compose.specs.Paint.{PaintedShape, covers, feature_shapes}
 use Rattle.compose.specs.Walk.{given_at}
 use Rattle.mapdefs.specs.Near.{HasBoxIn}
 
@@ -44,12 +44,12 @@ margin_of symbols layer = furthest symbols (flat_map (λ (class : ClassFields). 
 abbrev pub PaintsNear : Type 0
 PaintsNear = (view : ViewValue) (scale : PictureScale) (symbols : List Symbol) (layer : LayerFields) (feature : FeatureFields) (i j : ℕ) →
     IsExtent view.area → IsPictureSide view.width → IsPictureSide view.height → i < view.width → j < view.height →
-    list_any (λ thing. covers thing i j) (feature_things view scale symbols layer feature) ≡ true →
+    list_any (λ shape. covers shape i j) (feature_shapes view scale symbols layer feature) ≡ true →
     HasBoxIn (window view (margin_of symbols layer)) feature
 
 -- the law: painting candidates in their order is painting all, where each whose shapes cover a pixel of the picture is a candidate
 abbrev pub CandidatesPaintAll : Type 0
 CandidatesPaintAll = (f : FeatureFields → List PaintedShape) (features : List FeatureFields) (found : List ℕ) (background : Option Rgb) (i j : ℕ) →
     IsStrictlyIncreasing found → All (λ k. k < length features) found →
-    ((k : ℕ) (feature : FeatureFields) → slice_get features k ≡ Some feature → list_any (λ thing. covers thing i j) (f feature) ≡ true → Contains found k) →
+    ((k : ℕ) (feature : FeatureFields) → slice_get features k ≡ Some feature → list_any (λ shape. covers shape i j) (f feature) ≡ true → Contains found k) →
     colour_at background (flat_map (given_at f features) found) i j ≡ colour_at background (flat_map f features) i j

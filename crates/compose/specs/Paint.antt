@@ -82,16 +82,16 @@ abbrev pub stamps : PixelValue → Symbol → List PaintedShape
 stamps pixel symbol = Stamped (record { pixmap = symbol.pixmap; pixel = pixel }) ∷ []
 
 -- what a style paints of a polygon: its rings, and then the closed line along them in the colour of the outline
-abbrev pub polygon_things : List (List DevicePoint) → StyleFields → List PaintedShape
-polygon_things rings style = fills rings style.colour ++ strokes (line_of rings true style.width) style.outline
+abbrev pub polygon_shapes : List (List DevicePoint) → StyleFields → List PaintedShape
+polygon_shapes rings style = fills rings style.colour ++ strokes (line_of rings true style.width) style.outline
 
 -- what a style paints of lines: the line along them
-abbrev pub line_things : List (List DevicePoint) → StyleFields → List PaintedShape
-line_things parts style = strokes (line_of parts false style.width) style.colour
+abbrev pub line_shapes : List (List DevicePoint) → StyleFields → List PaintedShape
+line_shapes parts style = strokes (line_of parts false style.width) style.colour
 
 -- what a style paints of a point: the pixmap of its symbol round the point's pixel, or without a symbol a square round it
-abbrev pub point_things : ViewValue → List Symbol → StyleFields → Place → List PaintedShape
-point_things view symbols style place =
+abbrev pub point_shapes : ViewValue → List Symbol → StyleFields → Place → List PaintedShape
+point_shapes view symbols style place =
     let pixel = pixel_of (device_point view place) in
     elim style.symbol [
       | Some index ↦ option_map_or (stamps pixel) (slice_get symbols index) []
@@ -99,29 +99,29 @@ point_things view symbols style place =
     ]
 
 -- what a style paints of a feature of that kind, of which the points are painted one after another
-abbrev pub style_things : ViewValue → List Symbol → Geometry → FeatureFields → StyleFields → List PaintedShape
-style_things view symbols kind.Polygon feature style = polygon_things (parts_of view feature) style
-style_things view symbols kind.Line feature style = line_things (parts_of view feature) style
-style_things view symbols kind.Point feature style = flat_map (λ part. flat_map (point_things view symbols style) part) feature.parts
+abbrev pub style_shapes : ViewValue → List Symbol → Geometry → FeatureFields → StyleFields → List PaintedShape
+style_shapes view symbols kind.Polygon feature style = polygon_shapes (parts_of view feature) style
+style_shapes view symbols kind.Line feature style = line_shapes (parts_of view feature) style
+style_shapes view symbols kind.Point feature style = flat_map (λ part. flat_map (point_shapes view symbols style) part) feature.parts
 
 -- what a class paints of a feature: its styles, in order
-abbrev pub class_things : ViewValue → List Symbol → Geometry → FeatureFields → ClassFields → List PaintedShape
-class_things view symbols kind feature class = flat_map (style_things view symbols kind feature) class.styles
+abbrev pub class_shapes : ViewValue → List Symbol → Geometry → FeatureFields → ClassFields → List PaintedShape
+class_shapes view symbols kind feature class = flat_map (style_shapes view symbols kind feature) class.styles
 
 -- what is painted of a feature at a scale: what its class paints, if it has one
-abbrev pub feature_things : ViewValue → PictureScale → List Symbol → LayerFields → FeatureFields → List PaintedShape
-feature_things view scale symbols layer feature =
-    option_map_or (class_things view symbols layer.kind feature) (class_of scale layer feature) []
+abbrev pub feature_shapes : ViewValue → PictureScale → List Symbol → LayerFields → FeatureFields → List PaintedShape
+feature_shapes view scale symbols layer feature =
+    option_map_or (class_shapes view symbols layer.kind feature) (class_of scale layer feature) []
 
 -- what is painted of a layer: its features, in order, where it is visible at the scale
-abbrev pub layer_things : ViewValue → PictureScale → List Symbol → LayerFields → List PaintedShape
-layer_things view scale symbols layer =
-    if is_visible_layer scale layer then flat_map (feature_things view scale symbols layer) layer.features else []
+abbrev pub layer_shapes : ViewValue → PictureScale → List Symbol → LayerFields → List PaintedShape
+layer_shapes view scale symbols layer =
+    if is_visible_layer scale layer then flat_map (feature_shapes view scale symbols layer) layer.features else []
 
 -- what is painted of the layer at that index in the map
-abbrev pub chosen_things : ViewValue → PictureScale → MapFields → ℕ → List PaintedShape
-chosen_things view scale m index = option_map_or (layer_things view scale m.symbols) (slice_get m.layers index) []
+abbrev pub chosen_shapes : ViewValue → PictureScale → MapFields → ℕ → List PaintedShape
+chosen_shapes view scale m index = option_map_or (layer_shapes view scale m.symbols) (slice_get m.layers index) []
 
 -- all that is painted of features, from the first to the last: the chosen layers, in order
 abbrev pub paint_list : ViewValue → PictureScale → MapFields → List ℕ → List PaintedShape
-paint_list view scale m chosen = flat_map (chosen_things view scale m) chosen
+paint_list view scale m chosen = flat_map (chosen_shapes view scale m) chosen

@@ -10,12 +10,12 @@ abbrev pub colour_of : List (Option Rgb) → ℕ → Option Rgb
 colour_of pixels at = slice_index_or pixels at None
 
 -- the new picture is the old one with the shapes painted over it, in order
-pub record IsPainted (old new : PictureFields) (things : List PaintedShape) : Type 0 where
+pub record IsPainted (old new : PictureFields) (shapes : List PaintedShape) : Type 0 where
   pub width : new.width ≡ old.width
   pub height : new.height ≡ old.height
   pub area : length new.pixels ≡ length old.pixels
   pub pixels : (at : ℕ) → at < length old.pixels →
-      colour_of new.pixels at ≡ colour_at (colour_of old.pixels at) things (at % old.width) (at / old.width)
+      colour_of new.pixels at ≡ colour_at (colour_of old.pixels at) shapes (at % old.width) (at / old.width)
 
 -- the new pixels have their colours where a test passes, and else are as the old ones; test and colours are of a column and a row
 abbrev pub AreFilled : (ℕ → ℕ → Bool) → (ℕ → ℕ → Option Rgb) → ℕ → List (Option Rgb) → List (Option Rgb) → Type 0

@@ -13,8 +13,8 @@ use Rattle.compose.specs.Paint.{PaintedShape, covers, colour_in, paint_list}
 
 -- the colour of a pixel: that of the last shape that covers it, else the background, which may be none
 unfoldable pub colour_at : Option Rgb → List PaintedShape → ℕ → ℕ → Option Rgb
-colour_at background things i j =
-    option_map_or (λ thing. colour_in thing i j) (find (λ thing. covers thing i j) (reverse things)) background
+colour_at background shapes i j =
+    option_map_or (λ shape. colour_in shape i j) (find (λ shape. covers shape i j) (reverse shapes)) background
 
 -- the picture has labels, the view's sides, and as many pixels as these say; each pixel has the colour of the last shape that covers it,
 -- among what is painted of features and then of the labels, else the background

@@ -10,7 +10,7 @@ use Rattle.mapdefs.specs.declared.layer.LayerFields.{LayerFields}
 use Rattle.mapdefs.specs.declared.map.MapFields.{MapFields}
 use Rattle.mapdefs.specs.declared.symbol.Symbol.{Symbol}
 use Rattle.viewport.specs.View.{ViewValue}
-use Rattle.compose.specs.Paint.{PaintedShape, class_things, paint_list}
+use Rattle.compose.specs.Paint.{PaintedShape, class_shapes, paint_list}
 
 -- what the element at an index gives, if there is one
 abbrev pub given_at : {X Y : Type 0} → (X → List Y) → List X → ℕ → List Y
@@ -23,27 +23,27 @@ pub record ClassifiedFeatureValue : Type 0 where
   pub class : ClassFields
 
 -- a feature of a layer is classified if it has a class at the scale
-abbrev pub met_feature : PictureScale → LayerFields → FeatureFields → List ClassifiedFeatureValue
-met_feature scale layer feature =
+abbrev pub classified_feature : PictureScale → LayerFields → FeatureFields → List ClassifiedFeatureValue
+classified_feature scale layer feature =
     option_map_or (λ (class : ClassFields). record { layer = layer; feature = feature; class = class } ∷ []) (class_of scale layer feature) []
 
 -- the classified features of a layer, in order, where it is visible at the scale
-abbrev pub met_layer : PictureScale → LayerFields → List ClassifiedFeatureValue
-met_layer scale layer = if is_visible_layer scale layer then flat_map (met_feature scale layer) layer.features else []
+abbrev pub classified_layer : PictureScale → LayerFields → List ClassifiedFeatureValue
+classified_layer scale layer = if is_visible_layer scale layer then flat_map (classified_feature scale layer) layer.features else []
 
 -- the classified features of the layer at that index in the map
-abbrev pub met_chosen : PictureScale → MapFields → ℕ → List ClassifiedFeatureValue
-met_chosen scale m index = option_map_or (met_layer scale) (slice_get m.layers index) []
+abbrev pub classified_chosen : PictureScale → MapFields → ℕ → List ClassifiedFeatureValue
+classified_chosen scale m index = option_map_or (classified_layer scale) (slice_get m.layers index) []
 
 -- all classified features, from the first to the last: those of the chosen layers, in order
-abbrev pub met_list : PictureScale → MapFields → List ℕ → List ClassifiedFeatureValue
-met_list scale m chosen = flat_map (met_chosen scale m) chosen
+abbrev pub classified_list : PictureScale → MapFields → List ℕ → List ClassifiedFeatureValue
+classified_list scale m chosen = flat_map (classified_chosen scale m) chosen
 
 -- what is painted of a classified feature
-abbrev pub met_things : ViewValue → List Symbol → ClassifiedFeatureValue → List PaintedShape
-met_things view symbols met = class_things view symbols met.layer.kind met.feature met.class
+abbrev pub classified_shapes : ViewValue → List Symbol → ClassifiedFeatureValue → List PaintedShape
+classified_shapes view symbols met = class_shapes view symbols met.layer.kind met.feature met.class
 
 -- the law that the paint list is what is painted of the classified features
 abbrev pub PaintListIsOfTheMet : Type 0
 PaintListIsOfTheMet = (view : ViewValue) (scale : PictureScale) (m : MapFields) (chosen : List ℕ) →
-    paint_list view scale m chosen ≡ flat_map (met_things view m.symbols) (met_list scale m chosen)
+    paint_list view scale m chosen ≡ flat_map (classified_shapes view m.symbols) (classified_list scale m chosen)

@@ -4,7 +4,7 @@ ghost use Rattle.std.specs.Str.{chars};
 ghost use Rattle.bdffont.specs.declared.text.TheConstants.{MAX_CHARACTERS};
 ghost use Rattle.labelink.specs.Ink.{outlines_glyph};
 ghost use Rattle.compose.specs.Drawn.{HasLabels};
-ghost use Rattle.compose.specs.Labels.{candidate_things, inks, label_things, outlines};
+ghost use Rattle.compose.specs.Labels.{candidate_shapes, inks, label_shapes, outlines};
 ghost use Rattle.compose.specs.Painted.{IsFilled, IsPainted};
 
 use crate::canvas::Canvas;
@@ -96,7 +96,7 @@ fn paint_candidate(
     candidate: &Candidate<'_>,
     at: Pixel,
 ) -> Result<(), AllocError>
-    ensures { OnOk result (IsPainted canvas.old canvas.new (candidate_things font.now candidate.now at)) }
+    ensures { OnOk result (IsPainted canvas.old canvas.new (candidate_shapes font.now candidate.now at)) }
 {
     let text = WrittenText::new(canvas.alloc(), font, candidate.text(), at)?;
     let label = candidate.label();
@@ -111,7 +111,7 @@ fn paint_label(
     labels: &Cache<'_>,
     label: Placed,
 ) -> Result<(), AllocError>
-    ensures { OnOk result (IsPainted canvas.old canvas.new (label_things font.now labels.now label)) }
+    ensures { OnOk result (IsPainted canvas.old canvas.new (label_shapes font.now labels.now label)) }
 {
     match labels.candidate(label.number) {
         Some(candidate) => paint_candidate(canvas, font, candidate, label.at),
@@ -126,7 +126,7 @@ fn paint_placed(
     labels: &Cache<'_>,
     placed: &[Placed],
 ) -> Result<(), AllocError>
-    ensures { OnOk result (IsPainted canvas.old canvas.new (flat_map (label_things font.now labels.now) placed.now)) }
+    ensures { OnOk result (IsPainted canvas.old canvas.new (flat_map (label_shapes font.now labels.now) placed.now)) }
 {
     for label in placed {
         paint_label(canvas, font, labels, *label)?;

@@ -1,7 +1,7 @@
 ghost use Rattle.std.specs.Prelude.{◌≡◌, ◌≤◌, ◌++◌, length, OnOk};
 ghost use Rattle.std.specs.Str.{chars};
 ghost use Rattle.bdffont.specs.declared.text.TheConstants.{MAX_CHARACTERS};
-ghost use Rattle.compose.specs.Labels.{feature_text, first_characters, label_text, met_candidates};
+ghost use Rattle.compose.specs.Labels.{feature_text, first_characters, label_text, classified_candidates};
 
 use crate::anchor::shown_anchor;
 use crate::classified_feature::ClassifiedFeature;
@@ -64,7 +64,7 @@ pub fn add_candidate<'a>(
     scene: &Scene<'_>,
     met: &ClassifiedFeature<'a>,
 ) -> Result<(), AllocError>
-    ensures { OnOk result (labels.new ≡ labels.old ++ met_candidates scene.now.view scene.now.map.font met.now) }
+    ensures { OnOk result (labels.new ≡ labels.old ++ classified_candidates scene.now.view scene.now.map.font met.now) }
 {
     let Some(_font) = scene.font() else {
         return Ok(());

@@ -1,7 +1,7 @@
 ghost use Rattle.std.specs.Prelude.{◌≡◌, ◌<◌, ◌++◌, All, OnOk, length};
 ghost use Rattle.std.specs.List.{flat_map, list_any};
-ghost use Rattle.compose.specs.Labels.{has_label, met_candidates};
-ghost use Rattle.compose.specs.Walk.{given_at, met_chosen, met_feature};
+ghost use Rattle.compose.specs.Labels.{has_label, classified_candidates};
+ghost use Rattle.compose.specs.Walk.{given_at, classified_chosen, classified_feature};
 
 use crate::classified_feature::ClassifiedFeature;
 use crate::label::add_candidate;
@@ -20,7 +20,7 @@ pub fn add_layer<'a, N: Near>(
 ) -> Result<(), AllocError>
     requires near { N.map_of near.now ≡ scene.now.map }
     requires index { index < length scene.now.map.layers }
-    ensures { OnOk result (labels.new ≡ labels.old ++ flat_map (met_candidates scene.now.view scene.now.map.font) (met_chosen scene.now.scale scene.now.map index)) }
+    ensures { OnOk result (labels.new ≡ labels.old ++ flat_map (classified_candidates scene.now.view scene.now.map.font) (classified_chosen scene.now.scale scene.now.map index)) }
 {
     let layer = scene.layer(index);
     if !scene.shows(layer) {
@@ -53,7 +53,7 @@ fn add_features<'a>(
     found: &[u32],
 ) -> Result<(), AllocError>
     requires { All (λ k. k < length layer.now.features) found.now }
-    ensures { OnOk result (labels.new ≡ labels.old ++ flat_map (met_candidates scene.now.view scene.now.map.font) (flat_map (given_at (met_feature scene.now.scale layer.now) layer.now.features) found.now)) }
+    ensures { OnOk result (labels.new ≡ labels.old ++ flat_map (classified_candidates scene.now.view scene.now.map.font) (flat_map (given_at (classified_feature scene.now.scale layer.now) layer.now.features) found.now)) }
 {
     let features = layer.features.as_slice();
     for index in found {
@@ -69,7 +69,7 @@ fn add_feature<'a>(
     layer: &'a LayerFields,
     feature: &'a FeatureFields,
 ) -> Result<(), AllocError>
-    ensures { OnOk result (labels.new ≡ labels.old ++ flat_map (met_candidates scene.now.view scene.now.map.font) (met_feature scene.now.scale layer.now feature.now)) }
+    ensures { OnOk result (labels.new ≡ labels.old ++ flat_map (classified_candidates scene.now.view scene.now.map.font) (classified_feature scene.now.scale layer.now feature.now)) }
 {
     match scene.class_of(layer, feature) {
         Some(class) => add_candidate(

@@ -3,7 +3,7 @@ ghost use Rattle.std.specs.List.{flat_map};
 ghost use Rattle.compose.specs.Drawn.{IsDrawn, IsMentioned};
 ghost use Rattle.compose.specs.Painted.{IsPainted};
 ghost use Rattle.compose.specs.Picture.{IsPictureOf};
-ghost use Rattle.compose.specs.Walk.{given_at, met_chosen, met_feature, met_things};
+ghost use Rattle.compose.specs.Walk.{given_at, classified_chosen, classified_feature, classified_shapes};
 
 use crate::canvas::Canvas;
 use crate::classified_feature::ClassifiedFeature;
@@ -113,7 +113,7 @@ fn draw_layer<'a, N: Near>(
     requires width { drawing.old.canvas.width ≡ scene.now.view.width }
     requires height { drawing.old.canvas.height ≡ scene.now.view.height }
     requires area { length drawing.old.canvas.pixels ≡ drawing.old.canvas.width * drawing.old.canvas.height }
-    ensures { OnOk result (IsDrawn scene.now drawing.old drawing.new (met_chosen scene.now.scale scene.now.map index)) }
+    ensures { OnOk result (IsDrawn scene.now drawing.old drawing.new (classified_chosen scene.now.scale scene.now.map index)) }
 {
     let layer = scene.layer(index);
     if !scene.shows(layer) {
@@ -134,7 +134,7 @@ fn draw_features<'a>(
     requires indices { All (λ k. k < length layer.now.features) found.now }
     requires width { drawing.old.canvas.width ≡ scene.now.view.width }
     requires height { drawing.old.canvas.height ≡ scene.now.view.height }
-    ensures { OnOk result (IsDrawn scene.now drawing.old drawing.new (flat_map (given_at (met_feature scene.now.scale layer.now) layer.now.features) found.now)) }
+    ensures { OnOk result (IsDrawn scene.now drawing.old drawing.new (flat_map (given_at (classified_feature scene.now.scale layer.now) layer.now.features) found.now)) }
 {
     let features = layer.features.as_slice();
     for index in found {
@@ -152,7 +152,7 @@ fn draw_feature<'a>(
 ) -> Result<(), AllocError>
     requires width { drawing.old.canvas.width ≡ scene.now.view.width }
     requires height { drawing.old.canvas.height ≡ scene.now.view.height }
-    ensures { OnOk result (IsDrawn scene.now drawing.old drawing.new (met_feature scene.now.scale layer.now feature.now)) }
+    ensures { OnOk result (IsDrawn scene.now drawing.old drawing.new (classified_feature scene.now.scale layer.now feature.now)) }
 {
     let Some(class) = scene.class_of(layer, feature) else {
         return Ok(());
@@ -170,7 +170,7 @@ fn paint_feature(
 ) -> Result<(), AllocError>
     requires width { canvas.old.width ≡ scene.now.view.width }
     requires height { canvas.old.height ≡ scene.now.view.height }
-    ensures { OnOk result (IsPainted canvas.old canvas.new (met_things scene.now.view scene.now.map.symbols met.now)) }
+    ensures { OnOk result (IsPainted canvas.old canvas.new (classified_shapes scene.now.view scene.now.map.symbols met.now)) }
 {
     let parts = met.feature().parts.as_slice();
     let styles = met.class().styles.as_slice();

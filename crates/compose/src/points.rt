@@ -1,7 +1,7 @@
 ghost use Rattle.std.specs.Prelude.{◌≡◌, ◌≤◌};
 ghost use Rattle.std.specs.List.{flat_map};
 ghost use Rattle.mapdefs.specs.declared.limits.TheConstants.{MAX_SQUARE};
-ghost use Rattle.compose.specs.Paint.{marks, point_things, stamps};
+ghost use Rattle.compose.specs.Paint.{marks, point_shapes, stamps};
 ghost use Rattle.compose.specs.Painted.{IsPainted};
 
 use crate::boxes::fill_square;
@@ -16,7 +16,7 @@ use symbols::Stamp;
 /// Paints the points of these parts by each style, in order. It takes no memory.
 pub fn paint_points(canvas: &mut Canvas, scene: &Scene<'_>, parts: &[Part], styles: &[Style])
     ensures { IsPainted canvas.old canvas.new
-        (flat_map (λ style. flat_map (λ part. flat_map (point_things scene.now.view scene.now.map.symbols style) part) parts.now) styles.now) }
+        (flat_map (λ style. flat_map (λ part. flat_map (point_shapes scene.now.view scene.now.map.symbols style) part) parts.now) styles.now) }
 {
     for style in styles {
         paint_by_style(canvas, scene, parts, style);
@@ -25,7 +25,7 @@ pub fn paint_points(canvas: &mut Canvas, scene: &Scene<'_>, parts: &[Part], styl
 
 // Paints the points of these parts by one style.
 fn paint_by_style(canvas: &mut Canvas, scene: &Scene<'_>, parts: &[Part], style: &Style)
-    ensures { IsPainted canvas.old canvas.new (flat_map (λ part. flat_map (point_things scene.now.view scene.now.map.symbols style.now) part) parts.now) }
+    ensures { IsPainted canvas.old canvas.new (flat_map (λ part. flat_map (point_shapes scene.now.view scene.now.map.symbols style.now) part) parts.now) }
 {
     for part in parts {
         paint_part(canvas, scene, part.as_slice(), style);
@@ -34,7 +34,7 @@ fn paint_by_style(canvas: &mut Canvas, scene: &Scene<'_>, parts: &[Part], style:
 
 // Paints the points of one part.
 fn paint_part(canvas: &mut Canvas, scene: &Scene<'_>, part: &[World], style: &Style)
-    ensures { IsPainted canvas.old canvas.new (flat_map (point_things scene.now.view scene.now.map.symbols style.now) part.now) }
+    ensures { IsPainted canvas.old canvas.new (flat_map (point_shapes scene.now.view scene.now.map.symbols style.now) part.now) }
 {
     for place in part {
         paint_point(canvas, scene, *place, style);
@@ -43,7 +43,7 @@ fn paint_part(canvas: &mut Canvas, scene: &Scene<'_>, part: &[World], style: &St
 
 // Paints one point: the pixmap of the style's symbol, or a square.
 fn paint_point(canvas: &mut Canvas, scene: &Scene<'_>, place: World, style: &Style)
-    ensures { IsPainted canvas.old canvas.new (point_things scene.now.view scene.now.map.symbols style.now place) }
+    ensures { IsPainted canvas.old canvas.new (point_shapes scene.now.view scene.now.map.symbols style.now place) }
 {
     let style = style.get();
     let pixel = scene.pixel(place);

@@ -3,7 +3,7 @@ ghost use Rattle.std.specs.List.{flat_map};
 ghost use Rattle.geom.specs.EvenOdd.{edges};
 ghost use Rattle.strokes.specs.Line.{line_of};
 ghost use Rattle.viewport.specs.View.{device_point};
-ghost use Rattle.compose.specs.Paint.{Fill, fills, polygon_things, strokes};
+ghost use Rattle.compose.specs.Paint.{Fill, fills, polygon_shapes, strokes};
 ghost use Rattle.compose.specs.Painted.{IsPainted};
 
 use crate::canvas::Canvas;
@@ -29,7 +29,7 @@ pub fn paint_polygon(
     requires width { canvas.old.width ≡ scene.now.view.width }
     requires height { canvas.old.height ≡ scene.now.view.height }
     ensures { let points = map (map (device_point scene.now.view)) rings.now in
-        OnOk result (IsPainted canvas.old canvas.new (flat_map (polygon_things points) styles.now)) }
+        OnOk result (IsPainted canvas.old canvas.new (flat_map (polygon_shapes points) styles.now)) }
 {
     for style in styles {
         fill_rings(canvas, scene, rings, style)?;

@@ -77,13 +77,13 @@ pub record IsReported (old new : WriterState) (line : List ℕ) : Type 0 where
   pub flushed : new.failed ≡ false → new.flushed ≡ true
 
 -- a writer got the first so many bytes of a line
-abbrev pub HasFront : WriterState → WriterState → List ℕ → Type 0
-HasFront old new line = (count : ℕ) × Appends old.held new.held (take count line)
+abbrev pub HasPrefix : WriterState → WriterState → List ℕ → Type 0
+HasPrefix old new line = (count : ℕ) × Appends old.held new.held (take count line)
 
 -- the output got a line by the outcome: all of it; or a prefix of it, or all of it where the flush failed
 abbrev pub GetsLine : Outcome → WriterState → WriterState → List ℕ → Type 0
 GetsLine (Ok done) old new line = Appends old.held new.held line
-GetsLine (Err OutputFailed) old new line = HasFront old new line
+GetsLine (Err OutputFailed) old new line = HasPrefix old new line
 GetsLine (Err failure) old new line = ⊥
 
 -- a line was written to the output and flushed, or its writer failed

@@ -95,8 +95,8 @@ HeadsAnswerInTurn =
     → IsExchange says_next (length heads + suc n) (flat_map print_request heads ++ rest) old (front ++ text) new
 
 -- the law that a text which was begun is a prefix of the whole text
-abbrev pub BegunIsFront : Type 0
-BegunIsFront =
+abbrev pub BegunIsPrefix : Type 0
+BegunIsPrefix =
     (stream : List ℕ) (outcomes left : List Said) (begun all : List ℕ)
     → IsBegun says_next REQUESTS stream outcomes begun left → IsAnswered stream outcomes all → (more : List ℕ) × (all ≡ begun ++ more)
 

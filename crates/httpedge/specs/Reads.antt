@@ -41,5 +41,5 @@ ReadsToFault (Read written) left took old new = ReadsTo left took None old new
 ReadsToFault (Write written) left took old new = ReadsToPiece left took old new
 
 -- the law that where a read is needed, each read before it was needed
-abbrev pub FrontsWant : Type 0
-FrontsWant = (front more : List ℕ) → Wants REQUESTS (front ++ more) → Wants REQUESTS front
+abbrev pub PrefixesWant : Type 0
+PrefixesWant = (front more : List ℕ) → Wants REQUESTS (front ++ more) → Wants REQUESTS front

@@ -6,8 +6,8 @@ ghost use Rattle.httpedge.specs.Exchange.{IsExchange, IsBegun};
 ghost use Rattle.httpedge.specs.declared.conn.TheConstants.{REQUESTS};
 ghost use Rattle.httpedge.specs.declared.stage.Stage.TheVariants.{Closed};
 ghost use Rattle.httpedge.specs.Turn.{TurnIsOne};
-ghost use Rattle.httpedge.specs.Reads.{FrontsWant};
-ghost use Rattle.httpedge.specs.Exchange.{ExchangeIsOne, HeadsAreAnsweredAlone, HeadsAnswerInTurn, BegunIsFront, StepsAnswer};
+ghost use Rattle.httpedge.specs.Reads.{PrefixesWant};
+ghost use Rattle.httpedge.specs.Exchange.{ExchangeIsOne, HeadsAreAnsweredAlone, HeadsAnswerInTurn, BegunIsPrefix, StepsAnswer};
 
 /// A rest has one first turn.
 pub fn one_turn()
@@ -31,8 +31,8 @@ pub fn heads_in_turn()
 {}
 
 /// A text that was begun is a prefix of the whole text.
-pub fn begun_is_front()
-    ensures { BegunIsFront }
+pub fn begun_is_prefix()
+    ensures { BegunIsPrefix }
 {}
 
 /// Bytes that decide and go on are answered, and then the bytes after them.
@@ -41,8 +41,8 @@ pub fn steps_answer()
 {}
 
 /// Where a read is needed, each read before it was needed.
-pub fn fronts_want()
-    ensures { FrontsWant }
+pub fn prefixes_want()
+    ensures { PrefixesWant }
 {}
 
 /// What a session has sent, at any moment and however its stream was cut. A new session has sent nothing. A session that

@@ -5,7 +5,7 @@
 //! all that its reader was shown or learned of. The running calls keep the rows of that law. `Admin::submit` accepts a
 //! batch after all that were accepted, refuses it with its first fault there, and publishes all that is pending or holds
 //! it (`submitted`). `Admin::retry` reports that nothing is pending exactly where that is so (`idle`, `retried`).
-//! `Reader::learn` takes the longer of two lists of which one begins the other (`one`, `kept`, `told`). The entry of
+//! `Reader::learn` takes the longer of two lists of which one begins the other (`one`, `kept`, `learned`). The entry of
 //! `Reader::enter` begins with all that the reader knew (`known`), and the reader then knows it (`knows`).
 //! `Entered::answer` is an answer of the machine after just the batches that the entry shows. No clause joins the calls
 //! of two threads; the law is about lists of events.

@@ -141,7 +141,7 @@ impl<S: Sharing> Reader<S> {
     pub fn learn(&mut self, receipt: Receipt<S>)
         ensures one { (self.new ≡ self.old) ⊎ (self.new ≡ record self.old { known = receipt }) }
         ensures kept { IsPrefix self.old.known self.new.known }
-        ensures told { IsPrefix receipt self.new.known }
+        ensures learned { IsPrefix receipt self.new.known }
     {
         self.known = self.known.longer(receipt.prefix());
     }

@@ -5,7 +5,7 @@ use Rattle.std.proofs.lemmas.List.Elements.{All-nil, All-append, All-push, All-w
 use mathlib.Core.List.{IsPrefix}
 use Rattle.sharing.specs.Sharing.{Sharing, after, opened}
 use Rattle.sharing.specs.Event.Event.{Submit, Publish, Learn, Enter, Answer, Leave}
-use Rattle.sharing.specs.Event.{Event, submit, publish, learn, enter, leave, shown, told, heard_at, step, run, heard}
+use Rattle.sharing.specs.Event.{Event, submit, publish, learn, enter, leave, shown, learned, heard_at, step, run, heard}
 use Rattle.sharing.specs.Law.{KeepsPromises, Grows}
 use Rattle.sharing.proofs.Accepting.{front_accepted}
 use Rattle.sharing.proofs.Prefixes.{prefix_self, prefix_more, prefix_trans, all_get}
@@ -63,7 +63,7 @@ module _ {S B Q : Type 0} (start : S) (batch : S → B → Option S) where
   step_goes w Publish i k = publish_goes start batch w w.pending i k
   step_goes w (Learn r n) i k =
       let old = w.readers i in
-      one_goes w.published old (learn old.entered (slice_get w.receipts n) old) (told old.entered (slice_get w.receipts n)) (i == r) (k.readers i)
+      one_goes w.published old (learn old.entered (slice_get w.receipts n) old) (learned old.entered (slice_get w.receipts n)) (i == r) (k.readers i)
       (learns w.published old old.entered (slice_get w.receipts n) (k.readers i) (all_get (λ receipt. IsPrefix receipt w.published) w.receipts n k.receipts))
   step_goes w (Enter r) i k =
       let old = w.readers i in

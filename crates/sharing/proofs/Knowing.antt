@@ -4,7 +4,7 @@ use Rattle.std.specs.Prelude.{nat_lt}
 use Rattle.std.proofs.lemmas.List.Elements.{All-nil, All-cons}
 use mathlib.Core.List.{IsPrefix}
 use Rattle.sharing.specs.Sharing.{Reader, longer}
-use Rattle.sharing.specs.Event.{learn, enter, leave, shown, told}
+use Rattle.sharing.specs.Event.{learn, enter, leave, shown, learned}
 use Rattle.sharing.proofs.Prefixes.{prefix_self, prefix_more, longer_both, either_has}
 
 -- the batches that a reader knows begin the published ones, and its entry shows just those
@@ -29,7 +29,7 @@ one_begins : {B : Type 0} (list known : List B) → IsPrefix list known → All 
 one_begins list known p = All-cons (λ l. IsPrefix l known) list [] p (All-nil (λ l. IsPrefix l known))
 
 pub learns : {B : Type 0} (published : List B) (r : Reader B) (entry receipt : Option (List B)) → Fits published r → IfSome receipt (λ list. IsPrefix list published)
-    → Goes published r (learn entry receipt r) (told entry receipt)
+    → Goes published r (learn entry receipt r) (learned entry receipt)
 learns published r None None f p = stays published r f
 learns published r (Some entry) receipt f p = stays published r f
 learns published r None (Some receipt) f p =

@@ -47,15 +47,15 @@ shown published None = published ∷ []
 shown published (Some entry) = []
 
 -- the batches that a reader learns of by a receipt
-abbrev pub told : {B : Type 0} → Option (List B) → Option (List B) → List (List B)
-told None (Some receipt) = receipt ∷ []
-told None None = []
-told (Some entry) receipt = []
+abbrev pub learned : {B : Type 0} → Option (List B) → Option (List B) → List (List B)
+learned None (Some receipt) = receipt ∷ []
+learned None None = []
+learned (Some entry) receipt = []
 
 -- the lists that the reader of a number is shown or learns of by an event
 abbrev pub heard_at : {B Q : Type 0} → Sharing B → Event B Q → ℕ → List (List B)
 heard_at w (Enter r) i = if i == r then shown w.published (w.readers i).entered else []
-heard_at w (Learn r k) i = if i == r then told (w.readers i).entered (slice_get w.receipts k) else []
+heard_at w (Learn r k) i = if i == r then learned (w.readers i).entered (slice_get w.receipts k) else []
 heard_at w (Submit b) i = []
 heard_at w Publish i = []
 heard_at w (Answer r q) i = []

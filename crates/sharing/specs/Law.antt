@@ -9,10 +9,10 @@ use Rattle.sharing.specs.Reply.{AreReplies, IsAnswerAfter}
 module _ {S A B Q : Type 0} (start : S) (batch : S → B → Option S) (answers : S → Q → A → Type 0) where
   -- the answer is one in the state after some of the published batches, the first ones, which begin with all lists that the reader was shown or
   -- learned of
-  pub record IsRight (published : List B) (told : List (List B)) (query : Q) (answer : A) : Type 0 where
+  pub record IsRight (published : List B) (learned : List (List B)) (query : Q) (answer : A) : Type 0 where
     pub batches : List B
     pub first : IsPrefix batches published
-    pub begins : All (λ list. IsPrefix list batches) told
+    pub begins : All (λ list. IsPrefix list batches) learned
     pub answered : IsAnswerAfter start batch answers query answer batches
 
   -- an answer is right by the batches published before it and the lists that its reader was shown or learned of, whatever comes later

@@ -1,8 +1,8 @@
 use Rattle.std.proofs.Common.{ℕ, ◌<◌, get_or, length, sym}
 use Rattle.std.proofs.lemmas.Grind.{get_or_default_zero}
 use Rattle.std.proofs.lemmas.List.Elements.{All-get_or}
-use Rattle.compose.specs.Labels.{met_candidates}
-use Rattle.compose.specs.Walk.{given_at, met_feature}
+use Rattle.compose.specs.Labels.{classified_candidates}
+use Rattle.compose.specs.Walk.{given_at, classified_feature}
 use Rattle.compose.proofs.Mentions.{labelled-at, labelled-next}
 use Rattle.compose.proofs.labelled_layer.add_features.Goals as goal
 
@@ -10,9 +10,9 @@ pub loop-index-preserved : goal.loop-index-preserved
 loop-index-preserved c =
     let index : ℕ = get_or c.args.found.now c.loop-index.index-index 0 in
     let scene = c.args.scene.now in
-    let candidates = met_candidates scene.view scene.map.font in
+    let candidates = classified_candidates scene.view scene.map.font in
     let features = c.args.layer.now.features in
-    let met = met_feature scene.scale c.args.layer.now in
+    let met = classified_feature scene.scale c.args.layer.now in
     let inside : index < length features = All-get_or (λ k. k < length features) c.args.found.now c.loop-index.index-index 0 c.loop-index-test.true c.requires in
     let added = rw (c.get-in-loop-index.ensures.value, c.get.ensures) at c.in_ok-add_feature.ensures in
     labelled-next (given_at met features) candidates c.args.found.now c.loop-index.index-index index c.args.labels.now c.loop-index.labels _

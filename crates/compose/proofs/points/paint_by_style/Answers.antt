@@ -1,6 +1,6 @@
 use Rattle.std.proofs.Common.{arith}
 use Rattle.std.specs.List.{flat_map}
-use Rattle.compose.specs.Paint.{point_things}
+use Rattle.compose.specs.Paint.{point_shapes}
 use Rattle.compose.proofs.Painting.{painted-none, painted_end, painted_next}
 use Rattle.compose.proofs.points.paint_by_style.Goals as goal
 
@@ -9,8 +9,8 @@ loop-part-init c = painted-none c.args.canvas.now
 
 pub loop-part-preserved : goal.loop-part-preserved
 loop-part-preserved c =
-    painted_next (λ part. flat_map (point_things c.args.scene.now.view c.args.scene.now.map.symbols c.args.style.now) part) c.args.parts.now c.loop-part.part-index c.part-item.result _ c.loop-part.canvas _
+    painted_next (λ part. flat_map (point_shapes c.args.scene.now.view c.args.scene.now.map.symbols c.args.style.now) part) c.args.parts.now c.loop-part.part-index c.part-item.result _ c.loop-part.canvas _
     c.loop-part-test.true c.part-item.is c.loop-part.invariant (rw c.as_slice.ensures at c.paint_part.ensures)
 
 pub returns : goal.returns
-returns c = painted_end (λ part. flat_map (point_things c.args.scene.now.view c.args.scene.now.map.symbols c.args.style.now) part) c.args.parts.now c.loop-part.part-index c.args.canvas.now c.loop-part.canvas (omega arith) c.loop-part.invariant
+returns c = painted_end (λ part. flat_map (point_shapes c.args.scene.now.view c.args.scene.now.map.symbols c.args.style.now) part) c.args.parts.now c.loop-part.part-index c.args.canvas.now c.loop-part.canvas (omega arith) c.loop-part.invariant
