@@ -16,7 +16,7 @@ use Rattle.csvpoints.specs.Source.{Found, IsReading, left}
 pub one-more : (n : ℕ) → n + 1 ≡ suc n
 one-more n = omega arith
 
--- the state after a record's end stands between records
+-- the state after a record's end is between records
 after-between : (t : Terminator) (c : ℕ) → ends_at_end (after_end t c) ≡ false
 after-between term.CRLF c = by (c == 13) refl
   where
@@ -92,7 +92,7 @@ step-between cfg st.InEscape c h = absurd (false≢true h)
 step-between cfg st.InComment c h = comment-goes_on cfg c h
 step-between cfg st.AfterCr c h = return-between cfg c h
 
--- what stands after a record that was read: a state between records, and fewer bytes
+-- what is left after a record that was read: a state between records, and fewer bytes
 abbrev pub Shorter : Option Read → List ℕ → Type 0
 Shorter None xs = Unit {0}
 Shorter (Some p) xs = (ends_at_end p.1 ≡ false) × (length p.2 ≤ length xs - 1)
@@ -117,7 +117,7 @@ read-shorter cfg s fields field (c ∷ rest) =
     by true e more = rw e (step-between cfg s c e, omega arith)
     by false e more = rw e (shorter-more _ c rest more)
 
--- no bytes have no record between two records
+-- between two records, where no bytes are left, no record is
 none-left : (cfg : Config) (s : State) → ends_at_end s ≡ false → next_record cfg s [] [] [] ≡ None
 unfolding next_record
 none-left cfg s e = rw e refl

@@ -60,7 +60,7 @@ row-fault c limit index so_far fields rows others total (Fault fault) h is all e
     sym all ∙ rw (is, not-over limit index h) (fault-from (feature_of c fields) (index + 2) fault so_far (features_of c limit (index + 2 + 1) others) e)
 row-fault c limit index so_far fields rows others total NoMemory h is all e = tt
 
--- a row more than the limit
+-- one row more than the limit
 pub row-over : (c : Columns) (limit : ℕ) (so_far : List FeatureFields) (fields : List (List ℕ)) (rows others : List (List (List ℕ))) → rows ≡ fields ∷ others →
     with_before so_far (features_of c limit (limit + 2) rows) ≡ Err (record { row = limit + 2; kind = Limit })
 unfolding all_of

@@ -43,7 +43,7 @@ after_spaces (b ∷ bs) = if b == 32 then after_spaces bs else b ∷ bs
 unfoldable pub before_spaces : List ℕ → List ℕ
 before_spaces text = reverse (after_spaces (reverse text))
 
--- the coordinate in a column, spaces at both ends of the text being no part of it
+-- the coordinate in a column; spaces at both ends of the text are no part of it
 abbrev pub coordinate_in : List (List ℕ) → ℕ → Option ℤ
 coordinate_in values column = coordinate_of (before_spaces (after_spaces (get_or values column [])))
 

@@ -19,7 +19,7 @@ bytes_left reader = source_of (λ (s : Bor (List ℕ)). Some s.now) reader
 unfoldable pub left : Reader (Bor (List ℕ)) → List (List (List ℕ))
 left reader = option_map_or (λ (xs : List ℕ). records_from default_config (suc (length xs)) reader.state xs) (bytes_left reader) []
 
--- a reader with the settings of the rule, which stands between two records
+-- a reader with the settings of the rule, which is between two records
 pub record IsReading (reader : Reader (Bor (List ℕ))) : Type 0 where
   pub config : reader.config ≡ default_config
   pub untrimmed : reader.trim ≡ trim.None
@@ -28,7 +28,7 @@ pub record IsReading (reader : Reader (Bor (List ℕ))) : Type 0 where
   pub bytes : List ℕ
   pub known : bytes_left reader ≡ Some bytes
 
--- one step of a reader: a record that was found is the first of those that were left, and without one none was left
+-- one step of a reader: where it finds a record, that is the first of those that were left; where it finds none, none was left
 abbrev pub Found : Bool → List (List ℕ) → Reader (Bor (List ℕ)) → Reader (Bor (List ℕ)) → Type 0
 Found true fields old new = (left old ≡ fields ∷ left new) × IsReading new
 Found false fields old new = left old ≡ []

@@ -17,7 +17,7 @@ abbrev pub header_of : List ℕ → List ℕ → List (List (List ℕ)) → Resu
 header_of x y [] = Err (record { row = 1; kind = NoHeader })
 header_of x y (header ∷ rows) = at_row 1 (and_then (columns_of x y header) (λ columns. Ok (header, columns, rows)))
 
--- the feature of a row by its number, the header being 1, or its fault; as many rows as the limit come after the header
+-- the feature or the fault of a row by its number, where the header is 1; at most as many rows as the limit come after the header
 abbrev pub numbered_feature : Columns → ℕ → ℕ × List (List ℕ) → Result FeatureFields CsvFault
 numbered_feature columns limit row = at_row row.0 (if nat_lt (limit + 1) row.0 then Err Limit else feature_of columns row.1)
 

@@ -18,7 +18,8 @@ pub fn reader_of(alloc: Global, text: &[u8]) -> Reader<&[u8]>
 
 /// Whether there is a next record, which then is in `row`.
 ///
-/// Bytes can always be read, and records of any length pass: an error is that memory was refused.
+/// Reading from bytes can't fail, and a record may have any length, so an error is that memory was
+/// refused.
 pub fn read_record(reader: &mut Reader<&[u8]>, row: &mut ByteRecord) -> Result<bool, AllocError>
     requires { IsReading reader.old }
     ensures { IfOk result (λ found. Found found (fields_of row.new) reader.old reader.new) }

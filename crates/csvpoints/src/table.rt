@@ -91,15 +91,15 @@ fn read_rows(
 /// Reads a table of points in one pass: the table that a text of CSV is, or its first fault with the
 /// number of its record.
 ///
-/// `x` and `y` name the columns of the longitudes and of the latitudes, in degrees, and `limit` is the
-/// most rows after the header. Of several faults in one record the first of these is reported: `NoHeader`,
-/// where there is no record; `Limit`, for the row after the last that is allowed; `Uneven`; `NotText`;
-/// `Limit`, for a header of more than `MAX_ITEMS` columns; `NoColumn`; `BadNumber`.
+/// `x` and `y` name the columns of the longitudes and of the latitudes, in degrees, and `limit` is the most
+/// rows after the header. Of several faults in one record the first in this order is reported. `NoHeader`
+/// means that there is no record, and `Limit` that the row comes after the last that is allowed. Then come
+/// `Uneven`, `NotText`, `Limit` for a header of more than `MAX_ITEMS` columns, `NoColumn` and `BadNumber`.
 ///
-/// `table_of` is either a table or a fault, so the two clauses say when each comes: unless memory is
-/// refused, which is `NoMemory`, the call gives the table or the fault that it is. The clause `rows` says
-/// of the table what follows from that. The memory that it takes is in proportion to the table, and a text
-/// that is refused leaves none behind.
+/// `table_of` is either a table or a fault. Unless memory is refused, which is `NoMemory`, the call gives
+/// the table or the fault that it is, by the two clauses. The clause `rows` says of the table what follows
+/// from that. The memory that it takes is in proportion to the table, and a text that is refused leaves
+/// none behind.
 pub fn read(alloc: Global, bytes: &[u8], x: &str, y: &str, limit: u32) -> Result<Table, CsvError>
     ensures table { IfOk result (λ t. table_of x.now y.now limit (records_of bytes.now) ≡ Ok t) }
     ensures fault { IfErr result (IsFaultOf (table_of x.now y.now limit (records_of bytes.now))) }

@@ -32,7 +32,7 @@ part-is xs from end i h = get_or-take (end - from) (drop from xs) i 0 (omega ari
 pub part-length : (xs : List ℕ) (from end i : ℕ) → end ≤ length xs → from + i < end → i < length (take (end - from) (drop from xs))
 part-length xs from end i b h = omega (arith, length-take (end - from) (drop from xs), length-drop from xs)
 
--- a group more
+-- one more group
 pub covers-more : (boxes : List Area) (order : List ℕ) (from end size : ℕ) (covers : List Area) (cover : Area) →
     0 < size → from ≡ length covers * size → end ≤ from + size →
     ((i : ℕ) (area : Area) → from + i < end → slice_get boxes (get_or order (from + i) 0) ≡ Some area → Encloses cover area) →
@@ -61,7 +61,7 @@ cover-misses boxes order grouped end at level window cover kept start is missed 
     let g : i / level.size ≡ at / level.size = ap (λ n. n / level.size) e ∙ div-mul-add (at / level.size) level.size (i - at) (omega arith) in
     missed (m.2.0, m.2.1, kept.covers i cover m.0 (omega arith) (rw g is) m.1 m.2.0 m.2.2)
 
--- no boxes are kept by no groups
+-- empty groups keep what groups of no boxes have to
 pub kept-none : (groups : Groups) → groups.order.items ≡ [] → groups.levels.items ≡ [] → groups.grouped ≡ 0 → IsKept groups []
 kept-none groups d e f = record {
   order = rw d order-none;
@@ -70,7 +70,7 @@ kept-none groups d e f = record {
   count = omega arith;
 }
 
--- a box more, whose index comes last in the order, is in no group
+-- one more box, whose index comes last in the order, is in no group
 pub kept-more : (old new : Groups) (boxes : List Area) (area : Area) (index : ℕ) → index < 2 ^ 32 → length boxes ≡ index →
     new.order.items ≡ old.order.items ++ index ∷ [] → new.levels ≡ old.levels → new.grouped ≡ old.grouped →
     IsKept old boxes → IsKept new (boxes ++ area ∷ [])

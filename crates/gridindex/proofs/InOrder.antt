@@ -17,7 +17,7 @@ contained xs k h =
     let same : get_or xs k (get_or xs k 0) ≡ get_or xs k 0 = cc in
     (k, h, same)
 
--- a rising list rises when a greater number comes behind it
+-- a rising list rises when a greater number comes after it
 rising-push : (xs : List ℕ) (n : ℕ) → IsStrictlyIncreasing xs → ((k : ℕ) → Contains xs k → k < n) → IsStrictlyIncreasing (xs ++ n ∷ [])
 rising-push xs n rising below = λ k h. ⊎_elim
     (λ (inside : k + 1 < length xs). omega (arith, rising k inside, get_or_append_left xs (n ∷ []) 0 k (omega arith), get_or_append_left xs (n ∷ []) 0 (k + 1) inside))
@@ -34,7 +34,7 @@ first-none window boxes = record {
   exact = λ k. (λ c. absurd (omega (arith, c.1)), λ h. absurd (omega (arith, h.0)));
 }
 
--- one box more, which meets the window or doesn't
+-- one more box, which meets the window or doesn't
 pub first-hit : (window : Area) (boxes : List Area) (n : ℕ) (found : List ℕ) → MeetsAt window boxes n → IsAnswerOfFirst window boxes n found → IsAnswerOfFirst window boxes (n + 1) (found ++ n ∷ [])
 first-hit window boxes n found meets so = record {
   rising = rising-push found n so.rising (λ k c. ((so.exact k).0 c).0);

@@ -10,7 +10,7 @@ use Rattle.gridindex.specs.declared.level.Level.{Level}
 abbrev pub Encloses : Area → Area → Type 0
 Encloses cover area = (place : Place) → HasPlace area place → HasPlace cover place
 
--- each index below the count stands in the list, once
+-- each index below the count is in the list, once
 pub record IsOrder (count : ℕ) (order : List ℕ) : Type 0 where
   pub once : IsDistinct nat_eq order
   pub exact : (k : ℕ) → Contains order k ↔ (k < count)

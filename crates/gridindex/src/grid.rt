@@ -41,9 +41,8 @@ impl Grid {
         })
     }
 
-    /// A grid of its own of these boxes and of others behind them. It takes memory for all of them, and less time
-    /// than `build` where most are of this grid: they are put in groups again only if so many were added that it is
-    /// time.
+    /// A new grid of these boxes and of others after them. It takes memory for all of them, and less time than
+    /// `build` where most are of this grid. They are grouped again only if so many were added that it is due.
     pub fn extended(&self, more: &[WorldBox]) -> Result<Self, AllocError>
         requires { length self.now + length more.now ≤ 2 ^ 32 }
         ensures { IfOk result (λ grid. grid ≡ self.now ++ more.now) }
@@ -81,7 +80,7 @@ impl Grid {
         self.push(area)
     }
 
-    // Has all boxes in groups again, if it is time.
+    // Groups all boxes again, if that is due.
     fn regroup(&mut self) -> Result<(), AllocError>
         ensures { self.new ≡ self.old }
     {

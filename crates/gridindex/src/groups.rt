@@ -9,7 +9,8 @@ use crate::order::order_of;
 use geom::WorldBox;
 use std::alloc::{AllocError, Global};
 
-// Where more than one box in so many is found, a pass over all boxes takes less than a sort of what was found.
+// Where more than one box in so many is found, a pass over all boxes takes less time than a sort of those that
+// were found.
 const MANY: usize = 8;
 
 /// The order of some boxes. The first `grouped` indices of it are in the groups of the levels, those
@@ -50,8 +51,8 @@ impl Groups {
         })
     }
 
-    /// Whether so many boxes were added since all were grouped that they should be again: about a 64th
-    /// of those, and at least 64. No answer rests on it, speed does.
+    /// Whether so many boxes were added since all were grouped that all should be grouped again. That is about
+    /// a 64th of the grouped ones, and at least 64. The answers don't depend on it, but the speed does.
     pub fn is_grouping_due(&self) -> bool {
         let added = self.order.len().saturating_sub(self.grouped);
         added / 64 > self.grouped / 4_096

@@ -1,4 +1,4 @@
-//! Boxes of the world in a list, and which of them meet a window, without asking each.
+//! Boxes of the world in a list, and which of them meet a window, without a test of each.
 //!
 //! Proved: `Grid::candidates` gives exactly the indices of the boxes that meet the window, ends
 //! included, rising and without repeats, by `IsAnswer`; `laws::answers` says that there is one such

@@ -26,8 +26,8 @@ fn indices_below(alloc: Global, count: usize) -> Result<Vec<u32>, AllocError>
     Ok(order)
 }
 
-// Where the middle of a box lies, as a number: the bits of its longitude and of its latitude by
-// turns, so that near numbers are of places near one another. The answers don't depend on it, the speed does.
+// Where the middle of a box lies, as a number: the bits of its longitude and of its latitude in turn. So near
+// numbers are of places near one another. The answers don't depend on it, but the speed does.
 fn key_at(boxes: &[WorldBox], index: u32) -> u64 {
     match boxes.get(index as usize) {
         Some(area) => {

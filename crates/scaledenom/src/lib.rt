@@ -4,8 +4,8 @@
 //! scale, by exact products. `laws` states that a bound is compared as a fraction, and that of two objects
 //! that share a bound exactly one is visible.
 //!
-//! Terms: the *scale denominator* says how many times as wide the shown part of the world is on the
-//! ground as in the picture, where a pixel counts as 0.28 mm and a degree as 111,319.491 m.
+//! Terms: the *scale denominator* says how many times as wide the shown part of the world is on the ground
+//! as in the picture. A pixel counts as 0.28 mm and a degree as 111,319.491 m.
 #![tactic(auto)]
 
 pub mod laws;

@@ -38,7 +38,7 @@ impl Scale {
     }
 
     /// Whether an object is visible whose scale denominator must be at least `min` and less than `max`.
-    /// A bound that is absent doesn't count, and a `max` of 0 or less neither.
+    /// A bound that is absent doesn't count, nor does a `max` of 0 or less.
     pub fn within(self, min: Option<Micro>, max: Option<Micro>) -> bool
         ensures { result ≡ is_visible self min max }
     {
@@ -77,7 +77,7 @@ fn ground_width(span: u32) -> u64
     u64::from(span) * GROUND_UNIT
 }
 
-// Whether a width is at most another one when it is taken so many millionths of times.
+// Whether a width, multiplied by so many millionths, is at most another one.
 fn is_share_at_most(times: Micro, width: u64, most: u64) -> bool
     requires width { width < 2 ^ 30 }
     requires most { most < 2 ^ 59 }

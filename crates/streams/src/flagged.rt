@@ -4,9 +4,9 @@ ghost use Rattle.std.specs.Io.KnownBytes.{Appends, Keeps, Consumes, ReadConsumes
 use crate::{PutFailed, Sink, Source, TakeFailed};
 use std::io::{Read, Write};
 
-/// A reader or a writer of std, or both. It remembers whether it has failed, with one flag for
-/// reading and one for writing, how often it was read, how many bytes it has taken, and whether it was
-/// flushed since. A write that takes none of some bytes counts as failed.
+/// A reader or a writer of std, or both. It remembers whether it has failed, with one flag for reading
+/// and one for writing. It also remembers how often it was read, how many bytes it has taken, and
+/// whether it was flushed since. A write that takes none of some bytes counts as failed.
 #[derive(Drop)]
 pub struct Flagged<T> {
     inner: T,

@@ -5,7 +5,7 @@ ghost use Rattle.streams.specs.Sent.{IsSent, IsCutSomewhere};
 use crate::gathered::Gathered;
 use crate::{PutFailed, Sink};
 
-/// Puts all of the bytes into the sink, or fails after the first of them.
+/// Puts all of the bytes into the sink, or fails after a prefix of them.
 pub fn put_all<S: Sink>(sink: &mut S, bytes: &[u8]) -> Result<(), PutFailed>
     ensures sent { OnOk result (IsSent S.held S.taken sink.old bytes.now sink.new) }
     ensures cut { OnErr result (IsCutSomewhere S.held S.taken sink.old bytes.now sink.new) }
@@ -19,8 +19,8 @@ pub fn put_all<S: Sink>(sink: &mut S, bytes: &[u8]) -> Result<(), PutFailed>
     Ok(())
 }
 
-// Gathers a piece behind what is gathered. Where it doesn't fit, what is gathered goes out full, and then the rest of
-// the piece from where it stands.
+// Gathers a piece after the gathered bytes. Where it doesn't fit, the gathered bytes go out full. The rest of the piece
+// then goes out without being gathered.
 fn put_piece<S: Sink>(sink: &mut S, gathered: &mut Gathered, piece: &[u8]) -> Result<(), PutFailed>
     ensures sent { OnOk result ((text : List ℕ) × IsSent S.held S.taken sink.old text sink.new × (text ++ gathered.new ≡ gathered.old ++ piece.now)) }
     ensures cut { OnErr result (IsCutSomewhere S.held S.taken sink.old (gathered.old ++ piece.now) sink.new) }
@@ -35,9 +35,9 @@ fn put_piece<S: Sink>(sink: &mut S, gathered: &mut Gathered, piece: &[u8]) -> Re
     put_all(sink, rest)
 }
 
-/// Puts some pieces into the sink, one after the other, or fails after the first of their bytes. Up to 4,096 bytes leave
-/// in one call; where there are more, the first 4,096, and the rest of the piece that they end in from where it
-/// stands.
+/// Puts some pieces into the sink, one after the other, or fails after a prefix of their bytes. Up to 4,096 bytes leave
+/// in one call. Where there are more, the first 4,096 do, and then the rest of the piece that they end in, without
+/// being gathered.
 pub fn put_pieces<S: Sink>(sink: &mut S, pieces: &[&[u8]]) -> Result<(), PutFailed>
     ensures sent { OnOk result (IsSent S.held S.taken sink.old (flat_map (λ piece. piece.now) pieces.now) sink.new) }
     ensures cut { OnErr result (IsCutSomewhere S.held S.taken sink.old (flat_map (λ piece. piece.now) pieces.now) sink.new) }

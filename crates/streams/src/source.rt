@@ -3,7 +3,7 @@ ghost use Rattle.std.specs.Io.KnownBytes.{ReadConsumes};
 
 use thiserror::Error;
 
-/// A source gave no bytes, for another reason than its end.
+/// A source gave no bytes, for a reason other than its end.
 #[derive(Clone, Copy, Debug, Error)]
 #[error("the reader failed")]
 pub struct TakeFailed;
@@ -13,7 +13,8 @@ pub trait Source {
     // The bytes that are left, where they are known.
     ghost left: { Self → Option (List ℕ) };
 
-    // What a call of `take` makes of it: the source before, what it gave, if it didn't fail, and the source after.
+    // What a call of `take` does: the source before, the bytes that it gave unless it failed, and the source
+    // after.
     ghost took: { Self → Option (List ℕ) → Self → Type 0 };
 
     // How many calls of `take` it has counted.
@@ -22,8 +23,8 @@ pub trait Source {
     // Whether a call of `take` has failed.
     ghost take_failed: { Self → Bool };
 
-    /// Fills the beginning of the room with some bytes, and returns how many: none only where there is no
-    /// room, or no byte remains. A call that fails may be left out of the count.
+    /// Fills the beginning of the room with some bytes, and returns how many. It returns 0 only where there is no
+    /// room, or no byte remains. The count may leave out a call that fails.
     fn take(&mut self, room: &mut [u8]) -> Result<usize, TakeFailed>
         ensures count { IfOk result (λ n. n ≤ length room.new) }
         ensures bytes { ReadConsumes (left self.old) (left self.new) result room.new }

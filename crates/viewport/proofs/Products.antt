@@ -35,7 +35,7 @@ products-law number times whole limit some below =
     let most : number * (k + 1) < (q + 1) * limit = lt_of_mul-lt-mul_left whole (omega arith) in
     quotient-is (number * (k + 1)) q limit limit-some (omega arith) most
 
--- so many wholes more on the one side are so many times more on the other
+-- so many more wholes on the one side are so many times more on the other
 pub lifted-is : (times whole lifts n q : ℕ) (part : ℤ) → 0 < whole → pos n ≡ part +ℤ pos (whole * lifts) → q ≡ n * times / whole →
     pos q -ℤ pos (times * lifts) ≡ int_div_euclid (pos times *ℤ part) (pos whole)
 lifted-is times whole lifts n q part some e f =

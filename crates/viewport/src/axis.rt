@@ -10,7 +10,7 @@ pub struct Axis {
     // The side in sixteenths of a pixel, and what it shows in millionths of a degree.
     times: u64,
     whole: u64,
-    // So many wholes lift each part above 0: their sum, and the sixteenths that they make.
+    // As many wholes as lift each part above 0: their sum, and the sixteenths that they make.
     lifts: u64,
     lift: u64,
     back: u64,

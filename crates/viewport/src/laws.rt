@@ -13,8 +13,8 @@ pub fn margins()
     ensures { MarginsAreRoundedUp }
 {}
 
-/// A place whose pixel is in the picture, or at most `margin` columns left or right of it and `margin`
-/// rows above or below it, lies in the window of that margin.
+/// The window of a margin has each place whose pixel is in the picture. It also has those whose pixel is
+/// at most `margin` columns left or right of it, and at most `margin` rows above or below it.
 pub fn window()
     ensures { WindowHasNearPlaces }
 {}

@@ -32,7 +32,7 @@ impl Projection {
     ghost use Rattle.viewport.specs.View.{device_point, sixteenths, window};
     ghost use Rattle.viewport.specs.declared.view.TheConstants.{MAX_MARGIN};
 
-    /// The projection of a view. It divides for the two axes, so it is made once a picture.
+    /// The projection of a view. The call divides for the two axes, so callers make it once for a picture.
     pub fn new(view: View) -> Self
         ensures { result ≡ view }
     {
@@ -119,8 +119,8 @@ impl Projection {
             .sixteenths(difference(area.maxy(), latitude.get()))
     }
 
-    /// About the southernmost latitude from which it is at most to the pixel centres of a row, counted from
-    /// the top. It is a guess, of which nothing is proved: the caller tests it.
+    /// About the southernmost latitude that still lies at the pixel centres of a row, counted from the top, or above
+    /// them. It is a guess, of which nothing is proved: the caller tests it.
     pub fn about_south(&self, row: u16) -> Coordinate {
         let area = self.view.area();
         let whole = span(area.miny(), area.maxy());
