@@ -2,9 +2,9 @@
 use Rattle.std.specs.Prelude.{ℕ, ◌+◌, max, min}
 use Rattle.mapdefs.specs.declared.expr.Expr.{Expr, Or', And', Not', Compare, Row_of-Expr, end_of-Expr, more_of-Expr}
 
--- How many brackets and NOTs stand within one another, with no bracket more than the reading needs:
--- round an OR within an OR, round an OR or an AND within an AND, and round either after a NOT,
--- which has one part.
+-- How many brackets and NOTs are within one another, with no more brackets than the reading needs.
+-- It needs them round an OR within an OR, round an OR or an AND within an AND, and round either
+-- after a NOT, which has one part.
 abbrev mutual
   -- of an expression without a bracket of its own
   pub nesting : Expr → ℕ

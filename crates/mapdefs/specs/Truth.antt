@@ -49,7 +49,7 @@ accepts comparison.AtMost order = is_le order
 accepts comparison.AtLeast order = is_ge order
 accepts _ order = false
 
--- of two numbers, both there
+-- of two numbers, where both are present
 abbrev pub is_true_of_numbers : Comparison → Option ℤ → Option ℤ → Bool
 is_true_of_numbers how (Some a) (Some b) = accepts how (int_cmp a b)
 is_true_of_numbers how _ _ = false
@@ -86,7 +86,7 @@ abbrev mutual
   some_are_true items values end_of-Expr = false
   some_are_true items values (more_of-Expr part rest) = truth items values part || some_are_true items values rest
 
-  -- each part is true; what stands after a NOT is a row of one part
+  -- each part is true; the operand of a NOT is a row of one part
   pub all_are_true : {shape : _} → List (List ℕ) → List (List ℕ) → Row_of-Expr shape → Bool
   all_are_true items values end_of-Expr = true
   all_are_true items values (more_of-Expr part rest) = truth items values part && all_are_true items values rest

@@ -14,8 +14,8 @@ pub enum Rule {
     Logic(Expr),
 }
 
-/// What a class says. `min` and `max` bound the scale denominator at which it is visible, in millionths:
-/// the first is included, the second is not, and a `max` of 0 or less is none.
+/// What a class says. `min` and `max` bound the scale denominator at which it is visible, in millionths.
+/// `min` is included and `max` is not, and a `max` of 0 or less is none.
 #[derive(Drop)]
 pub struct ClassFields {
     pub rule: Rule,

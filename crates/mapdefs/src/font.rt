@@ -36,5 +36,6 @@ impl Limits for FontFields {
 }
 
 /// A bitmap font. Sides and offsets are at most `MAX_GLYPH_SIDE` in size, and it has at most
-/// `MAX_GLYPHS` glyphs, whose encodings rise: no two have the same one, and a search by halves finds it.
+/// `MAX_GLYPHS` glyphs. Their encodings rise: no two glyphs have the same one, and a binary search finds
+/// it.
 pub type Font = Limited<FontFields>;

@@ -15,8 +15,8 @@ pub enum Geometry {
     Polygon,
 }
 
-/// What a layer says. `min` and `max` bound the scale denominator at which it is visible, in millionths:
-/// the first is included, the second is not, and a `max` of 0 or less is none.
+/// What a layer says. `min` and `max` bound the scale denominator at which it is visible, in millionths.
+/// `min` is included and `max` is not, and a `max` of 0 or less is none.
 #[derive(Drop)]
 pub struct LayerFields {
     pub name: Text,
@@ -61,7 +61,7 @@ impl Layer {
         self.fields.on = on;
     }
 
-    /// Adds features behind those that it has. Where memory is refused nothing changes.
+    /// Adds features after those that it has. Where memory is refused nothing changes.
     pub fn append(
         &mut self,
         alloc: Global,

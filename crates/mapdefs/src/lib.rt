@@ -7,9 +7,9 @@
 //! In a clause a map is a plain nested record: `Items` is a list, `Text` a list of bytes, `Boxed` the
 //! value in it, and `Map`, `Layer` and the others are their fields.
 //!
-//! Terms: a *layer* holds *features* of one *kind*. Its *classes* are tried in order, and the first
-//! that is visible and whose *rule* holds is the feature's; its *styles* say how it is painted, its
-//! *label* how it is named. An *item* is an attribute of the features.
+//! Terms: a *layer* holds *features* of one *kind*. Its *classes* are tried in order, and the first that is
+//! visible and whose *rule* holds is the feature's. The *styles* of the class say how the feature is painted,
+//! its *label* how it is named. An *item* is an attribute of the features.
 #![tactic(auto)]
 
 mod all_features;

@@ -55,7 +55,7 @@ impl Map {
         switch_at(&mut self.fields.layers, index, on);
     }
 
-    /// Adds features to the layer of that index, behind those that it has. Where memory is refused
+    /// Adds features to the layer of that index, after those that it has. Where memory is refused
     /// nothing changes.
     pub fn append(
         &mut self,

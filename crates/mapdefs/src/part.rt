@@ -58,7 +58,7 @@ impl Part {
     }
 }
 
-/// Splits the vertices that follow on the first one of a block into those of the block and those behind it.
+/// Splits the vertices that follow on the first one of a block into those of the block and those after it.
 pub fn split_block(rest: &[World]) -> (&[World], &[World])
     ensures block { result.0.now ≡ take BLOCK_EDGES rest.now }
     ensures behind { result.1.now ≡ drop BLOCK_EDGES rest.now }

@@ -146,7 +146,7 @@ open-ends : (tail : Tail) (openings : List OpeningValue) (d : Drafts) → (lengt
 open-ends tail [] d p = let no : ⊥ = cc in absurd no
 open-ends tail (o ∷ outer) d p = answer-open tail o.context (contexts outer) d
 
--- inside a block it may not, and nowhere may it break off
+-- inside a block it may not end, and it may break off nowhere
 pub ends-here : (s : Standing) (line end : ℕ) (e : Explained) → (length s.openings == 0) ≡ false → fault_in e ≡ missing (Ends end) →
     e.openings ≡ s.openings → e.token ≡ None → IsWalked s (stopped line (Ends end)) (finding.Faulty e)
 ends-here s line end e some is same token = record {

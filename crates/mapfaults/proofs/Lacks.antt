@@ -1,4 +1,4 @@
--- Items that parts of an expression look at, where the parts are joined, or stand after a NOT.
+-- Items that parts of an expression look at, where the parts are joined, or come after a NOT.
 use Rattle.std.proofs.Common.{◌≡◌, ℕ, Bool, ◌||◌, true, false, List, refl, ◌∙◌, ap}
 use Rattle.std.specs.List.{list_any}
 use mathlib.Core.Former.{Count}

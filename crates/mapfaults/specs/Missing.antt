@@ -31,22 +31,22 @@ missing_message name keyword =
     then codes "the file that " ++ (keyword ++ codes " names can't be read")
     else codes "the file " ++ (name ++ (codes ", which " ++ (keyword ++ codes " names, can't be read")))
 
--- a file isn't among those that are given
+-- a file is missing
 abbrev pub is_missing : List FileBytes → List ℕ → Bool
 is_missing files name = is_none (bytes_in name files)
 
--- the first of some files that isn't
+-- the first of some files that is missing
 abbrev pub first_missing : List FileBytes → List (List ℕ) → Option (List ℕ)
 first_missing files names = find (is_missing files) names
 
--- a message names the first of the files that a mapfile uses and that is missing
+-- a message names the first missing file that a mapfile uses
 pub record NamesMissing (files : List FileBytes) (tree : MapTree) (message : List ℕ) : Type 0 where
   pub name : List ℕ
   pub is_first : first_missing files (uses_of tree) ≡ Some name
   pub keyword : List ℕ
   pub says : message ≡ missing_message name keyword
 
--- a message is on a file that has this cause: one that can't be read it names; what it says of another has no definition
+-- a message is on a file that has this cause: it names a file that is missing; what it says of another cause has no definition
 abbrev pub AreOnCause : FileCause → List FileBytes → MapTree → List ℕ → Type 0
 AreOnCause Missing files tree message = NamesMissing files tree message
 AreOnCause cause files tree message = Unit {0}

@@ -1,4 +1,4 @@
--- What of a layer is without effect, since something that it needs isn't there (docs/MAPFILE.md, "Warnings").
+-- What in a layer has no effect, since something that it needs is missing (docs/MAPFILE.md, "Warnings").
 use Rattle.std.specs.Prelude.{◌==◌, ◌&&◌, ◌||◌, not, ℕ, Bool, true, false, List, length, Option, None, Some, is_none, is_some}
 use Rattle.std.specs.List.{list_any}
 use Rattle.std.specs.Str.{str_eq_ignore_ascii_case}
@@ -19,13 +19,13 @@ abbrev pub lacks_named : List (List ℕ) → Option (List ℕ) → Bool
 lacks_named items None = false
 lacks_named items (Some name) = not (has_item items name)
 
--- a side of a comparison looks at an item that there isn't
+-- a side of a comparison looks at a missing item
 abbrev pub lacks_side : List (List ℕ) → Operand → Bool
 lacks_side items (operand.Item name) = not (has_item items name)
 lacks_side items (operand.ItemText name) = not (has_item items name)
 lacks_side items side = false
 
--- an expression looks at an item that there isn't
+-- an expression looks at a missing item
 abbrev mutual
   pub lacks_in : List (List ℕ) → Expr → Bool
   lacks_in items (Or' shape parts) = some_lacks items parts
@@ -33,7 +33,7 @@ abbrev mutual
   lacks_in items (Not' shape part) = some_lacks items part
   lacks_in items (Compare how left right) = lacks_side items left || lacks_side items right
 
-  -- one of its parts does; what stands after a NOT is a row of one part
+  -- one of its parts does; the operand of a NOT is a row of one part
   pub some_lacks : {shape : _} → List (List ℕ) → Row_of-Expr shape → Bool
   some_lacks items end_of-Expr = false
   some_lacks items (more_of-Expr part rest) = lacks_in items part || some_lacks items rest

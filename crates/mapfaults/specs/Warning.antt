@@ -1,4 +1,4 @@
--- What of a map isn't as its clients need it, though it has no fault (docs/MAPFILE.md, "Warnings").
+-- What in a map isn't as its clients need it, though the map has no fault (docs/MAPFILE.md, "Warnings").
 use Rattle.std.specs.Prelude.{◌==◌, ◌&&◌, ◌||◌, not, ℕ, ◌+◌, pos, neg_ℤ, int_lt, is_some, nat_eq, Bool, true, false, List, [], ◌∷◌, ◌++◌, Option, None, Some, codes}
 use Rattle.std.specs.Cmp.Lexicographic.{pointwise}
 use Rattle.std.specs.Fmt.{decimal}
@@ -20,7 +20,7 @@ on_service c = record { layer = None; concern = c }
 abbrev pub on_layer : ℕ → Concern → Warning
 on_layer number c = record { layer = Some number; concern = c }
 
--- a warning, where something is so
+-- a warning, where its condition holds
 abbrev pub warned : Bool → Warning → List Warning
 warned true w = w ∷ []
 warned false w = []
@@ -29,7 +29,7 @@ warned false w = []
 abbrev pub is_comma : ℕ → Bool
 is_comma b = b == 44
 
--- the address is the one that a map has where none is given
+-- the address is the default one
 unfoldable pub is_default_address : List ℕ → Bool
 is_default_address url = pointwise nat_eq url (codes "http://localhost/wms?")
 
@@ -38,7 +38,7 @@ unfoldable pub is_beyond_degrees : Area → Bool
 is_beyond_degrees area =
     int_lt area.minx (neg_ℤ (pos 180000000)) || int_lt (pos 180000000) area.maxx || int_lt area.miny (neg_ℤ (pos 90000000)) || int_lt (pos 90000000) area.maxy
 
--- those on the texts of a layer of a number: its name can't be asked for, its name and its title can't stand in a document of XML
+-- those on the texts of a layer of a number: its name can't be requested, its name and its title can't be in a document of XML
 abbrev pub text_warnings : ℕ → LayerFields → List Warning
 text_warnings number layer =
     warned (list_any is_comma layer.name) (on_layer number concern.CommaInName)
@@ -77,7 +77,7 @@ warnings map =
     ++ (warned (is_beyond_degrees map.extent) (on_service concern.BeyondDegrees)
     ++ layers_warnings (is_some map.font) 1 map.layers)))
 
--- what a warning is on
+-- what a warning is about
 unfoldable pub subject_of : Option ℕ → List ℕ
 subject_of None = codes "the service"
 subject_of (Some number) = codes "LAYER " ++ decimal number
@@ -97,7 +97,7 @@ message_of concern.NoFont = codes " has a LABEL, and the map has no LABELFONT"
 message_of concern.NoClass = codes " has features and no CLASS"
 message_of concern.BareClass = codes " has a CLASS without STYLE and LABEL"
 
--- what stands between the name of a mapfile and a warning
+-- the bytes between the name of a mapfile and a warning
 unfoldable pub marked : List ℕ
 marked = codes ": warning: "
 

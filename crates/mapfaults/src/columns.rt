@@ -70,8 +70,8 @@ fn table_on(layers: &[LayerTree], line: u64) -> Option<&str> {
     None
 }
 
-/// Which columns are looked for in the table that is named on a line, and its header, where that lacks one. The source is
-/// parsed for the names of the columns.
+/// The columns that a layer looks for in the table that is named on a line, and the table's header, where that lacks
+/// one. The source is parsed for the names of the columns.
 pub fn message_on_columns(
     alloc: Global,
     source: &[u8],

@@ -7,7 +7,7 @@ use mapdefs::Text;
 use mapparse::{FileCause, FileFault, Files, Mapfile};
 use std::alloc::{AllocError, Global};
 
-/// A mapfile that is at hand: its source, what was parsed of it, and the files that it is given.
+/// A mapfile: its source, what was parsed of it, and the files that it is given.
 #[derive(Clone, Copy)]
 pub struct MapfileAtHand<'a> {
     /// The source.
@@ -58,7 +58,7 @@ fn missing_message(alloc: Global, name: &str, keyword: &str) -> Result<Text, All
     Ok(Text::of(format!(in alloc; "the file {name}, which {keyword} names, can't be read")?))
 }
 
-// Whether a file isn't among those that are given.
+// Whether a file is missing.
 fn is_missing(files: &Files, name: &str) -> bool
     ensures { result ≡ is_missing files.now name.now }
 {
@@ -68,7 +68,7 @@ fn is_missing(files: &Files, name: &str) -> bool
     }
 }
 
-// The first of some files that isn't among those that are given.
+// The first of some files that is missing.
 fn first_missing<'a>(names: &'a [Text], files: &Files) -> Option<&'a Text>
     ensures { option_map (λ name. name.now) result ≡ first_missing files.now names.now }
 {
@@ -80,7 +80,7 @@ fn first_missing<'a>(names: &'a [Text], files: &Files) -> Option<&'a Text>
     None
 }
 
-// The message on the first of the files that a mapfile uses and that is missing, by the keyword that names it.
+// The message on the first missing file that a mapfile uses, by the keyword that names it.
 fn message_on_missing(
     alloc: Global,
     mapfile: &Mapfile,

@@ -11,7 +11,7 @@ use mapwords::{
 use std::alloc::{AllocError, Global};
 use std::mem;
 
-/// The first fault of a mapfile, with what stands there.
+/// The first fault of a mapfile, with what a message on it needs.
 #[derive(Drop)]
 pub struct Explained<'a> {
     /// Its line, counted from 1.
@@ -20,9 +20,9 @@ pub struct Explained<'a> {
     pub kind: ParseKind,
     /// The token that is refused with it. There is none after the last token.
     pub token: Option<Token<'a>>,
-    /// What is open there. Nothing is before MAP, and after its END.
+    /// What is open there: nothing before MAP, and nothing after its END.
     pub openings: Stack<Opening<'a>>,
-    /// What a message on it may need beside.
+    /// What else a message on it may need.
     pub hints: Hints<'a>,
 }
 
@@ -57,7 +57,7 @@ struct Walker<'a> {
 }
 
 impl<'a> Walker<'a> {
-    // A walker after MAP, if memory is there.
+    // A walker after MAP, unless memory is refused.
     fn new(token: &Token<'a>, alloc: Global) -> Result<Self, AllocError>
         ensures { IfOk result (λ walker. standing walker.openings walker.drafts ≡ begun token.now) }
     {
@@ -204,8 +204,8 @@ fn outside<'a>(alloc: Global, fault: Fault, token: Option<Token<'a>>) -> Explain
 
 /// Reads a mapfile once more for a message on its first fault.
 ///
-/// Unless memory is refused, it finds a fault exactly where `tree_of` is one, with its line and its
-/// kind, the token that is refused with it, if it has one, and all that is open there.
+/// Unless memory is refused, it finds a fault exactly where `tree_of` is one. It finds its line and
+/// its kind, the token that is refused with it, if it has one, and all that is open there.
 pub fn explain<'a>(alloc: Global, source: &'a [u8]) -> Finding<'a>
     ensures { IsFinding (lexed source.now) result }
 {

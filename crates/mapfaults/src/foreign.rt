@@ -51,7 +51,7 @@ fn advice_on(block: Block, keyword: &str) -> &'static str {
     }
 }
 
-/// What follows the message on a keyword of MapServer that isn't read in a block: what is written instead, behind
+/// What follows the message on a keyword of MapServer that isn't read in a block: what is written instead, after
 /// a colon, or nothing. There is none where MapServer has no such keyword there.
 pub fn advice(alloc: Global, block: Block, word: &str) -> Result<Option<&'static str>, AllocError> {
     let keyword = word.to_ascii_uppercase(alloc)?;

@@ -2,10 +2,10 @@
 //! can't use as it is.
 //!
 //! `explain` reads a source once more, up to its first fault, and keeps what is open there. Proved, by
-//! `IsFinding`: it has the line and the kind of the fault that the definition `tree_of` of `maptree` is
-//! for the source, the token that is refused with that fault, and what is open before it; there is no
-//! token where the fault comes after the last one. The message, which `Explained::message` makes of that, is
-//! only tested.
+//! `IsFinding`: it has the line and the kind of the fault that the definition `tree_of` of `maptree` is for the
+//! source. It also has the token that is refused with that fault, and what is open before it. There is no token
+//! where the fault comes after the last one. The message, which `Explained::message` makes of that, is only
+//! tested.
 //!
 //! `warnings` gives the warnings on a map, and `warning_lines` their lines, byte by byte.
 //!

@@ -66,7 +66,7 @@ fn block(alloc: Global, openings: &[Opening]) -> Result<String, AllocError> {
     }
 }
 
-// The message on a keyword of MapServer that isn't read in a block. There are none on another token.
+// The message on a keyword of MapServer that isn't read in a block. There is none on another token.
 fn foreign_word(
     alloc: Global,
     context: Context,
@@ -214,7 +214,7 @@ fn most_blocks(keyword: Option<Keyword>) -> Option<usize> {
     }
 }
 
-// The message on a block more than a block may have.
+// The message on one inner block more than a block may have.
 fn more_blocks(alloc: Global, block: &str, word: &str) -> Result<String, AllocError> {
     let name = opener(alloc, word)?;
     match most_blocks(Keyword::of(word)) {

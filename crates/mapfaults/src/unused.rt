@@ -23,7 +23,7 @@ pub fn lacks_named(items: &[Text], name: &Option<Text>) -> bool
     }
 }
 
-// Whether a side of a comparison looks at an item that there isn't.
+// Whether a side of a comparison looks at a missing item.
 fn lacks_side(items: &[Text], side: &Operand) -> bool
     ensures { result ≡ lacks_side items.now side.now }
 {
@@ -46,7 +46,7 @@ fn lacks_in_some(items: &[Text], parts: &[Expr]) -> bool
     false
 }
 
-// Whether an expression looks at an item that there isn't.
+// Whether an expression looks at a missing item.
 #[cycle(lacking)]
 fn lacks_in(items: &[Text], expr: &Expr) -> bool
     ensures { result ≡ lacks_in items.now expr.now }
@@ -59,7 +59,7 @@ fn lacks_in(items: &[Text], expr: &Expr) -> bool
     }
 }
 
-/// Whether the expression of a class looks at an item that there isn't.
+/// Whether the expression of a class looks at a missing item.
 pub fn lacks_of_rule(items: &[Text], rule: &Rule) -> bool
     ensures { result ≡ lacks_of_rule items.now rule.now }
 {

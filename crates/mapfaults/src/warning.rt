@@ -13,9 +13,9 @@ use xmltext::has_forbidden;
 /// What isn't as clients need it.
 #[derive(Clone, Copy)]
 pub enum Concern {
-    /// No address is given, and the one of a map without it has no port.
+    /// The address is missing, and its default has no port.
     NoAddress,
-    /// A name has a comma, which parts names in `LAYERS`.
+    /// A name has a comma, which separates names in `LAYERS`.
     CommaInName,
     /// A name has a character that XML forbids.
     ForbiddenInName,
@@ -42,14 +42,14 @@ pub enum Concern {
 /// That something isn't as clients need it.
 #[derive(Clone, Copy)]
 pub struct Warning {
-    /// The number of the layer that it is of, counted from 1. There is none of the service.
+    /// The number of the layer that it is about, counted from 1. There is none where it is about the service.
     pub layer: Option<usize>,
     /// What it is.
     pub concern: Concern,
 }
 
 impl Concern {
-    // The message on it, behind what it is of.
+    // The message on it, which comes after what it is about.
     #[tactic(auto, unfolding(crate::specs::Warning::message_of))]
     fn message(self) -> &'static str
         ensures { result.now ≡ message_of self }
@@ -75,7 +75,7 @@ impl Concern {
     }
 }
 
-// Adds a warning, where something is so.
+// Adds a warning, where its condition holds.
 fn add(out: &mut Vec<Warning>, holds: bool, warning: Warning) -> Result<(), AllocError>
     ensures { OnOk result (out.new.items ≡ out.old.items ++ warned holds warning) }
 {
@@ -92,7 +92,7 @@ fn has_comma(name: &str) -> bool
     name.as_bytes().iter().any(|byte| *byte == b',')
 }
 
-// Whether an address is the one that a map has where none is given.
+// Whether an address is the default one.
 #[tactic(auto, unfolding(crate::specs::Warning::is_default_address))]
 fn is_default_address(url: &str) -> bool
     ensures { result ≡ is_default_address url.now }
@@ -125,7 +125,7 @@ fn add_texts(out: &mut Vec<Warning>, number: usize, fields: &LayerFields) -> Res
     add(out, has_forbidden(title), Warning { layer, concern })
 }
 
-// Whether the expression of some class looks at an item that there isn't.
+// Whether the expression of some class looks at a missing item.
 fn lacks_of_classes(items: &[Text], classes: &[Class]) -> bool
     ensures { result ≡ list_any (λ class. lacks_of_rule items.now class.rule) classes.now }
 {
@@ -134,7 +134,7 @@ fn lacks_of_classes(items: &[Text], classes: &[Class]) -> bool
         .any(|class| lacks_of_rule(items, &class.get().rule))
 }
 
-// Adds those on what looks at items that the layer hasn't.
+// Adds the warnings on what looks at items that the layer doesn't have.
 fn add_items(out: &mut Vec<Warning>, number: usize, fields: &LayerFields) -> Result<(), AllocError>
     ensures { OnOk result (out.new.items ≡ out.old.items ++ item_warnings number fields.now) }
 {
@@ -164,7 +164,7 @@ fn has_bare(classes: &[Class]) -> bool
     classes.iter().any(|class| is_bare(class.get()))
 }
 
-// Adds those on what is never drawn, by whether the map has a font.
+// Adds the warnings on what is never drawn, by whether the map has a font.
 fn add_drawing(
     out: &mut Vec<Warning>,
     has_font: bool,
@@ -244,7 +244,7 @@ pub fn warnings(alloc: Global, map: &Map) -> Result<Vec<Warning>, AllocError>
     Ok(out)
 }
 
-// Adds what a warning is on.
+// Adds what a warning is about.
 #[tactic(auto, unfolding(crate::specs::Warning::subject_of))]
 fn add_subject(out: &mut Vec<u8>, layer: Option<usize>) -> Result<(), AllocError>
     ensures { OnOk result (out.new.items ≡ out.old.items ++ subject_of layer) }
@@ -258,7 +258,7 @@ fn add_subject(out: &mut Vec<u8>, layer: Option<usize>) -> Result<(), AllocError
     }
 }
 
-// What stands between the name of a mapfile and a warning.
+// The bytes between the name of a mapfile and a warning.
 #[tactic(auto, unfolding(crate::specs::Warning::marked))]
 fn mark() -> &'static str
     ensures { result.now ≡ marked }

@@ -44,7 +44,7 @@ level-from (Some (Level n)) k p e = rw e refl
 level-from (Some Absent) k p e = absurd (omega arith)
 level-from None k p e = absurd (omega arith)
 
--- the test of one count: it is this level, it isn't END, and it isn't a colour by itself
+-- the test of one count: it is this level, it isn't END, and it isn't a colour of one token
 abbrev is_count : ℕ → Bool
 is_count k = (level_or_none (component_of (decimal k)) == k) && (not (is_spelt (decimal k) End) && is_none (hex_colour (decimal k)))
 

@@ -6,7 +6,7 @@ use Rattle.mapwords.specs.declared.keyword.Keyword.{Keyword}
 use Rattle.mapwords.specs.Keyword.{is_spelt, plain, spelt}
 
 module _ (text : List ℕ) where
-  -- the texts of a table are looked at where they stand
+  -- a search in a table of borrowed texts is one in the table of the texts
   by-text : (pairs : List (Keyword × Bor (List ℕ))) →
       option_map (λ (pair : Keyword × Bor (List ℕ)). pair.0) (find (λ (pair : Keyword × Bor (List ℕ)). str_eq_ignore_ascii_case text pair.1.now) pairs)
       ≡ option_map (λ (pair : Keyword × List ℕ). pair.0) (find (λ (pair : Keyword × List ℕ). str_eq_ignore_ascii_case text pair.1) (map plain pairs))
@@ -21,7 +21,7 @@ module _ (text : List ℕ) where
       at true is rest = rw is refl
       at false is rest = rw is rest
 
-  -- in the table of some keywords the first is found that the text is
+  -- a search in the table of some keywords finds the first that the text is
   by-spelling : (keywords : List Keyword) → option_map (λ (pair : Keyword × List ℕ). pair.0) (find (λ (pair : Keyword × List ℕ). str_eq_ignore_ascii_case text pair.1) (map spelt keywords)) ≡ find (is_spelt text) keywords
   by-spelling [] = refl
   by-spelling (k ∷ keywords) = at (is_spelt text k) refl (by-spelling keywords)

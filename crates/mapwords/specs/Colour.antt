@@ -13,7 +13,7 @@ abbrev pub component_of_count : ℤ → Option Component
 component_of_count (pos n) = if nat_le n 255 then Some (Level n) else None
 component_of_count (negsuc n) = if n == 0 then Some Absent else None
 
--- the component that a text stands for
+-- the component that a text means
 abbrev pub component_of : List ℕ → Option Component
 component_of text = option_and_then component_of_count (count_of text)
 
@@ -22,12 +22,12 @@ abbrev pub rgb_of : Component → Component → Component → Option Rgb
 rgb_of (Level r) (Level g) (Level b) = Some (record { red = r; green = g; blue = b })
 rgb_of _ _ _ = None
 
--- the colour that a text `#rrggbb` stands for: after the `#`, three bytes of two hexadecimal digits each
+-- the colour that a text `#rrggbb` means: after the `#`, three bytes of two hexadecimal digits each
 abbrev pub hex_colour : List ℕ → Option Rgb
 hex_colour [] = None
 hex_colour (hash ∷ digits) = if hash == 35 then option_and_then rgb_of_bytes (result_ok (decode_sized digits 3)) else None
 
--- the law that `#` and red, green and blue, each as two hexadecimal digits, stand for the colour of these components
+-- the law that `#` and red, green and blue, each as two hexadecimal digits, mean the colour of these components
 abbrev pub HexDigitsAreColour : Type 0
 HexDigitsAreColour = (red green blue : ℕ) → red < 256 → green < 256 → blue < 256 →
     hex_colour (codes "#" ++ encode_lower (red ∷ green ∷ blue ∷ [])) ≡ Some (record { red = red; green = green; blue = blue })

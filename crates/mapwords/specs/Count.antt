@@ -27,7 +27,7 @@ abbrev pub none_as_zero : CountKeyword → ℤ → ℤ
 none_as_zero MinDistance (negsuc zero) = pos 0
 none_as_zero keyword count = count
 
--- the count within the bounds of a keyword that a text stands for
+-- the count within the bounds of a keyword that a text means
 abbrev pub counted : CountKeyword → List ℕ → Option ℕ
 counted keyword text = option_and_then (bounded (least_of keyword) (most_of keyword)) (option_map (none_as_zero keyword) (count_of text))
 

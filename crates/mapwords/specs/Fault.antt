@@ -35,7 +35,7 @@ refused kind t = Err (fault_of kind t)
 abbrev pub lexical : LexFault → Fault
 lexical f = record { line = f.line; kind = Lex f.kind }
 
--- the fault where a further token is needed, by what stands after the last one
+-- the fault where a further token is needed, by what comes after the last one
 abbrev pub missing : Tail → Fault
 missing (Ends line) = record { line = line; kind = MissingEnd }
 missing (Breaks f) = lexical f

@@ -107,7 +107,7 @@ keywords =
 abbrev pub spelt : Keyword → Keyword × List ℕ
 spelt keyword = (keyword, spelling keyword)
 
--- a keyword with a text that stands somewhere, as the two of them
+-- a keyword and a borrowed text, as the keyword and the text
 abbrev pub plain : Keyword × Bor (List ℕ) → Keyword × List ℕ
 plain pair = (pair.0, pair.1.now)
 

@@ -44,7 +44,7 @@ pair_expects _ key = expected.Unused 0
 abbrev pub is_equals : ℕ → Bool
 is_equals byte = byte == 61
 
--- the key and the value of a setting stand before and after its first equals sign
+-- the key and the value of a setting are before and after its first equals sign
 abbrev pub setting_in : List ℕ → Option (List ℕ × List ℕ)
 setting_in text =
     if nat_lt (position_or_len is_equals text) (length text) then Some (before_first is_equals text, after_first is_equals text)

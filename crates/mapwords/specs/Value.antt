@@ -54,16 +54,16 @@ is_value Word = true
 is_value Text = true
 is_value _ = false
 
--- only a quoted text is a colour by itself
+-- only a quoted text is a colour of one token
 abbrev pub hex_in : Shape → List ℕ → Option Rgb
 hex_in Text text = hex_colour text
 hex_in _ text = None
 
--- the colour that a token is by itself
+-- the colour that a single token is
 abbrev pub hex_at : TokenValue → Option Rgb
 hex_at t = hex_in t.shape t.text
 
--- a colour by itself, or the first of its counts
+-- a colour of one token, or the first of its counts
 abbrev pub colour_step : ColourKeyword → Option Rgb → Option Component → Option ValueStep
 colour_step keyword (Some colour) red = Some (Whole (value.Colour keyword (Some colour)))
 colour_step keyword None red = option_map (λ r. More (expected.Green keyword r)) red

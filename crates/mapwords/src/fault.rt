@@ -11,7 +11,7 @@ pub enum ParseKind {
     /// The source can't be cut into further tokens there.
     #[error("{0}")]
     Lex(LexKind),
-    /// A token that is no keyword of its block, or that stands after the last END.
+    /// A token that is no keyword of its block, or that comes after the last END.
     #[error("a word that may not stand here")]
     UnknownWord,
     /// A token that is no value of its keyword.
@@ -120,7 +120,7 @@ pub fn fault_of(kind: ParseKind, token: &Token) -> Fault
     }
 }
 
-/// The fault where a further token is needed, by what stands after the last one.
+/// The fault where a further token is needed, by what comes after the last one.
 pub fn missing(tail: Tail) -> Fault
     ensures { result ≡ missing tail }
 {

@@ -198,7 +198,7 @@ impl Keyword {
         &KEYWORDS
     }
 
-    // The first of these keywords with their spellings of which the text is one.
+    // The first of these keywords whose spelling the text is.
     fn first_of<'a>(keywords: &'a [(Keyword, &'a str)], text: &str) -> Option<(Keyword, &'a str)>
         ensures { result ≡ find (λ pair. str_eq_ignore_ascii_case text.now pair.1.now) keywords.now }
     {

@@ -1,15 +1,15 @@
 //! The keywords of mapfiles and their values: what a token means in a block, and after a keyword.
 //!
 //! Proved: `Keyword::at` finds the keyword that a token is, `role_of` what it does in a block, and
-//! `value_step` reads the next token of its value; each gives what the definition of its name has for
-//! the token, by its clause. `ParseKind::number` is the number of the kind in its table. Two laws say more
-//! of the definitions: that a colour is read as it is written (`laws::hex_digits_are_colour`,
+//! `value_step` reads the next token of its value. Each gives what the definition of its name has for the
+//! token, by its clause. `ParseKind::number` is the number of the kind in its table. Two laws say more of
+//! the definitions: that a colour is read as it is written (`laws::hex_digits_are_colour`,
 //! `laws::counts_are_colour`).
 //!
 //! What takes no memory fails with a `Fault` alone.
 //!
 //! Terms: a *keyword* is a bare word of a block. A *block* opens with its keyword and closes with END. The
-//! *role* of a keyword is what it does in its block. A *value* stands after the keyword that takes it. What
+//! *role* of a keyword is what it does in its block. A *value* comes after the keyword that takes it. What
 //! is *expected* is the value, or the next token of it.
 #![tactic(auto)]
 

@@ -3,7 +3,7 @@ ghost use Rattle.mapwords.specs.Count.{number_in};
 
 use geom::{Micro, NUMBER_LIMIT};
 
-/// The number that the text stands for.
+/// The number that the text means.
 pub fn read_number(text: &str) -> Option<Micro>
     ensures { result ≡ number_in text.now }
 {

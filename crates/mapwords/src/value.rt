@@ -87,7 +87,7 @@ fn pixmap_step(text: &str) -> Option<ValueStep>
     }
 }
 
-// The colour that the token is by itself. Only a quoted text is one.
+// The colour that the single token is. Only a quoted text is one.
 fn hex_at(token: &Token) -> Option<Rgb>
     ensures { result ≡ hex_at token.now }
 {
@@ -97,7 +97,7 @@ fn hex_at(token: &Token) -> Option<Rgb>
     }
 }
 
-// Reads a colour by itself, or the first of its three counts.
+// Reads a colour of one token, or the first of its three counts.
 fn colour_step(keyword: ColourKeyword, token: &Token) -> Option<ValueStep>
     ensures { result ≡ colour_step keyword (hex_at token.now) (component_of token.now.text) }
 {

@@ -5,7 +5,7 @@ use Rattle.geom.specs.World.{Area, Place}
 use Rattle.mapdefs.specs.Blocks.{block_of, box_of_places}
 use Rattle.mapdefs.proofs.part.boxes_of.Goals as goal
 
--- the box of a block more
+-- the box of one more block
 boxes-more : (vertices : List Place) (boxes : List Area) (k : ℕ) (area : Area) → length boxes ≡ k →
     ((n : ℕ) (d : Area) → n < length boxes → get_or boxes n d ≡ box_of_places (block_of vertices n)) → area ≡ box_of_places (block_of vertices k) →
     (n : ℕ) (d : Area) → n < length (boxes ++ area ∷ []) → get_or (boxes ++ area ∷ []) n d ≡ box_of_places (block_of vertices n)
