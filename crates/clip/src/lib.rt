@@ -1,7 +1,7 @@
 //! The rows of a picture that an edge crosses.
 //!
 //! Proved: `classify` finds the rows whose pixel centres' height an edge crosses, and whether it lies
-//! right of the view, left of it or neither (`class_of`); what each of these answers means is `IsClass`.
+//! right of the view, left of it or neither (`class_of`). What each of these answers means is `IsClass`.
 //! `RowRange::joined` are the rows from the first one to the last one of two groups (`joined`).
 //!
 //! Terms: a *view* is here the picture's columns and rows. An edge *crosses a row* where it crosses the

@@ -57,7 +57,7 @@ any-cases P xs y a = ⊎_elim
     inl (rw is a.4))
     (cases_lt a.0 (length xs))
 
--- one box more is kept where its pixels are marked
+-- one more box is kept where its pixels are marked
 pub kept-more : (old new : Marks) (all both : Bool) (boxes : List PixelBoxValue) (area : PixelBoxValue) → IsKept old all boxes → IsWhole new → new.columns ≡ old.columns → new.rows ≡ old.rows →
     IsMarkedBy area old new → (both ≡ true → (all ≡ true) × IsNear old area) → IsKept new both (boxes ++ area ∷ [])
 kept-more old new all both boxes area kept whole columns rows marked is = record {

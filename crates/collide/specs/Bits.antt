@@ -1,4 +1,4 @@
--- The bits of a list of words of 64 bits each, by their numbers: the account of the code.
+-- The bits of a list of words of 64 bits each, by their numbers, as the code keeps them.
 use Rattle.std.specs.Prelude.{ℕ, List, ◌≡◌, ◌<◌, ◌≤◌, ◌*◌, ◌/◌, ◌%◌, ◌↔◌, ◌⊎◌, length, slice_index_or}
 use Rattle.std.specs.Int.{bit_at}
 

@@ -5,7 +5,8 @@ use Rattle.geom.specs.PxBox.{PixelBoxValue, HasPixel, Meets}
 use Rattle.collide.specs.Bits.{HasBit}
 use Rattle.collide.specs.declared.marks.Marks.{Marks}
 
--- which bit of so many in a row is that of a position: the first one's is one left of the picture. A position beyond the last one's has the number of all
+-- Which bit of so many in a row a position has: the first bit is that of the position one left of the picture. A
+-- position beyond the last bit has the number of all.
 abbrev pub bit_of : ℕ → ℤ → ℕ
 bit_of count (pos n) = min (n + 1) count
 bit_of count (negsuc n) = 0
@@ -50,7 +51,7 @@ pub record HasMarked (marks : Marks) (area : PixelBoxValue) : Type 0 where
 abbrev pub IsNear : Marks → PixelBoxValue → Type 0
 IsNear marks area = Meets area area → Meets area (around marks)
 
--- what is marked are the pixels of boxes, and where it is said all boxes are near
+-- the marked pixels are those of boxes, and all boxes are near where the flag says so
 pub record IsKept (marks : Marks) (all_near : Bool) (boxes : List PixelBoxValue) : Type 0 where
   pub whole : IsWhole marks
   pub marked : (i j : ℕ) → i < marks.columns → j < marks.rows → IsMarked marks i j ↔ Any (λ area. HasPixelOf area i j) boxes

@@ -65,7 +65,7 @@ impl Boxes {
     }
 }
 
-// Whether a box is near, and all others are.
+// Whether a box and all others are near.
 fn are_near(marks: &Marks, others: bool, area: PxBox) -> bool
     requires { IsWhole marks.now }
     ensures { IsTrue result ↔ (IsTrue others × IsNear marks.now area) }

@@ -5,8 +5,8 @@ use crate::bits::{has_any, set_all};
 use geom::{PictureSide, PxBox};
 use std::alloc::{AllocError, Global};
 
-/// A bit for each pixel of a picture, and for each of one column and one row more on each side, row by row from the
-/// top: whether the pixel is marked.
+/// A bit for each pixel of a picture with one more column and one more row on each side, row by row from the top:
+/// whether the pixel is marked.
 #[derive(Drop)]
 pub struct Marks {
     words: Vec<u64>,
@@ -85,7 +85,7 @@ impl Marks {
     }
 }
 
-// Which bit of so many in a row, or a column, is that of a position, or after all where it lies beyond the last one.
+// Which bit of so many in a row, or a column, a position has. Beyond the last one it is the number of all.
 fn bit_of(position: i64, count: usize) -> usize
     ensures value { result ≡ bit_of count position }
     ensures most { result ≤ count }

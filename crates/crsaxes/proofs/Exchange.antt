@@ -5,7 +5,7 @@ use Rattle.geom.specs.Number.{coordinate_of}
 use Rattle.crsaxes.specs.Axes.{box_of, AxesAreExchanged}
 use Rattle.crsaxes.specs.declared.crs.Crs.TheVariants.{Crs84, Epsg4326}
 
--- the box of four coordinates, some of which may not be there, with the axes exchanged
+-- the box of four coordinates, some of which may be missing, with the axes exchanged
 exchanged : (a b c d : Option ℤ) → box_of Epsg4326 b a d c ≡ box_of Crs84 a b c d
 exchanged None None c d = refl
 exchanged None (Some b) c d = refl

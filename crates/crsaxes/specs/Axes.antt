@@ -33,7 +33,7 @@ abbrev pub box_in : Crs → ℤ → ℤ → ℤ → ℤ → Area
 box_in Crs84 a b c d = record { minx = a; miny = b; maxx = c; maxy = d }
 box_in Epsg4326 a b c d = record { minx = b; miny = a; maxx = d; maxy = c }
 
--- the box of four coordinates, if these are all there
+-- the box of four coordinates, if none of them is missing
 abbrev pub box_of : Crs → Option ℤ → Option ℤ → Option ℤ → Option ℤ → Result Area AxisFault
 box_of crs (Some a) (Some b) (Some c) (Some d) = with_area (box_in crs a b c d)
 box_of crs _ _ _ _ = Err NotANumber

@@ -9,7 +9,7 @@ use crate::crs::{Crs, crs_of};
 use crate::fault::AxisFault;
 use geom::{Coordinate, WorldBox};
 
-// The part before the first comma, and what stands after it; none without a comma.
+// The parts before and after the first comma; none without a comma.
 fn split_comma(text: &str) -> Option<(&str, &str)>
     ensures { MatchOption result
         (position_or_len is_comma text.now ≡ length text.now)
@@ -90,7 +90,7 @@ impl Crs {
     }
 }
 
-/// The box that a text means in the system of a name (`Crs::bbox`). `UnknownCrs`, where no system is known by
+/// The box that a text means in the system of a name (`Crs::bbox`). `UnknownCrs`, where no known system has
 /// the name, is the first of the faults.
 pub fn bbox(crs: &str, text: &str) -> Result<WorldBox, AxisFault>
     ensures value { result ≡ bbox crs.now text.now }

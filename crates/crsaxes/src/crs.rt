@@ -10,8 +10,8 @@ pub enum Crs {
     Epsg4326,
 }
 
-/// The coordinate reference system of a name, which is compared byte by byte; `None` where none is known
-/// by it.
+/// The coordinate reference system of a name, which is compared byte by byte; `None` where no known
+/// system has it.
 pub fn crs_of(name: &str) -> Option<Crs>
     ensures { result ≡ crs_of name.now }
 {

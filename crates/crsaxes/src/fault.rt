@@ -3,7 +3,7 @@ use thiserror::Error;
 /// Why a text is no box in a coordinate reference system.
 #[derive(Clone, Copy, Debug, Error)]
 pub enum AxisFault {
-    /// The name is that of no system which is known.
+    /// No known system has the name.
     #[error("not a known coordinate reference system")]
     UnknownCrs,
     /// The text doesn't have four parts between commas.

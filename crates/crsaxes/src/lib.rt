@@ -1,7 +1,7 @@
 //! Coordinate reference systems: which of two coordinates is the longitude.
 //!
 //! Proved: `Crs::bbox` and `bbox` read the box of four coordinates in the axis order of its system, or its first
-//! fault, by its clause `value`; a box that it reads has an area within the world (`extent`).
+//! fault, by their clause `value`. A box that they read has an area within the world (`extent`).
 //!
 //! Terms: the *axis order* of a coordinate reference system (CRS) says whether the longitude or the
 //! latitude is written first.

@@ -9,8 +9,9 @@ use geom::Pixel;
 use mapdefs::Font;
 use std::alloc::{AllocError, Global};
 
-/// The glyphs of a text whose upper left pixel is `at`, from the first character on: a character without a
-/// glyph has that of the question mark, or none and no advance where the font has none.
+/// The glyphs of a text whose upper left pixel is `at`, from the first character on. A character without a
+/// glyph has that of the question mark. Where the font has no question mark either, it has no glyph and no
+/// advance.
 ///
 /// The text has at most `MAX_CHARACTERS` characters, which `is_short` of `bdffont` tests.
 pub fn text_glyphs<'a>(

@@ -47,14 +47,14 @@ flip-none n i j row at width column left past cut =
     let test : int_le column (pos i) ≡ false = sym (ap (λ n. nat_le n i) cut ∙ cut-at_most column width i left) ∙ lt-leb at i (omega arith) in
     rw (and_right (j == row) (int_le column (pos i)) test) (omega arith)
 
--- a flip that is added stands at a pixel of the picture
+-- a flip that is added is at a pixel of the picture
 pub flip-of : (width height row at : ℕ) → width ≤ 2048 → row < height → at < width → IsFlipOf width height (index_of row at)
 flip-of width height row at most above left = record {
   above = rw (div-mul-add row 2048 at (omega arith)) above;
   left = rw (mod-mul-add row 2048 at (omega arith)) left;
 }
 
--- a row more
+-- one more row
 pub rows-step : (from row j : ℕ) (t : Bool) → from ≤ row →
     cond {A = ℕ} (has_row (record { from = from; to = row }) j && t) 1 0 + cond {A = ℕ} (j == row && t) 1 0
     ≡ cond {A = ℕ} (has_row (record { from = from; to = row + 1 }) j && t) 1 0

@@ -27,7 +27,7 @@ count-quiet flips a (suc d) quiet = ⊎_elim
     ∙ count-quiet flips a d (λ k p q. quiet k p (omega arith)))
     (cases_lt (a + d) (length flips))
 
--- so pixels after a column are as the count up to it says, where no column between flips
+-- so the count up to a column says how later pixels are, where no column between flips
 pub quiet-parity : (flips : List Bool) (a i : ℕ) → a ≤ i → ((k : ℕ) → a ≤ k → k ≤ i → get_or flips k false ≡ false) →
     is_flipped flips i ≡ is_odd (count_by (λ flip. flip) (take a flips))
 quiet-parity flips a i le quiet =
@@ -57,7 +57,7 @@ pub quiet-list : (flips : List Bool) → ((k : ℕ) → get_or flips k false ≡
 quiet-list flips quiet = same_lists flips (replicate (length flips) false) (sym (length-replicate (length flips) false))
     (λ k d h. get_or_default flips k d false h ∙ (quiet k ∙ sym (get_or-replicate (length flips) k false d h)))
 
--- flips that are false up to a column and from one before it on are all taken back
+-- flips that are false up to a column and from one before it on are all removed
 pub cleared : (old new : List Bool) (column past : ℕ) → length new ≡ length old → past ≤ column → ((k : ℕ) → k < column → get_or new k false ≡ false) →
     ((k : ℕ) → past ≤ k → get_or new k false ≡ false) → new ≡ replicate (length old) false
 cleared old new column past width le before after =

@@ -77,7 +77,7 @@ gone-on old list row passed at was now gone bound is stands lasts next =
       counts = λ i j h. count-set (reaches i j) list at was now bound is (next.same i j (omega arith)) ∙ gone.counts i j h;
     }
 
--- crossings in the order of their rows stand at the first one
+-- crossings in the order of their rows are at the first one
 pub ordered-first : (list : List Crossing) (started : ℕ) → ((k : ℕ) (d : Crossing) → k < length list → row_of (get_or list k d) < end_of (get_or list k d)) →
     ((k l : ℕ) (d : Crossing) → k ≤ l → l < length list → row_of (get_or list k d) ≤ row_of (get_or list l d)) → started ≤ length list →
     ((k : ℕ) (d : Crossing) → 0 ≤ k → k < started → row_of (get_or list k d) ≡ 0) →

@@ -38,7 +38,7 @@ none-later : (i j least : ℕ) (flips : List ℕ) → index_of j i < least → (
 none-later i j least flips before all = count-none (flips_by i j) flips (λ n d h.
     and_right (nat_le (index_of j 0) (get_or flips n d)) (nat_le (get_or flips n d) (index_of j i)) (lt-leb (get_or flips n d) (index_of j i) (omega (arith, all n d h))))
 
--- a flip more
+-- one more flip
 flipped-cons : (k : ℕ) (flips : List ℕ) (i j : ℕ) → count_by (flips_by i j) (k ∷ flips) ≡ cond {A = ℕ} (flips_by i j k) 1 0 + count_by (flips_by i j) flips
 flipped-cons k flips i j = sum_by-cons (λ (n : ℕ). cond {A = ℕ} (flips_by i j n) 1 0) k flips
 

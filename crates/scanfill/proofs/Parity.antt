@@ -1,4 +1,4 @@
--- An edge more makes an odd number even, and an even one odd.
+-- One more edge makes an odd number even, and an even one odd.
 use Rattle.std.proofs.Common.{◌≡◌, ◌∙◌, ℕ, ◌+◌, ◌<◌, Bool, true, false, List, length, get_or, take, refl, sym, ap}
 use Rattle.std.proofs.lemmas.List.Sums.{count_by_more_yes, count_by_more_no}
 use Rattle.std.specs.List.{count_by}

@@ -61,13 +61,13 @@ pub ran : {T E P : Type 0} (r : Result T E) → false ≡ is_err r → OnOk r P 
 ran (Ok x) e h = h
 ran (Err x) e h = absurd (cc)
 
--- an element more in a count
+-- one more element in a count
 pub count-more : {X : Type 0} (p : X → Bool) (xs : List X) (k : ℕ) (x : X) → k < length xs → x ≡ get_or xs k x →
     count_by p (take (k + 1) xs) ≡ count_by p (take k xs) + cond {A = ℕ} (p x) 1 0
 count-more p xs k x h is =
     sum_by_more (λ y. cond {A = ℕ} (p y) 1 0) xs k x h ∙ ap (λ y. count_by p (take k xs) + cond {A = ℕ} (p y) 1 0) (sym is)
 
--- a walk more in the work
+-- one more walk in the work
 pub work-more : (t : Bool) (before n m : ℕ) (old new : Work) → m ≡ n + cond {A = ℕ} t 1 0 → old ≡ record { divisions = min (before + 2 * n) (2 ^ 64 - 1) } →
     new ≡ (if t then record { divisions = min (old.divisions + 2) (2 ^ 64 - 1) } else old) → new ≡ record { divisions = min (before + 2 * m) (2 ^ 64 - 1) }
 work-more true before n m old new e f g =

@@ -15,7 +15,7 @@ abbrev pub end_of : Crossing → ℕ
 end_of (crossing.Left rows) = rows.to
 end_of (crossing.Walk walk) = walk.end
 
--- it has still to come to row j, or stands there, and crosses it in column i or left of it
+-- it has still to come to row j, or is there, and crosses it in column i or left of it
 abbrev pub reaches : ℕ → ℕ → Crossing → Bool
 reaches i j (crossing.Left rows) = has_row rows j
 reaches i j (crossing.Walk walk) = has_row (record { from = walk.row; to = walk.end }) j && int_le (column_of walk.edge j) (pos i)
@@ -26,7 +26,7 @@ pub record IsNext (old new : Crossing) : Type 0 where
   pub end : end_of new ≡ end_of old
   pub same : (i j : ℕ) → row_of old < j → reaches i j new ≡ reaches i j old
 
--- the crossings before one index have ended, those from there to another stand at the row, the others wait in the order of their rows
+-- the crossings before one index have ended, those from there to another are at the row, the others wait in the order of their rows
 pub record AreOrdered (list : List Crossing) (row passed begun : ℕ) : Type 0 where
   pub within : begun ≤ length list
   pub rising : passed ≤ begun
@@ -37,7 +37,8 @@ pub record AreOrdered (list : List Crossing) (row passed begun : ℕ) : Type 0 w
   pub some : (k : ℕ) (d : Crossing) → begun ≤ k → k < length list → row_of (slice_index_or list k d) < end_of (slice_index_or list k d)
   pub order : (k l : ℕ) (d : Crossing) → begun ≤ k → k ≤ l → l < length list → row_of (slice_index_or list k d) ≤ row_of (slice_index_or list l d)
 
--- the crossings before one index have ended, those from there to another have gone on to the row after this, the others are as they were, and no pixel of the rows that follow is reached by another number of them
+-- The crossings before one index have ended, those from there to another have gone on to the row after this, and the
+-- others are as they were. Each pixel of the rows that follow is reached by as many of them as before.
 pub record HaveGoneOn (old new : List Crossing) (row passed at : ℕ) : Type 0 where
   pub width : length new ≡ length old
   pub rising : passed ≤ at

@@ -7,11 +7,11 @@ use Rattle.geom.specs.declared.side.TheConstants.{MAX_PICTURE_SIDE}
 abbrev pub is_flipped : List Bool → ℕ → Bool
 is_flipped flips i = is_odd (count_by (λ flip. flip) (take (i + 1) flips))
 
--- the other answer where that is so
+-- an answer, or the other one where the condition holds
 abbrev pub flip_if : Bool → Bool → Bool
 flip_if b answer = if b then not answer else answer
 
--- the pixels from a column on have become the other way, and no others
+-- the pixels from a column on are flipped, and no others
 pub record AreFlippedFrom (column : ℤ) (old new : List Bool) : Type 0 where
   pub width : length new ≡ length old
   pub all : (i : ℕ) → i < length old → is_flipped new i ≡ flip_if (int_le column (pos i)) (is_flipped old i)

@@ -11,7 +11,7 @@ index_of j i = j * 2048 + i
 abbrev pub flips_by : ℕ → ℕ → ℕ → Bool
 flips_by i j index = nat_le (index_of j 0) index && nat_le index (index_of j i)
 
--- an odd number of flips of row j stand in column i or left of it
+-- an odd number of flips of row j are in column i or left of it
 abbrev pub is_pixel_flipped : List ℕ → ℕ → ℕ → Bool
 is_pixel_flipped flips i j = is_odd (count_by (flips_by i j) flips)
 
@@ -21,7 +21,7 @@ pub record RowFlipsValue : Type 0 where
   pub height : ℕ
   pub flips : List ℕ
 
--- a flip stands at a pixel of the picture
+-- a flip is at a pixel of the picture
 pub record IsFlipOf (width height flip : ℕ) : Type 0 where
   pub above : flip / 2048 < height
   pub left : flip % 2048 < width
@@ -40,7 +40,7 @@ pub record IsSpanOf (w h : ℕ) (span : RowSpan) : Type 0 where
   pub some : span.from ≤ span.to
   pub within : span.to ≤ w
 
--- the flips stand at pixels of the picture, and rise
+-- the flips are at pixels of the picture, and rise
 pub record AreFlipsOf (w h : ℕ) (flips : List ℕ) : Type 0 where
   pub each : All (IsFlipOf w h) flips
   pub rising : AreRising flips

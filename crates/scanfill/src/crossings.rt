@@ -8,7 +8,7 @@ ghost use Rattle.scanfill.specs.declared.crossing.Crossing.{Crossing};
 use crate::crossing::Crossing;
 use crate::flips::Flips;
 
-/// The crossings of a sweep, and the row that it has come to. In their list those that have ended stand
+/// The crossings of a sweep, and the row that it has come to. Their list has those that have ended
 /// first, then those that cross the row, then those that wait, in the order of their first rows.
 #[derive(Drop)]
 pub struct Crossings {
@@ -113,8 +113,8 @@ fn begun_by(list: &[Crossing], begun: usize, row: u16) -> usize
     list.len()
 }
 
-// Takes the crossings that stand at a row to the next one, those that end there before the others. It
-// answers how many have ended.
+// Takes the crossings that are at a row to the next one, those that end there before the others. It
+// returns how many have ended.
 fn go_on(list: &mut [Crossing], first: usize, begun: usize, row: u16) -> usize
     requires row { row + 1 < 2 ^ 16 }
     requires ordered { AreOrdered list.old row first begun }

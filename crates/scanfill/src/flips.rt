@@ -9,7 +9,7 @@ use geom::PictureSide;
 use std::alloc::{AllocError, Global};
 use std::marker::Model;
 
-/// The columns of a row at which its pixels go in or out: for each column whether they do there.
+/// The columns of a row at which its pixels go in or out: for each column whether they flip there.
 #[derive(Drop)]
 pub struct Flips {
     flips: Vec<bool>,
@@ -41,8 +41,8 @@ impl Flips {
         })
     }
 
-    /// Makes the pixels from a column on the other way. A column below 0 is the first one, and one past the
-    /// end changes nothing.
+    /// Flips the pixels from a column on. A column below 0 is the first one, and one past the end changes
+    /// nothing.
     pub fn flip(&mut self, column: i64)
         ensures { AreFlippedFrom column self.old self.new }
     {
@@ -64,7 +64,7 @@ impl Flips {
         read_flips(&self.flips, self.first, self.past, out)
     }
 
-    /// Takes all flips back.
+    /// Removes all flips.
     pub fn clear(&mut self)
         ensures { self.new ≡ replicate (length self.old) false }
     {
@@ -74,7 +74,7 @@ impl Flips {
     }
 }
 
-// Takes back the flips of a row, which lie from one column to before another.
+// Removes the flips of a row, which lie from one column to before another.
 fn clear_flips(flips: &mut [bool], first: u16, past: u16)
     requires { AreWithin flips.old first past }
     ensures { flips.new ≡ replicate (length flips.old) false }

@@ -3,8 +3,9 @@
 ghost use Rattle.scanfill.specs.Law.{AreRunsInside};
 ghost use Rattle.scanfill.specs.Runs.{AreThosePassing, RunsAreOne};
 
-/// A pixel of the view lies inside of some rings exactly where the edges that lie left of the view in its
-/// row, and the edges that are walked there and whose column is at most the pixel's, are odd in number.
+/// A pixel of the view lies inside of some rings exactly where an odd number of edges counts for it.
+/// The edges that count lie left of the view in its row, or are walked there and have a column that is
+/// at most the pixel's.
 pub fn runs()
     ensures { AreRunsInside }
 {}

@@ -5,7 +5,7 @@ ghost use Rattle.scanfill.specs.Runs.{AreRunsFrom};
 use crate::span::{Span, Spans};
 use std::alloc::AllocError;
 
-/// Reads a row from left to right into its spans. Every cover's row is read by it.
+/// Reads a row from left to right into its spans. Every cover reads its rows by it.
 #[derive(Clone, Copy)]
 pub enum Reading {
     /// The last pixel isn't covered, or there is none yet.

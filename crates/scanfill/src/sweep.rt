@@ -86,7 +86,7 @@ impl<'a> Sweep<'a> {
     }
 
     /// Leaves in `out` the longest runs of covered pixels of the row that comes next, from left to right,
-    /// and goes on. It answers whether there was a row; after the last one `out` is empty. Where memory is
+    /// and goes on. It returns whether there was a row; after the last one `out` is empty. Where memory is
     /// refused `out` is empty too, and the same row comes next.
     pub fn next(&mut self, out: &mut Spans) -> Result<bool, AllocError>
         ensures more { IfOk result (λ more. more ≡ nat_lt self.old.row self.old.height) }

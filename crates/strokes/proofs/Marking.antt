@@ -23,7 +23,7 @@ marked-none from marks = record {
   all = λ i h. sym (ap (λ t. t || is_marked marks i) (no-column (record { from = from; to = from }) i (omega arith)));
 }
 
--- one column more
+-- one more column
 pub marked-next : (from column : ℕ) (old now : List Bool) → from ≤ column → column < length now → AreMarked (record { from = from; to = column }) old now →
     AreMarked (record { from = from; to = column + 1 }) old (set now column true)
 marked-next from column old now first bound are = record {
@@ -43,7 +43,7 @@ marked-next from column old now first bound are = record {
       (cases_lt i column);
 }
 
--- what one element more marks
+-- what one more element marks
 pub marked-more : {X : Type 0} (f : X → Bool) (xs : List X) (k : ℕ) (x : X) (old now new : Bool) → k < length xs → x ≡ get_or xs k x →
     new ≡ (f x || now) → now ≡ (list_any f (take k xs) || old) → new ≡ (list_any f (take (k + 1) xs) || old)
 marked-more f xs k x old now new bound is e before =
@@ -57,7 +57,7 @@ marked-more f xs k x old now new bound is e before =
     swap false true v = refl
     swap false false v = refl
 
--- one element more that doesn't pass
+-- one more element that doesn't pass
 pub none-more : {X : Type 0} (f : X → Bool) (xs : List X) (k : ℕ) (x : X) → k < length xs → x ≡ get_or xs k x →
     list_any f (take k xs) ≡ false → f x ≡ false → list_any f (take (k + 1) xs) ≡ false
 none-more f xs k x bound is before h =

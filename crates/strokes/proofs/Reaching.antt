@@ -1,4 +1,4 @@
--- RowRange in which a segment comes near to no pixel from the first column to the last.
+-- Rows in which a segment comes near to no pixel from the first column to the last.
 use Rattle.std.proofs.Common.{◌≡◌, ℕ, ◌*◌, ◌≤◌, Bool, true, false, ◌&&◌, refl, sym, arith}
 use Rattle.std.proofs.lemmas.Bool.{and_left, and_parts, and_right}
 use Rattle.std.proofs.lemmas.Int.{int_max_is, int_min_is, ints}

@@ -167,7 +167,7 @@ ends-segment : (w : ℕ) (a b : EdgeEnds) (p : DevicePoint) → low_end a ≡ lo
 unfolding covers_segment
 ends-segment w a b p l h = rw (l, h)
 
--- there and back, by which end lies higher
+-- both directions, by which end lies higher
 rows-back : (w : ℕ) (a b p : DevicePoint) → covers_by_rows w (record { from = b; to = a }) p ≡ covers_by_rows w (record { from = a; to = b }) p
 rows-back w a b p = go (int_le a.y b.y) (int_le b.y a.y) refl refl
   where

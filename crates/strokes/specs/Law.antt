@@ -31,7 +31,7 @@ AreColumnsWide =
     (w : ℕ) (a b : DevicePoint) (i : ℤ) → down a b ≤ across a b → 0 < across a b → LiesBetween a.x (centre i) b.x →
     AreInSequence w (λ j. covers_segment w (record { from = a; to = b }) (pixel_centre i j))
 
--- a segment covers the same there and back
+-- a segment covers the same in both directions
 abbrev pub IsSameBack : Type 0
 IsSameBack = (w : ℕ) (a b p : DevicePoint) → covers_segment w (record { from = b; to = a }) p ≡ covers_segment w (record { from = a; to = b }) p
 

@@ -9,7 +9,7 @@ use Rattle.strokes.specs.Square.{covers_square}
 pub record AgreeWithin (w h : ℕ) (s t : ℕ → ℕ → Bool) : Type 0 where
   pub same : (i j : ℕ) → i < w → j < h → s i j ≡ t i j
 
--- one line stands for another on a picture: it covers the same of its pixels
+-- one line may replace another on a picture: it covers the same of its pixels
 abbrev pub StandsFor : ℕ → ℕ → LineValue → LineValue → Type 0
 StandsFor w h thin whole = AgreeWithin w h (λ i j. covers_pixel thin (pos i) (pos j)) (λ i j. covers_pixel whole (pos i) (pos j))
 
@@ -36,7 +36,7 @@ ShortSegmentsAddNothing =
 abbrev pub is_long : SegmentValue → Bool
 is_long s = not (are_neighbours s.width (pixel_of s.edge.from) (pixel_of s.edge.to))
 
--- the law: a line of an odd width without its short segments stands for it, on a picture of any sides
+-- the law: a line of an odd width without its short segments may replace it, on a picture of any sides
 abbrev pub LineStandsWithoutShortSegments : Type 0
 LineStandsWithoutShortSegments =
     (parts : List (List DevicePoint)) (closed : Bool) (width w h : ℕ) → width % 2 ≡ 1 →

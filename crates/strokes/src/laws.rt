@@ -16,7 +16,7 @@ pub fn flat()
     ensures { AreColumnsWide }
 {}
 
-/// A segment covers the same pixels there and back.
+/// A segment covers the same pixels in both directions.
 pub fn back()
     ensures { IsSameBack }
 {}
@@ -26,8 +26,8 @@ pub fn nothing()
     ensures { IsNothing }
 {}
 
-/// A segment of an odd width whose ends lie in pixels of one column or one row, at most the width apart, covers nothing
-/// but what the squares round its ends cover.
+/// A short segment of an odd width covers nothing but what the squares round its ends cover. Its ends lie in pixels of
+/// one column or one row, at most the width apart.
 pub fn short()
     ensures { ShortSegmentsAddNothing }
 {}

@@ -1,13 +1,13 @@
 //! Lines of a width, and squares: which pixels they cover, and the spans of their rows.
 //!
-//! Proved: `Line`, `Segment` and `Square` are covers. What `Cover::covers` and `Cover::row` say of a segment
-//! is `covers_segment`, by comparisons of products; of a square it is `covers_square`. A line covers what
-//! its segments and the squares round its vertices cover (`covers_pixel`). `laws::steep` and `laws::flat`
-//! state that a segment is as many pixels thick as the line is wide, `laws::back` that it covers the same
-//! there and back, `laws::nothing` that it covers nothing where it has no length. By `laws::short` a short
-//! segment of an odd width covers nothing but the squares round its ends, so that by `laws::without_short` a
-//! line covers the same without them. What `RowWalk::columns` gives of a row is what the segment covers there
-//! (`all`), with one division a segment.
+//! Proved: `Line`, `Segment` and `Square` are covers. What `Cover::covers` and `Cover::row` say of a segment is
+//! `covers_segment`, by comparisons of products; of a square it is `covers_square`. A line covers what its
+//! segments and the squares round its vertices cover (`covers_pixel`). `laws::steep` and `laws::flat` state that
+//! a segment is as many pixels thick as the line is wide, `laws::back` that it covers the same in both
+//! directions. By `laws::nothing` it covers nothing where it has no length. By `laws::short` a short segment of
+//! an odd width covers nothing but the squares round its ends, so that by `laws::without_short` a line covers
+//! the same without them. `RowWalk::columns` gives what the segment covers in a row (`all`), with one division
+//! for each segment.
 //!
 //! Terms: a *segment* joins two vertices of a line. It is *steep* where it goes further down than across.
 //! To *turn* a point or a segment is to exchange across and down: what a steep segment covers row by row, a

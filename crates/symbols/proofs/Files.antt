@@ -75,7 +75,7 @@ digits-end (d ∷ ds) rest all none =
     let more : prefix_len is_ascii_digit (d ∷ (ds ++ rest)) ≡ suc (prefix_len is_ascii_digit (ds ++ rest)) = rw parts.0 (omega arith) in
     more ∙ ap suc (digits-end ds rest parts.1 none)
 
--- no digit stands first in blanks, nor is white space one
+-- blanks begin with no digit, and white space is none
 space-no_digit : (b : ℕ) → is_space b ≡ true → is_ascii_digit b ≡ false
 space-no_digit b h = go (is_ascii_digit b) refl
   where
@@ -102,7 +102,7 @@ number-read bytes at blanks digits rest here passed are ends =
     not-zero zero h = absurd (omega arith)
     not-zero (suc n) h = grind (arith, nat_tests)
 
--- what stands after it
+-- what comes after it
 pub after-number : (bytes : List ℕ) (at : ℕ) (blanks digits rest : List ℕ) → drop at bytes ≡ blanks ++ (digits ++ rest) → drop (at + length blanks + length digits) bytes ≡ rest
 after-number bytes at blanks digits rest here =
     sym (drop-drop (length digits) (at + length blanks) bytes)

@@ -29,7 +29,7 @@ tuples-read [] = refl
 tuples-read (None ∷ cs) = rw (tuples-read cs) refl
 tuples-read (Some c ∷ cs) = rw (tuples-read cs) refl
 
--- a digit is no LF, nor is any of some digits
+-- a digit is no LF, and none of some digits is one
 digit-no-feed : (d : ℕ) → 48 ≤ d → d ≤ 57 → is_line_feed d ≡ false
 digit-no-feed d h k = grind (arith, nat_tests)
 

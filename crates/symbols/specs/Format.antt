@@ -27,7 +27,7 @@ blanks_len in_comment [] = 0
 blanks_len true (b ∷ bs) = suc (blanks_len (not (is_line_end b)) bs)
 blanks_len false (b ∷ bs) = if is_space b then suc (blanks_len false bs) else (if b == 35 then suc (blanks_len true bs) else 0)
 
--- white space stands at an index
+-- white space is at an index
 abbrev pub has_space_at : List ℕ → ℕ → Bool
 has_space_at bytes at = nat_lt at (length bytes) && is_space (slice_index_or bytes at 0)
 

@@ -31,7 +31,7 @@ skipped side at = at_least_zero (pos (side / 2) -ℤ at)
 abbrev pub pixel_from : ℕ → List Rgb → ℕ → Option Rgb
 pixel_from from colours i = if nat_le from i then slice_get colours (i - from) else None
 
--- 255 0 255 stands for no colour
+-- 255 0 255 means no colour
 abbrev pub is_transparent : Rgb → Bool
 is_transparent colour = colour.red == 255 && colour.green == 0 && colour.blue == 255
 

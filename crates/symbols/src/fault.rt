@@ -14,7 +14,7 @@ pub enum PixFault {
     /// the last one is missing.
     #[error("a header that can't be read, or without pixels")]
     Header,
-    /// There are less than three bytes for each pixel.
+    /// There are fewer than three bytes for each pixel.
     #[error("fewer bytes than the pixels need")]
     Short,
     /// A side is longer than `MAX_SYMBOL_SIDE`.

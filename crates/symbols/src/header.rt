@@ -52,7 +52,7 @@ pub fn header_of(bytes: &[u8]) -> Option<HeaderFields>
     }
 }
 
-// Whether white space stands at the index.
+// Whether white space is at the index.
 fn has_space_at(bytes: &[u8], at: usize) -> bool
     ensures { result ≡ has_space_at bytes.now at }
 {
@@ -66,7 +66,7 @@ fn is_space(byte: u8) -> bool
     byte == b' ' || (9..=13).contains(&byte)
 }
 
-// The number after the blanks from an index on, if one stands there.
+// The number after the blanks from an index on, if one is there.
 fn number_at(bytes: &[u8], at: usize) -> Option<HeaderNumber>
     requires { at ≤ length bytes.now }
     ensures value { result ≡ number_at bytes.now at }

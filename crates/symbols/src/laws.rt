@@ -14,8 +14,8 @@ pub fn pictures()
     ensures { ArePicturesRead }
 {}
 
-/// A picture that was written as a portable arbitrary map is the one that the map shows, by the words of that
-/// format: with nothing where it has nothing, and with its colours else.
+/// A picture that was written as a portable arbitrary map is the one that the map shows by the rules of that
+/// format. The map shows nothing where the picture has nothing, and its colours elsewhere.
 pub fn maps()
     ensures { AreMapsRead }
 {}

@@ -8,8 +8,8 @@ use std::alloc::{AllocError, Global};
 
 /// The pixmap that some bytes are in Netpbm's P6 format. Bytes after the last pixel are ignored.
 ///
-/// `pixmap_of` is either a pixmap or a fault, so the two clauses say when each comes: unless memory is
-/// refused, which is `NoMemory`, the call gives the pixmap or the fault that it is.
+/// `pixmap_of` is either a pixmap or a fault. Unless memory is refused, which is `NoMemory`, the call
+/// gives the pixmap or the fault that it is, by the two clauses.
 pub fn read(alloc: Global, bytes: &[u8]) -> Result<Pixmap, PixFault>
     ensures pixmap { IfOk result (λ pixmap. pixmap_of bytes.now ≡ Ok pixmap) }
     ensures fault { IfErr result (IsFaultOf (pixmap_of bytes.now)) }

@@ -45,7 +45,7 @@ impl<'a> Stamp<'a> {
         self.pixel_at(i, j).unwrap()
     }
 
-    /// What of the pixmap falls into a row of a picture of so many columns, 255 0 255 included.
+    /// The part of the pixmap that falls into a row of a picture of so many columns, 255 0 255 included.
     pub fn row_pixels(&self, j: u16, end: u16) -> RowPixels<'a>
         ensures within { result.from + length result.colours.now ≤ end }
         ensures pixels { (i : ℕ) → i < end → pixel_from result.from result.colours.now i ≡ pixel_at self.now (pos i) (pos j) }
@@ -215,7 +215,7 @@ fn span_on(side: u16, at: i64, end: u16) -> Span
     }
 }
 
-/// Whether the colour stands for none.
+/// Whether the colour means none.
 pub fn is_transparent(colour: Rgb) -> bool
     ensures { result ≡ is_transparent colour }
 {
