@@ -14,7 +14,7 @@ reads-line : (s : ReaderState) (line : ℕ) (text : List ℕ) (texts : List (Lis
 unfolding reads
 reads-line s line text texts = refl
 
--- a line more is read
+-- one more line is read
 pub reads-next : (s next : ReaderState) (line : ℕ) (text : List ℕ) (texts lines : List (List ℕ)) → lines ≡ text ∷ texts → says s text ≡ Ok next → reads s line lines ≡ reads next (line + 1) texts
 reads-next s next line text texts lines e h = ap (reads s line) e ∙ reads-line s line text texts ∙ ap (λ said. after_line line said (λ t. reads t (line + 1) texts)) h
 

@@ -25,7 +25,7 @@ use Rattle.capabilities.proofs.Numbers.{is_blank, blank-elsewhere, written-lacks
 use Rattle.capabilities.proofs.Readings.{west-read, east-read, south-read, north-read, tags-read}
 use Rattle.capabilities.proofs.Sought.{before-at}
 
--- the attributes of a box behind its last number, behind its third, and so on
+-- the attributes of a box after its last number, after its third, and so on
 abbrev behind_fourth : List ℕ
 behind_fourth = codes "/"
 

@@ -8,7 +8,7 @@ use Rattle.geom.specs.Written.{six_digits, written, written_size}
 use Rattle.xmltext.specs.Escape.{is_markup}
 use Rattle.capabilities.specs.Boxes.{is_edge}
 
--- where neither of two has any, both together have none
+-- where neither of two conditions holds, their OR doesn't hold
 pub or-from : (x y : Bool) → x ≡ false → y ≡ false → (x || y) ≡ false
 or-from false y h k = k
 or-from true y h k = cc
@@ -17,7 +17,7 @@ or-from true y h k = cc
 digit-glyph : (n : ℕ) → n < 10 → digit_glyph false n ≡ 48 + n
 digit-glyph n h = grind (arith, nat_tests)
 
--- whichever of two texts lacks such bytes, both do
+-- where two texts lack such bytes, either of them does, whichever is chosen
 either-lacks : (p : ℕ → Bool) (b : Bool) (xs ys : List ℕ) → list_any p xs ≡ false → list_any p ys ≡ false → list_any p (if b then xs else ys) ≡ false
 either-lacks p true xs ys h k = h
 either-lacks p false xs ys h k = k

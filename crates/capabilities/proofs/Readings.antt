@@ -24,7 +24,7 @@ use Rattle.capabilities.proofs.Extents.{extent_of, boxes-found, tag84, tag4326}
 use Rattle.capabilities.proofs.Numbers.{decimal-plain, written-plain}
 use Rattle.capabilities.proofs.Sought.{Sought, Titles, Names, West, East, South, North, Boxes, beginning, reading_of, Finds, joined, lacks, lacks-is, without, none, plain-lacks, plain}
 
--- an element behind some bytes, as a tag, a content, and what begins with the next tag
+-- an element after some bytes, as a tag, a content, and what begins with the next tag
 element-parts : (name content rest : List ℕ) → element name content ++ rest ≡ opening name ++ (content ++ (ending name ++ (codes "\n" ++ rest)))
 unfolding element enclosed
 element-parts name content rest =

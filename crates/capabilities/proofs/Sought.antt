@@ -20,7 +20,7 @@ pub data Sought : Type 0 where
   North : Sought
   Boxes : Sought
 
--- how it begins, behind its `<`
+-- how it begins, after its `<`
 abbrev pub beginning : Sought → List ℕ
 beginning Titles = codes "Title>"
 beginning Names = codes "Name>"
@@ -40,11 +40,11 @@ reading_of South xs = parts_behind (beginning South) xs
 reading_of North xs = parts_behind (beginning North) xs
 reading_of Boxes xs = parts_behind (beginning Boxes) xs
 
--- what a reader finds in a piece, whatever stands behind it
+-- what a reader finds in a piece, whatever comes after it
 pub record Finds (sought : Sought) (xs : List ℕ) (found : List (List ℕ)) : Type 0 where
   pub is : (rest : List ℕ) → reading_of sought (xs ++ rest) ≡ found ++ reading_of sought rest
 
--- in a piece behind another one
+-- in a piece after another one
 pub joined : (s : Sought) (xs ys : List ℕ) (a b : List (List ℕ)) → Finds s xs a → Finds s ys b → Finds s (xs ++ ys) (a ++ b)
 joined s xs ys a b front back = record {
   is = λ rest. rw (append_assoc xs ys rest, front.is (ys ++ rest), back.is rest) (sym (append_assoc a b (reading_of s rest)));
@@ -61,7 +61,7 @@ passed South b bs h = rw h refl
 passed North b bs h = rw h refl
 passed Boxes b bs h = rw h refl
 
--- the bytes begin otherwise than so, whatever stands behind them
+-- the bytes don't begin so, whatever comes after them
 abbrev pub differs : List ℕ → List ℕ → Bool
 differs [] xs = false
 differs (m ∷ ms) [] = false
@@ -77,7 +77,7 @@ differs-law (m ∷ ms) (b ∷ bs) rest h = by-first (nat_eq m b) (differs-law ms
     by-first true more k = more k
     by-first false more k = refl
 
--- such a beginning stands nowhere in the bytes, whatever stands behind them
+-- no part of the bytes begins so, whatever comes after them
 abbrev pub lacks : List ℕ → List ℕ → Bool
 lacks ms [] = true
 lacks ms (b ∷ bs) = differs ms (b ∷ bs) && lacks ms bs

@@ -29,7 +29,7 @@ pub record HaveSameTags (from to : Place) (xs ys : List ℕ) : Type 0 where
   pub first : place_after from xs ≡ to
   pub second : place_after from ys ≡ to
 
--- two pieces behind two others
+-- two pieces after two others
 joined : (p q r : Place) (a b x y : List ℕ) → HaveSameTags p q a b → HaveSameTags q r x y → HaveSameTags p r (a ++ x) (b ++ y)
 joined p q r a b x y front back = record {
   tags = rw (structure-append p a x, structure-append p b y, front.first, front.second, front.tags, back.tags) refl;
@@ -37,7 +37,7 @@ joined p q r a b x y front back = record {
   second = place_after-append p b y ∙ rw front.second back.second;
 }
 
--- a piece of both
+-- a piece that both have
 same : (p q : Place) (xs : List ℕ) → place_after p xs ≡ q → HaveSameTags p q xs xs
 same p q xs h = record { tags = refl; first = h; second = h }
 

@@ -15,7 +15,7 @@ use Rattle.capabilities.specs.Document.{document}
 abbrev pub is_edge : ℕ → Bool
 is_edge b = b == 60 || b == 62
 
--- what stands behind each `<` with the bytes behind it, up to where a tag begins or ends
+-- the bytes after each `<` that these bytes follow, from their end up to where a tag begins or ends
 abbrev pub parts_behind : List ℕ → List ℕ → List (List ℕ)
 parts_behind begin [] = []
 parts_behind begin (b ∷ bs) =

@@ -8,7 +8,7 @@ use Rattle.xmltext.specs.Structure.{Content, structure}
 use Rattle.capabilities.specs.Document.{document}
 use Rattle.capabilities.specs.Element.{opening}
 
--- what stands behind each tag that begins an element of the name, up to the next tag, unescaped
+-- the bytes after each tag that begins an element of the name, up to the next tag, unescaped
 abbrev pub contents_of : List ℕ → List ℕ → List (List ℕ)
 contents_of name [] = []
 contents_of name (b ∷ bs) =

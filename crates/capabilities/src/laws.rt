@@ -9,8 +9,8 @@ pub fn texts_change_no_tags()
     ensures { TextsChangeNoTags }
 {}
 
-/// The contents of the elements `Title` of a document, unescaped, are the title of the map, of the service
-/// and of the outermost layer, and then the title of each layer that is switched on.
+/// The contents of the elements `Title` of a document, unescaped, are those of the service and of the outermost layer,
+/// which are the map's title. Then comes the title of each layer that is switched on.
 pub fn titles_are_read()
     ensures { TitlesAreRead }
 {}
@@ -20,8 +20,8 @@ pub fn names_are_read()
     ensures { NamesAreRead }
 {}
 
-/// The boxes of a document, each read in the system that it names as a query's BBOX is, are the extent of the map, and
-/// so are the four sides of its geographic box.
+/// The boxes of a document, each read in the system that it names as a query's BBOX is, are the extent of the map. So
+/// are the four sides of its geographic box.
 pub fn extent_is_read()
     ensures { ExtentIsRead }
 {}

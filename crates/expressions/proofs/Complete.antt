@@ -40,7 +40,7 @@ space-not_numeric b h = grind (arith, nat_tests)
 space-no_letter : (b : ℕ) → is_space b ≡ true → (to_ascii_lowercase b == 113) ≡ false
 space-no_letter b h = grind (arith, nat_tests)
 
--- spaces, or else what stands after them, end a number
+-- spaces, or else the bytes after them, end a number
 pub stops-spaced : (spaces rest : List ℕ) → All (λ b. IsTrue (is_space b)) spaces → Stops rest → Stops (spaces ++ rest)
 stops-spaced [] rest blank then_ = then_
 stops-spaced (b ∷ bs) rest blank then_ =

@@ -17,7 +17,7 @@ fails-before : (p : ℕ → Bool) (xs : List ℕ) → All (λ c. IsFalse (p c)) 
 fails-before p [] = All-nil (λ c. IsFalse (p c))
 fails-before p (x ∷ xs) = fails-before_cons p x xs (p x) refl (fails-before p xs)
 
--- where a byte comes: it stands after the bytes before it
+-- where a byte comes: it comes after the bytes before it
 comes-cons : (b x : ℕ) (xs : List ℕ) (t : Bool) → (x == b) ≡ t → cond (not t) (1 + position_or_len (λ c. c == b) xs) 0 < length (x ∷ xs) →
     (position_or_len (λ c. c == b) xs < length xs → xs ≡ take (position_or_len (λ c. c == b) xs) xs ++ (b ∷ drop (position_or_len (λ c. c == b) xs + 1) xs)) →
     x ∷ xs ≡ take (cond (not t) (1 + position_or_len (λ c. c == b) xs) 0) (x ∷ xs) ++ (b ∷ drop (cond (not t) (1 + position_or_len (λ c. c == b) xs) 0 + 1) (x ∷ xs))

@@ -9,7 +9,7 @@ use Rattle.mapdefs.specs.ClassLimits.{IsExprWithinLimits}
 use Rattle.mapdefs.specs.Nesting.{nesting, nesting_after_not, nesting_between_ors, nesting_in_or, nesting_in_and, fewest_parts, fewest_parts_among, part_count}
 use Rattle.expressions.specs.Grammar.{IsPart, negated, within, compares, AreBetweenAnds, last_and, and, AreBetweenOrs, last_or, or, all_of, any_of, IsLogic}
 
--- an expression whose nesting is at most so deep, whatever stands round it, and whose ORs and ANDs have two parts
+-- an expression whose nesting is at most so deep, whatever is round it, and whose ORs and ANDs have two parts
 pub record IsShallow (measure : Expr → ℕ) (most : ℕ) (e : Expr) : Type 0 where
   pub depth : measure e ≤ most
   pub parts : 2 ≤ fewest_parts e

@@ -34,7 +34,7 @@ all-digits : (bs : List ℕ) → list_all is_ascii_digit bs ≡ true → list_al
 all-digits [] h = refl
 all-digits (b ∷ bs) h = let p = and_parts (is_ascii_digit b) (list_all is_ascii_digit bs) h in and_from _ _ (numeric-digit b p.0) (all-digits bs p.1)
 
--- what stands on both sides of a byte that a number may have, and that byte
+-- the bytes on both sides of a byte that a number may have, and that byte
 around : (p : ℕ → Bool) (bs : List ℕ) → ((b : ℕ) → p b ≡ true → is_numeric b ≡ true) →
     list_all is_numeric (before_first p bs) ≡ true → list_all is_numeric (after_first p bs) ≡ true → list_all is_numeric bs ≡ true
 around p [] h front back = refl
@@ -60,7 +60,7 @@ signed (b ∷ bs) h = by (b == 45 || b == 43) refl h
     by true e rest = and_from _ _ (let one : is_numeric b ≡ true = grind (arith, nat_tests) in one) rest
     by false e rest = rest
 
--- nothing stands after a byte that isn't there
+-- nothing comes after a byte that is missing
 nothing-after : (p : ℕ → Bool) (bs : List ℕ) → list_any p bs ≡ false → after_first p bs ≡ []
 nothing-after p [] h = refl
 nothing-after p (b ∷ bs) h = by (nothing-after p bs) (p b) refl h

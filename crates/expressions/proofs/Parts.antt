@@ -44,7 +44,7 @@ pub joined_by-alone : (how : Joint) (part : Reading Expr) (bytes rest : List ℕ
 unfolding joined_by
 joined_by-alone how part bytes rest first e over = rw (e, more_parts-over how part (length rest) rest over) (ap (λ x. Some (x, rest)) (single how first))
 
--- one part more before those that come is one part more of them
+-- one more part before those that come is one more of them
 abbrev with_front : Expr → List Expr × List ℕ → List Expr × List ℕ
 with_front p ps = (p ∷ ps.0, ps.1)
 
@@ -120,6 +120,6 @@ unfolding part_at
 part_at-compare zero bytes e o = rw (e, o) refl
 part_at-compare (suc n) bytes e o = rw (e, o) refl
 
--- what stands before a closing bracket is closed
+-- the parts before a closing bracket are closed
 pub closed-some : (e : Expr) (rest after : List ℕ) → after_spaced (codes ")") rest ≡ Some after → closed (e, rest) ≡ Some (e, after)
 closed-some e rest after some = rw some refl

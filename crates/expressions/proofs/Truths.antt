@@ -1,4 +1,4 @@
--- The truth of parts that are joined, and of what stands after a NOT.
+-- The truth of parts that are joined, and of the operand of a NOT.
 use Rattle.std.proofs.Common.{◌≡◌, ℕ, Bool, not, ◌&&◌, true, false, List, refl, ◌∙◌, ap}
 use Rattle.std.specs.List.{list_any, list_all}
 use mathlib.Core.Former.{Count}

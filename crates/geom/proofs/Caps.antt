@@ -17,7 +17,7 @@ use Rattle.geom.specs.declared.micro.NumberFault.TheVariants.{TooLarge}
 use Rattle.geom.proofs.Rounding.{nearest-whole}
 use Rattle.geom.proofs.Cuts.{cut-all, nearest-scaled}
 
--- a digit more makes the same of a capped number as of the number, up to the cap
+-- one more digit makes the same of a capped number as of the number, up to the cap
 pub with_digit-capped : (n digit : ℕ) → capped (with_digit (capped n) digit) ≡ capped (with_digit n digit)
 with_digit-capped n digit = omega arith
 

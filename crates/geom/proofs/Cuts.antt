@@ -33,7 +33,7 @@ nearest-scaled n a b = elim (cases_lt a b) [
       rw (none, power, top) (ap (nearest (10 ^ b * (n * 10 ^ (a - b)))) bottom ∙ nearest-cancel (10 ^ b) (n * 10 ^ (a - b)) (10 ^ 0) (one-le-pow b 10 (omega arith))))
 ]
 
--- a digit that is at least 5 rounds up what stands before it
+-- a digit that is at least 5 rounds up the number before it
 round-up : (n x rest p : ℕ) → 5 ≤ x → x ≤ 9 → rest < p → nearest (n * (10 * p) + (x * p + rest)) (10 * p) ≡ n + 1
 round-up n x rest p least most below =
     let low : 5 * p ≤ x * p = omega (arith, mul-le-mul_left p least) in

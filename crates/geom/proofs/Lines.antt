@@ -21,7 +21,7 @@ cancel-le a b k some le = go (int_le a b) refl
     go true e = le_of a b e
     go false e = absurd (omega (arith, ints, product_negative (b -ℤ a) k (omega (arith, ints, not_le_of a b e)) some, sub-mul b a k))
 
--- an edge rises by nothing less than 0
+-- an edge doesn't rise by less than 0
 rise-some : (e : EdgeEnds) → pos 0 ≤ℤ rise e
 rise-some e = go (int_le e.from.y e.to.y) refl
   where
@@ -29,7 +29,7 @@ rise-some e = go (int_le e.from.y e.to.y) refl
     go true h = omega (arith, ints, le_of e.from.y e.to.y h)
     go false h = omega (arith, ints, not_le_of e.from.y e.to.y h)
 
--- a point further right is right of what the one before it is
+-- a point further right is right of all that the one before it is right of
 further : (u run rise a b : ℤ) → pos 0 ≤ℤ rise → a ≤ℤ b → (u *ℤ run) ≤ℤ (a *ℤ rise) → (u *ℤ run) ≤ℤ (b *ℤ rise)
 further u run rise a b some le h = omega (arith, ints, product_nonneg (b -ℤ a) rise (omega (arith, ints)) some, sub-mul b a rise)
 

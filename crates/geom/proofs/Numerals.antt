@@ -35,7 +35,7 @@ digits-read digits h some =
     ∙ ap (λ (ds : List ℕ). decimal_with digits ds (Some (pos 0))) second
     ∙ rw tested refl
 
--- digits stand for a million times as many millionths
+-- digits mean a million times as many millionths
 digits-millionths : (digits : List ℕ) (n : ℕ) → number_of digits ≡ n → millionths_of (record { whole = digits; decimals = []; exponent = pos 0 }) ≡ n * 1000000
 digits-millionths digits n number =
     rw (append-nil digits, number) (nearest-is (1000000 * (n * 10 ^ 0)) (10 ^ (0 + 0)) (n * 1000000) (omega arith) (omega arith) (omega arith))

@@ -12,15 +12,15 @@ use Rattle.geom.specs.declared.decimal.Exponent.{Exponent}
 use Rattle.geom.proofs.Caps.{millionths-are}
 use Rattle.geom.proofs.Cuts.{digits-both}
 
--- a text has a byte of a kind where the first one stands within it
+-- a text has a byte of a kind where the first one is within it
 any-within : (p : ℕ → Bool) (text : List ℕ) → position_or_len p text < length text → list_any p text ≡ true
 any-within p text h = list_any_at p text (position_or_len p text) 0 h (passes_at_first p text 0 h)
 
--- and none where it would stand at the end
+-- and none where it would be at the end
 any-none : (p : ℕ → Bool) (text : List ℕ) → length text ≤ position_or_len p text → list_any p text ≡ false
 any-none p text h = list_any_none p text (λ k e m. let fails = fails_before_first p text k 0 (omega arith) in grind (arith, common_steps))
 
--- the exponent that stands after its letter
+-- the exponent after its letter
 pub exponent-after : (text : List ℕ) (at : ℕ) → at ≡ position_or_len is_exponent_letter text → at < length text →
     whole_number (take (length text - (at + 1)) (drop (at + 1) text)) ≡ exponent_of text
 exponent-after text at is h =
@@ -48,7 +48,7 @@ decimal-parts whole decimals (Some z) exponent size short is digits same =
     ∙ ap (λ (e : Exponent). clamped_to_limits (scaled (whole ++ decimals) (e.up + 6) (length decimals + e.down))) exact
     ∙ millionths-are (record { whole = whole; decimals = decimals; exponent = z }) all (omega (arith, length-append whole decimals)) (omega arith)))
 
--- what stands before a byte of a kind and after it is no longer than the text
+-- the parts before a byte of a kind and after it are no longer than the text
 parts-fit : (p : ℕ → Bool) (text : List ℕ) → length (before_first p text) + length (after_first p text) ≤ length text
 parts-fit p text = omega (arith, length-take (position_or_len p text) text, length-drop (position_or_len p text + 1) text)
 

@@ -12,7 +12,7 @@ use Rattle.geom.proofs.Turning.{crossings-append, crossings-begin, crossings-con
 edges-among : (before after : List (List DevicePoint)) (ring : List DevicePoint) → edges (before ++ ring ∷ after) ≡ edges before ++ (ring_edges ring ++ edges after)
 edges-among before after ring = flat_map-append ring_edges before (ring ∷ after)
 
--- a ring instead of another, which is crossed as often
+-- a ring in place of another, which is crossed as often
 inside-same : (before after : List (List DevicePoint)) (one other : List DevicePoint) (p : DevicePoint) →
     count_by (crosses_at_or_left p) (ring_edges one) ≡ count_by (crosses_at_or_left p) (ring_edges other) →
     is_inside (before ++ one ∷ after) p ≡ is_inside (before ++ other ∷ after) p

@@ -62,13 +62,13 @@ crossings-append p xs ys = sum_by-append (share p) xs ys
 pub share-turned : (p : DevicePoint) (e : EdgeEnds) → share p (turned e) ≡ share p e
 share-turned p e = ap (λ (b : Bool). cond {A = ℕ} b 1 0) (turned-crosses e p)
 
--- the edges back to y over one vertex more are those back to that vertex, and the edge from it
+-- the edges back to y over one more vertex are those back to that vertex, and the edge from it
 closing-more : (x y from : DevicePoint) (rest : List DevicePoint) →
     closing_edges y from (rest ++ x ∷ []) ≡ closing_edges x from rest ++ record { from = x; to = y } ∷ []
 closing-more x y from [] = refl
 closing-more x y from (to ∷ rest) = ap (λ more. record { from = from; to = to } ∷ more) (closing-more x y to rest)
 
--- an edge more after others
+-- one more edge after others
 crossings-more : (p : DevicePoint) (edges : List EdgeEnds) (e : EdgeEnds) → crossings p (edges ++ e ∷ []) ≡ crossings p edges + share p e
 crossings-more p edges e = crossings-append p edges (e ∷ []) ∙ ap (λ n. crossings p edges + n) (crossings-cons p e [] ∙ alone (share p e))
   where

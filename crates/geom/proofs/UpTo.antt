@@ -5,7 +5,7 @@ use Rattle.std.specs.Char.{is_ascii_digit}
 use Rattle.geom.specs.Decimal.{with_digit}
 use Rattle.geom.specs.Natural.{up_to}
 
--- a digit more makes the same of a capped number as of the number, up to the cap
+-- one more digit makes the same of a capped number as of the number, up to the cap
 with_digit-up_to : (most n digit : ℕ) → up_to most (with_digit (up_to most n) digit) ≡ up_to most (with_digit n digit)
 with_digit-up_to most n digit = omega arith
 

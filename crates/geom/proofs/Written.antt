@@ -63,19 +63,19 @@ digit-not d b h low = let range = digit-range d h in grind (arith, nat_tests)
 digit-no_letter : (d : ℕ) → is_ascii_digit d ≡ true → is_exponent_letter d ≡ false
 digit-no_letter d h = let range = digit-range d h in grind (arith, nat_tests)
 
--- nor are many digits
+-- nor is any of many digits
 pub no-letters : (digits : List ℕ) → list_all is_ascii_digit digits ≡ true → list_any is_exponent_letter digits ≡ false
 no-letters [] h = refl
 no-letters (d ∷ ds) h = rw (digit-no_letter d (digits-cons d ds h).0) (no-letters ds (digits-cons d ds h).1)
 
--- where no byte is of a kind, the first one would stand at the end
+-- where no byte is of a kind, the first one would be at the end
 pub none-at_end : (p : ℕ → Bool) (text : List ℕ) → list_any p text ≡ false → position_or_len p text ≡ length text
 none-at_end p [] h = refl
 none-at_end p (b ∷ bs) h =
     let parts = or_parts (p b) (list_any p bs) h in
     rw parts.0 (omega (arith, none-at_end p bs parts.1))
 
--- the first point stands after the whole digits
+-- the first point comes after the whole digits
 point-after : (whole rest : List ℕ) → list_all is_ascii_digit whole ≡ true → position_or_len is_point (whole ++ 46 ∷ rest) ≡ length whole
 point-after [] rest h = refl
 point-after (d ∷ ds) rest h = rw (digit-not d 46 (digits-cons d ds h).0 (omega arith)) (omega (arith, point-after ds rest (digits-cons d ds h).1))

@@ -11,21 +11,21 @@ use Rattle.maplex.specs.Byte.{is_quote}
 use Rattle.maplex.specs.Logic.{opened, inner_len}
 use Rattle.maplex.specs.Grammar.{AreBalanced, no_byte, byte, quoted, bracketed, IsNeverClosed}
 
--- a quoted part is passed up to its quote
+-- a quoted part is skipped up to its quote
 inner_len-quoted : (n quote : ℕ) (part rest : List ℕ) → All (λ b. b ≢ quote) part →
     inner_len (opened n (Some quote)) (part ++ (quote ∷ rest)) ≡ length part + (1 + inner_len (opened n None) rest)
 inner_len-quoted n quote [] rest h = rw (eq-eqb quote quote refl) (omega arith)
 inner_len-quoted n quote (b ∷ part) rest h =
     rw (ne_eqb b quote (All-head (λ c. c ≢ quote) b part h), inner_len-quoted n quote part rest (All-tail (λ c. c ≢ quote) b part h)) (omega arith)
 
--- a bracket that closes an inner one is passed
+-- a bracket that closes an inner one is skipped
 inner_len-closes : (n : ℕ) (rest : List ℕ) → inner_len (opened (n + 1) None) (41 ∷ rest) ≡ 1 + inner_len (opened n None) rest
 inner_len-closes n rest =
     let inner : ((n + 1) == 0) ≡ false = ne_eqb (n + 1) 0 (λ e. absurd (omega (arith, e))) in
     let less : n + 1 - 1 ≡ n = omega arith in
     rw (inner, less) refl
 
--- balanced bytes are passed
+-- balanced bytes are skipped
 inner_len-balanced : (n : ℕ) (inner rest : List ℕ) → AreBalanced inner → inner_len (opened n None) (inner ++ rest) ≡ length inner + inner_len (opened n None) rest
 inner_len-balanced n inner rest no_byte = omega arith
 inner_len-balanced n inner rest (byte b bs quote opens closes others) =

@@ -26,7 +26,7 @@ use Rattle.maplex.specs.Lexed.{Lexed, ended, lexed, lexed_within, EndIsOnLastLin
 use Rattle.maplex.proofs.Balanced.{balanced-before, closing-after, never-closed_from}
 use Rattle.maplex.proofs.Lexing.{FitsPosition, step-fits, after_step, lexed_within-suc, lexed_within-empty, blank_len-after_blanks, nothing-left}
 
--- a byte more of a comment
+-- one more byte of a comment
 longer : (after : List ℕ) (b : ℕ) (bytes : List ℕ) → b ≢ 10 → AreBlanks after (35 ∷ bytes) → AreBlanks after (35 ∷ (b ∷ bytes))
 longer after b bytes h (separator c bs s rest) = absurd (true≢false (sym s))
 longer after b bytes h (comment text bs goes_on rest) = comment (b ∷ text) bs (All-cons (λ c. c ≢ 10) b text h goes_on) rest
@@ -90,7 +90,7 @@ over-at : (xs : List ℕ) → IsOver (drop (position_or_len ends_word xs) xs)
 over-at [] = tt
 over-at (x ∷ xs) = over-at_cons x xs (ends_word x) refl (over-at xs)
 
--- where a byte comes again: it stands after the bytes before it
+-- where a byte comes again: it comes after the bytes before it
 found-cons : (p : ℕ → Bool) (b x : ℕ) (xs : List ℕ) (t : Bool) → p x ≡ t → (p x ≡ true → x ≡ b) → cond (not t) (1 + position_or_len p xs) 0 < length (x ∷ xs) →
     (position_or_len p xs < length xs → take (suc (position_or_len p xs)) xs ≡ take (position_or_len p xs) xs ++ b ∷ []) →
     take (suc (cond (not t) (1 + position_or_len p xs) 0)) (x ∷ xs) ≡ take (cond (not t) (1 + position_or_len p xs) 0) (x ∷ xs) ++ b ∷ []
@@ -199,7 +199,7 @@ begins-token b bs true is_blank c s h = absurd (omega arith)
 begins-token b bs false true c s h = absurd (omega arith)
 begins-token b bs false false c s h = record { separates = s; comments = c }
 
--- the fronts of a text that are UTF-8
+-- the prefixes of a text that are UTF-8
 valid_len-front : (bs : List ℕ) (m : ℕ) → IsUtf8 (take (valid_len_up_to bs m) bs)
 valid_len-front bs zero = IsUtf8-nil
 valid_len-front bs (suc m) =

@@ -36,8 +36,8 @@ after_blanks-none p h = ap (λ n. further n p) h ∙ further-none p
 pub blank_len-after_blanks : (p : Position) → blank_len false (after_blanks p).rest ≡ 0
 blank_len-after_blanks p = blank_len-drop false p.rest
 
--- a step fits its position: the end is on its line with nothing left, a fault on it or further down, and a token
--- begins on it and takes a byte at least
+-- A step fits its position. The end is on its line with nothing left, and a fault on it or further down. A token
+-- begins on it and takes at least one byte.
 abbrev pub FitsPosition : Position → Step → Type 0
 FitsPosition p (Stops (Ends line)) = (line ≡ p.line) × (p.rest ≡ [])
 FitsPosition p (Stops (Breaks f)) = p.line ≤ f.line

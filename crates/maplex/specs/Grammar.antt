@@ -73,7 +73,7 @@ IsWritten shape.Text text written after = IsQuotedText text written
 IsWritten shape.Logic text written after = IsLogicText text written
 IsWritten shape.List text written after = IsListText text written
 
--- a `(` before some bytes is never closed: nowhere do balanced bytes and a `)` stand at their front
+-- a `(` before some bytes is never closed: no prefix of them is balanced bytes and a `)`
 abbrev pub IsNeverClosed : List ℕ → Type 0
 IsNeverClosed bs = (inner after : List ℕ) → AreBalanced inner → bs ≢ inner ++ (41 ∷ after)
 
@@ -90,9 +90,9 @@ pub record BeginsWith (bytes : List ℕ) (shape : Shape) (text : List ℕ) : Typ
   pub whole : bytes ≡ written ++ after
   pub is_written : IsWritten shape text written after
 
--- the fault of some bytes, on the line on which they begin unless it is a bad byte of a text: a quote that doesn't come
--- again, a `(` that is never closed, a `{` without a `}`, a bracket that closes nothing, a text with a bad byte, or a text
--- that is good but too long
+-- The fault of some bytes, on the line on which they begin unless it is a bad byte of a text. It is a quote that
+-- doesn't come again, a `(` that is never closed, a `{` without a `}`, or a bracket that closes nothing. It may also be
+-- a text with a bad byte, or a text that is good but too long.
 pub data IsFault (line : ℕ) : List ℕ → LexFault → Type 0 where
   open_text : (quote : ℕ) (bs : List ℕ) → IsTrue (is_quote quote) → All (λ b. b ≢ quote) bs → IsFault line (quote ∷ bs) (fault line OpenString)
   open_logic : (bs : List ℕ) → IsNeverClosed bs → IsFault line (40 ∷ bs) (fault line OpenString)
@@ -107,8 +107,8 @@ pub data IsFault (line : ℕ) : List ℕ → LexFault → Type 0 where
 abbrev pub line_after : List ℕ → ℕ
 line_after bytes = 1 + line_ends bytes
 
--- a reading of some bytes, after those before them: blanks and comments up to the end of the source, blanks and comments
--- up to a fault, or blanks and comments, a token as it is written, and a reading of the bytes after it
+-- A reading of some bytes, after those before them. It is blanks and comments up to the end of the source or up to a
+-- fault. Or it is blanks and comments, a token as it is written, and a reading of the bytes after it.
 pub data IsReading : List ℕ → List ℕ → Lexed → Type 0 where
   ends : (before blanks : List ℕ) → AreBlanks [] blanks → IsReading before blanks (ended (line_after (before ++ blanks)))
   breaks : (before blanks after : List ℕ) (f : LexFault) → AreBlanks after blanks → IsFault (line_after (before ++ blanks)) after f →

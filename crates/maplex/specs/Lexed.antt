@@ -5,8 +5,8 @@ use Rattle.maplex.specs.declared.fault.Tail.TheVariants.{Ends}
 use Rattle.maplex.specs.Position.{Position, start, line_ends, after_blanks}
 use Rattle.maplex.specs.Token.{TokenValue, Stops, Reads, step}
 
--- what is lexed from a position on: the line that is reached there after blanks and comments, tokens, and what comes
--- after the last one, the end of the source or the first fault
+-- What is lexed from a position on: the line that is reached there after blanks and comments, tokens, and what comes
+-- after the last one. That is the end of the source or the first fault.
 pub record Lexed : Type 0 where
   pub line : ℕ
   pub tokens : List TokenValue

@@ -53,8 +53,8 @@ shape_of b =
     else (if b == 123 then Some shape.List
     else (if is_closing b then None else Some shape.Word)))
 
--- the extent of a token by its shape, its first byte and those after it: a quoted text is closed by its quote, a logical
--- expression by the bracket that matches, a list by the next `}`
+-- The extent of a token by its shape, its first byte and those after it. A quoted text is closed by its quote, a
+-- logical expression by the bracket that matches, a list by the next `}`.
 abbrev pub extent_by : Option Shape → ℕ → List ℕ → Result Extent LexKind
 extent_by None b bs = Err BadByte
 extent_by (Some shape.Word) b bs = Ok (word_extent bs)

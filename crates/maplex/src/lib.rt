@@ -6,10 +6,10 @@
 //! reading of the source by its grammar, in which blanks, comments and tokens make up the source.
 //!
 //! Terms: a *separator* is a space, tab, LF, CR or form feed. A *bare word* (`Shape::Word`) is a token
-//! without quotes and brackets, a *quoted text* (`Shape::Text`) one between quotes, a *logical expression*
-//! (`Shape::Logic`) one between round brackets, and a *list* (`Shape::List`) one between curly brackets.
-//! A *position* in a source is the bytes that are left there, and their line. The *tail* is what comes
-//! after the last token: the end of the source, or its first *fault*.
+//! without quotes and brackets, a *quoted text* (`Shape::Text`) one between quotes. A *logical expression*
+//! (`Shape::Logic`) is one between round brackets, and a *list* (`Shape::List`) one between curly
+//! brackets. A *position* in a source is the bytes that are left there, and their line. The *tail* is what
+//! comes after the last token: the end of the source, or its first *fault*.
 #![tactic(auto)]
 
 mod byte;

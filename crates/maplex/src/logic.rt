@@ -13,7 +13,7 @@ pub struct Opened {
 }
 
 impl Opened {
-    // What is open after the byte. It is none where the byte closes the expression.
+    // What is open after the byte. It is `None` where the byte closes the expression.
     fn after(self, byte: u8) -> Option<Opened>
         requires room { self.brackets + 1 < 2 ^ 64 }
         ensures next { result ≡ opened_after self byte }
@@ -44,8 +44,8 @@ impl Opened {
     }
 }
 
-/// How many bytes the logical expression has whose opening bracket stands before these, both of its
-/// brackets among them. It is none where no byte closes the expression.
+/// How many bytes the logical expression has whose opening bracket comes before these bytes. Both
+/// of its brackets count. It is `None` where no byte closes the expression.
 pub fn logic_size(bytes: &[u8]) -> Option<usize>
     ensures size { result ≡ logic_size bytes.now }
     ensures within { IfSome result (λ size. size ≤ 1 + length bytes.now) }

@@ -59,7 +59,7 @@ impl<'a> Model for Tokens<'a> {
 
     ghost view = { λ t. lexed_from t.at };
 
-    // Blanks before the next token are passed, so that the line is that of the token.
+    // Blanks before the next token are skipped, so that the line is that of the token.
     ghost invariant = { λ t. blank_len false t.at.rest ≡ 0 };
 }
 

@@ -1,4 +1,4 @@
--- The font of a file is the one that stands by its encodings.
+-- The font of a file is the one with its glyphs by their encodings.
 use Rattle.std.proofs.Common.{◌≡◌, ℕ, suc, ◌<◌, ◌≤◌, Bool, true, false, List, [], ◌∷◌, Option, Some, Result, Ok, Err, refl, sym, ◌∙◌, ap, arith, All}
 use Rattle.std.specs.Prelude.{◌==◌, find, nat_lt, if◌then◌else◌}
 use Rattle.std.specs.Result.{IsOkAnd, IfErr}
@@ -28,7 +28,7 @@ all-with P glyph (other ∷ others) p all =
     of added rest false true = All-cons P glyph others p rest
     of added rest false false = All-cons P other (with_glyph glyph others) (all 0 other (omega arith)) added
 
--- glyphs by rising encodings stand so with one more
+-- glyphs by rising encodings are so with one more
 rising-with : (glyph : Glyph) (glyphs : List Glyph) → IsRising glyphs → IsRising (with_glyph glyph glyphs)
 rising-with glyph [] rising = AllPairs-cons (λ (a : Glyph) (b : Glyph). a.encoding < b.encoding) glyph [] (All-nil (λ (b : Glyph). glyph.encoding < b.encoding)) rising
 rising-with glyph (other ∷ others) rising =

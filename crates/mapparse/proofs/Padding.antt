@@ -6,7 +6,7 @@ use Rattle.std.specs.List.{slice_split}
 use Rattle.mapparse.specs.Mapping.{is_semicolon, padded, values_of}
 
 module _ (count : ℕ) (xs : List (List ℕ)) where
-  -- an empty value more is one of those that are filled up
+  -- one more empty value is one of those that are filled up
   pub padded-more : length xs < count → padded count (xs ++ [] ∷ []) ≡ padded count xs
   padded-more below =
       let left : count - length xs ≡ suc (count - length (xs ++ [] ∷ [])) = omega (arith, length-append xs ([] ∷ [])) in

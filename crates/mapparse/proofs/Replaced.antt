@@ -1,4 +1,4 @@
--- A file takes the place of an earlier one of its name.
+-- A file replaces an earlier one of its name.
 use Rattle.std.proofs.Common.{◌≡◌, ℕ, ◌+◌, ◌<◌, true, List, ◌∷◌, ◌++◌, length, get_or, take, drop, refl, sym, ap, ◌∙◌, add-one, drop-cons, slice_set}
 use Rattle.std.proofs.lemmas.List.{take-append-drop, take-set, drop-set}
 use Rattle.mapparse.specs.declared.files.FileBytes.{FileBytes}

@@ -9,7 +9,7 @@ use Rattle.mapwords.specs.Fault.{and_then}
 use Rattle.mapparse.specs.declared.files.FileBytes.{FileBytes}
 use Rattle.mapparse.specs.Symbols.{pixmap_in, symbols_of}
 
--- one symbol more is made
+-- one more symbol is made
 module _ (files : List FileBytes) (done : List Symbol) where
   joined : (symbol : Symbol) (r : Result (List Symbol) Fault) →
       and_then r (λ more. Ok ((done ++ symbol ∷ []) ++ more)) ≡ and_then (and_then r (λ others. Ok (symbol ∷ others))) (λ more. Ok (done ++ more))

@@ -10,7 +10,7 @@ use Rattle.mapparse.specs.declared.files.FileBytes.{FileBytes}
 use Rattle.mapdefs.specs.declared.limits.TheConstants.{MAX_FEATURES}
 use Rattle.mapparse.specs.Tables.{table_given, tables_of, rows_of, HasRoom, HaveRoom}
 
--- one table more is read
+-- one more table is read
 module _ (files : List FileBytes) (done : List (Option TableFields)) where
   joined : (table : Option TableFields) (r : Result (List (Option TableFields)) Fault) →
       and_then r (λ more. Ok ((done ++ table ∷ []) ++ more)) ≡ and_then (and_then r (λ others. Ok (table ∷ others))) (λ more. Ok (done ++ more))
@@ -48,7 +48,7 @@ zip-at_most [] tables = omega arith
 zip-at_most (layer ∷ layers) [] = omega arith
 zip-at_most (layer ∷ layers) (table ∷ tables) = let more = zip-at_most layers tables in omega (arith, more)
 
--- a layer has room for the rows of its table behind the features that it is given
+-- a layer has room for the rows of its table after the features that it is given
 pub room-fits : (layer : LayerTree) (table : Option TableFields) → length layer.body.features ≤ MAX_FEATURES → HasRoom layer table → length layer.body.features + length (rows_of table) ≤ MAX_FEATURES
 room-fits layer None few room = omega (arith, few)
 room-fits layer (Some t) few room = room

@@ -9,7 +9,7 @@ use Rattle.mapparse.specs.declared.files.FileBytes.{FileBytes}
 abbrev pub has_name : List ℕ → FileBytes → Bool
 has_name name file = is_same_name file.name name
 
--- the files with one more, which takes the place of an earlier one of its name
+-- the files with one more, which replaces an earlier one of its name
 abbrev pub with_file : List ℕ → List ℕ → List FileBytes → List FileBytes
 with_file name bytes [] = record { name = name; bytes = bytes } ∷ []
 with_file name bytes (file ∷ files) =

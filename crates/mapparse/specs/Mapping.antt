@@ -114,8 +114,8 @@ abbrev pub named_items : Option (List (List ℕ)) → Option TableFields → Lis
 named_items given None = unwrap_or given []
 named_items given (Some table) = table.columns
 
--- a layer is switched on, has its `wms_title` as its title, else its `ows_title`, else its name, and the rows of its table
--- behind the features that it is given; with a TEMPLATE it can be queried
+-- A layer is switched on. It has its `wms_title` as its title, else its `ows_title`, else its name. It has the rows of
+-- its table after the features that it is given, and with a TEMPLATE it can be queried.
 abbrev pub layer_of : List Symbol → LayerTree × Option TableFields → LayerFields
 layer_of symbols (layer, table) = record {
   name = layer.name.text;

@@ -24,7 +24,7 @@ column_x layer = unwrap_or (last (words_in CsvX) layer.body.values) (codes "x")
 abbrev pub column_y : LayerTree → List ℕ
 column_y layer = unwrap_or (last (words_in CsvY) layer.body.values) (codes "y")
 
--- so many rows a layer has room for, behind the features that the mapfile gives it
+-- how many rows a layer has room for, after the features that the mapfile gives it
 abbrev pub room_in : LayerTree → ℕ
 room_in layer = MAX_FEATURES - length layer.body.features
 

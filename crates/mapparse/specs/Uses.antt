@@ -35,7 +35,7 @@ uses_after firsts (file ∷ files) = uses_after (with_use firsts file) files
 abbrev pub font_file : MapTree → Option Named
 font_file tree = last (text_in LabelFont) tree.values
 
--- files, with that of a font behind those that are used before it
+-- files, with that of a font after those that are used before it
 abbrev pub with_font : Option Named → ℕ → List Named → List Named
 with_font None before files = files
 with_font (Some file) before files = take before files ++ file ∷ drop before files
@@ -52,7 +52,7 @@ uses_of tree = map (λ (file : Named). file.text) (first_uses tree)
 abbrev pub lacks_pixmap : List ℕ → List ℕ → SymbolTree → Bool
 lacks_pixmap name bytes symbol = is_same_name symbol.image.text name && is_err (pixmap_of bytes)
 
--- the file of this name is the one that may be named
+-- a file is named, and has this name
 abbrev pub is_named : List ℕ → Option Named → Bool
 is_named name None = false
 is_named name (Some file) = is_same_name file.text name
@@ -66,7 +66,7 @@ abbrev pub lacks_font : List ℕ → List ℕ → Option Named → Bool
 lacks_font name bytes None = false
 lacks_font name bytes (Some file) = is_same_name file.text name && is_err (font_of bytes)
 
--- some use of the file of this name can't be made of its bytes
+-- the bytes of the file of this name don't fit some use of it
 abbrev pub is_bad : MapTree → List ℕ → List ℕ → Bool
 is_bad tree name bytes =
     list_any (lacks_pixmap name bytes) tree.symbols || list_any (lacks_table name bytes) tree.layers || lacks_font name bytes (font_file tree)

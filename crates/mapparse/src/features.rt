@@ -127,7 +127,7 @@ fn items_and_rows(
     }
 }
 
-/// The items of a layer, and its features with their values: those that the mapfile gives it, and behind them the
+/// The items of a layer, and its features with their values: those that the mapfile gives it, and after them the
 /// rows of its table.
 pub fn with_items(
     items: Option<Capped<Text, MAX_ITEMS>>,

@@ -38,8 +38,7 @@ impl Files {
         }
     }
 
-    /// Adds a file. It takes the place of an earlier one of its name. Where memory is refused nothing
-    /// changes.
+    /// Adds a file. It replaces an earlier one of its name. Where memory is refused nothing changes.
     pub fn add(&mut self, name: Text, bytes: Items<u8>) -> Result<(), AllocError>
         ensures ok { OnOk result (self.new ≡ with_file name bytes self.old) }
         ensures err { OnErr result (self.new ≡ self.old) }

@@ -50,22 +50,23 @@ impl Mapfile {
     }
 
     /// The names of the files that it uses, each once, in the order of their first use. A name that a
-    /// later one of its keyword replaces is no use.
+    /// later one of its keyword replaces doesn't count.
     pub fn wanted(&self, alloc: Global) -> Result<Items<Text>, AllocError>
         ensures { IfOk result (λ names. names ≡ uses_of self.now) }
     {
         uses_of(&self.tree, alloc)
     }
 
-    /// The fault of the first used of the files that have one, with its cause, if one has.
+    /// The fault of the first used of the files that have one, with its cause. It is `None` where no file
+    /// has one.
     pub fn files_fault(&self, alloc: Global, files: &Files) -> Result<Option<FileFault>, AllocError>
         ensures { IfOk result (λ found. option_map fault_in found ≡ files_fault files.now self.now) }
     {
         files_fault(&self.tree, files, alloc)
     }
 
-    /// The map that it describes with these files, or the first fault of a file: `MissingFile` for one
-    /// that is missing, and `BadFile` for one that isn't what it is used as.
+    /// The map that it describes with these files, or the first fault of a file. That is `MissingFile` for
+    /// one that is missing, and `BadFile` for one that isn't what it is used as.
     pub fn into_map(self, alloc: Global, files: &Files) -> Result<Map, ParseFault>
         ensures map { IfOk result (λ map. map_of files.now self ≡ Ok map) }
         ensures fault { IfErr result (IsFaultOf (map_of files.now self)) }
@@ -92,9 +93,8 @@ pub fn wanted(alloc: Global, source: &[u8]) -> Result<Items<Text>, ParseFault>
 
 /// Reads a mapfile: the map that it describes with these files, or its first fault with its line.
 ///
-/// `parsed` is either a map or a fault, so the two clauses say when each comes: unless memory is
-/// refused, which is `NoMemory`, the call gives the map or the fault that `parsed` is. The faults of files
-/// come after all others.
+/// `parsed` is either a map or a fault. Unless memory is refused, which is `NoMemory`, the call gives the
+/// map or the fault that `parsed` is, by the two clauses. The faults of files come after all others.
 pub fn parse(alloc: Global, source: &[u8], files: &Files) -> Result<Map, ParseFault>
     ensures map { IfOk result (λ map. parsed files.now source.now ≡ Ok map) }
     ensures fault { IfErr result (IsFaultOf (parsed files.now source.now)) }

@@ -216,7 +216,7 @@ fn classes_of(
     SharedItems::new(alloc, classes)
 }
 
-// The title of the service, if one is given.
+// The title of the service, if it has one.
 fn service_title(values: &Values) -> Option<&Text>
     ensures { option_map (λ x. x.now) result ≡ service_title values.now }
 {
@@ -226,7 +226,7 @@ fn service_title(values: &Values) -> Option<&Text>
     }
 }
 
-// The address of the service, if one is given.
+// The address of the service, if it has one.
 fn service_url(values: &Values) -> Option<&Text>
     ensures { option_map (λ x. x.now) result ≡ either_text WmsOnlineResource OwsOnlineResource values.now }
 {

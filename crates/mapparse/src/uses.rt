@@ -44,7 +44,7 @@ fn add_uses(firsts: &mut Vec<Named>, files: &[Named], alloc: Global) -> Result<(
     Ok(())
 }
 
-// Files up to so many, and those after them.
+// The first so many files, and those after them.
 fn parted(files: &[Named], count: usize) -> (&[Named], &[Named])
     ensures before { result.0.now ≡ take count files.now }
     ensures after { result.1.now ≡ drop count files.now }
@@ -63,7 +63,7 @@ pub fn font_file(tree: &MapTree) -> Option<&Named>
     tree.values.text(TextKeyword::LabelFont)
 }
 
-// The first uses of files, among which that of a font is, behind so many.
+// The first uses of files, with that of a font after so many of these.
 fn uses_with_font(
     font: &Named,
     before: usize,
@@ -135,7 +135,7 @@ fn pixmap_fault(
     Ok(None)
 }
 
-// Whether the file of this name is the one that may be named.
+// Whether a file is named, and has this name.
 fn is_named(name: &str, file: &Option<Named>) -> bool
     ensures { result ≡ is_named name.now file.now }
 {
@@ -187,7 +187,7 @@ fn font_fault(
     }
 }
 
-// Why some use of the file of this name can't be made of its bytes.
+// Why the bytes of the file of this name don't fit some use of it.
 fn cause_in(
     tree: &MapTree,
     name: &str,

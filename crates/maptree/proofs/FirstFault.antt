@@ -1,4 +1,4 @@
--- A fault in the prefix of a mapfile is its fault, whatever stands after it.
+-- A fault in the prefix of a mapfile is its fault, whatever comes after it.
 use Rattle.std.proofs.Common.{◌≡◌, ◌≢◌, ℕ, zero, suc, ◌≤◌, Bool, true, false, List, [], ◌∷◌, ◌++◌, length, refl, sym, ap, ◌∙◌, arith, length-append}
 use Rattle.std.specs.Prelude.{Result, Ok, Err, if◌then◌else◌}
 use Rattle.maplex.specs.declared.fault.LexFault.{LexFault}

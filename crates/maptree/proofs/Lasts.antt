@@ -8,7 +8,7 @@ use Rattle.mapwords.specs.declared.table.TextKeyword.{TextKeyword}
 use Rattle.maptree.specs.Values.{last, text_in, words_in}
 
 module _ {A : Type 0} (wanted : Value → Option A) where
-  -- one value more
+  -- one more value
   more : (v : Value) (vs : List Value) (is : Option A) → wanted v ≡ is → last wanted vs ≡ option_and_then wanted (find (λ v. is_some (wanted v)) vs) →
       last wanted (v ∷ vs) ≡ option_and_then wanted (find (λ v. is_some (wanted v)) (v ∷ vs))
   more v vs (Some a) same rest = rw same (sym same)

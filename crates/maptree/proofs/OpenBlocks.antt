@@ -295,7 +295,7 @@ module _ (earlier : List LayerTree) (t : TokenValue) (body : LayerBody) (with_la
   layer-ends None (Some geometry) = refl
   layer-ends None None = refl
 
--- a fault refuses the drafts
+-- where there is a fault the drafts are refused
 unless-same : (fault : Option Fault) (d : Drafts) → end.unless_fault fault d ≡ unless_fault fault d
 unless-same None d = refl
 unless-same (Some f) d = refl

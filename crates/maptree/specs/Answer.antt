@@ -37,8 +37,8 @@ answer r ts tail = goes_on tail r.contexts (Ok (r.drafts, ts))
 abbrev pub IsSoundBefore : LexFault → Result MapTree Fault → Type 0
 IsSoundBefore f reading = (reading ≡ Err (lexical f)) ⊎ IfErr reading (λ g. g.kind ≡ BadExpression)
 
--- the error of reading one token: its fault is the fault whatever follows, and where memory was refused it has none but
--- that of an expression, so that the fault of what follows is the first
+-- The error of reading one token: its fault is the fault whatever follows. Where memory was refused it has none but
+-- that of an expression, so that the fault of what follows is the first.
 abbrev pub IsStepErrorOf : Reader → TokenValue → ParseFault → Type 0
 IsStepErrorOf r t (At line kind) =
     (ts : List TokenValue) (tail : Tail) → answer r (t ∷ ts) tail ≡ Err (record { line = line; kind = kind })

@@ -24,7 +24,7 @@ latitude_in tail (t ∷ ts) =
     if is_end t then refused MissingValue t
     else and_then (ok_or (coordinate_in t) (fault_of WrongValue t)) (λ y. Ok (y, ts))
 
--- The entries of a block up to its END, within so many tokens, and the tokens after it: `above` is what its parent says
+-- The entries of a block up to its END, within so many tokens, and the tokens after it. `above` is what its parent says
 -- before it, and `own` what it says itself so far. No other block counts.
 unfoldable pub block_in : Tail → ℕ → Block → Entries → Entries → List TokenValue → Result (Entries × List TokenValue) Fault
 block_in tail n b above own [] = Err (missing tail)
@@ -37,7 +37,7 @@ block_in tail (suc n) b above own (t ∷ ts) = and_then (says b above own t) (λ
   | Skips ↦ block_in tail n b above own ts
 ])
 
--- after the END of MAP stands nothing
+-- nothing comes after the END of MAP
 abbrev pub alone : Tail → Entries → List TokenValue → Result Entries Fault
 alone (tails.Ends line) own [] = Ok own
 alone (tails.Breaks f) own [] = Err (lexical f)
@@ -47,7 +47,7 @@ alone tail own (t ∷ ts) = refused UnknownWord t
 abbrev pub map_in : Tail → List TokenValue → Result Entries Fault
 map_in tail ts = and_then (block_in tail (length ts) block.Map Nothing Nothing ts) (λ own. alone tail own.0 own.1)
 
--- what a list of tokens means, with what stands after them: the entries of one MAP, or the first fault in their order
+-- what a list of tokens means, with what comes after them: the entries of one MAP, or the first fault in their order
 abbrev pub meaning : List TokenValue → Tail → Result Entries Fault
 meaning [] tail = Err (missing tail)
 meaning (t ∷ ts) tail = if is_at keyword.Map t then map_in tail ts else refused UnknownWord t
@@ -57,8 +57,8 @@ abbrev pub CountIsEnough : Type 0
 CountIsEnough = (tail : Tail) (n m : ℕ) (b : Block) (above own : Entries) (ts : List TokenValue) →
     length ts ≤ n → length ts ≤ m → block_in tail n b above own ts ≡ block_in tail m b above own ts
 
--- the law that the first fault is reported: where some tokens with a lexical fault after them have another fault, this is
--- the fault of every mapfile that begins with them
+-- the law that the first fault is reported: where some tokens with a lexical fault after them have another fault, every
+-- mapfile that begins with them has this fault
 abbrev pub FirstFaultIsReported : Type 0
 FirstFaultIsReported = (prefix rest : List TokenValue) (f : LexFault) (g : Fault) (tail : Tail) →
     meaning prefix (tails.Breaks f) ≡ Err g → g ≢ lexical f → meaning (prefix ++ rest) tail ≡ Err g

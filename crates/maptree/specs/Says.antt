@@ -34,7 +34,7 @@ pub data Saying : Type 0 where
   Longitude : ℤ → Saying
   Skips : Saying
 
--- the END of a LAYER asks for a NAME, which none of the earlier layers has, and a TYPE, of which a table may be
+-- the END of a LAYER requires a NAME, which no earlier layer has, and a TYPE, which its table may have
 abbrev pub layer_end_fault : Option Named → Option Geometry → Option Named → List LayerTree → TokenValue → Option Fault
 layer_end_fault (Some name) (Some geometry) table earlier t =
     if is_taken name.text earlier then Some (record { line = name.line; kind = DuplicateName }) else table_fault geometry table
@@ -83,7 +83,7 @@ vertex_says above own t =
 abbrev pub points_say : Entries → Entries → TokenValue → Result Saying Fault
 points_say above own t = if is_end t then ends_unless (closing_fault block.Points above own t) else vertex_says above own t
 
--- in METADATA and VALIDATION stands their END, or a key, after which its value comes
+-- a token in METADATA and VALIDATION is their END, or a key, after which its value comes
 abbrev pub pair_says : Block → TokenValue → Result Saying Fault
 pair_says b t = if is_end t then Ok Ends else (if is_value t.shape then Ok (Takes (pair_expects b t.text)) else refused WrongValue t)
 

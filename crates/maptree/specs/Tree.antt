@@ -42,7 +42,7 @@ layer_body own = record {
   features = map feature_tree (blocks block.Feature own);
 }
 
--- where no text is given, an empty one
+-- an empty text where one is missing
 abbrev pub no_name : Named
 no_name = record { text = []; line = 0 }
 
@@ -62,7 +62,7 @@ symbol_tree own = record {
   image = unwrap_or (last (text_in text.Image) (values own)) no_name;
 }
 
--- the files that are used, with that of a block of MAP behind them: a SYMBOL uses that of its IMAGE, a LAYER that of its DATA
+-- the files that are used, with that of a block of MAP after them: a SYMBOL uses that of its IMAGE, a LAYER that of its DATA
 abbrev pub with_file_of : Block → Entries → List Named → List Named
 with_file_of block.Symbol own files = files ++ (symbol_tree own).image ∷ []
 with_file_of block.Layer own files = with_table (last (text_in text.Data) (values own)) files

@@ -107,7 +107,7 @@ pub record IsColour (colour : Rgb) : Type 0 where
   pub green : colour.green < 256
   pub blue : colour.blue < 256
 
--- the names in a list between commas have none themselves
+-- the names in a list between commas have no comma themselves
 abbrev pub HasNoComma : List ℕ → Type 0
 HasNoComma name = All (λ byte. is_comma byte ≡ false) name
 
@@ -174,9 +174,9 @@ pub data IsBlockIn : Block → Block → Type 0 where
   web_metadata : IsBlockIn block.Web block.WebMetadata
   layer_metadata : IsBlockIn block.Layer block.LayerMetadata
 
--- what a block may say, after what its parent says, and the tokens that say it from its first entry to its last: its own
--- values, vertices in POINTS as two numbers each, and its own blocks between their keyword and END, each within the limits,
--- and none that is wrong at its END
+-- What a block may say, after what its parent says, and the tokens that say it from its first entry to its last. It
+-- says its own values, vertices in POINTS as two numbers each, and its own blocks between their keyword and END. Each
+-- is within the limits, and none is wrong at its END.
 pub data IsWrittenOut : Block → Entries → Entries → List TokenValue → Type 0 where
   nothing : (b : Block) (above : Entries) → IsWrittenOut b above Nothing []
   said : (b : Block) (above before : Entries) (ts : List TokenValue) (v : Value) (us : List TokenValue) → IsWrittenOut b above before ts → IsWritten b v us →

@@ -150,7 +150,7 @@ impl Drafts {
         mem::replace(&mut self.map, MapTree::new(alloc))
     }
 
-    /// Notes a value of a block, behind those that the block was given before. After an error the drafts are of no
+    /// Notes a value of a block, after those that the block has already. After an error the drafts are of no
     /// further use.
     pub fn set(&mut self, block: Block, value: Value) -> Result<(), AllocError>
         ensures { OnOk result (self.new ≡ with_value block value self.old) }

@@ -140,7 +140,7 @@ fn end_symbol(drafts: &mut Drafts, end: &Token, alloc: Global) -> Result<(), Par
     Ok(())
 }
 
-// Ends MAP: each symbol that a style names is there.
+// Ends MAP: each symbol that a style names has to be there.
 fn end_map(drafts: &Drafts) -> Result<(), Fault>
     ensures { MatchResult result
         (λ _. map_end drafts.now ≡ Ok drafts.now)
@@ -244,7 +244,8 @@ pub fn close(
     Ok(())
 }
 
-/// What the open block lacks first of what its END requires, as its keyword or in a word, if it lacks something.
+/// The first part that the open block lacks of those that its END requires, as its keyword or in a word. It is
+/// `None` where it lacks nothing.
 pub fn missing_part(block: Block, drafts: &Drafts) -> Option<&'static str> {
     let layer = &drafts.layer.values;
     match block {

@@ -1,14 +1,13 @@
 //! Reads mapfiles: from the bytes of a source to what its blocks say, as a tree, or to its first fault.
 //!
 //! Proved: `read` gives the tree or the fault that the definition `tree_of` has for the source, by its
-//! clauses `tree` and `fault`. `tree_of` is what the blocks of the source say: a block is the list of its
-//! entries, and what a token says depends on the entries of its own block and of the parent alone. What a
-//! token means by itself is said by `mapwords`. Three laws say more of the definitions: that a mapfile
-//! which is written out from what it says is read as that (`laws::written_mapfile_is_read`), that what
-//! follows a fault plays no part in it (`laws::first_fault_is_reported`), and that the number by which
-//! the definition of reading ends plays none (`laws::count_is_enough`). The reader goes over the tokens
-//! once, with a draft for each kind of block; that this gives what the blocks say is a theorem
-//! (`proofs/OnePass`).
+//! clauses `tree` and `fault`. `tree_of` is what the blocks of the source say. A block is the list of its
+//! entries, and what a token says depends on the entries of its own block and of the parent alone.
+//! `mapwords` says what a single token means. Three laws say more of the definitions. A mapfile that is
+//! written out from what it says is read as that (`laws::written_mapfile_is_read`). What follows a fault
+//! doesn't change it (`laws::first_fault_is_reported`). A larger bound on the tokens that the definition
+//! of reading reads changes nothing (`laws::count_is_enough`). The reader goes over the tokens once, with
+//! a draft for each kind of block; that this gives what the blocks say is a theorem (`proofs/OnePass`).
 //!
 //! `read_token` is the step of that reader, for those that read up to a fault and look at what is open.
 //!
@@ -16,7 +15,7 @@
 //!
 //! Terms: a *context* is what a token is read as: a keyword of a block, a value, or a latitude. The
 //! *drafts* are what was read of the open blocks, and the *tree* is the whole mapfile as it is written.
-//! The *tail* is what stands after the last token.
+//! The *tail* is what comes after the last token.
 #![tactic(auto)]
 
 mod context;

@@ -72,9 +72,9 @@ fn pass(source: &[u8], alloc: Global) -> Result<MapTree, ParseFault>
 
 /// Reads a mapfile in one pass: what its blocks say, or its first fault with its line.
 ///
-/// `tree_of` is either a tree or a fault, so the two clauses say when each comes: unless memory is
-/// refused, which is `NoMemory`, the call gives the tree or the fault that `tree_of` is. A source that is
-/// refused leaves no memory behind.
+/// `tree_of` is either a tree or a fault. Unless memory is refused, which is `NoMemory`, the call gives
+/// the tree or the fault that `tree_of` is, by the two clauses. A source that is refused leaves no memory
+/// behind.
 pub fn read(alloc: Global, source: &[u8]) -> Result<MapTree, ParseFault>
     ensures tree { IfOk result (λ tree. tree_of (lexed source.now) ≡ Ok tree) }
     ensures fault { IfErr result (IsFaultOf (tree_of (lexed source.now))) }

@@ -12,7 +12,7 @@ use maplex::{Tail, Token};
 use mapwords::{Block, Fault, ParseFault, ParseKind, fault_of, missing};
 use std::alloc::{AllocError, Global};
 
-/// Reads what stands after the keyword MAP, token by token.
+/// Reads what comes after the keyword MAP, token by token.
 #[derive(Drop)]
 pub struct Reader {
     /// What the next token is read as, and the contexts round that. There is none after the END of MAP.
@@ -51,7 +51,7 @@ impl Reader {
         Ok(())
     }
 
-    /// The map, by what stands after the last token. It is taken from the reader.
+    /// The map, by what comes after the last token. It is taken from the reader.
     pub fn finish(&mut self, tail: Tail, alloc: Global) -> Result<MapTree, Fault>
         ensures { result ≡ answer self.old [] tail }
     {

@@ -161,7 +161,7 @@ impl Wanted {
     }
 }
 
-// The last of some values that is wanted.
+// The last of some values that is looked for.
 fn last_of(values: &[Value], wanted: Wanted) -> Option<&Value>
     ensures { option_map (λ x. x.now) result ≡ find (is_wanted wanted) (reverse values.now) }
 {
@@ -185,7 +185,7 @@ impl Values {
         self.given.push(value)
     }
 
-    // The last value that is wanted.
+    // The last value that is looked for.
     fn last(&self, wanted: Wanted) -> Option<&Value>
         ensures { option_map (λ x. x.now) result ≡ find (is_wanted wanted) self.now }
     {
