@@ -17,7 +17,7 @@ or-from true y h k = cc
 digit-glyph : (n : ℕ) → n < 10 → digit_glyph false n ≡ 48 + n
 digit-glyph n h = grind (arith, nat_tests)
 
--- where two texts lack such bytes, either of them does, whichever is chosen
+-- where two texts lack such bytes, so does the one that is chosen
 either-lacks : (p : ℕ → Bool) (b : Bool) (xs ys : List ℕ) → list_any p xs ≡ false → list_any p ys ≡ false → list_any p (if b then xs else ys) ≡ false
 either-lacks p true xs ys h k = h
 either-lacks p false xs ys h k = k

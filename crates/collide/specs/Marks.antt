@@ -1,4 +1,4 @@
--- Which pixels of a picture, and of one column and one row more on each side, lie in boxes (docs/DRAWING.md, "From the world to the picture").
+-- Which pixels of a picture with one more column and one more row on each side lie in boxes (docs/DRAWING.md, "From the world to the picture").
 use Rattle.std.specs.Prelude.{ℕ, ℤ, pos, negsuc, List, ◌≡◌, ◌≤◌, ◌<◌, ◌+◌, ◌*◌, ◌^◌, ◌-ℤ◌, ◌↔◌, ◌⊎◌, Bool, true, length, min, All}
 use Rattle.std.specs.List.{Any}
 use Rattle.geom.specs.PxBox.{PixelBoxValue, HasPixel, Meets}

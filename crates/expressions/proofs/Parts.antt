@@ -120,6 +120,6 @@ unfolding part_at
 part_at-compare zero bytes e o = rw (e, o) refl
 part_at-compare (suc n) bytes e o = rw (e, o) refl
 
--- the parts before a closing bracket are closed
+-- an expression before a closing bracket is closed
 pub closed-some : (e : Expr) (rest after : List ℕ) → after_spaced (codes ")") rest ≡ Some after → closed (e, rest) ≡ Some (e, after)
 closed-some e rest after some = rw some refl

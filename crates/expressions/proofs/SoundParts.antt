@@ -136,7 +136,7 @@ any-sound n part sound bytes = by (joined_at Or part bytes)
 abbrev IsClosed : ℕ → List ℕ → Expr × List ℕ → Type 0
 IsClosed n bytes p = (text close : List ℕ) × AnyAt n p.0 text × IsSpaced (IsWord (codes ")")) close × (bytes ≡ text ++ (close ++ p.1))
 
--- the bytes before a closing bracket
+-- what is read before a closing bracket
 closed-sound : (n : ℕ) (bytes : List ℕ) (r : Option (Expr × List ℕ)) → Reads (AnyAt n) bytes r →
     IfSome (option_and_then closed r) (IsClosed n bytes)
 closed-sound n bytes None a = tt

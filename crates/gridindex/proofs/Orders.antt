@@ -10,7 +10,7 @@ use Rattle.std.specs.List.{Contains, IsDistinct, list_any}
 use Rattle.std.specs.List.Sorted.{IsPermutation}
 use Rattle.gridindex.specs.Groups.{IsOrder}
 
--- no number twice, and none that isn't there
+-- the empty list has no number twice
 pub once-none : IsDistinct nat_eq []
 once-none = IsDistinct-from_apart nat_eq [] (λ i j d p q. absurd (omega (arith, q)))
 

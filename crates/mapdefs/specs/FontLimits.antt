@@ -23,7 +23,7 @@ pub record IsGlyphWithinLimits (g : Glyph) : Type 0 where
 abbrev pub IsRising : List Glyph → Type 0
 IsRising glyphs = AllPairs (λ a b. a.encoding < b.encoding) glyphs
 
--- the box and each glyph are within the limits, there are not too many glyphs, and they stand by their encodings
+-- the box and each glyph are within the limits, there are not too many glyphs, and their encodings rise
 pub record IsFontWithinLimits (f : FontFields) : Type 0 where
   pub bounds : IsBoxWithinLimits f.bounds
   pub count : length f.glyphs ≤ MAX_GLYPHS

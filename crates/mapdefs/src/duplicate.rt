@@ -3,7 +3,7 @@ ghost use Rattle.std.specs.Prelude.{◌≡◌, IfOk};
 use crate::{Items, Layer, LayerFields, Map, MapFields, Shared, SharedItems, Text};
 use std::alloc::{AllocError, Global};
 
-/// Values of which an equal one can be made.
+/// Values that can be copied to equal ones.
 pub trait Duplicate: Sized + Drop {
     /// An equal value of its own.
     fn duplicate(&self, alloc: Global) -> Result<Self, AllocError>

@@ -4,8 +4,8 @@
 //! each reader may rely on it (`Limited::get`, clause `limits`). `Map::find` finds the first layer
 //! with a name, and `Picture::at` reads the pixel of a column and a row.
 //!
-//! In a clause a map is a plain nested record: `Items` is a list, `Text` a list of bytes, `Boxed` the
-//! value in it, and `Map`, `Layer` and the others are their fields.
+//! In a clause a map is a plain nested record. `Items` is a list, `Text` a list of bytes, `Boxed` the value
+//! in it, and `Map`, `Layer` and the others are their fields.
 //!
 //! Terms: a *layer* holds *features* of one *kind*. Its *classes* are tried in order, and the first that is
 //! visible and whose *rule* holds is the feature's. The *styles* of the class say how the feature is painted,

@@ -83,7 +83,7 @@ IsFoundIn reading s tokens finding.Sound = (tree : MapTree) × (reading ≡ Ok t
 IsFoundIn reading s tokens (finding.Faulty e) = HasFault reading s tokens e
 IsFoundIn reading s tokens finding.NoMemory = Unit {0}
 
--- what is read on from here
+-- what is read from here on
 abbrev pub read_on : Standing → Lexed → Result MapTree Fault
 read_on s left = goes_on left.tail (map (λ (o : OpeningValue). o.context) s.openings) (Ok (s.drafts, left.tokens))
 

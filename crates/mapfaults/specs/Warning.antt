@@ -45,7 +45,7 @@ text_warnings number layer =
     ++ (warned (has_forbidden layer.name) (on_layer number concern.ForbiddenInName)
     ++ warned (has_forbidden layer.title) (on_layer number concern.ForbiddenInTitle))
 
--- those on what looks at items that the layer hasn't
+-- those on what looks at items that the layer doesn't have
 abbrev pub item_warnings : ℕ → LayerFields → List Warning
 item_warnings number layer =
     warned (lacks_named layer.items layer.labelitem) (on_layer number concern.UnknownLabelItem)

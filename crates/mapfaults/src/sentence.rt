@@ -32,7 +32,7 @@ pub fn cut(alloc: Global, word: &str, most: usize) -> Result<String, AllocError>
     Ok(text)
 }
 
-// A token as it is shown, with what stands round its text.
+// A token as it is shown, with its quotes or brackets round its text.
 fn found(alloc: Global, token: &Token) -> Result<String, AllocError> {
     let text = cut(alloc, token.text, SHOWN)?;
     match token.shape {
@@ -101,7 +101,7 @@ fn no_keyword(alloc: Global, opening: &Opening, token: &Token) -> Result<String,
     }
 }
 
-// The message on a token that stands where none of its kind may.
+// The message on a token that is where none of its kind may be.
 fn unknown_word(alloc: Global, e: &Explained, token: &Token) -> Result<String, AllocError> {
     match block_in(e.openings.as_slice()) {
         Some(opening) => no_keyword(alloc, opening, token),

@@ -25,7 +25,7 @@ after_byte n (Some quote) b = if b == quote then Some (opened n None) else Some 
 abbrev pub opened_after : Opened → ℕ → Option Opened
 opened_after o b = after_byte o.brackets o.quote b
 
--- how many bytes stand before the one that closes the expression, or how many there are
+-- how many bytes come before the one that closes the expression, or how many there are
 abbrev pub inner_len : Opened → List ℕ → ℕ
 inner_len o [] = 0
 inner_len o (b ∷ bs) = option_map_or (λ next. 1 + inner_len next bs) (opened_after o b) 0

@@ -19,7 +19,7 @@ line_ends bytes = count_by (λ b. b == 10) bytes
 abbrev pub further : ℕ → Position → Position
 further n p = record { rest = drop n p.rest; line = p.line + line_ends (take n p.rest) }
 
--- how many bytes of blanks and comments stand before the next token: separators, and from each `#` the rest of its line
+-- how many bytes of blanks and comments come before the next token: separators, and from each `#` the rest of its line
 abbrev pub blank_len : Bool → List ℕ → ℕ
 blank_len in_comment [] = 0
 blank_len true (b ∷ bs) = 1 + blank_len (not (b == 10)) bs

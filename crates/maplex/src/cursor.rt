@@ -23,7 +23,7 @@ impl<'a> Model for Cursor<'a> {
     ghost invariant = { λ p. p.line + length p.rest.now < 2 ^ 64 };
 }
 
-// How many bytes of blanks and comments stand before the next token.
+// How many bytes of blanks and comments come before the next token.
 fn blank_len(bytes: &[u8]) -> usize
     ensures count { result ≡ blank_len false bytes.now }
     ensures within { result ≤ length bytes.now }

@@ -19,7 +19,7 @@ pub struct Extent {
 }
 
 impl Extent {
-    /// How many bytes stand on each side of the text.
+    /// How many bytes are on each side of the text.
     pub fn border_len(self) -> usize
         ensures { result ≡ border_len self.shape }
     {
@@ -47,7 +47,7 @@ fn shape_of(byte: u8) -> Option<Shape>
     }
 }
 
-// How many bytes stand before the end of a bare word.
+// How many bytes come before the end of a bare word.
 fn word_len(bytes: &[u8]) -> usize
     ensures count { result ≡ position_or_len ends_word bytes.now }
     ensures within { result ≤ length bytes.now }

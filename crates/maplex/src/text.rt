@@ -9,7 +9,7 @@ use crate::fault::{LexFault, LexKind};
 use crate::token::TOKEN_LIMIT;
 use std::str;
 
-// How many bytes stand before the first control byte.
+// How many bytes come before the first control byte.
 fn control_at(bytes: &[u8]) -> usize
     ensures count { result ≡ position_or_len is_control bytes.now }
     ensures within { result ≤ length bytes.now }

@@ -6,13 +6,13 @@ use Rattle.mapwords.specs.declared.fault.Fault.{Fault}
 use Rattle.mapwords.specs.declared.fault.ParseKind.TheVariants.{WrongValue}
 use Rattle.mapwords.specs.declared.named.Named.{Named}
 
--- a table has points, so that no layer of another geometry may have one; the fault is at the line of the file's name
+-- a table has points, so a layer of another geometry may have none; the fault is at the line of the file's name
 abbrev pub table_fault : Geometry → Option Named → Option Fault
 table_fault Point table = None
 table_fault geometry None = None
 table_fault geometry (Some table) = Some (record { line = table.line; kind = WrongValue })
 
--- the files that are used, with the file of a layer's table behind them, if it has one
+-- the files that are used, with the file of a layer's table after them, if it has one
 abbrev pub with_table : Option Named → List Named → List Named
 with_table None files = files
 with_table (Some table) files = files ++ table ∷ []

@@ -1,5 +1,5 @@
--- The meaning of tokens in one pass over them, as the reader of this crate takes it: what was read of the open blocks is
--- kept in drafts. What a mapfile means stands in `Meaning`, and is the same.
+-- The meaning of tokens in one pass over them, as the reader of this crate takes it: drafts keep what was read of the
+-- open blocks. `Meaning` says what a mapfile means, which is the same.
 use Rattle.std.specs.Prelude.{ℕ, zero, suc, if◌then◌else◌, List, [], ◌∷◌, length, Result, Ok, Err}
 use Rattle.maplex.specs.declared.fault.Tail.{Tail}
 use Rattle.maplex.specs.declared.fault.Tail.TheVariants.{Ends, Breaks}
@@ -30,7 +30,7 @@ reads tail (suc n) context d (t ∷ ts) = and_then (read_token context d t) (λ 
   | Leaves ↦ Ok (step.1, ts)
 ])
 
--- after the END of MAP stands nothing
+-- nothing comes after the END of MAP
 abbrev pub alone : Tail → Drafts → List TokenValue → Result MapTree Fault
 alone (Ends line) d [] = Ok d.map
 alone (Breaks f) d [] = Err (lexical f)
@@ -40,7 +40,7 @@ alone tail d (t ∷ ts) = refused UnknownWord t
 abbrev pub map_body : Tail → List TokenValue → Result MapTree Fault
 map_body tail ts = and_then (reads tail (length ts) (Keywords block.Map) fresh ts) (λ ended. alone tail ended.0 ended.1)
 
--- what a pass over a list of tokens gives, with what stands after them: one tree, or the first fault in their order
+-- what a pass over a list of tokens gives, with what comes after them: one tree, or the first fault in their order
 abbrev pub passed : List TokenValue → Tail → Result MapTree Fault
 passed [] tail = Err (missing tail)
 passed (t ∷ ts) tail = if is_at keyword.Map t then map_body tail ts else refused UnknownWord t

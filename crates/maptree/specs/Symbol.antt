@@ -23,7 +23,7 @@ symbol_named named = if is_same_name named.text (codes "0") then None else Some 
 abbrev pub symbol_of : List Value → Option Named
 symbol_of style = option_and_then symbol_named (last (text_in text.Symbol) style)
 
--- the END of a SYMBOL asks for a NAME, a TYPE and an IMAGE
+-- the END of a SYMBOL requires a NAME, a TYPE and an IMAGE
 abbrev pub symbol_fault : Option Named → Bool → Option Named → TokenValue → Option Fault
 symbol_fault (Some name) true (Some image) t = None
 symbol_fault _ _ _ t = Some (fault_of MissingValue t)

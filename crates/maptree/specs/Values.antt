@@ -90,7 +90,7 @@ is_wanted wanted.Geometry v = is_some (geometry_in v)
 is_wanted wanted.Position v = is_some (position_in v)
 is_wanted wanted.Extent v = is_some (extent_in v)
 
--- what the last of the values has that is looked for
+-- what is looked for, of the last of the values that has it
 abbrev pub last : {A : Type 0} → (Value → Option A) → List Value → Option A
 last wanted [] = None
 last wanted (v ∷ vs) = option_or (wanted v) (last wanted vs)

@@ -16,7 +16,7 @@ pub fn count_is_enough()
     ensures { CountIsEnough }
 {}
 
-/// The first fault in the order of tokens is the fault of the mapfile, whatever stands after it.
+/// The first fault in the order of tokens is the fault of the mapfile, whatever comes after it.
 pub fn first_fault_is_reported()
     ensures { FirstFaultIsReported }
 {}

@@ -5,9 +5,10 @@
 //! entries, and what a token says depends on the entries of its own block and of the parent alone.
 //! `mapwords` says what a single token means. Three laws say more of the definitions. A mapfile that is
 //! written out from what it says is read as that (`laws::written_mapfile_is_read`). What follows a fault
-//! doesn't change it (`laws::first_fault_is_reported`). A larger bound on the tokens that the definition
-//! of reading reads changes nothing (`laws::count_is_enough`). The reader goes over the tokens once, with
-//! a draft for each kind of block; that this gives what the blocks say is a theorem (`proofs/OnePass`).
+//! doesn't change it (`laws::first_fault_is_reported`). Where the definition of reading bounds the tokens
+//! that it reads, a bound beyond those that there are changes nothing (`laws::count_is_enough`). The
+//! reader goes over the tokens once, with a draft for each kind of block; that this gives what the blocks
+//! say is a theorem (`proofs/OnePass`).
 //!
 //! `read_token` is the step of that reader, for those that read up to a fault and look at what is open.
 //!

@@ -15,7 +15,7 @@ pub enum Component {
 }
 
 impl Component {
-    // The component that a count stands for.
+    // The component that a count means.
     fn of_count(count: i64) -> Option<Component>
         ensures { result ≡ component_of_count count }
     {
@@ -25,7 +25,7 @@ impl Component {
         u8::try_from(count).ok().map(Component::Level)
     }
 
-    /// The component that the text stands for.
+    /// The component that the text means.
     pub fn read(text: &str) -> Option<Component>
         ensures { result ≡ component_of text.now }
     {
@@ -36,7 +36,7 @@ impl Component {
     }
 }
 
-/// The colour of the components red, green and blue. It is none where one of them is absent.
+/// The colour of the components red, green and blue. It is `None` where one of them is absent.
 pub fn rgb_of(red: Component, green: Component, blue: Component) -> Option<Rgb>
     ensures { result ≡ rgb_of red green blue }
 {
@@ -48,7 +48,7 @@ pub fn rgb_of(red: Component, green: Component, blue: Component) -> Option<Rgb>
     }
 }
 
-/// The colour that a text `#rrggbb` stands for.
+/// The colour that a text `#rrggbb` means.
 pub fn hex_colour(text: &str) -> Option<Rgb>
     ensures { result ≡ hex_colour text.now }
 {

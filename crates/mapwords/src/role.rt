@@ -41,7 +41,7 @@ pub enum Expected {
     Pixmap,
     /// A count.
     Count(CountKeyword),
-    /// Where a label stands.
+    /// Where a label lies.
     Position,
     /// TRUE or FALSE.
     Flag(FlagKeyword),

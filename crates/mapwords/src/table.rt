@@ -81,7 +81,7 @@ pub enum OnlyWord {
 }
 
 impl TextKeyword {
-    /// Its number, by which it is known from others.
+    /// Its number, which no other of these keywords has.
     pub fn number(self) -> u8
         ensures { result ≡ text_number self }
     {
@@ -90,7 +90,7 @@ impl TextKeyword {
 }
 
 impl CountKeyword {
-    /// Its number, by which it is known from others.
+    /// Its number, which no other of these keywords has.
     pub fn number(self) -> u8
         ensures { result ≡ count_number self }
     {
@@ -123,7 +123,7 @@ impl CountKeyword {
 }
 
 impl FlagKeyword {
-    /// Its number, by which it is known from others.
+    /// Its number, which no other of these keywords has.
     pub fn number(self) -> u8
         ensures { result ≡ flag_number self }
     {
@@ -132,7 +132,7 @@ impl FlagKeyword {
 }
 
 impl ScaleKeyword {
-    /// Its number, by which it is known from others.
+    /// Its number, which no other of these keywords has.
     pub fn number(self) -> u8
         ensures { result ≡ scale_number self }
     {
@@ -141,7 +141,7 @@ impl ScaleKeyword {
 }
 
 impl ColourKeyword {
-    /// Its number, by which it is known from others.
+    /// Its number, which no other of these keywords has.
     pub fn number(self) -> u8
         ensures { result ≡ colour_number self }
     {

@@ -90,7 +90,7 @@ pub fn less(x: i64, width: u8) -> i64
     x - 8 * i64::from(width)
 }
 
-/// A coordinate and half a width more.
+/// A coordinate plus half a width.
 pub fn more(x: i64, width: u8) -> i64
     requires x { IsBelow (2 ^ 47) x }
     requires width { width ≤ MAX_LINE_WIDTH }

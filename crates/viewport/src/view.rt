@@ -180,7 +180,7 @@ fn less(a: Micro, by: u64) -> Micro
     Micro::new(a.millionths() - by as i64)
 }
 
-// A coordinate and a number of millionths.
+// A coordinate plus a number of millionths.
 fn more(a: Micro, by: u64) -> Micro
     requires a { IsCoordinate a }
     requires by { by < 2 ^ 44 }
