@@ -13,7 +13,7 @@ use Rattle.mapdefs.specs.declared.font.Glyph.{Glyph}
 use Rattle.mapdefs.specs.FontLimits.{IsRising}
 use Rattle.bdffont.specs.File.{has_encoding, follows, AreFirstsOf}
 
--- of glyphs, those whose encoding is above the last one that was kept
+-- the glyphs whose encoding is above the last one that was kept
 abbrev pub kept_from : Option ℕ → List Glyph → List Glyph
 kept_from last [] = []
 kept_from last (g ∷ gs) = if follows last g.encoding then g ∷ kept_from (Some g.encoding) gs else kept_from last gs
@@ -74,7 +74,7 @@ found-first : (e : ℕ) (g : Glyph) (gs : List Glyph) (is : Bool) → (g.encodin
 found-first e g gs true i others = rw i refl
 found-first e g gs false i others = rw i (others (λ same. eqb-false _ _ i (sym same)))
 
--- of glyphs whose encodings don't fall, the firsts are kept
+-- the firsts of glyphs whose encodings don't fall are kept
 kept-firsts : (glyphs : List Glyph) → IsNonDecreasingBy (λ (glyph : Glyph). glyph.encoding) glyphs → AreFirstsOf glyphs (kept_from None glyphs)
 kept-firsts [] up = record { rising = λ i j d lt within. absurd (omega arith); firsts = λ e. refl }
 kept-firsts (g ∷ gs) up = record {

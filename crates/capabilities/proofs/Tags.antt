@@ -23,7 +23,7 @@ use Rattle.capabilities.specs.Texts.{untitled, without_texts, TextsChangeNoTags}
 use Rattle.capabilities.specs.World.{geographic_box, corner, bounding_box, boxes}
 use Rattle.capabilities.proofs.Numbers.{decimal-plain, written-plain}
 
--- from one position, two pieces of documents have the same tags and lead to the same position
+-- two pieces of documents that begin at one position have the same tags and lead to the same position
 pub record HaveSameTags (from to : Place) (xs ys : List ℕ) : Type 0 where
   pub tags : structure from xs ≡ structure from ys
   pub first : place_after from xs ≡ to

@@ -12,7 +12,7 @@ pub parts-at_comma : (text before after : List ℕ) → position_or_len is_comma
     before ≡ before_first is_comma text → after ≡ after_first is_comma text → parts text ≡ before ∷ parts after
 parts-at_comma text before after h b a = rw (b, a) (slice_split_first is_comma text 0 h)
 
--- a text without a comma is its one part: so it is of one that begins with a further byte
+-- a text without a comma is its one part, also with a further byte before it
 parts-one_more : (b : ℕ) (bs : List ℕ) (t : Bool) → t ≡ is_comma b → position_or_len is_comma (b ∷ bs) ≡ length (b ∷ bs) →
     (position_or_len is_comma bs ≡ length bs → parts bs ≡ bs ∷ []) → parts (b ∷ bs) ≡ (b ∷ bs) ∷ []
 parts-one_more b bs true e h rest = absurd (omega (arith, rw (← e) at h))
@@ -24,7 +24,7 @@ pub parts-one : (text : List ℕ) → position_or_len is_comma text ≡ length t
 parts-one [] h = refl
 parts-one (b ∷ bs) h = parts-one_more b bs (is_comma b) refl h (parts-one bs)
 
--- with a further part after four there are not four
+-- where a further part follows four, there are not four
 pub parts-five : (crs : Crs) (a b c d : List ℕ) (text : List ℕ) → box_of_parts crs (a ∷ b ∷ c ∷ d ∷ parts text) ≡ Err NotFour
 parts-five crs a b c d text = some (parts text) (omega (arith, length-slice_split is_comma text))
   where

@@ -16,7 +16,7 @@ use Rattle.geom.proofs.Rings.{closing_edges, ring_edges-closing}
 pub turned-crosses : (e : EdgeEnds) (p : DevicePoint) → crosses_at_or_left p (turned e) ≡ crosses_at_or_left p e
 turned-crosses e p = go (int_le e.from.y p.y) (int_le e.to.y p.y) refl refl
   where
-    -- of two ends with different heights the same one is the low end both ways
+    -- the same one of two ends with different heights is the low end both ways
     same : (a b : Bool) → int_le e.from.y e.to.y ≡ a → int_le e.to.y e.from.y ≡ b → b ≡ not a → meets_at_or_left p (turned e) ≡ meets_at_or_left p e
     same true false f g h = rw (f, g)
     same false true f g h = rw (f, g)

@@ -20,7 +20,7 @@ abbrev pub EnclosesAll : Area → List Area → List ℕ → Type 0
 EnclosesAll cover boxes indices = (i : ℕ) (area : Area) → i < length indices →
     slice_get boxes (slice_index_or indices i 0) ≡ Some area → Encloses cover area
 
--- of the first so many indices of the order, in groups of one size, each group's cover encloses its boxes
+-- each group's cover encloses its boxes, where the first so many indices of the order are in groups of one size
 abbrev pub Covers : List Area → List ℕ → ℕ → ℕ → List Area → Type 0
 Covers boxes order count size covers = (i : ℕ) (cover area : Area) → i < count →
     slice_get covers (i / size) ≡ Some cover → slice_get boxes (slice_index_or order i 0) ≡ Some area → Encloses cover area
@@ -41,7 +41,7 @@ pub record IsKept (groups : Groups) (boxes : List Area) : Type 0 where
   pub levels : All (IsLevel boxes groups.order.items groups.grouped) groups.levels.items
   pub count : length boxes ≤ 2 ^ 32
 
--- from the one to before the other no index of the order is that of a box that meets the window
+-- no index of the order, from the one to before the other, is that of a box that meets the window
 abbrev pub Misses : Area → List Area → List ℕ → ℕ → ℕ → Type 0
 Misses window boxes order from end = (i : ℕ) → from ≤ i → i < end → MeetsAt window boxes (slice_index_or order i 0) → ⊥
 

@@ -56,7 +56,7 @@ rising-with glyph (other ∷ others) rising =
         (all-with (λ (b : Glyph). other.encoding < b.encoding) glyph others below later)
         added
 
--- of its own encoding it is found, and of each other encoding the same as without it
+-- a search for its encoding finds it, and one for another encoding finds the same as without it
 find-with : (e : ℕ) (glyph : Glyph) (glyphs : List Glyph) →
     find (has_encoding e) (with_glyph glyph glyphs) ≡ (if has_encoding e glyph then Some glyph else find (has_encoding e) glyphs)
 find-with e glyph [] = refl

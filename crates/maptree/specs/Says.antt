@@ -87,7 +87,7 @@ points_say above own t = if is_end t then ends_unless (closing_fault block.Point
 abbrev pub pair_says : Block → TokenValue → Result Saying Fault
 pair_says b t = if is_end t then Ok Ends else (if is_value t.shape then Ok (Takes (pair_expects b t.text)) else refused WrongValue t)
 
--- in a block that is skipped a token says nothing, unless it ends the block or opens another one
+-- a token in a block that is skipped says nothing, unless it ends the block or opens another one
 abbrev pub skipped_says : Option Role → Result Saying Fault
 skipped_says (Some role.Closes) = Ok Ends
 skipped_says (Some (role.Opens inner)) = Ok (Opens inner)

@@ -1,5 +1,5 @@
--- What the entries of a block come to (docs/MAPFILE.md, "Blocks and words"): of equal keywords the last one counts, and
--- equal blocks add up. Nothing but its own entries counts for a block.
+-- What the entries of a block come to (docs/MAPFILE.md, "Blocks and words"): the last of equal keywords counts, and
+-- equal blocks add up. Only its own entries count for a block.
 use Rattle.std.specs.Prelude.{ℕ, if◌then◌else◌, Bool, true, false, List, [], ◌∷◌, ◌++◌, length, map, Option, unwrap_or, option_map}
 use Rattle.mapdefs.specs.declared.layer.Geometry.TheVariants.{Polygon}
 use Rattle.mapwords.specs.declared.named.Named.{Named}

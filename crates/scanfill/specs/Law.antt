@@ -18,7 +18,7 @@ abbrev pub is_walked_in_row : EdgeClass → ℕ → Bool
 is_walked_in_row (class.Walk rows) j = has_row rows j
 is_walked_in_row _ j = false
 
--- on w columns and h rows an edge lies left of the view in row j
+-- an edge lies left of the view in row j, on w columns and h rows
 abbrev pub counts_left : ℕ → ℕ → ℕ → EdgeEnds → Bool
 counts_left w h j e = is_left_in_row (class_of e w h) j
 

@@ -117,7 +117,7 @@ impl RowFlips {
         Ok(())
     }
 
-    // Adds the flips of an edge that crosses the rows. In one row alone it needs no slope.
+    // Adds the flips of an edge that crosses the rows. For a single row it needs no slope.
     fn add_walked(&mut self, edge: Edge, rows: RowRange) -> Result<(), FlipFault>
         requires some { rows.from < rows.to }
         requires within { rows.to ≤ self.old.height }

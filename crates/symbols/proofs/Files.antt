@@ -75,7 +75,7 @@ digits-end (d ∷ ds) rest all none =
     let more : prefix_len is_ascii_digit (d ∷ (ds ++ rest)) ≡ suc (prefix_len is_ascii_digit (ds ++ rest)) = rw parts.0 (omega arith) in
     more ∙ ap suc (digits-end ds rest parts.1 none)
 
--- blanks begin with no digit, and white space is none
+-- blanks begin with no digit, and white space is no digit
 space-no_digit : (b : ℕ) → is_space b ≡ true → is_ascii_digit b ≡ false
 space-no_digit b h = go (is_ascii_digit b) refl
   where

@@ -67,7 +67,7 @@ up : (z : ℤ) → 0 < at_least_zero z → pos (at_least_zero z) ≡ z
 up (pos n) h = refl
 up (negsuc n) h = absurd (omega arith)
 
--- on that side of the pixmap lies what comes between, so far from its first column that is seen
+-- what comes between lies on that side of the pixmap, so far from its first column that is seen
 pub on-side : (side : ℕ) (at : ℤ) (end i : ℕ) → min (at_least_zero (at -ℤ pos (side / 2))) end ≤ i → i < min (at_least_zero (at -ℤ pos (side / 2) +ℤ pos side)) end →
     position_on side at (pos i) ≡ Some (i - min (at_least_zero (at -ℤ pos (side / 2))) end + skipped side at)
 on-side side at end i low high =
