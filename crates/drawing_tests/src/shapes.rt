@@ -85,7 +85,7 @@ pub(crate) fn draw_spans(out: &mut String, spans: &Spans) -> Result<(), AllocErr
     Ok(())
 }
 
-// RowRange as `1-3`, or `-` where there are none.
+// Rows as `1-3`, or `-` where there are none.
 fn draw_rows(alloc: Global, rows: RowRange) -> Result<String, AllocError> {
     if rows.from < rows.to {
         format!(in alloc; "{}-{}", rows.from, rows.to)
