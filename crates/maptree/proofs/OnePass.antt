@@ -1,7 +1,7 @@
 -- One pass over tokens gives what they mean.
 use Rattle.std.proofs.Common.{◌≡◌, ℕ, zero, suc, ◌≤◌, Bool, true, false, List, [], ◌∷◌, length, refl, sym, ap, subst, ◌∙◌, arith}
 use Rattle.std.specs.Prelude.{ℤ, if◌then◌else◌, nat_le, Option, None, Some, Result, Ok, Err, IfOk}
-use Rattle.std.specs.Option.{ok_or, option_or}
+use Rattle.std.specs.Option.{ok_or}
 use Rattle.maplex.specs.declared.fault.Tail.{Tail}
 use Rattle.maplex.specs.declared.fault.Tail.TheVariants as tails
 use Rattle.maplex.specs.Token.{TokenValue}
@@ -12,21 +12,18 @@ use Rattle.mapwords.specs.declared.role.Expected.{Expected}
 use Rattle.mapwords.specs.declared.role.Expected.TheVariants as expected
 use Rattle.mapwords.specs.declared.role.Role.{Role}
 use Rattle.mapwords.specs.declared.role.Role.TheVariants as role
-use Rattle.mapwords.specs.declared.table.TextKeyword.TheVariants as text
 use Rattle.maptree.specs.declared.context.Context.TheVariants.{Keywords, Values, Latitude}
 use Rattle.maptree.specs.declared.context.Move.TheVariants.{GoesOn, Enters, Leaves}
 use Rattle.maptree.specs.declared.draft.Drafts.{Drafts}
-use Rattle.maptree.specs.declared.draft.FeatureDraft.{FeatureDraft}
 use Rattle.mapwords.specs.declared.fault.Fault.{Fault}
 use Rattle.mapwords.specs.declared.fault.ParseKind.TheVariants.{UnknownWord, WrongValue, MissingValue, Limit}
 use Rattle.mapwords.specs.declared.keyword.Keyword.TheVariants as keyword
 use Rattle.maptree.specs.declared.tree.MapTree.{MapTree}
 use Rattle.mapwords.specs.declared.value.Value.{Value}
-use Rattle.mapwords.specs.declared.value.Value.TheVariants as value
 use Rattle.mapwords.specs.declared.value.ValueStep.{ValueStep}
 use Rattle.mapwords.specs.declared.value.ValueStep.TheVariants.{More, Whole}
 use Rattle.mapwords.specs.Setting.{web_expects, layer_expects}
-use Rattle.maptree.specs.Draft.{noted, noted_by_feature, with_value}
+use Rattle.maptree.specs.Draft.{noted, with_value}
 use Rattle.maptree.specs.Draft as draft
 use Rattle.maptree.specs.End.{ends}
 use Rattle.maptree.specs.Entries.{Entries, Nothing, Said, Vertex, has_effect, with_said, with_block, vertex_count}
@@ -40,7 +37,6 @@ use Rattle.maptree.specs.Pass.{reads, passed}
 use Rattle.maptree.specs.Says.{Saying, Ends, Opens, Takes, Longitude, Skips, closing_fault, ends_unless, is_full, role_says, says, vertex_says, skipped_says}
 use Rattle.maptree.specs.Step.{read_end, read_role, note_step, coordinate_at, skip, read_token}
 use Rattle.maptree.specs.Tree.{map_tree}
-use Rattle.maptree.specs.Values.{words_in}
 use Rattle.mapwords.specs.Value.{is_value, value_step, coordinate_in}
 use Rattle.maptree.proofs.OpenBlocks.{OpenBlocks, only_map, metadata-ends, drafts_of, in_block, above, after_end, Nests, Fits, fits-option, Frees, projection-frees, skipped-frees, label-frees, same-room, unless_fault, same-end}
 use Rattle.maptree.proofs.Reading.{Ended, LeavesAtMost, read_after, reads-at_most, reads-enough}
@@ -49,44 +45,11 @@ use Rattle.maptree.proofs.Reading.{Ended, LeavesAtMost, read_after, reads-at_mos
 abbrev pub BlockRead : Type 0
 BlockRead = Result (Entries × List TokenValue) Fault
 
--- the values of a FEATURE are its text and the texts of its items
-noted-feature : (v : Value) (feature : FeatureDraft) →
-    noted_by_feature v feature ≡ record feature { text = option_or (words_in text.Text v) feature.text; items = option_or (words_in text.Items v) feature.items }
-noted-feature (value.Text text.Name named) feature = refl
-noted-feature (value.Text text.ClassItem named) feature = refl
-noted-feature (value.Text text.LabelItem named) feature = refl
-noted-feature (value.Text text.Template named) feature = refl
-noted-feature (value.Text text.Data named) feature = refl
-noted-feature (value.Text text.CsvX named) feature = refl
-noted-feature (value.Text text.CsvY named) feature = refl
-noted-feature (value.Text text.WmsTitle named) feature = refl
-noted-feature (value.Text text.OwsTitle named) feature = refl
-noted-feature (value.Text text.WmsOnlineResource named) feature = refl
-noted-feature (value.Text text.OwsOnlineResource named) feature = refl
-noted-feature (value.Text text.Image named) feature = refl
-noted-feature (value.Text text.Symbol named) feature = refl
-noted-feature (value.Text text.LabelFont named) feature = refl
-noted-feature (value.Text text.Text named) feature = refl
-noted-feature (value.Text text.Items named) feature = refl
-noted-feature (value.Count count) feature = refl
-noted-feature (value.Flag w flag) feature = refl
-noted-feature (value.Scale w scale) feature = refl
-noted-feature (value.Colour w colour) feature = refl
-noted-feature (value.Geometry geometry) feature = refl
-noted-feature value.Pixmap feature = refl
-noted-feature (value.Position position) feature = refl
-noted-feature (value.Rule rule) feature = refl
-noted-feature (value.Items items) feature = refl
-noted-feature (value.Extent extent) feature = refl
-noted-feature value.Nothing feature = refl
-
 -- a value is noted in the drafts as the block with it says
 noted-if : (b : Block) (v : Value) (effect : Bool) (own : Entries) (o : OpenBlocks) →
     (if effect then noted b v (drafts_of (in_block b own o)) else drafts_of (in_block b own o)) ≡ drafts_of (in_block b (if effect then Said v own else own) o)
 noted-if b v false own o = refl
-noted-if block.Feature v true own o =
-    ap (λ (feature : FeatureDraft). record (drafts_of (in_block block.Feature own o)) { feature = feature })
-    (noted-feature v (drafts_of (in_block block.Feature own o)).feature)
+noted-if block.Feature v true own o = refl
 noted-if block.Map v true own o = refl
 noted-if block.Web v true own o = refl
 noted-if block.WebMetadata v true own o = refl

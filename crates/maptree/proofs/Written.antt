@@ -39,7 +39,7 @@ use Rattle.mapwords.specs.declared.table.CountKeyword.TheVariants as count
 use Rattle.mapwords.specs.declared.value.Value.{Value}
 use Rattle.mapwords.specs.declared.value.Value.TheVariants as value
 use Rattle.mapdefs.specs.declared.class.Rule.TheVariants.{OneOf}
-use Rattle.mapwords.specs.Count.{count_in, none_as_zero, number_in}
+use Rattle.mapwords.specs.Count.{count_in, number_in}
 use Rattle.mapwords.specs.Table.{end_role, skipped_role, skipped_label_role, role_of, least_of, most_of}
 use Rattle.maptree.specs.Entries.{Entries, Nothing, Said, Vertex, Inside, with_said, vertex_count}
 use Rattle.mapwords.specs.Fault.{and_then}
@@ -80,21 +80,13 @@ most-small count.Priority = omega arith
 most-small count.Buffer = omega arith
 most-small count.MinDistance = omega arith
 
-none-pos : (keyword : CountKeyword) (n : ℕ) → none_as_zero keyword (pos n) ≡ pos n
-none-pos count.Width n = refl
-none-pos count.Size n = refl
-none-pos count.Tolerance n = refl
-none-pos count.Priority n = refl
-none-pos count.Buffer n = refl
-none-pos count.MinDistance n = refl
-
 -- a count that is written out is read as that count
 count-read : (keyword : CountKeyword) (n : ℕ) → least_of keyword ≤ n → n ≤ most_of keyword → count_in keyword (decimal n) ≡ Some (record { keyword = keyword; number = n })
 count-read keyword n above below =
     let small : most_of keyword ≤ 65535 = most-small keyword in
     let written : count_of (decimal n) ≡ Some (pos n) =
     ap (λ r. option_map whole_of (result_ok r)) (numeral-read n NUMBER_LIMIT (omega arith) (omega arith)) ∙ ap (λ z. Some z) (whole-read n) in
-    rw (written, none-pos keyword n, le-leb (least_of keyword) n above, le-leb n (most_of keyword) below) refl
+    rw (written, le-leb (least_of keyword) n above, le-leb n (most_of keyword) below) refl
 
 size-not_end : (n : ℕ) → n < 2 ^ 64 → is_spelt (written (pos n)) End ≡ false
 size-not_end n small =

@@ -1,11 +1,11 @@
 -- What was read of the open blocks (docs/MAPFILE.md, "Blocks and words").
-use Rattle.std.specs.Prelude.{Bool, false, nat_le, if◌then◌else◌, List, [], ◌∷◌, length, Option, None, Some, is_some}
+use Rattle.std.specs.Prelude.{Bool, false, nat_le, if◌then◌else◌, List, [], ◌∷◌, length, None, is_some}
+use Rattle.std.specs.Option.{option_or}
 use Rattle.mapdefs.specs.declared.limits.TheConstants.{MAX_SYMBOLS, MAX_LAYERS, MAX_CLASSES, MAX_STYLES, MAX_FEATURES}
 use Rattle.mapwords.specs.declared.role.Block.{Block}
 use Rattle.mapwords.specs.declared.role.Block.TheVariants as block
 use Rattle.mapwords.specs.declared.table.TextKeyword.TheVariants as text
 use Rattle.mapwords.specs.declared.value.Value.{Value}
-use Rattle.mapwords.specs.declared.value.Value.TheVariants as value
 use Rattle.maptree.specs.declared.tree.ClassTree.{ClassTree}
 use Rattle.maptree.specs.declared.tree.LayerBody.{LayerBody}
 use Rattle.maptree.specs.declared.tree.MapTree.{MapTree}
@@ -14,6 +14,7 @@ use Rattle.maptree.specs.declared.draft.Drafts.{Drafts}
 use Rattle.maptree.specs.Entries.{has_effect}
 use Rattle.maptree.specs.Parts.{no_parts}
 use Rattle.maptree.specs.Tree.{is_font}
+use Rattle.maptree.specs.Values.{words_in}
 
 -- a MAP of which nothing was read
 abbrev pub new_map : MapTree
@@ -40,11 +41,12 @@ abbrev pub noted_by_map : Value → MapTree → MapTree
 noted_by_map given map =
     record map { values = given ∷ map.values; before_font = if is_font given then length map.files else map.before_font }
 
--- a value of a FEATURE is noted
+-- a value of a FEATURE is noted, if it is its TEXT or its ITEMS
 abbrev pub noted_by_feature : Value → FeatureDraft → FeatureDraft
-noted_by_feature (value.Text text.Text named) feature = record feature { text = Some named.text }
-noted_by_feature (value.Text text.Items named) feature = record feature { items = Some named.text }
-noted_by_feature _ feature = feature
+noted_by_feature given feature = record feature {
+  text = option_or (words_in text.Text given) feature.text;
+  items = option_or (words_in text.Items given) feature.items;
+}
 
 -- a value is noted by its block
 abbrev pub noted : Block → Value → Drafts → Drafts

@@ -24,8 +24,9 @@ bounded least most (negsuc n) = None
 
 -- the MINDISTANCE -1 is 0
 abbrev pub none_as_zero : CountKeyword → ℤ → ℤ
+none_as_zero keyword (pos n) = pos n
 none_as_zero MinDistance (negsuc zero) = pos 0
-none_as_zero keyword count = count
+none_as_zero keyword (negsuc n) = negsuc n
 
 -- the count within the bounds of a keyword that a text means
 abbrev pub counted : CountKeyword → List ℕ → Option ℕ
