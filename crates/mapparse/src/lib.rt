@@ -14,6 +14,7 @@ mod files;
 mod font;
 mod mapfile;
 mod mapping;
+mod settings;
 mod symbol;
 mod table;
 mod texts;

@@ -1,14 +1,11 @@
-ghost use Rattle.std.specs.Prelude.{◌≡◌, ◌+◌, ◌≤◌, List, map, zip, length, codes, option_map, unwrap_or, Ok, IfOk, IfErr};
+ghost use Rattle.std.specs.Prelude.{◌≡◌, ◌+◌, ◌≤◌, List, map, zip, length, option_map, unwrap_or, Ok, IfOk, IfErr};
 ghost use Rattle.mapdefs.specs.declared.symbol.Symbol.{Symbol as SymbolValue};
 ghost use Rattle.mapwords.specs.Fault.{IsFaultOf};
 ghost use Rattle.geom.specs.World.{IsExtent};
-ghost use Rattle.mapdefs.specs.declared.limits.TheConstants.{MAX_CLASSES, MAX_LINE_WIDTH, MAX_SQUARE, MAX_SYMBOLS, MAX_TOLERANCE};
+ghost use Rattle.mapdefs.specs.declared.limits.TheConstants.{MAX_CLASSES, MAX_SYMBOLS};
 ghost use Rattle.mapdefs.specs.ClassLimits.{IsRuleWithinLimits};
 ghost use Rattle.mapdefs.specs.declared.class.Rule.TheVariants.{Always};
-ghost use Rattle.mapparse.specs.Mapping.{painted, either_text, service_title, label_of, class_of, layer_of, tolerance_of, whole_world, map_with, made_of, map_of};
-ghost use Rattle.mapwords.specs.Table.{least_of, most_of};
-ghost use Rattle.mapwords.specs.declared.table.TextKeyword.TheVariants.{ClassItem, CsvX, CsvY, LabelItem, OwsOnlineResource, OwsTitle, WmsOnlineResource, WmsTitle};
-ghost use Rattle.maptree.specs.Values.{count_in, last, words_in};
+ghost use Rattle.mapparse.specs.Mapping.{painted, label_of, class_of, layer_of, whole_world, map_with, made_of, map_of};
 ghost use Rattle.mapparse.specs.Fonts.{font_given};
 ghost use Rattle.mapparse.specs.Uses.{font_file};
 ghost use Rattle.mapparse.specs.Symbols.{symbols_of};
@@ -17,21 +14,21 @@ ghost use Rattle.mapparse.specs.Tables.{tables_of, HasRoom, HaveRoom};
 use crate::features::with_items;
 use crate::files::Files;
 use crate::font::font_given;
+use crate::settings::{count_or, service_title, service_url, settings_of, text_or};
 use crate::symbol::{symbol_index, symbols_of};
-use crate::table::{LATITUDES, LONGITUDES, tables_of};
+use crate::table::tables_of;
 use crate::uses::{files_fault, font_file};
 use csvpoints::Table;
 use geom::{Micro, WorldBox};
 use mapdefs::{
-    Class, ClassFields, Duplicate, Font, Geometry, Items, Label, LabelFields, Layer, LayerFields,
-    MAX_CLASSES, Map, MapFields, Position, Rgb, Rule, Shared, SharedItems, Style, StyleFields,
-    Symbol, Text,
+    Class, ClassFields, Font, Items, Label, LabelFields, Layer, LayerFields, MAX_CLASSES, Map,
+    MapFields, Position, Rgb, Rule, Shared, SharedItems, Style, StyleFields, Symbol,
 };
 use maptree::{
     Capped, ClassRule, ClassTree, Extent, LayerBody, LayerTree, MapTree, Named, ParseFault, Values,
     symbol_of,
 };
-use mapwords::{ColourKeyword, CountKeyword, FlagKeyword, ScaleKeyword, TextKeyword};
+use mapwords::{ColourKeyword, CountKeyword, FlagKeyword, ScaleKeyword};
 use std::alloc::{AllocError, Global};
 
 // A tree of a block, from which a part of the map is made.
@@ -60,20 +57,6 @@ fn build_all<T: Build>(
         parts.push(tree.build(symbols, alloc)?)?;
     }
     Ok(Items::of(parts))
-}
-
-// The last count of a keyword, or its default.
-fn count_or(values: &Values, keyword: CountKeyword, default: u16) -> u16
-    requires least { least_of keyword ≤ default }
-    requires most { default ≤ most_of keyword }
-    ensures value { result ≡ unwrap_or (last (count_in keyword) values.now) default }
-    ensures least { least_of keyword ≤ result }
-    ensures most { result ≤ most_of keyword }
-{
-    match values.count(keyword) {
-        Some(count) => count,
-        None => default,
-    }
 }
 
 // The colour that is painted: that of a keyword, if it has one that isn't none.
@@ -162,47 +145,6 @@ impl Build for ClassTree {
     }
 }
 
-// How far from the queried pixel a feature counts by default, in pixels.
-fn tolerance_of(geometry: Geometry) -> u16
-    ensures value { result ≡ tolerance_of geometry }
-    ensures limit { result ≤ MAX_TOLERANCE }
-{
-    match geometry {
-        Geometry::Polygon => 0,
-        Geometry::Point | Geometry::Line => 3,
-    }
-}
-
-// A copy of a text, or its default.
-fn text_or(text: Option<&Text>, default: &str, alloc: Global) -> Result<Text, AllocError>
-    ensures { IfOk result (λ made. made ≡ unwrap_or (option_map (λ x. x.now) text.entry) default.now) }
-{
-    match text {
-        Some(text) => text.duplicate(alloc),
-        None => Text::from_str(alloc, default),
-    }
-}
-
-// A copy of the last text of a keyword, if there is one.
-fn text_of(values: &Values, keyword: TextKeyword, alloc: Global) -> Result<Option<Text>, AllocError>
-    ensures { IfOk result (λ made. made ≡ last (words_in keyword) values.now) }
-{
-    match values.plain_text(keyword) {
-        Some(text) => Ok(Some(text.duplicate(alloc)?)),
-        None => Ok(None),
-    }
-}
-
-// The last text of a keyword, else that of another one.
-fn either_text(values: &Values, first: TextKeyword, second: TextKeyword) -> Option<&Text>
-    ensures { option_map (λ x. x.now) result ≡ either_text first second values.now }
-{
-    match values.plain_text(first) {
-        Some(text) => Some(text),
-        None => values.plain_text(second),
-    }
-}
-
 // The classes of a layer.
 fn classes_of(
     classes: Capped<ClassTree, MAX_CLASSES>,
@@ -214,55 +156,6 @@ fn classes_of(
 {
     let classes = build_all(classes.into_vec(), symbols, alloc)?;
     SharedItems::new(alloc, classes)
-}
-
-// The title of the service, if it has one.
-fn service_title(values: &Values) -> Option<&Text>
-    ensures { option_map (λ x. x.now) result ≡ service_title values.now }
-{
-    match either_text(values, TextKeyword::WmsTitle, TextKeyword::OwsTitle) {
-        Some(title) => Some(title),
-        None => values.plain_text(TextKeyword::Name),
-    }
-}
-
-// The address of the service, if it has one.
-fn service_url(values: &Values) -> Option<&Text>
-    ensures { option_map (λ x. x.now) result ≡ either_text WmsOnlineResource OwsOnlineResource values.now }
-{
-    either_text(
-        values,
-        TextKeyword::WmsOnlineResource,
-        TextKeyword::OwsOnlineResource,
-    )
-}
-
-// The texts of a layer.
-#[derive(Drop)]
-struct LayerTexts {
-    title: Text,
-    classitem: Option<Text>,
-    labelitem: Option<Text>,
-    csv_x: Text,
-    csv_y: Text,
-}
-
-// The texts of a layer of a name.
-fn layer_texts(values: &Values, name: &str, alloc: Global) -> Result<LayerTexts, AllocError>
-    ensures title { IfOk result (λ texts. texts.title ≡ unwrap_or (either_text WmsTitle OwsTitle values.now) name.now) }
-    ensures classitem { IfOk result (λ texts. texts.classitem ≡ last (words_in ClassItem) values.now) }
-    ensures labelitem { IfOk result (λ texts. texts.labelitem ≡ last (words_in LabelItem) values.now) }
-    ensures csv_x { IfOk result (λ texts. texts.csv_x ≡ unwrap_or (last (words_in CsvX) values.now) (codes "x")) }
-    ensures csv_y { IfOk result (λ texts. texts.csv_y ≡ unwrap_or (last (words_in CsvY) values.now) (codes "y")) }
-{
-    let title = either_text(values, TextKeyword::WmsTitle, TextKeyword::OwsTitle);
-    Ok(LayerTexts {
-        title: text_or(title, name, alloc)?,
-        classitem: text_of(values, TextKeyword::ClassItem, alloc)?,
-        labelitem: text_of(values, TextKeyword::LabelItem, alloc)?,
-        csv_x: text_or(values.plain_text(TextKeyword::CsvX), LONGITUDES, alloc)?,
-        csv_y: text_or(values.plain_text(TextKeyword::CsvY), LATITUDES, alloc)?,
-    })
 }
 
 // The layer of a tree, with its table, if it has one.
@@ -286,27 +179,23 @@ fn layer_of(
         classes,
         features,
     } = body;
-    let texts = layer_texts(&values, name.as_str(), alloc)?;
-    let queryable = values.text(TextKeyword::Template).is_some();
-    let tolerance = count_or(&values, CountKeyword::Tolerance, tolerance_of(kind)) as u8;
-    let min = values.scale(ScaleKeyword::Min);
-    let max = values.scale(ScaleKeyword::Max);
+    let settings = settings_of(&values, name.as_str(), kind, alloc)?;
     let classes = classes_of(classes, symbols, alloc)?;
     let (items, features) = with_items(values.into_items(), features, table, alloc)?;
     Ok(Layer::new(LayerFields {
         name,
-        title: texts.title,
+        title: settings.title,
         kind,
         on: true,
-        classitem: texts.classitem,
-        labelitem: texts.labelitem,
+        classitem: settings.classitem,
+        labelitem: settings.labelitem,
         items,
-        csv_x: texts.csv_x,
-        csv_y: texts.csv_y,
-        queryable,
-        tolerance,
-        min,
-        max,
+        csv_x: settings.csv_x,
+        csv_y: settings.csv_y,
+        queryable: settings.queryable,
+        tolerance: settings.tolerance,
+        min: settings.min,
+        max: settings.max,
         classes,
         features,
     }))
