@@ -6,7 +6,7 @@ use crate::openings::{Opening, go_on};
 use maplex::{Tail, Token, Tokens};
 use maptree::{Context, Drafts, Stack, missing_part, next_token, read_token};
 use mapwords::{
-    Block, Expected, Fault, Keyword, ParseFault, ParseKind, TextKeyword, fault_of, missing,
+    Block, Expected, Fault, Keyword, ParseFault, ParseKind, TextKeyword, fault_of, is_end, missing,
 };
 use std::alloc::{AllocError, Global};
 use std::mem;
@@ -83,8 +83,10 @@ impl<'a> Walker<'a> {
             Context::Values(Block::Layer, Expected::Text(TextKeyword::Name)) => {
                 self.hints.name = token.text;
             }
-            Context::Keywords(block) => self.hints.missing = missing_part(block, &self.drafts),
-            Context::Values(..) | Context::Latitude(_) => {}
+            Context::Keywords(block) if is_end(token) => {
+                self.hints.missing = missing_part(block, &self.drafts);
+            }
+            Context::Keywords(_) | Context::Values(..) | Context::Latitude(_) => {}
         }
     }
 

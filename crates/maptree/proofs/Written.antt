@@ -1,6 +1,6 @@
 -- What a mapfile may say is read of it where it is written out.
 use Rattle.std.proofs.Common.{◌≡◌, ℕ, zero, suc, ℤ, pos, negsuc, unsigned_abs, ◌/◌, ◌^◌, ◌+◌, ◌<◌, ◌≤◌, Bool, true, false, ◌||◌, List, [], ◌∷◌, ◌++◌, length, length-append, append_assoc, append-nil, refl, sym, ap, ◌∙◌, arith, codes, Option, None, Some, Ok}
-use Rattle.std.specs.Prelude.{not, option_map, option_and_then, int_lt, ◌<ℤ◌}
+use Rattle.std.specs.Prelude.{not, option_map, int_lt, ◌<ℤ◌}
 use Rattle.std.proofs.lemmas.Int.{ints}
 use Rattle.std.specs.Result.{result_ok}
 use Rattle.std.specs.Char.{is_ascii_digit}
@@ -30,24 +30,24 @@ use Rattle.mapwords.specs.Label.{position_of, flag_of}
 use Rattle.mapwords.specs.declared.role.Block.{Block}
 use Rattle.mapwords.specs.declared.role.Block.TheVariants as block
 use Rattle.mapwords.specs.declared.role.Expected.{Expected}
-use Rattle.mapwords.specs.declared.role.Role.TheVariants as role
-use Rattle.mapwords.specs.declared.keyword.Keyword.{Keyword}
-use Rattle.mapwords.specs.declared.keyword.Keyword.TheVariants as keyword
+use Rattle.mapwords.specs.declared.role.Expected.TheVariants as expected
 use Rattle.mapwords.specs.declared.keyword.Keyword.TheVariants.{End}
 use Rattle.mapwords.specs.declared.table.CountKeyword.{CountKeyword}
-use Rattle.mapwords.specs.declared.table.CountKeyword.TheVariants as count
+use Rattle.mapwords.specs.declared.table.ColourKeyword.{ColourKeyword}
+use Rattle.mapwords.specs.declared.table.TextKeyword.{TextKeyword}
+use Rattle.mapdefs.specs.declared.colour.Rgb.{Rgb}
 use Rattle.mapwords.specs.declared.value.Value.{Value}
 use Rattle.mapwords.specs.declared.value.Value.TheVariants as value
 use Rattle.mapdefs.specs.declared.class.Rule.TheVariants.{OneOf}
-use Rattle.mapwords.specs.Count.{count_in, number_in}
-use Rattle.mapwords.specs.Table.{end_role, skipped_role, skipped_label_role, role_of, least_of, most_of}
+use Rattle.mapwords.specs.Count.{number_in, read_count}
+use Rattle.mapwords.specs.Table.{least_of, most_of}
 use Rattle.maptree.specs.Entries.{Entries, Nothing, Said, Vertex, Inside, with_said, vertex_count}
 use Rattle.mapwords.specs.Fault.{and_then}
-use Rattle.mapwords.specs.Keyword.{spelling, is_spelt, keyword_of}
+use Rattle.mapwords.specs.Keyword.{spelling, is_spelt}
 use Rattle.mapwords.specs.Given.{value_in}
 use Rattle.maptree.specs.Meaning.{block_in, alone}
-use Rattle.maptree.specs.Says.{Takes, closing_fault, is_full, role_says, says}
-use Rattle.maptree.specs.Written.{bare, block_text, position_text, flag_text, HasNoComma, IsKeyword, IsWritten, text, table, font, web_text, layer_text, csv_x, csv_y, items, flag, scale, no_colour, some_colour, geometry, pixmap, position, equals, one_of, extent, IsBlockIn, symbol, layer, class, feature, style, points, label, web, web_metadata, layer_metadata, IsWrittenOut, nothing, said, vertex, inside, WrittenIsRead}
+use Rattle.maptree.specs.Says.{Takes, closing_fault, is_full, says}
+use Rattle.maptree.specs.Written.{bare, quoted, block_text, position_text, flag_text, HasNoComma, IsKeyword, IsKey, IsCount, map_name, map_extent, symbol_name, symbol_type, symbol_image, layer_name, layer_type, layer_data, class_item, label_item, template, layer_tolerance, layer_min, layer_max, class_rule, class_min, class_max, style_colour, style_outline, style_width, style_size, style_symbol, label_colour, label_outline, label_priority, label_position, label_buffer, label_distance, label_partials, label_force, feature_text, feature_items, service_wms_title, service_ows_title, service_wms_address, service_ows_address, layer_wms_title, layer_ows_title, is_width, is_size, is_tolerance, is_priority, is_buffer, is_distance, IsWritten, text, table, font, metadata, csv_x, csv_y, items, flag, scale, no_colour, some_colour, geometry, pixmap, position, equals, one_of, extent, IsBlockIn, symbol, layer, class, feature, style, points, label, web, web_metadata, layer_metadata, IsWrittenOut, nothing, said, vertex, inside, WrittenIsRead}
 use Rattle.maptree.specs.Written as written_as
 use Rattle.maptree.proofs.Blocks.{block-enough}
 use Rattle.mapwords.proofs.Colours.{counts_of}
@@ -71,22 +71,27 @@ count-not_end n small =
     let is = numeral n small in
     ap (λ text. is_spelt text End) (sym (append-nil (decimal n))) ∙ digits-not_end (decimal n) [] is.digits is.some
 
--- a count is below each bound of a machine's numbers
-most-small : (keyword : CountKeyword) → most_of keyword ≤ 65535
-most-small count.Width = omega arith
-most-small count.Size = omega arith
-most-small count.Tolerance = omega arith
-most-small count.Priority = omega arith
-most-small count.Buffer = omega arith
-most-small count.MinDistance = omega arith
+-- a count is within the bounds of its keyword, and small
+record IsBounded (keyword : CountKeyword) (n : ℕ) : Type 0 where
+  least : least_of keyword ≤ n
+  most : n ≤ most_of keyword
+  small : n ≤ 65535
+
+count-bounded : (keyword : CountKeyword) (n : ℕ) → IsCount keyword n → IsBounded keyword n
+count-bounded keyword n (is_width m least most) = record { least = least; most = most; small = omega arith }
+count-bounded keyword n (is_size m least most) = record { least = least; most = most; small = omega arith }
+count-bounded keyword n (is_tolerance m most) = record { least = omega arith; most = most; small = omega arith }
+count-bounded keyword n (is_priority m least most) = record { least = least; most = most; small = omega arith }
+count-bounded keyword n (is_buffer m most) = record { least = omega arith; most = most; small = omega arith }
+count-bounded keyword n (is_distance m most) = record { least = omega arith; most = most; small = omega arith }
 
 -- a count that is written out is read as that count
-count-read : (keyword : CountKeyword) (n : ℕ) → least_of keyword ≤ n → n ≤ most_of keyword → count_in keyword (decimal n) ≡ Some (record { keyword = keyword; number = n })
-count-read keyword n above below =
-    let small : most_of keyword ≤ 65535 = most-small keyword in
+count-read : (keyword : CountKeyword) (n : ℕ) → IsBounded keyword n → read_count keyword (decimal n) ≡ Some (record { keyword = keyword; number = n })
+count-read keyword n is =
+    let small : n ≤ 65535 = is.small in
     let written : count_of (decimal n) ≡ Some (pos n) =
     ap (λ r. option_map whole_of (result_ok r)) (numeral-read n NUMBER_LIMIT (omega arith) (omega arith)) ∙ ap (λ z. Some z) (whole-read n) in
-    rw (written, le-leb (least_of keyword) n above, le-leb n (most_of keyword) below) refl
+    rw (written, le-leb (least_of keyword) n is.least, le-leb n (most_of keyword) is.most) refl
 
 size-not_end : (n : ℕ) → n < 2 ^ 64 → is_spelt (written (pos n)) End ≡ false
 size-not_end n small =
@@ -160,47 +165,58 @@ csv_x-cut given = rw (lt-ltb 5 (length (codes "CSV_X" ++ (61 ∷ given))) (omega
 csv_y-cut : (given : List ℕ) → setting_in (codes "CSV_Y" ++ (61 ∷ given)) ≡ Some (codes "CSV_Y", given)
 csv_y-cut given = rw (lt-ltb 5 (length (codes "CSV_Y" ++ (61 ∷ given))) (omega arith)) refl
 
--- no keyword of a block without keywords takes a value
-end-takes : (k : Keyword) (e : Expected) → end_role k ≡ Some (role.Takes e) → ⊥
-end-takes keyword.End e p = let no : ⊥ = cc in no
-end-takes _ e p = let no : ⊥ = cc in no
-
-skipped-takes : (k : Keyword) (e : Expected) → skipped_role k ≡ Some (role.Takes e) → ⊥
-skipped-takes keyword.Label e p = let no : ⊥ = cc in no
-skipped-takes keyword.Metadata e p = let no : ⊥ = cc in no
-skipped-takes keyword.Validation e p = let no : ⊥ = cc in no
-skipped-takes keyword.End e p = let no : ⊥ = cc in no
-skipped-takes _ e p = let no : ⊥ = cc in no
-
-skipped_label-takes : (k : Keyword) (e : Expected) → skipped_label_role k ≡ Some (role.Takes e) → ⊥
-skipped_label-takes keyword.Label e p = let no : ⊥ = cc in no
-skipped_label-takes keyword.Metadata e p = let no : ⊥ = cc in no
-skipped_label-takes keyword.Style e p = let no : ⊥ = cc in no
-skipped_label-takes keyword.Validation e p = let no : ⊥ = cc in no
-skipped_label-takes keyword.End e p = let no : ⊥ = cc in no
-skipped_label-takes _ e p = let no : ⊥ = cc in no
-
-role-takes : (b : Block) (found : Option Keyword) (k : Keyword) (e : Expected) (above own : Entries) (t : TokenValue) → found ≡ Some k → role_of b k ≡ Some (role.Takes e) →
-    role_says b (option_and_then (role_of b) found) above own t ≡ Ok (Takes e)
-role-takes b found k e above own t is takes = rw (is, takes) refl
-
 -- a keyword takes what it takes in its block
 keyword-says : (b : Block) (word : List ℕ) (e : Expected) (line : ℕ) (above own : Entries) → IsKeyword b word e → says b above own (bare line word) ≡ Ok (Takes e)
-keyword-says block.Map word e line above own is = role-takes block.Map (keyword_of word) is.keyword e above own (bare line word) is.is_spelt is.takes
-keyword-says block.Web word e line above own is = role-takes block.Web (keyword_of word) is.keyword e above own (bare line word) is.is_spelt is.takes
-keyword-says block.Symbol word e line above own is = role-takes block.Symbol (keyword_of word) is.keyword e above own (bare line word) is.is_spelt is.takes
-keyword-says block.Layer word e line above own is = role-takes block.Layer (keyword_of word) is.keyword e above own (bare line word) is.is_spelt is.takes
-keyword-says block.Class word e line above own is = role-takes block.Class (keyword_of word) is.keyword e above own (bare line word) is.is_spelt is.takes
-keyword-says block.Style word e line above own is = role-takes block.Style (keyword_of word) is.keyword e above own (bare line word) is.is_spelt is.takes
-keyword-says block.Label word e line above own is = role-takes block.Label (keyword_of word) is.keyword e above own (bare line word) is.is_spelt is.takes
-keyword-says block.Feature word e line above own is = role-takes block.Feature (keyword_of word) is.keyword e above own (bare line word) is.is_spelt is.takes
-keyword-says block.Points word e line above own is = absurd (end-takes is.keyword e is.takes)
-keyword-says block.WebMetadata word e line above own is = absurd (end-takes is.keyword e is.takes)
-keyword-says block.LayerMetadata word e line above own is = absurd (end-takes is.keyword e is.takes)
-keyword-says block.Validation word e line above own is = absurd (end-takes is.keyword e is.takes)
-keyword-says block.Projection word e line above own is = absurd (end-takes is.keyword e is.takes)
-keyword-says block.Skipped word e line above own is = absurd (skipped-takes is.keyword e is.takes)
-keyword-says block.SkippedLabel word e line above own is = absurd (skipped_label-takes is.keyword e is.takes)
+unfolding spelling
+keyword-says b word e line above own map_name = refl
+keyword-says b word e line above own map_extent = refl
+keyword-says b word e line above own symbol_name = refl
+keyword-says b word e line above own symbol_type = refl
+keyword-says b word e line above own symbol_image = refl
+keyword-says b word e line above own layer_name = refl
+keyword-says b word e line above own layer_type = refl
+keyword-says b word e line above own layer_data = refl
+keyword-says b word e line above own class_item = refl
+keyword-says b word e line above own label_item = refl
+keyword-says b word e line above own template = refl
+keyword-says b word e line above own layer_tolerance = refl
+keyword-says b word e line above own layer_min = refl
+keyword-says b word e line above own layer_max = refl
+keyword-says b word e line above own class_rule = refl
+keyword-says b word e line above own class_min = refl
+keyword-says b word e line above own class_max = refl
+keyword-says b word e line above own style_colour = refl
+keyword-says b word e line above own style_outline = refl
+keyword-says b word e line above own style_width = refl
+keyword-says b word e line above own style_size = refl
+keyword-says b word e line above own style_symbol = refl
+keyword-says b word e line above own label_colour = refl
+keyword-says b word e line above own label_outline = refl
+keyword-says b word e line above own label_priority = refl
+keyword-says b word e line above own label_position = refl
+keyword-says b word e line above own label_buffer = refl
+keyword-says b word e line above own label_distance = refl
+keyword-says b word e line above own label_partials = refl
+keyword-says b word e line above own label_force = refl
+keyword-says b word e line above own feature_text = refl
+keyword-says b word e line above own feature_items = refl
+
+-- and so does a key of METADATA
+key-says : (b : Block) (key : List ℕ) (keyword : TextKeyword) (line : ℕ) (above own : Entries) → IsKey b key keyword → says b above own (quoted line key) ≡ Ok (Takes (expected.Text keyword))
+key-says b key keyword line above own service_wms_title = refl
+key-says b key keyword line above own service_ows_title = refl
+key-says b key keyword line above own service_wms_address = refl
+key-says b key keyword line above own service_ows_address = refl
+key-says b key keyword line above own layer_wms_title = refl
+key-says b key keyword line above own layer_ows_title = refl
+
+-- each colour of a keyword that a block has has an effect
+colour-noted : (b : Block) (word : List ℕ) (keyword : ColourKeyword) (colour : Option Rgb) (before : Entries) → IsKeyword b word (expected.Colour keyword) →
+    with_said (value.Colour keyword colour) before ≡ Said (value.Colour keyword colour) before
+colour-noted b word keyword colour before style_colour = refl
+colour-noted b word keyword colour before style_outline = refl
+colour-noted b word keyword colour before label_colour = refl
+colour-noted b word keyword colour before label_outline = refl
 
 module _ (tail : Tail) (k : ℕ) where
   -- what is left is read with one token less in the bound
@@ -222,26 +238,26 @@ module _ (tail : Tail) (k : ℕ) where
   value-read b above before v ts rest (table c word given line is named) p =
       keyword-takes b above before word _ line _ is ∙ rw named (on b above (Said v before) rest (omega arith))
   value-read b above before v ts rest (font given line) p = on b above (Said v before) rest (omega arith)
-  value-read b above before v ts rest (web_text key w given line is) p = rw is (on b above (Said v before) rest (omega arith))
-  value-read b above before v ts rest (layer_text key w given line is) p = rw is (on b above (Said v before) rest (omega arith))
+  value-read b above before v ts rest (metadata c key w given line is) p = rw (key-says b key w line above before is) (on b above (Said v before) rest (omega arith))
   value-read b above before v ts rest (csv_x given line) p = rw (csv_x-cut given) (on b above (Said v before) rest (omega arith))
   value-read b above before v ts rest (csv_y given line) p = rw (csv_y-cut given) (on b above (Said v before) rest (omega arith))
   value-read b above before v ts rest (items names line some few none) p =
       rw (items-cut (join_with_byte 44 names), names-cut names some none, le-ltb MAX_ITEMS (length names) few)
       (on b above (Said v before) rest (omega arith))
-  value-read b above before v ts rest (written_as.count c word w n line is least most) p =
-      let small : most_of w ≤ 65535 = most-small w in
+  value-read b above before v ts rest (written_as.count c word w n line is within) p =
+      let bounded = count-bounded w n within in
+      let small : n ≤ 65535 = bounded.small in
       keyword-takes b above before word _ line _ is
-      ∙ rw (count-not_end n (omega arith), count-read w n least most) (on b above (Said v before) rest (omega arith))
+      ∙ rw (count-not_end n (omega arith), count-read w n bounded) (on b above (Said v before) rest (omega arith))
   value-read b above before v ts rest (flag c word w f line is) p =
       keyword-takes b above before word _ line _ is ∙ rw (flag-not_end f, flag-read f) (on b above (Said v before) rest (omega arith))
   value-read b above before v ts rest (scale c word w number line is small) p =
       keyword-takes b above before word _ line _ is ∙ rw (number-not_end number small, number-read number small) (on b above (Said v before) rest (omega arith))
-  value-read b above before v ts rest (no_colour c word w line is effect) p =
-      keyword-takes b above before word _ line _ is ∙ rw effect (on b above (Said v before) rest (omega arith))
-  value-read b above before v ts rest (some_colour c word w rgb line is effect bytes) p =
+  value-read b above before v ts rest (no_colour c word w line is) p =
+      keyword-takes b above before word _ line _ is ∙ rw (colour-noted b word w None before is) (on b above (Said v before) rest (omega arith))
+  value-read b above before v ts rest (some_colour c word w rgb line is bytes) p =
       keyword-takes b above before word _ line _ is
-      ∙ rw (counts_of w rgb.red rgb.green rgb.blue bytes.red bytes.green bytes.blue tail (bare line (decimal rgb.red)) (bare line (decimal rgb.green)) (bare line (decimal rgb.blue)) rest refl refl refl refl refl refl, effect)
+      ∙ rw (counts_of w rgb.red rgb.green rgb.blue bytes.red bytes.green bytes.blue tail (bare line (decimal rgb.red)) (bare line (decimal rgb.green)) (bare line (decimal rgb.blue)) rest refl refl refl refl refl refl, colour-noted b word w (Some rgb) before is)
       (on b above (Said v before) rest (omega arith))
   value-read b above before v ts rest (geometry c word Point line is) p = keyword-takes b above before word _ line _ is ∙ on b above (Said v before) rest (omega arith)
   value-read b above before v ts rest (geometry c word Line line is) p = keyword-takes b above before word _ line _ is ∙ on b above (Said v before) rest (omega arith)
@@ -323,16 +339,15 @@ some-token : (b : Block) (v : Value) (ts : List TokenValue) → IsWritten b v ts
 some-token b v ts (text c word w given line is) = omega arith
 some-token b v ts (table c word given line is named) = omega arith
 some-token b v ts (font given line) = omega arith
-some-token b v ts (web_text key w given line is) = omega arith
-some-token b v ts (layer_text key w given line is) = omega arith
+some-token b v ts (metadata c key w given line is) = omega arith
 some-token b v ts (csv_x given line) = omega arith
 some-token b v ts (csv_y given line) = omega arith
 some-token b v ts (items names line some few none) = omega arith
-some-token b v ts (written_as.count c word w n line is least most) = omega arith
+some-token b v ts (written_as.count c word w n line is within) = omega arith
 some-token b v ts (flag c word w f line is) = omega arith
 some-token b v ts (scale c word w number line is small) = omega arith
-some-token b v ts (no_colour c word w line is effect) = omega arith
-some-token b v ts (some_colour c word w rgb line is effect bytes) = omega arith
+some-token b v ts (no_colour c word w line is) = omega arith
+some-token b v ts (some_colour c word w rgb line is bytes) = omega arith
 some-token b v ts (geometry c word is_kind line is) = omega arith
 some-token b v ts (pixmap c word line is) = omega arith
 some-token b v ts (position c word at line is) = omega arith

@@ -8,33 +8,32 @@ use Rattle.geom.specs.Written.{written}
 use Rattle.mapdefs.specs.declared.colour.Rgb.{Rgb}
 use Rattle.mapdefs.specs.declared.layer.Geometry.{Geometry}
 use Rattle.mapdefs.specs.declared.layer.Geometry.TheVariants.{Point, Line, Polygon}
-use Rattle.mapdefs.specs.declared.limits.TheConstants.{MAX_VERTICES, MAX_ITEMS}
+use Rattle.mapdefs.specs.declared.limits.TheConstants.{MAX_VERTICES, MAX_LINE_WIDTH, MAX_SQUARE, MAX_TOLERANCE, MAX_PRIORITY, MAX_BUFFER, MAX_DISTANCE, MAX_ITEMS}
 use Rattle.mapdefs.specs.declared.class.Rule.TheVariants.{Equals, OneOf}
 use Rattle.mapdefs.specs.declared.label.Position.{Position}
 use Rattle.mapdefs.specs.declared.label.Position.TheVariants.{UpperLeft, UpperCentre, UpperRight, CentreLeft, Centre, CentreRight, LowerLeft, LowerCentre, LowerRight, Automatic}
 use Rattle.maplex.specs.declared.fault.Tail.TheVariants as tails
 use Rattle.maplex.specs.declared.token.Shape.TheVariants as shape
 use Rattle.maplex.specs.Token.{TokenValue}
-use Rattle.mapwords.specs.declared.keyword.Keyword.{Keyword}
 use Rattle.mapwords.specs.declared.role.Block.{Block}
 use Rattle.mapwords.specs.declared.role.Block.TheVariants as block
 use Rattle.mapwords.specs.declared.role.Expected.{Expected}
 use Rattle.mapwords.specs.declared.role.Expected.TheVariants as expected
-use Rattle.mapwords.specs.declared.role.Role.TheVariants.{Takes}
 use Rattle.mapwords.specs.declared.table.CountKeyword.{CountKeyword}
+use Rattle.mapwords.specs.declared.table.CountKeyword.TheVariants as counts
 use Rattle.mapwords.specs.declared.table.ColourKeyword.{ColourKeyword}
+use Rattle.mapwords.specs.declared.table.ColourKeyword.TheVariants as colours
 use Rattle.mapwords.specs.declared.table.FlagKeyword.{FlagKeyword}
+use Rattle.mapwords.specs.declared.table.FlagKeyword.TheVariants as flags
 use Rattle.mapwords.specs.declared.table.ScaleKeyword.{ScaleKeyword}
+use Rattle.mapwords.specs.declared.table.ScaleKeyword.TheVariants as scales
 use Rattle.mapwords.specs.declared.table.TextKeyword.{TextKeyword}
 use Rattle.mapwords.specs.declared.table.TextKeyword.TheVariants as texts
 use Rattle.mapwords.specs.declared.value.Value.{Value}
 use Rattle.mapwords.specs.declared.value.Value.TheVariants as value
-use Rattle.mapwords.specs.Keyword.{keyword_of}
 use Rattle.mapwords.specs.Rule.{is_comma}
-use Rattle.mapwords.specs.Setting.{web_expects, layer_expects}
-use Rattle.mapwords.specs.Table.{role_of, least_of, most_of}
 use Rattle.mapwords.specs.Value.{is_table_name, named}
-use Rattle.maptree.specs.Entries.{Entries, Nothing, Said, Vertex, Inside, has_effect, vertex_count}
+use Rattle.maptree.specs.Entries.{Entries, Nothing, Said, Vertex, Inside, vertex_count}
 use Rattle.maptree.specs.Meaning.{meaning}
 use Rattle.maptree.specs.Says.{closing_fault, is_full}
 
@@ -111,11 +110,58 @@ pub record IsColour (colour : Rgb) : Type 0 where
 abbrev pub HasNoComma : List ℕ → Type 0
 HasNoComma name = All (λ byte. is_comma byte ≡ false) name
 
--- a word is a keyword that takes this in a block, in letters of either case
-pub record IsKeyword (b : Block) (word : List ℕ) (expected : Expected) : Type 0 where
-  pub keyword : Keyword
-  pub is_spelt : keyword_of word ≡ Some keyword
-  pub takes : role_of b keyword ≡ Some (Takes expected)
+-- the keywords of each block as they are written, and what each takes
+pub data IsKeyword : Block → List ℕ → Expected → Type 0 where
+  map_name : IsKeyword block.Map (codes "NAME") (expected.Text texts.Name)
+  map_extent : IsKeyword block.Map (codes "EXTENT") expected.West
+  symbol_name : IsKeyword block.Symbol (codes "NAME") (expected.Text texts.Name)
+  symbol_type : IsKeyword block.Symbol (codes "TYPE") expected.Pixmap
+  symbol_image : IsKeyword block.Symbol (codes "IMAGE") (expected.Text texts.Image)
+  layer_name : IsKeyword block.Layer (codes "NAME") (expected.Text texts.Name)
+  layer_type : IsKeyword block.Layer (codes "TYPE") expected.Geometry
+  layer_data : IsKeyword block.Layer (codes "DATA") expected.Table
+  class_item : IsKeyword block.Layer (codes "CLASSITEM") (expected.Text texts.ClassItem)
+  label_item : IsKeyword block.Layer (codes "LABELITEM") (expected.Text texts.LabelItem)
+  template : IsKeyword block.Layer (codes "TEMPLATE") (expected.Text texts.Template)
+  layer_tolerance : IsKeyword block.Layer (codes "TOLERANCE") (expected.Count counts.Tolerance)
+  layer_min : IsKeyword block.Layer (codes "MINSCALEDENOM") (expected.Scale scales.Min)
+  layer_max : IsKeyword block.Layer (codes "MAXSCALEDENOM") (expected.Scale scales.Max)
+  class_rule : IsKeyword block.Class (codes "EXPRESSION") expected.Rule
+  class_min : IsKeyword block.Class (codes "MINSCALEDENOM") (expected.Scale scales.Min)
+  class_max : IsKeyword block.Class (codes "MAXSCALEDENOM") (expected.Scale scales.Max)
+  style_colour : IsKeyword block.Style (codes "COLOR") (expected.Colour colours.Color)
+  style_outline : IsKeyword block.Style (codes "OUTLINECOLOR") (expected.Colour colours.OutlineColor)
+  style_width : IsKeyword block.Style (codes "WIDTH") (expected.Count counts.Width)
+  style_size : IsKeyword block.Style (codes "SIZE") (expected.Count counts.Size)
+  style_symbol : IsKeyword block.Style (codes "SYMBOL") (expected.Text texts.Symbol)
+  label_colour : IsKeyword block.Label (codes "COLOR") (expected.Colour colours.Color)
+  label_outline : IsKeyword block.Label (codes "OUTLINECOLOR") (expected.Colour colours.OutlineColor)
+  label_priority : IsKeyword block.Label (codes "PRIORITY") (expected.Count counts.Priority)
+  label_position : IsKeyword block.Label (codes "POSITION") expected.Position
+  label_buffer : IsKeyword block.Label (codes "BUFFER") (expected.Count counts.Buffer)
+  label_distance : IsKeyword block.Label (codes "MINDISTANCE") (expected.Count counts.MinDistance)
+  label_partials : IsKeyword block.Label (codes "PARTIALS") (expected.Flag flags.Partials)
+  label_force : IsKeyword block.Label (codes "FORCE") (expected.Flag flags.Force)
+  feature_text : IsKeyword block.Feature (codes "TEXT") (expected.Text texts.Text)
+  feature_items : IsKeyword block.Feature (codes "ITEMS") (expected.Text texts.Items)
+
+-- the keys of METADATA as they are written, and what each gives
+pub data IsKey : Block → List ℕ → TextKeyword → Type 0 where
+  service_wms_title : IsKey block.WebMetadata (codes "wms_title") texts.WmsTitle
+  service_ows_title : IsKey block.WebMetadata (codes "ows_title") texts.OwsTitle
+  service_wms_address : IsKey block.WebMetadata (codes "wms_onlineresource") texts.WmsOnlineResource
+  service_ows_address : IsKey block.WebMetadata (codes "ows_onlineresource") texts.OwsOnlineResource
+  layer_wms_title : IsKey block.LayerMetadata (codes "wms_title") texts.WmsTitle
+  layer_ows_title : IsKey block.LayerMetadata (codes "ows_title") texts.OwsTitle
+
+-- the counts that each keyword takes
+pub data IsCount : CountKeyword → ℕ → Type 0 where
+  is_width : (n : ℕ) → 1 ≤ n → n ≤ MAX_LINE_WIDTH → IsCount counts.Width n
+  is_size : (n : ℕ) → 1 ≤ n → n ≤ MAX_SQUARE → IsCount counts.Size n
+  is_tolerance : (n : ℕ) → n ≤ MAX_TOLERANCE → IsCount counts.Tolerance n
+  is_priority : (n : ℕ) → 1 ≤ n → n ≤ MAX_PRIORITY → IsCount counts.Priority n
+  is_buffer : (n : ℕ) → n ≤ MAX_BUFFER → IsCount counts.Buffer n
+  is_distance : (n : ℕ) → n ≤ MAX_DISTANCE → IsCount counts.MinDistance n
 
 -- the tokens that give a block a value; the expressions of classes have a grammar and a law of their own
 pub data IsWritten : Block → Value → List TokenValue → Type 0 where
@@ -125,16 +171,13 @@ pub data IsWritten : Block → Value → List TokenValue → Type 0 where
       IsWritten b (value.Text texts.Data (named given line)) (bare line word ∷ quoted line given ∷ [])
   font : (given : List ℕ) (line : ℕ) →
       IsWritten block.Map (value.Text texts.LabelFont (named given line)) (bare line (codes "CONFIG") ∷ quoted line (codes "LABELFONT") ∷ quoted line given ∷ [])
-  web_text : (key : List ℕ) (keyword : TextKeyword) (given : List ℕ) (line : ℕ) → web_expects key ≡ expected.Text keyword →
-      IsWritten block.WebMetadata (value.Text keyword (named given line)) (quoted line key ∷ quoted line given ∷ [])
-  layer_text : (key : List ℕ) (keyword : TextKeyword) (given : List ℕ) (line : ℕ) → layer_expects key ≡ expected.Text keyword →
-      IsWritten block.LayerMetadata (value.Text keyword (named given line)) (quoted line key ∷ quoted line given ∷ [])
+  metadata : (b : Block) (key : List ℕ) (keyword : TextKeyword) (given : List ℕ) (line : ℕ) → IsKey b key keyword →
+      IsWritten b (value.Text keyword (named given line)) (quoted line key ∷ quoted line given ∷ [])
   csv_x : (given : List ℕ) (line : ℕ) → IsWritten block.Layer (value.Text texts.CsvX (named given line)) (setting (codes "CSV_X") given line)
   csv_y : (given : List ℕ) (line : ℕ) → IsWritten block.Layer (value.Text texts.CsvY (named given line)) (setting (codes "CSV_Y") given line)
   items : (names : List (List ℕ)) (line : ℕ) → 1 ≤ length names → length names ≤ MAX_ITEMS → All HasNoComma names →
       IsWritten block.Layer (value.Items names) (setting (codes "ITEMS") (join_with_byte 44 names) line)
-  count : (b : Block) (word : List ℕ) (keyword : CountKeyword) (n line : ℕ) → IsKeyword b word (expected.Count keyword) →
-      least_of keyword ≤ n → n ≤ most_of keyword →
+  count : (b : Block) (word : List ℕ) (keyword : CountKeyword) (n line : ℕ) → IsKeyword b word (expected.Count keyword) → IsCount keyword n →
       IsWritten b (value.Count (record { keyword = keyword; number = n })) (bare line word ∷ bare line (decimal n) ∷ [])
   flag : (b : Block) (word : List ℕ) (keyword : FlagKeyword) (is : Bool) (line : ℕ) → IsKeyword b word (expected.Flag keyword) →
       IsWritten b (value.Flag keyword is) (bare line word ∷ bare line (flag_text is) ∷ [])
@@ -142,10 +185,8 @@ pub data IsWritten : Block → Value → List TokenValue → Type 0 where
       unsigned_abs number ≤ NUMBER_LIMIT →
       IsWritten b (value.Scale keyword number) (bare line word ∷ bare line (written number) ∷ [])
   no_colour : (b : Block) (word : List ℕ) (keyword : ColourKeyword) (line : ℕ) → IsKeyword b word (expected.Colour keyword) →
-      has_effect (value.Colour keyword None) ≡ true →
       IsWritten b (value.Colour keyword None) (bare line word ∷ map (bare line) (colour_texts None))
-  some_colour : (b : Block) (word : List ℕ) (keyword : ColourKeyword) (rgb : Rgb) (line : ℕ) → IsKeyword b word (expected.Colour keyword) →
-      has_effect (value.Colour keyword (Some rgb)) ≡ true → IsColour rgb →
+  some_colour : (b : Block) (word : List ℕ) (keyword : ColourKeyword) (rgb : Rgb) (line : ℕ) → IsKeyword b word (expected.Colour keyword) → IsColour rgb →
       IsWritten b (value.Colour keyword (Some rgb)) (bare line word ∷ map (bare line) (colour_texts (Some rgb)))
   geometry : (b : Block) (word : List ℕ) (is : Geometry) (line : ℕ) → IsKeyword b word expected.Geometry →
       IsWritten b (value.Geometry is) (bare line word ∷ bare line (geometry_text is) ∷ [])

@@ -33,8 +33,8 @@ abbrev pub counted : CountKeyword → List ℕ → Option ℕ
 counted keyword text = option_and_then (bounded (least_of keyword) (most_of keyword)) (option_map (none_as_zero keyword) (count_of text))
 
 -- it is a count of the keyword
-abbrev pub count_in : CountKeyword → List ℕ → Option CountValue
-count_in keyword text = option_map (λ n. record { keyword = keyword; number = n }) (counted keyword text)
+abbrev pub read_count : CountKeyword → List ℕ → Option CountValue
+read_count keyword text = option_map (λ n. record { keyword = keyword; number = n }) (counted keyword text)
 
 -- the number of a count, if it is one of this keyword
 abbrev pub number_of : CountKeyword → CountValue → Option ℕ

@@ -29,7 +29,7 @@ use Rattle.mapwords.specs.Extent.{extent_of}
 use Rattle.mapwords.specs.Label.{position_of, flag_of}
 use Rattle.mapwords.specs.Rule.{rule_of}
 use Rattle.mapwords.specs.Setting.{setting_step}
-use Rattle.mapwords.specs.Count.{count_in, number_in}
+use Rattle.mapwords.specs.Count.{read_count, number_in}
 use Rattle.mapwords.specs.Colour.{component_of, rgb_of, hex_colour}
 
 -- a text that a keyword was given, and the line of its token
@@ -100,7 +100,7 @@ config_step key = if is_same_name key (codes "LABELFONT") then More (expected.Te
 abbrev pub plain_step : Expected → TokenValue → Option ValueStep
 plain_step expected.Geometry t = option_map (λ geometry. Whole (value.Geometry geometry)) (geometry_of t.text)
 plain_step expected.Pixmap t = pixmap_step t.text
-plain_step (expected.Count keyword) t = option_map (λ count. Whole (value.Count count)) (count_in keyword t.text)
+plain_step (expected.Count keyword) t = option_map (λ count. Whole (value.Count count)) (read_count keyword t.text)
 plain_step expected.Position t = option_map (λ p. Whole (value.Position p)) (position_of t.text)
 plain_step (expected.Flag keyword) t = option_map (λ flag. Whole (value.Flag keyword flag)) (flag_of t.text)
 plain_step (expected.Scale keyword) t = option_map (λ scale. Whole (value.Scale keyword scale)) (number_in t.text)

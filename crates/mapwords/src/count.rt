@@ -1,5 +1,5 @@
 ghost use Rattle.std.specs.Prelude.{◌≡◌, ◌≤◌, IfSome};
-ghost use Rattle.mapwords.specs.Count.{count_in, counted, none_as_zero, number_of};
+ghost use Rattle.mapwords.specs.Count.{read_count, counted, none_as_zero, number_of};
 ghost use Rattle.mapwords.specs.Table.{least_of, most_of};
 
 use crate::table::CountKeyword;
@@ -52,7 +52,7 @@ fn counted(keyword: CountKeyword, text: &str) -> Option<u16>
 impl Count {
     /// The count of a keyword that a text is, if it is within the bounds of the keyword.
     pub fn read(keyword: CountKeyword, text: &str) -> Option<Count>
-        ensures { result ≡ count_in keyword text.now }
+        ensures { result ≡ read_count keyword text.now }
     {
         let number = counted(keyword, text)?;
         Some(Count { keyword, number })

@@ -44,7 +44,7 @@ pub enum CountKeyword {
     Tolerance,
     /// The priority of a label.
     Priority,
-    /// How far labels stay apart, in pixels.
+    /// How far a label's box is widened, in pixels.
     Buffer,
     /// How far labels of one text stay apart, in pixels.
     MinDistance,
