@@ -1,4 +1,4 @@
-use service::{Answered, Closing, TimedReader, TimedWriter, Waits};
+use service::{AnswerWritten, Closing, TimedReader, TimedWriter, Waits};
 use std::alloc::{AllocError, Global};
 use std::cell::Cell;
 use std::io::{self, Read, Write};
@@ -184,7 +184,7 @@ fn sides<'a>(
     ),
     AllocError,
 > {
-    let (read, written) = Answered::pair(alloc)?;
+    let (read, written) = AnswerWritten::pair(alloc)?;
     times.now.set(7);
     let Ok(reader) = TimedReader::start(Slow(times), Slow(times), waits(), read) else {
         return Err(AllocError);
@@ -222,7 +222,7 @@ fn calls_wait_for_what_is_left_of_a_time(rt: HostRuntime) -> Result<(), TableFau
 // For how long two reads may wait of a client that may be silent for 9 seconds: 5 and 24 seconds after its first head began, which has 30.
 fn silent_waits(alloc: Global) -> Result<(u64, u64), AllocError> {
     let times = times_of(0, "");
-    let (read, _written) = Answered::pair(alloc)?;
+    let (read, _written) = AnswerWritten::pair(alloc)?;
     times.now.set(7);
     let waits = Waits {
         silence: Duration::from_secs(9),
