@@ -48,10 +48,10 @@ UNUSED = {
 }
 
 # What several keywords ask for.
-CONVERT = "deploy/convert makes a map of it, or deploy/features a LAYER"
+CONVERT = "use deploy/convert, or deploy/features"
 LEAVE_OUT = "leave it out"
 IN_STYLE = "write it into a STYLE of the CLASS"
-PIXMAP = "draw the symbol as a pixmap of its size, as deploy/convert does, or leave SYMBOL out for a square of SIZE pixels"
+PIXMAP = "draw the symbol as a pixmap, as deploy/convert does, or leave SYMBOL out for a square"
 PER_CLASS = "write a CLASS for each value that occurs"
 
 # Keywords of MapServer that are refused, by their block, with what to do instead.
@@ -78,7 +78,7 @@ REFUSED = {
         "FILTER": "write an EXPRESSION into each CLASS, or choose by deploy/features --where",
         "FILTERITEM": "write an EXPRESSION into each CLASS, or choose by deploy/features --where",
         "GEOMTRANSFORM": "transform the features before, as by ogr2ogr -dialect SQLite",
-        "GRID": "write its lines as FEATURE blocks, as the layer graticule of demo/world.map has them",
+        "GRID": "write its lines as FEATURE blocks, as demo/world.map does",
         "IDENTIFY": LEAVE_OUT, "JOIN": "join the table before, as by ogr2ogr -sql",
         "LABELANGLEITEM": "leave it out: labels are level", "LABELMAXSCALE": "write MAXSCALEDENOM into the CLASS",
         "LABELMINSCALE": "write MINSCALEDENOM into the CLASS", "LABELREQUIRES": LEAVE_OUT,
@@ -87,7 +87,7 @@ REFUSED = {
         "MAXFEATURES": "leave it out, or choose by deploy/features --where",
         "MAXGEOWIDTH": "write MAXSCALEDENOM", "MAXSCALE": "write MAXSCALEDENOM", "MINGEOWIDTH": "write MINSCALEDENOM",
         "MINSCALE": "write MINSCALEDENOM", "OFFSITE": "leave it out, and the raster layer with it",
-        "OPACITY": "leave it out, or write the colour that it gives over the background", "PLUGIN": CONVERT,
+        "OPACITY": "leave it out, or write the colour that results", "PLUGIN": CONVERT,
         "POSTLABELCACHE": "leave it out: labels lie above all layers", "REQUIRES": "leave it out: clients say which layers",
         "SCALETOKEN": "write a LAYER for each scale, with MINSCALEDENOM and MAXSCALEDENOM",
         "SIZEUNITS": "write SIZE and WIDTH in pixels", "STYLEITEM": PER_CLASS,
@@ -95,7 +95,7 @@ REFUSED = {
         "SYMBOLSCALEDENOM": "write SIZE in pixels, and a CLASS for each scale",
         "TILEFILTER": CONVERT, "TILEFILTERITEM": CONVERT, "TILEINDEX": CONVERT, "TILEITEM": CONVERT, "TILESRS": CONVERT,
         "TRANSFORM": "leave it out, and write POINTS in degrees",
-        "TRANSPARENCY": "leave it out, or write the colour that it gives over the background",
+        "TRANSPARENCY": "leave it out, or write the colour that results",
         "UTFDATA": LEAVE_OUT, "UTFITEM": LEAVE_OUT,
     },
     "CLASS": {
@@ -114,7 +114,7 @@ REFUSED = {
         "INITIALGAP": "leave it out: symbols along a line aren't drawn", "LINECAP": "leave it out: lines end without a cap",
         "LINEJOIN": "leave it out", "LINEJOINMAXSIZE": LEAVE_OUT, "MAXSCALEDENOM": "write it into a CLASS",
         "MINSCALEDENOM": "write it into a CLASS", "OFFSET": "leave it out, or shift the features before",
-        "OPACITY": "leave it out, or write the colour that it gives over the background",
+        "OPACITY": "leave it out, or write the colour that results",
         "OUTLINEWIDTH": "write a wider STYLE in the outline's colour before this one",
         "PATTERN": "leave it out: lines are never dashed", "POLAROFFSET": LEAVE_OUT, "RANGEITEM": "write a CLASS for each range",
         "SIZEITEM": "write a CLASS for each size",
@@ -153,13 +153,13 @@ REASONS = {
     "LABEL REPEATDISTANCE": "a feature has one label",
     "LABEL MINFEATURESIZE": "small features are labelled, too",
     "SHAPEPATH": "files are looked for in the folder of the mapfile",
-    "STATUS": "each layer can be asked for, and is drawn where it is asked for",
+    "LAYER STATUS": "a layer is drawn where it is asked for",
     "CLASS STATUS": "a class counts; leave out one that is OFF",
     "IMAGECOLOR": "the background is that of the request",
     "IMAGETYPE": "each request names its FORMAT",
     "OUTPUTFORMAT": "pictures are PPM and PAM; deploy/formats makes PNG, JPEG and WebP of them",
     "MAP SIZE": "each request names its WIDTH and HEIGHT",
-    "MAXSIZE": "a picture has at most 2,048 by 2,048 pixels",
+    "MAP MAXSIZE": "a picture has at most 2,048 by 2,048 pixels",
     "MAP ANGLE": "a picture is never turned",
     "UNITS": "coordinates are degrees",
     "RESOLUTION": "a pixel counts as 0.28 mm",
