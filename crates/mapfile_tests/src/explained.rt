@@ -1,26 +1,26 @@
-use crate::told::repeated;
+use crate::results::repeated;
 use mapfaults::{Finding, explain};
 use std::alloc::{AllocError, Global};
 use test_tables::{TableFault, check_rows};
 
 // The result for a source: its line and the message on its fault.
-fn told(alloc: Global, source: &str) -> Result<String, AllocError> {
+fn explanation_of(alloc: Global, source: &str) -> Result<String, AllocError> {
     match explain(alloc, source.as_bytes()) {
         Finding::Sound => String::from_str(alloc, "sound"),
         Finding::Faulty(fault) => {
-            let (line, words) = (fault.line, fault.message(alloc, source.as_bytes())?);
-            format!(in alloc; "{line}: {words}")
+            let (line, message) = (fault.line, fault.message(alloc, source.as_bytes())?);
+            format!(in alloc; "{line}: {message}")
         }
         Finding::NoMemory => Err(AllocError),
     }
 }
 
 // The result for a source in which `~` stands for the end of a line, `^` for `~`, and `{3*ab}` for `ababab`.
-fn told_row(alloc: Global, row: &str) -> Result<String, AllocError> {
+fn explanation_of_row(alloc: Global, row: &str) -> Result<String, AllocError> {
     let lines = row.replace(alloc, '~', "\n")?;
     let lines = lines.replace(alloc, '^', "~")?;
     let source = repeated(alloc, lines.as_str())?;
-    told(alloc, source.as_str())
+    explanation_of(alloc, source.as_str())
 }
 
 // The results for sources, and the sources.
@@ -117,8 +117,8 @@ sound|MAP END
 2: ('[a]' = \"'~\" = ) is no expression: nothing is read from = ) on|MAP LAYER CLASS EXPRESSION~('[a]' = \"'^\" = )";
 
 #[test]
-fn faults_are_told_in_words(rt: HostRuntime) -> Result<(), TableFault> {
-    check_rows(rt.alloc(), ROWS, '|', 89, told_row)
+fn faults_are_explained(rt: HostRuntime) -> Result<(), TableFault> {
+    check_rows(rt.alloc(), ROWS, '|', 89, explanation_of_row)
 }
 
 // The result for sources with a block, a vertex or an item more than a map may have.
@@ -130,33 +130,33 @@ const LIMITS: &str = "\
 2: PROCESSING names more than 64 items|MAP LAYER PROCESSING~ITEMS=a{64*,b}";
 
 #[test]
-fn limits_are_told_in_words(rt: HostRuntime) -> Result<(), TableFault> {
-    check_rows(rt.alloc(), LIMITS, '|', 5, told_row)
+fn limits_are_explained(rt: HostRuntime) -> Result<(), TableFault> {
+    check_rows(rt.alloc(), LIMITS, '|', 5, explanation_of_row)
 }
 
 // The result for 128 layers and one more.
-fn told_after_layers(alloc: Global, end: &str) -> Result<String, AllocError> {
+fn explanation_after_layers(alloc: Global, end: &str) -> Result<String, AllocError> {
     let mut source = String::from_str(alloc, "MAP\n")?;
     for i in 1..=128 {
         write!(source, "LAYER NAME {i} TYPE LINE END\n")?;
     }
     source.push_str(end)?;
-    told(alloc, source.as_str())
+    explanation_of(alloc, source.as_str())
 }
 
 #[test]
-fn a_layer_too_many_is_told_in_words(rt: HostRuntime) -> Result<(), TableFault> {
+fn a_layer_too_many_is_explained(rt: HostRuntime) -> Result<(), TableFault> {
     const ROW: &str = "130: MAP of line 1 has more than 128 LAYER blocks|LAYER";
-    check_rows(rt.alloc(), ROW, '|', 1, told_after_layers)
+    check_rows(rt.alloc(), ROW, '|', 1, explanation_after_layers)
 }
 
 // The message on a mapfile with a byte that isn't UTF-8 on its second line.
-fn told_of_bytes(alloc: Global, _row: &str) -> Result<String, AllocError> {
+fn explanation_of_bytes(alloc: Global, _row: &str) -> Result<String, AllocError> {
     let source = b"MAP\nNAME 'caf\xE9'\nEND";
     match explain(alloc, source) {
         Finding::Faulty(fault) => {
-            let (line, words) = (fault.line, fault.message(alloc, source)?);
-            format!(in alloc; "{line}: {words}")
+            let (line, message) = (fault.line, fault.message(alloc, source)?);
+            format!(in alloc; "{line}: {message}")
         }
         Finding::Sound | Finding::NoMemory => Err(AllocError),
     }
@@ -166,5 +166,5 @@ fn told_of_bytes(alloc: Global, _row: &str) -> Result<String, AllocError> {
 fn bytes_that_are_no_text_are_named(rt: HostRuntime) -> Result<(), TableFault> {
     let row =
         "2: a byte that is not UTF-8: convert the mapfile, as with iconv -f ISO-8859-1 -t UTF-8|a";
-    check_rows(rt.alloc(), row, '|', 1, told_of_bytes)
+    check_rows(rt.alloc(), row, '|', 1, explanation_of_bytes)
 }

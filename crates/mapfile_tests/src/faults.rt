@@ -1,7 +1,7 @@
-use crate::told::told_row;
+use crate::results::result_of_row;
 use test_tables::{TableFault, check_rows};
 
-// Sources with a fault, in the form of `told_row`.
+// Sources with a fault, in the form of `result_of_row`.
 const FAULTS: &str = "\
 # No token, and a first token other than the bare word MAP.
 1 MissingEnd:
@@ -43,7 +43,7 @@ const FAULTS: &str = "\
 2 MissingValue:MAP LAYER FEATURE POINTS|END
 2 MissingValue:MAP LAYER TOLERANCE|END
 2 MissingValue:MAP LAYER FEATURE TEXT|END
-# ENDs before all that has to be given.
+# ENDs before a required keyword or value.
 4 MissingValue:MAP|LAYER|TYPE POLYGON|END|END
 4 MissingValue:MAP|LAYER|NAME a|END|END
 4 MissingValue:MAP|LAYER|FEATURE|END|END|END
@@ -91,7 +91,7 @@ const FAULTS: &str = "\
 
 #[test]
 fn faults_have_their_lines_and_kinds(rt: HostRuntime) -> Result<(), TableFault> {
-    check_rows(rt.alloc(), FAULTS, ':', 75, told_row)
+    check_rows(rt.alloc(), FAULTS, ':', 75, result_of_row)
 }
 
 // Sources with a list, which is no keyword and no value.
@@ -108,8 +108,8 @@ const LISTS: &str = "\
 2 WrongValue:MAP LAYER FEATURE POINTS|{END} END";
 
 #[test]
-fn lists_are_no_words_and_no_values(rt: HostRuntime) -> Result<(), TableFault> {
-    check_rows(rt.alloc(), LISTS, ':', 10, told_row)
+fn lists_are_no_keywords_and_no_values(rt: HostRuntime) -> Result<(), TableFault> {
+    check_rows(rt.alloc(), LISTS, ':', 10, result_of_row)
 }
 
 // Blocks and values that may stand in a layer, likewise.
@@ -130,5 +130,5 @@ const READ: &str = "\
 
 #[test]
 fn keywords_and_values_are_read(rt: HostRuntime) -> Result<(), TableFault> {
-    check_rows(rt.alloc(), READ, ':', 13, told_row)
+    check_rows(rt.alloc(), READ, ':', 13, result_of_row)
 }

@@ -1,4 +1,4 @@
-use crate::told::{told_fault, written};
+use crate::results::{fault_text, written};
 use mapdefs::{Font, Items, Map, Text};
 use mapparse::{Files, parse, wanted};
 use std::alloc::{AllocError, Global};
@@ -59,7 +59,7 @@ fn made(alloc: Global, source: &str) -> Result<String, AllocError> {
     let files = some_files(alloc)?;
     match parse(alloc, source.as_bytes(), &files) {
         Ok(map) => font_in(alloc, &map),
-        Err(fault) => told_fault(alloc, fault),
+        Err(fault) => fault_text(alloc, fault),
     }
 }
 
@@ -67,7 +67,7 @@ fn made(alloc: Global, source: &str) -> Result<String, AllocError> {
 fn used(alloc: Global, source: &str) -> Result<String, AllocError> {
     let names = match wanted(alloc, source.as_bytes()) {
         Ok(names) => names,
-        Err(fault) => return told_fault(alloc, fault),
+        Err(fault) => return fault_text(alloc, fault),
     };
     let mut text = String::new(alloc);
     for name in names.as_slice() {
@@ -76,8 +76,8 @@ fn used(alloc: Global, source: &str) -> Result<String, AllocError> {
     Ok(text)
 }
 
-// What is made and what is used of a source, each row of the form `MADE:USED~SOURCE`, in which `|` stands for
-// the end of a line.
+// The font that a source gives, the files that it uses, and the source: each row has the form `MADE:USED~SOURCE`, in
+// which `|` stands for the end of a line.
 const ROWS: &str = "\
 none:~MAP CONFIG labelfont a.bdf END
 5 by 7 65:a.bdf,~MAP CONFIG LABELFONT a.bdf END
@@ -93,7 +93,7 @@ none:~MAP CONFIG labelfont a.bdf END
 2 BadFile:bad.bdf,~MAP CONFIG LABELFONT|bad.bdf|END
 2 BadFile:p.ppm,~MAP SYMBOL NAME s TYPE PIXMAP IMAGE|p.ppm END CONFIG LABELFONT|p.ppm END
 2 BadFile:a.bdf,~MAP CONFIG LABELFONT|a.bdf SYMBOL NAME s TYPE PIXMAP IMAGE|a.bdf END END
-# The first used file's fault is told.
+# The first used file's fault is reported.
 2 MissingFile:m.csv,bad.bdf,~MAP LAYER NAME l TYPE POINT DATA|m.csv END CONFIG LABELFONT|bad.bdf END
 2 BadFile:bad.bdf,m.csv,~MAP CONFIG LABELFONT|bad.bdf LAYER NAME l TYPE POINT DATA|m.csv END END
 3 UnknownWord:3 UnknownWord~MAP CONFIG LABELFONT|none.bdf END|END";

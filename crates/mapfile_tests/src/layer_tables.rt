@@ -1,4 +1,4 @@
-use crate::told::{told_fault, written};
+use crate::results::{fault_text, written};
 use mapdefs::{FeatureFields, Items, Layer, Map, Text};
 use mapparse::{Files, parse, wanted};
 use std::alloc::{AllocError, Global};
@@ -74,7 +74,7 @@ fn made(alloc: Global, source: &str) -> Result<String, AllocError> {
     let files = some_files(alloc)?;
     match parse(alloc, source.as_bytes(), &files) {
         Ok(map) => layers_of(alloc, &map),
-        Err(fault) => told_fault(alloc, fault),
+        Err(fault) => fault_text(alloc, fault),
     }
 }
 
@@ -82,7 +82,7 @@ fn made(alloc: Global, source: &str) -> Result<String, AllocError> {
 fn used(alloc: Global, source: &str) -> Result<String, AllocError> {
     let names = match wanted(alloc, source.as_bytes()) {
         Ok(names) => names,
-        Err(fault) => return told_fault(alloc, fault),
+        Err(fault) => return fault_text(alloc, fault),
     };
     let mut text = String::new(alloc);
     for name in names.as_slice() {
@@ -91,13 +91,13 @@ fn used(alloc: Global, source: &str) -> Result<String, AllocError> {
     Ok(text)
 }
 
-// What is made and what is used of a source, each row of the form `MADE:USED~SOURCE`, in which `|` stands for
-// the end of a line.
+// The layers that a source gives, the files that it uses, and the source: each row has the form `MADE:USED~SOURCE`, in
+// which `|` stands for the end of a line.
 const ROWS: &str = "\
 [x,y,n,] (1000000 2000000)1,2,a,:p.csv,~MAP LAYER NAME l TYPE POINT DATA p.csv END END
 [x,y,n,]:none.csv,~MAP LAYER NAME l DATA 'none.csv' type point END END
 [x,y,n,] (1000000 2000000) 1 ,2,a, \"b\"|c,:r.csv,~MAP LAYER NAME l TYPE POINT DATA r.csv END END
-# The rows come behind the features of the mapfile, whose values are those of the columns, whatever ITEMS names.
+# The rows come after the features of the mapfile, whose values are those of the columns, whatever ITEMS names.
 [x,y,n,] (3000000 4000000)u,v,, (5000000 6000000),,, (1000000 2000000)1,2,a,:p.csv,~MAP LAYER NAME l TYPE POINT DATA p.csv FEATURE POINTS 3 4 END ITEMS 'u;v' END PROCESSING ITEMS=k FEATURE POINTS 5 6 END END END END
 # The columns of the coordinates: by their names, exchanged, and one for both.
 [lon,n,x,lat,] (5000000 6000000)5,b,7,6, (-8000000 10500000)-8,c,9,10.5,:q.csv,~MAP LAYER NAME l TYPE POINT DATA q.csv PROCESSING CSV_X=lon PROCESSING CSV_Y=lat END END
@@ -117,7 +117,7 @@ const ROWS: &str = "\
 3 WrongValue:3 WrongValue~MAP LAYER NAME l TYPE LINE DATA|p.csv DATA|missing.csv TYPE|POLYGON|END END
 2 WrongValue:2 WrongValue~MAP LAYER NAME l TYPE POLYGON DATA p.csv DATA|p.txt
 [x,y,n,] (1000000 2000000)1,2,a,:p.csv,~MAP LAYER TYPE LINE DATA p.csv TYPE POINT NAME l END END
-# What else the END of a layer asks for is told before.
+# What else the END of a layer requires is reported before.
 3 MissingValue:3 MissingValue~MAP LAYER TYPE LINE DATA|p.csv|END
 3 MissingValue:3 MissingValue~MAP LAYER NAME l DATA|p.csv|END
 3 DuplicateName:3 DuplicateName~MAP LAYER NAME l TYPE LINE END LAYER TYPE LINE DATA|p.csv|NAME l|END
@@ -183,7 +183,7 @@ fn count_of_row(alloc: Global, row: &str) -> Result<String, AllocError> {
     let source = written(alloc, source)?;
     match parse(alloc, source.as_bytes(), &files) {
         Ok(map) => count_of(alloc, &map),
-        Err(fault) => told_fault(alloc, fault),
+        Err(fault) => fault_text(alloc, fault),
     }
 }
 

@@ -3,11 +3,13 @@
 #![tactic(auto)]
 
 #[cfg(test)]
+mod block_keywords;
+#[cfg(test)]
 mod explained;
 #[cfg(test)]
 mod faults;
 #[cfg(test)]
-mod file_words;
+mod file_messages;
 #[cfg(test)]
 mod fonts;
 #[cfg(test)]
@@ -23,14 +25,12 @@ mod messages;
 #[cfg(test)]
 mod pixmaps;
 #[cfg(test)]
+mod results;
+#[cfg(test)]
 mod said;
 #[cfg(test)]
 mod styles;
 #[cfg(test)]
-mod told;
-#[cfg(test)]
 mod unused;
 #[cfg(test)]
 mod warned;
-#[cfg(test)]
-mod words;

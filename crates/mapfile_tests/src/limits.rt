@@ -1,8 +1,8 @@
-use crate::told::{told, told_row};
+use crate::results::{result_of, result_of_row};
 use std::alloc::{AllocError, Global};
 use test_tables::{TableFault, check_rows};
 
-// Sources up to a limit, each with one that goes further, in the form of `told_row`.
+// Sources up to a limit, each with one that goes further, in the form of `result_of_row`.
 const LIMITS: &str = "\
 1 0 0 0 0:MAP|LAYER|TYPE POLYGON NAME|{65536*a} END END
 4 Lex(TooLong):MAP|LAYER|TYPE POLYGON NAME|{65536*a}a
@@ -31,7 +31,7 @@ const LIMITS: &str = "\
 
 #[test]
 fn limits_may_be_reached_and_not_passed(rt: HostRuntime) -> Result<(), TableFault> {
-    check_rows(rt.alloc(), LIMITS, ':', 18, told_row)
+    check_rows(rt.alloc(), LIMITS, ':', 18, result_of_row)
 }
 
 // What comes after 128 layers.
@@ -40,7 +40,7 @@ const AFTER_LAYERS: &str = "\
 259 Limit:# one more|LAYER";
 
 // The result for 128 layers and what comes after them.
-fn told_after_layers(alloc: Global, end: &str) -> Result<String, AllocError> {
+fn result_after_layers(alloc: Global, end: &str) -> Result<String, AllocError> {
     let end = end.replace(alloc, '|', "\n")?;
     let mut source = String::from_str(alloc, "MAP\n")?;
     for i in 1..=128 {
@@ -50,10 +50,10 @@ fn told_after_layers(alloc: Global, end: &str) -> Result<String, AllocError> {
         )?;
     }
     source.push_str(end.as_str())?;
-    told(alloc, source.as_str())
+    result_of(alloc, source.as_str())
 }
 
 #[test]
 fn a_map_has_at_most_128_layers(rt: HostRuntime) -> Result<(), TableFault> {
-    check_rows(rt.alloc(), AFTER_LAYERS, ':', 2, told_after_layers)
+    check_rows(rt.alloc(), AFTER_LAYERS, ':', 2, result_after_layers)
 }

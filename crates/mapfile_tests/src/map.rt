@@ -1,5 +1,5 @@
+use crate::results::result_of;
 use crate::said::said;
-use crate::told::told;
 use std::alloc::{AllocError, Global};
 use test_tables::{TableFault, check_rows};
 
@@ -159,8 +159,8 @@ fn title_of(said: &str) -> Option<&str> {
 }
 
 // The title and the address of the map of a MAP.
-fn told_title(alloc: Global, words: &str) -> Result<String, AllocError> {
-    let source = format!(in alloc; "MAP {words} END")?;
+fn title_of_map(alloc: Global, keywords: &str) -> Result<String, AllocError> {
+    let source = format!(in alloc; "MAP {keywords} END")?;
     let text = said(alloc, source.as_str())?;
     match title_of(text.as_str()) {
         Some(title) => String::from_str(alloc, title),
@@ -170,7 +170,7 @@ fn told_title(alloc: Global, words: &str) -> Result<String, AllocError> {
 
 #[test]
 fn services_have_their_titles_and_addresses(rt: HostRuntime) -> Result<(), TableFault> {
-    check_rows(rt.alloc(), TITLES, '~', 9, told_title)
+    check_rows(rt.alloc(), TITLES, '~', 9, title_of_map)
 }
 
 // A mapfile in pieces. A row is the result where the source ends within a token of the piece, the result
@@ -205,24 +205,24 @@ const PIECES: &str = "\
 1 1 1 1 4;1 1 1 1 4~MAP|  LAYER|    NAME \"a\"|    TYPE POLYGON|    CLASS|      STYLE|        COLOR 10 20 30|      END|    END|    FEATURE|      POINTS 1 2 3 4 5 6 7 8 END|    END|  END|END~|";
 
 // Adds the result for a source, if it differs from the one before.
-fn add_told(out: &mut String, told: &str) -> Result<(), AllocError> {
-    if out.as_str() != told {
+fn add_result(out: &mut String, added: &str) -> Result<(), AllocError> {
+    if out.as_str() != added {
         if !out.is_empty() {
             out.push_str(" or ")?;
         }
-        out.push_str(told)?;
+        out.push_str(added)?;
     }
     Ok(())
 }
 
 // The result where a source ends within a token of its last piece, or at its other ends.
-fn told_ends(
+fn results_at_ends(
     alloc: Global,
-    front: &str,
+    prefix: &str,
     piece: &str,
     is_within: bool,
 ) -> Result<String, AllocError> {
-    let mut source = front.replace(alloc, '|', "\n")?;
+    let mut source = prefix.replace(alloc, '|', "\n")?;
     let mut out = String::new(alloc);
     let mut left = piece.len();
     for letter in piece.chars() {
@@ -230,18 +230,18 @@ fn told_ends(
         source.push(if letter == '|' { '\n' } else { letter })?;
         let is_cut = left > 0 && letter != ' ' && letter != '|';
         if is_cut == is_within {
-            let told = told(alloc, source.as_str())?;
-            add_told(&mut out, told.as_str())?;
+            let result = result_of(alloc, source.as_str())?;
+            add_result(&mut out, result.as_str())?;
         }
     }
     Ok(out)
 }
 
-// The result at the ends in a piece.
-fn told_piece(alloc: Global, row: &str) -> Result<String, AllocError> {
-    let (front, piece) = row.split_once('~').unwrap_or((row, ""));
-    let last = told_ends(alloc, front, piece, false)?;
-    let within = told_ends(alloc, front, piece, true)?;
+// The results where a source ends in a piece.
+fn results_of_piece(alloc: Global, row: &str) -> Result<String, AllocError> {
+    let (prefix, piece) = row.split_once('~').unwrap_or((row, ""));
+    let last = results_at_ends(alloc, prefix, piece, false)?;
+    let within = results_at_ends(alloc, prefix, piece, true)?;
     if within.is_empty() {
         format!(in alloc; "{last};{last}")
     } else {
@@ -251,5 +251,5 @@ fn told_piece(alloc: Global, row: &str) -> Result<String, AllocError> {
 
 #[test]
 fn a_cut_mapfile_has_its_fault_where_it_ends(rt: HostRuntime) -> Result<(), TableFault> {
-    check_rows(rt.alloc(), PIECES, '~', 24, told_piece)
+    check_rows(rt.alloc(), PIECES, '~', 24, results_of_piece)
 }

@@ -79,8 +79,8 @@ fn message(alloc: Global, fault: ParseFault) -> Result<String, AllocError> {
     }
 }
 
-fn told(alloc: Global, place: &str) -> Result<String, AllocError> {
-    match FAULTS.get(place.parse::<usize>().unwrap_or(FAULTS.len())) {
+fn message_at(alloc: Global, index: &str) -> Result<String, AllocError> {
+    match FAULTS.get(index.parse::<usize>().unwrap_or(FAULTS.len())) {
         Some(fault) => message(alloc, *fault),
         None => String::from_str(alloc, "malformed"),
     }
@@ -88,5 +88,5 @@ fn told(alloc: Global, place: &str) -> Result<String, AllocError> {
 
 #[test]
 fn faults_have_numbers_and_messages(rt: HostRuntime) -> Result<(), TableFault> {
-    check_rows(rt.alloc(), MESSAGES, '=', 13, told)
+    check_rows(rt.alloc(), MESSAGES, '=', 13, message_at)
 }

@@ -1,4 +1,4 @@
-use crate::told::{told_fault, written};
+use crate::results::{fault_text, written};
 use mapdefs::{Items, Layer, Map, Text};
 use mapparse::{Files, parse, wanted};
 use std::alloc::{AllocError, Global};
@@ -46,11 +46,11 @@ fn symbols_of(alloc: Global, map: &Map) -> Result<String, AllocError> {
 }
 
 // What a source with the files above gives.
-fn drawn(alloc: Global, source: &str) -> Result<String, AllocError> {
+fn made(alloc: Global, source: &str) -> Result<String, AllocError> {
     let files = some_files(alloc)?;
     match parse(alloc, source.as_bytes(), &files) {
         Ok(map) => symbols_of(alloc, &map),
-        Err(fault) => told_fault(alloc, fault),
+        Err(fault) => fault_text(alloc, fault),
     }
 }
 
@@ -66,12 +66,12 @@ fn list_of(alloc: Global, names: &[Text]) -> Result<String, AllocError> {
 fn used(alloc: Global, source: &str) -> Result<String, AllocError> {
     match wanted(alloc, source.as_bytes()) {
         Ok(names) => list_of(alloc, names.as_slice()),
-        Err(fault) => told_fault(alloc, fault),
+        Err(fault) => fault_text(alloc, fault),
     }
 }
 
-// What is drawn and what is used of a source, each row of the form `DRAWN:USED~SOURCE`, in which `|` stands
-// for the end of a line.
+// The symbols that a source gives, the files that it uses, and the source: each row has the form `MADE:USED~SOURCE`, in
+// which `|` stands for the end of a line.
 const ROWS: &str = "\
 :~MAP END
 p 1 by 2,:a.ppm,~MAP SYMBOL NAME p TYPE PIXMAP IMAGE a.ppm END END
@@ -83,7 +83,7 @@ q 2 by 1,p 1 by 2, 1 - 0:b.ppm,a.ppm,~MAP LAYER NAME x TYPE POINT CLASS STYLE SY
 p 2 by 1,:b.ppm,~MAP SYMBOL NAME q IMAGE none.ppm TYPE PIXMAP TYPE PIXMAP NAME p IMAGE b.ppm END END
 p 1 by 2,p 2 by 1,r 1 by 2, 1 2:a.ppm,b.ppm,~MAP SYMBOL NAME p TYPE PIXMAP IMAGE a.ppm END SYMBOL NAME p TYPE PIXMAP IMAGE b.ppm END SYMBOL NAME r TYPE PIXMAP IMAGE a.ppm END LAYER NAME x TYPE POINT CLASS STYLE SYMBOL p END STYLE SYMBOL none SYMBOL r END END END END
 p 1 by 2,:a.ppm,~MAP SYMBOL TRANSPARENT 3 ANCHORPOINT 0.5 1 NAME p TYPE PIXMAP IMAGE a.ppm END END
-# A STYLE in a LABEL is read over.
+# A STYLE in a LABEL is skipped.
  -:~MAP LAYER NAME x TYPE POINT CLASS LABEL STYLE SYMBOL none END END STYLE END END END END
 # What a SYMBOL needs, and what it doesn't know.
 3 MissingValue:3 MissingValue~MAP SYMBOL|TYPE PIXMAP IMAGE a.ppm|END END
@@ -107,19 +107,19 @@ p 1 by 2,:a.ppm,~MAP SYMBOL TRANSPARENT 3 ANCHORPOINT 0.5 1 NAME p TYPE PIXMAP I
 3 MissingFile:a.ppm,none.ppm,bad.ppm,~MAP SYMBOL NAME p TYPE PIXMAP|IMAGE a.ppm END SYMBOL NAME q TYPE PIXMAP|IMAGE none.ppm END SYMBOL NAME r TYPE PIXMAP|IMAGE bad.ppm END END
 3 UnknownWord:3 UnknownWord~MAP SYMBOL NAME p TYPE PIXMAP|IMAGE none.ppm END END|END";
 
-fn drawn_and_used(alloc: Global, row: &str) -> Result<String, AllocError> {
+fn made_and_used(alloc: Global, row: &str) -> Result<String, AllocError> {
     let source = written(alloc, row)?;
-    let drawn = drawn(alloc, source.as_str())?;
+    let made = made(alloc, source.as_str())?;
     let used = used(alloc, source.as_str())?;
-    format!(in alloc; "{drawn}:{used}")
+    format!(in alloc; "{made}:{used}")
 }
 
 #[test]
 fn symbols_have_their_pixmaps(rt: HostRuntime) -> Result<(), TableFault> {
-    check_rows(rt.alloc(), ROWS, '~', 26, drawn_and_used)
+    check_rows(rt.alloc(), ROWS, '~', 26, made_and_used)
 }
 
-// What is used of a source with 64 symbols, in the form of `written`.
+// The files that a source with 64 symbols uses, and the source, in the form of `written`.
 const MANY: &str = "\
 a.ppm,~MAP|{64*SYMBOL NAME p TYPE PIXMAP IMAGE a.ppm END|}END
 67 Limit~MAP|{64*SYMBOL NAME p TYPE PIXMAP IMAGE a.ppm END|}# one more|SYMBOL";
@@ -134,7 +134,7 @@ fn a_map_has_at_most_64_symbols(rt: HostRuntime) -> Result<(), TableFault> {
     check_rows(rt.alloc(), MANY, '~', 2, used_of_row)
 }
 
-// The files of the names, after two that were added. `|` stands for the end of a line.
+// The bytes of the file of a name, after two files were added. `|` stands for the end of a line.
 const ADDED: &str = "\
 P6 1 2 255|abcdef~a.ppm
 new~b.ppm
@@ -165,6 +165,6 @@ fn file_of(alloc: Global, name: &str) -> Result<String, AllocError> {
 }
 
 #[test]
-fn a_file_takes_the_place_of_one_of_its_name(rt: HostRuntime) -> Result<(), TableFault> {
+fn a_file_replaces_one_of_its_name(rt: HostRuntime) -> Result<(), TableFault> {
     check_rows(rt.alloc(), ADDED, '~', 5, file_of)
 }

@@ -1,4 +1,4 @@
-use crate::told::told_fault;
+use crate::results::fault_text;
 use geom::Micro;
 use mapdefs::{Class, Feature, Label, Layer, Map, Rgb, Rule, Style, Text};
 use mapparse::{Files, parse};
@@ -155,6 +155,6 @@ fn said_of(alloc: Global, map: &Map) -> Result<String, AllocError> {
 pub fn said(alloc: Global, source: &str) -> Result<String, AllocError> {
     match parse(alloc, source.as_bytes(), &Files::new(alloc)) {
         Ok(map) => said_of(alloc, &map),
-        Err(fault) => told_fault(alloc, fault),
+        Err(fault) => fault_text(alloc, fault),
     }
 }

@@ -3,7 +3,7 @@ use std::alloc::{AllocError, Global};
 use test_tables::{TableFault, check_rows};
 
 // What a map with one layer says before its kind.
-const FRONT: &str = "\
+const PREFIX: &str = "\
 map WMS http://localhost/wms? -180000000 -90000000 180000000 90000000 None 0
 layer a a ";
 
@@ -18,13 +18,13 @@ style none, none, 1 1 None
 ";
 
 fn cut_colours(said: &str) -> Option<&str> {
-    let colours = said.strip_prefix(FRONT)?.strip_prefix(BEFORE_COLOURS)?;
+    let colours = said.strip_prefix(PREFIX)?.strip_prefix(BEFORE_COLOURS)?;
     colours.strip_suffix(AFTER_COLOURS)
 }
 
 // The map of a class with this STYLE and an empty one has these colours for the first: its colour and that
 // of its outline. Any other value is shown where it differs.
-fn told_colours(alloc: Global, style: &str) -> Result<String, AllocError> {
+fn colours_of(alloc: Global, style: &str) -> Result<String, AllocError> {
     let source = format!(in alloc;
         "MAP LAYER NAME a TYPE POLYGON CLASS STYLE {style} END STYLE END END END END"
     )?;
@@ -67,18 +67,18 @@ none, 1 2 3:COLOR 4 5 -1 OUTLINECOLOR 7 8 -1 OUTLINECOLOR '#010203'";
 
 #[test]
 fn styles_have_their_colours(rt: HostRuntime) -> Result<(), TableFault> {
-    check_rows(rt.alloc(), COLOURS, ':', 25, told_colours)
+    check_rows(rt.alloc(), COLOURS, ':', 25, colours_of)
 }
 
 fn cut_kind(said: &str) -> Option<(&str, &str)> {
-    let layer = said.strip_prefix(FRONT)?.strip_suffix(" - -\n")?;
+    let layer = said.strip_prefix(PREFIX)?.strip_suffix(" - -\n")?;
     layer.split_once(" true - - x y false ")
 }
 
 // The kind and the tolerance of the layer with these keywords. Any other value of its map is shown where it is
 // another.
-fn told_kind(alloc: Global, words: &str) -> Result<String, AllocError> {
-    let source = format!(in alloc; "MAP LAYER NAME a {words} END END")?;
+fn kind_of(alloc: Global, keywords: &str) -> Result<String, AllocError> {
+    let source = format!(in alloc; "MAP LAYER NAME a {keywords} END END")?;
     let text = said(alloc, source.as_str())?;
     match cut_kind(text.as_str()) {
         Some((kind, tolerance)) => format!(in alloc; "{kind} {tolerance}"),
@@ -99,5 +99,5 @@ Polygon 8:TYPE POINT TOLERANCE 8 TYPE POLYGON";
 
 #[test]
 fn layers_have_their_kinds_and_tolerances(rt: HostRuntime) -> Result<(), TableFault> {
-    check_rows(rt.alloc(), KINDS, ':', 8, told_kind)
+    check_rows(rt.alloc(), KINDS, ':', 8, kind_of)
 }

@@ -1,7 +1,7 @@
-use crate::told::told_row;
+use crate::results::result_of_row;
 use test_tables::{TableFault, check_rows};
 
-// What is read without effect, in the form of `told_row`.
+// What is read without effect, in the form of `result_of_row`.
 const READ: &str = "\
 # Each keyword once in each of its blocks.
 0 0 0 0 0:MAP ANGLE 30 DEBUG on FONTSET 'fonts.txt' IMAGETYPE png MAXSIZE 4096 RESOLUTION 96 SHAPEPATH data STATUS ON UNITS dd END
@@ -17,7 +17,7 @@ const READ: &str = "\
 # Values are looked at where their keyword takes only some.
 0 0 0 0 0:MAP SIZE x 'y' IMAGECOLOR '#0a141e' IMAGECOLOR -1 20 -1 END
 1 0 0 0 0:map layer name x type polygon|PROJECTION END VALIDATION END|end end
-# Blocks inside blocks that are read over.
+# Blocks inside blocks that are skipped.
 0 0 0 0 0:MAP|LEGEND|LABEL|STYLE|END|END|END|END
 0 0 0 0 0:MAP LEGEND LABEL METADATA LABEL STYLE END END END END END END
 0 0 0 0 0:MAP LEGEND LABEL STYLE STYLE END END END END
@@ -27,7 +27,7 @@ const READ: &str = "\
 0 0 0 0 0:MAP LEGEND LABEL PROJECTION END END END
 0 0 0 0 0:MAP PROJECTION LABEL VALIDATION END END
 0 0 0 0 0:MAP LEGEND 'END' \"LABEL\" (END LABEL) CLASS LAYER 1 2 END END
-# Faults of values, and of blocks that are read over.
+# Faults of values, and of blocks that are skipped.
 2 WrongValue:MAP|IMAGECOLOR 0 0 256|END
 3 WrongValue:MAP|IMAGECOLOR 0|x 0
 2 MissingValue:MAP ANGLE|END END
@@ -46,11 +46,11 @@ const READ: &str = "\
 3 UnknownWord:MAP LEGEND|END|STYLE END";
 
 #[test]
-fn unused_words_are_read_without_effect(rt: HostRuntime) -> Result<(), TableFault> {
-    check_rows(rt.alloc(), READ, ':', 37, told_row)
+fn unused_keywords_are_read_without_effect(rt: HostRuntime) -> Result<(), TableFault> {
+    check_rows(rt.alloc(), READ, ':', 37, result_of_row)
 }
 
-// Keywords in blocks that don't know them, in the form of `told_row`.
+// Keywords in blocks that don't know them, in the form of `result_of_row`.
 const UNKNOWN: &str = "\
 2 UnknownWord:MAP|BUFFER 1
 2 UnknownWord:MAP|DATA 1
@@ -136,5 +136,5 @@ const UNKNOWN: &str = "\
 
 #[test]
 fn keywords_are_unknown_in_other_blocks(rt: HostRuntime) -> Result<(), TableFault> {
-    check_rows(rt.alloc(), UNKNOWN, ':', 81, told_row)
+    check_rows(rt.alloc(), UNKNOWN, ':', 81, result_of_row)
 }

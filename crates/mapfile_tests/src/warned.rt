@@ -6,7 +6,7 @@ use std::str;
 use test_tables::{TableFault, check_rows};
 
 // The warnings on a map, with `~` for the end of a line.
-fn warned(alloc: Global, map: &Map) -> Result<String, AllocError> {
+fn warnings_on(alloc: Global, map: &Map) -> Result<String, AllocError> {
     let lines = warning_lines(alloc, "a.map", map)?;
     let text = str::from_utf8(lines.as_slice()).unwrap_or("no text");
     text.replace(alloc, '\n', "~")
@@ -14,14 +14,14 @@ fn warned(alloc: Global, map: &Map) -> Result<String, AllocError> {
 
 // The warnings on the map of a source in which `^` stands for a form feed, `$` for U+FFFE, `%` for U+FFFF and `;` for
 // U+FFFD.
-fn told_row(alloc: Global, row: &str) -> Result<String, AllocError> {
+fn warnings_of_row(alloc: Global, row: &str) -> Result<String, AllocError> {
     let source = row.replace(alloc, '^', "\u{C}")?;
     let source = source.replace(alloc, '$', "\u{FFFE}")?;
     let source = source.replace(alloc, '%', "\u{FFFF}")?;
     let source = source.replace(alloc, ';', "\u{FFFD}")?;
     let files = Files::new(alloc);
     match parse(alloc, source.as_str().as_bytes(), &files) {
-        Ok(map) => warned(alloc, &map),
+        Ok(map) => warnings_on(alloc, &map),
         Err(error) => format!(in alloc; "{error}"),
     }
 }
@@ -64,5 +64,5 @@ a.map: warning: the service has no wms_onlineresource, and http://localhost/wms?
 
 #[test]
 fn maps_have_worked_warnings(rt: HostRuntime) -> Result<(), TableFault> {
-    check_rows(rt.alloc(), ROWS, '|', 26, told_row)
+    check_rows(rt.alloc(), ROWS, '|', 26, warnings_of_row)
 }

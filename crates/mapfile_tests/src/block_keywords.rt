@@ -1,7 +1,7 @@
-use crate::told::told_row;
+use crate::results::result_of_row;
 use test_tables::{TableFault, check_rows};
 
-// Keywords of WEB, LABEL, CLASS and FEATURE, in the form of `told_row`.
+// Keywords of WEB, LABEL, CLASS and FEATURE, in the form of `result_of_row`.
 const READ: &str = "\
 0 0 0 0 0:MAP EXTENT 1 2 3 4 EXTENT -1000 -1000 1000 1000 CONFIG a b CONFIG 'labelfont' c CONFIG END2 'END' END
 0 0 0 0 0:MAP WEB EMPTY e ERROR f FOOTER g HEADER h IMAGEPATH i IMAGEURL j LOG k END END
@@ -60,6 +60,6 @@ const READ: &str = "\
 2 MissingValue:MAP LAYER FEATURE ITEMS|END";
 
 #[test]
-fn words_of_webs_and_labels_are_read(rt: HostRuntime) -> Result<(), TableFault> {
-    check_rows(rt.alloc(), READ, ':', 52, told_row)
+fn keywords_of_webs_and_labels_are_read(rt: HostRuntime) -> Result<(), TableFault> {
+    check_rows(rt.alloc(), READ, ':', 52, result_of_row)
 }

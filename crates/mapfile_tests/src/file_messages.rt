@@ -16,7 +16,7 @@ fn files_of(alloc: Global, row: &str) -> Result<Files, AllocError> {
 }
 
 // The messages on the files of a row, whose file is written before its mapfile.
-fn told_row(alloc: Global, row: &str) -> Result<String, AllocError> {
+fn messages_of_row(alloc: Global, row: &str) -> Result<String, AllocError> {
     let (files, source) = row.split_once('|').unwrap_or(("", row));
     let files = files_of(alloc, files)?;
     let source = source.replace(alloc, '~', "\n")?;
@@ -29,12 +29,12 @@ fn told_row(alloc: Global, row: &str) -> Result<String, AllocError> {
         mapfile: &mapfile,
         files: &files,
     };
-    let words = message_on_files(alloc, at_hand);
-    let words = words.as_ref().map_or("none", |words| words.as_str());
-    let words = String::from_str(alloc, words);
+    let message = message_on_files(alloc, at_hand);
+    let message = message.as_ref().map_or("none", |message| message.as_str());
+    let message = String::from_str(alloc, message);
     // Dropped by name, through the one drop of its type.
     drop(mapfile);
-    words
+    message
 }
 
 // The messages, the file, and the mapfile.
@@ -48,12 +48,12 @@ the file that DATA names is no table of points: row 1: no column of the coordina
 the file that DATA names is no table of points: row 1: no column of the coordinates: lon and y are looked for in x,y|a.csv=~x,y~|MAP LAYER NAME a TYPE POINT PROCESSING CSV_X=lon DATA a.csv END END
 the file that DATA names is no table of points: row 1: no column of the coordinates: x and lat are looked for in x,y|a.csv=x,y|MAP LAYER NAME b TYPE POINT DATA a.csv END~LAYER NAME a TYPE POINT PROCESSING CSV_Y=lat DATA a.csv END END
 the file that DATA names is no table of points: row 1: no column of the coordinates: x and y are looked for in a?b|b.csv=a\tb|MAP LAYER NAME a TYPE POINT DATA b.csv END END
-# other faults have no such words
+# the messages on other faults name no columns
 the file that DATA names is no table of points: row 1: no header|a.csv=~|MAP LAYER NAME a TYPE POINT DATA a.csv END END
 the file that DATA names is no table of points: row 2: another count of fields than the header has|a.csv=x,y~1|MAP LAYER NAME a TYPE POINT DATA a.csv END END
 the file that IMAGE names is no pixmap in Netpbm's P6 format of at most 256 by 256 pixels|a.ppm=P5|MAP SYMBOL NAME s TYPE PIXMAP IMAGE a.ppm END END";
 
 #[test]
-fn faults_of_files_are_told_in_words(rt: HostRuntime) -> Result<(), TableFault> {
-    check_rows(rt.alloc(), ROWS, '|', 11, told_row)
+fn faults_of_files_have_messages(rt: HostRuntime) -> Result<(), TableFault> {
+    check_rows(rt.alloc(), ROWS, '|', 11, messages_of_row)
 }

@@ -48,7 +48,7 @@ fn totals_of(alloc: Global, map: &Map) -> Result<String, AllocError> {
 }
 
 /// The line and the kind of a fault.
-pub fn told_fault(alloc: Global, fault: ParseFault) -> Result<String, AllocError> {
+pub fn fault_text(alloc: Global, fault: ParseFault) -> Result<String, AllocError> {
     match fault {
         ParseFault::At { line, kind } => format!(in alloc; "{line} {kind:?}"),
         ParseFault::NoMemory => Err(AllocError),
@@ -56,10 +56,10 @@ pub fn told_fault(alloc: Global, fault: ParseFault) -> Result<String, AllocError
 }
 
 /// The line and the kind of a source's fault, or how many of each its map has.
-pub fn told(alloc: Global, source: &str) -> Result<String, AllocError> {
+pub fn result_of(alloc: Global, source: &str) -> Result<String, AllocError> {
     match parse(alloc, source.as_bytes(), &Files::new(alloc)) {
         Ok(map) => totals_of(alloc, &map),
-        Err(fault) => told_fault(alloc, fault),
+        Err(fault) => fault_text(alloc, fault),
     }
 }
 
@@ -89,7 +89,7 @@ pub fn written(alloc: Global, row: &str) -> Result<String, AllocError> {
 }
 
 /// The result for the source of a row.
-pub fn told_row(alloc: Global, row: &str) -> Result<String, AllocError> {
+pub fn result_of_row(alloc: Global, row: &str) -> Result<String, AllocError> {
     let source = written(alloc, row)?;
-    told(alloc, source.as_str())
+    result_of(alloc, source.as_str())
 }
