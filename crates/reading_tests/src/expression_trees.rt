@@ -19,7 +19,7 @@ fn sign(comparison: Comparison) -> &'static str {
 
 // An operand: a number's text and its millionths, an item in brackets, an item's text in double quotes too,
 // another text in single ones.
-fn tell_operand(out: &mut String, operand: &Operand) -> Result<(), AllocError> {
+fn write_operand(out: &mut String, operand: &Operand) -> Result<(), AllocError> {
     match operand {
         Operand::Number(number, text) => {
             let millionths = number.millionths();
@@ -31,43 +31,43 @@ fn tell_operand(out: &mut String, operand: &Operand) -> Result<(), AllocError> {
     }
 }
 
-#[cycle(tell)]
-fn tell_parts(out: &mut String, word: &str, parts: &[Expr]) -> Result<(), AllocError> {
+#[cycle(write_tree)]
+fn write_parts(out: &mut String, word: &str, parts: &[Expr]) -> Result<(), AllocError> {
     out.push_str(word)?;
     for part in parts {
         out.push(' ')?;
-        tell(out, part)?;
+        write_tree(out, part)?;
     }
     out.push(')')?;
     Ok(())
 }
 
 // A tree, each of its nodes in brackets.
-#[cycle(tell)]
-fn tell(out: &mut String, expr: &Expr) -> Result<(), AllocError> {
+#[cycle(write_tree)]
+fn write_tree(out: &mut String, expr: &Expr) -> Result<(), AllocError> {
     match expr {
-        Expr::Or(parts) => tell_parts(out, "(or", parts.as_slice()),
-        Expr::And(parts) => tell_parts(out, "(and", parts.as_slice()),
+        Expr::Or(parts) => write_parts(out, "(or", parts.as_slice()),
+        Expr::And(parts) => write_parts(out, "(and", parts.as_slice()),
         Expr::Not(part) => {
             out.push_str("(not ")?;
-            tell(out, part.get())?;
+            write_tree(out, part.get())?;
             out.push(')')?;
             Ok(())
         }
         Expr::Compare(comparison, left, right) => {
-            tell_operand(out, left)?;
+            write_operand(out, left)?;
             out.push_str(sign(*comparison))?;
-            tell_operand(out, right)
+            write_operand(out, right)
         }
     }
 }
 
 // The tree of a text, or its fault and the byte.
-fn told(alloc: Global, text: &[u8]) -> Result<String, AllocError> {
+fn tree_of(alloc: Global, text: &[u8]) -> Result<String, AllocError> {
     match read(alloc, text) {
         Ok(expr) => {
             let mut out = String::new(alloc);
-            tell(&mut out, &expr)?;
+            write_tree(&mut out, &expr)?;
             Ok(out)
         }
         Err(ExprError::Fault(ExprFault { at })) => format!(in alloc; "fault {at}"),
@@ -86,9 +86,9 @@ fn bytes_of(alloc: Global, letters: &str) -> Result<Vec<u8>, AllocError> {
 }
 
 // The result for letters.
-fn told_letters(alloc: Global, letters: &str) -> Result<String, AllocError> {
+fn tree_of_letters(alloc: Global, letters: &str) -> Result<String, AllocError> {
     let text = bytes_of(alloc, letters)?;
-    told(alloc, &text)
+    tree_of(alloc, &text)
 }
 
 // The result, `~` and the letters of the text.
@@ -150,7 +150,7 @@ const TREES: &str = "\
 
 #[test]
 fn texts_have_worked_trees(rt: HostRuntime) -> Result<(), TableFault> {
-    check_rows(rt.alloc(), TREES, '~', 48, told_letters)
+    check_rows(rt.alloc(), TREES, '~', 48, tree_of_letters)
 }
 
 const FAULTS: &str = "\
@@ -199,7 +199,7 @@ fault 5~(NOT )";
 
 #[test]
 fn faults_stand_at_worked_bytes(rt: HostRuntime) -> Result<(), TableFault> {
-    check_rows(rt.alloc(), FAULTS, '~', 38, told_letters)
+    check_rows(rt.alloc(), FAULTS, '~', 38, tree_of_letters)
 }
 
 // The result for a text, and its parts: how often a sign stands after the opening bracket, the sign, what
@@ -234,7 +234,7 @@ fn parts(row: &str) -> Option<(usize, &str, &str, usize)> {
 }
 
 // The result for the text of some parts, cut after 65,536 bytes.
-fn told_parts(alloc: Global, row: &str) -> Result<String, AllocError> {
+fn tree_of_parts(alloc: Global, row: &str) -> Result<String, AllocError> {
     let Some((count, sign, middle, closing)) = parts(row) else {
         return String::from_str(alloc, "malformed");
     };
@@ -242,17 +242,17 @@ fn told_parts(alloc: Global, row: &str) -> Result<String, AllocError> {
     let closing = ")".repeat(alloc, closing)?;
     let text = format!(in alloc; "({signs}{middle}{closing}")?;
     let bytes = text.as_str().as_bytes();
-    told(alloc, bytes.get(..65_536).unwrap_or(bytes))
+    tree_of(alloc, bytes.get(..65_536).unwrap_or(bytes))
 }
 
 #[test]
 fn sixty_four_brackets_may_stand_within_one_another(rt: HostRuntime) -> Result<(), TableFault> {
-    check_rows(rt.alloc(), NESTED, '~', 6, told_parts)
+    check_rows(rt.alloc(), NESTED, '~', 6, tree_of_parts)
 }
 
 #[test]
 fn long_texts_are_read_to_their_fault(rt: HostRuntime) -> Result<(), TableFault> {
-    check_rows(rt.alloc(), LONG, '~', 6, told_parts)
+    check_rows(rt.alloc(), LONG, '~', 6, tree_of_parts)
 }
 
 // The messages of a fault and of no memory.
@@ -264,6 +264,6 @@ fn errors(alloc: Global, _row: &str) -> Result<String, AllocError> {
 }
 
 #[test]
-fn errors_are_told_in_words(rt: HostRuntime) -> Result<(), TableFault> {
+fn errors_have_messages(rt: HostRuntime) -> Result<(), TableFault> {
     check_rows(rt.alloc(), ERRORS, '~', 1, errors)
 }

@@ -156,7 +156,7 @@ fn has_value(alloc: Global, name: &str, value: &str) -> Result<bool, AllocError>
 const RULES: &str = "[true, true, false, true, false, true, true]|";
 
 fn rules(alloc: Global, _row: &str) -> Result<String, AllocError> {
-    let told = [
+    let truths = [
         holds(&Rule::Always, &[], &[], "c"),
         one_of_two(alloc, "b")?,
         one_of_two(alloc, "c")?,
@@ -165,7 +165,7 @@ fn rules(alloc: Global, _row: &str) -> Result<String, AllocError> {
         has_value(alloc, "S", "abc")?,
         has_value(alloc, "x", "")?,
     ];
-    format!(in alloc; "{told:?}")
+    format!(in alloc; "{truths:?}")
 }
 
 #[test]

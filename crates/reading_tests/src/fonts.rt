@@ -51,7 +51,7 @@ fn edited(alloc: Global, number: &str, text: &str) -> Result<Vec<u8>, AllocError
 }
 
 // The kind's number and the line of a fault.
-fn told_fault(alloc: Global, error: FontError) -> Result<String, AllocError> {
+fn fault_text(alloc: Global, error: FontError) -> Result<String, AllocError> {
     match error {
         FontError::Fault(fault) => format!(in alloc; "{} {}", fault.kind.number(), fault.line),
         FontError::NoMemory => Err(AllocError),

@@ -103,20 +103,20 @@ fn columns(alloc: Global) -> Result<[Option<Rgb>; 6], AllocError> {
 // The colours of the columns, each with its two rows.
 const PIXELS: &str = "10 20 30, 10 21 30, 11 20 30, nothing, 12 20 30, 12 21 30, =";
 
-fn told_columns(alloc: Global, _row: &str) -> Result<String, AllocError> {
-    let mut told = String::new(alloc);
+fn colours_of_columns(alloc: Global, _row: &str) -> Result<String, AllocError> {
+    let mut text = String::new(alloc);
     for pixel in columns(alloc)? {
         match pixel {
-            Some(Rgb { red, green, blue }) => write!(told, "{red} {green} {blue}, ")?,
-            None => told.push_str("nothing, ")?,
+            Some(Rgb { red, green, blue }) => write!(text, "{red} {green} {blue}, ")?,
+            None => text.push_str("nothing, ")?,
         }
     }
-    Ok(told)
+    Ok(text)
 }
 
 #[test]
 fn pictures_are_read_by_column_and_row(rt: HostRuntime) -> Result<(), TableFault> {
-    check_rows(rt.alloc(), PIXELS, '=', 1, told_columns)
+    check_rows(rt.alloc(), PIXELS, '=', 1, colours_of_columns)
 }
 
 // A definition cites the same constant as the code, so only a test can find a wrong limit. Counts, and

@@ -3,7 +3,7 @@ use mapdefs::Text;
 use std::alloc::{AllocError, Global};
 use test_tables::{TableFault, check_rows};
 
-// The results for texts of tables, and after `|` the texts. A result is the table as `told` writes it,
+// The results for texts of tables, and after `|` the texts. A result is the table in the form of `written`,
 // or the fault. In both `/` is a line feed and `^` a carriage return, and in texts also `@` is a tab, `~` the
 // byte 255 and `%` a byte order mark.
 const TABLES: &str = "\
@@ -70,35 +70,35 @@ fn bytes_of(alloc: Global, text: &str) -> Result<Vec<u8>, AllocError> {
 }
 
 // Adds texts with `+` between.
-fn add_texts(told: &mut String, texts: &[Text]) -> Result<(), AllocError> {
+fn add_texts(out: &mut String, texts: &[Text]) -> Result<(), AllocError> {
     for (i, text) in texts.iter().enumerate() {
         if i > 0 {
-            told.push_str("+")?;
+            out.push_str("+")?;
         }
-        told.push_str(text.as_str())?;
+        out.push_str(text.as_str())?;
     }
     Ok(())
 }
 
 // The names of the columns, and of each feature a `;`, its points and its values.
-fn told(alloc: Global, table: &Table) -> Result<String, AllocError> {
-    let mut told = String::new(alloc);
-    add_texts(&mut told, table.get().columns.as_slice())?;
+fn written(alloc: Global, table: &Table) -> Result<String, AllocError> {
+    let mut out = String::new(alloc);
+    add_texts(&mut out, table.get().columns.as_slice())?;
     for feature in table.get().features.as_slice() {
-        told.push_str(";")?;
+        out.push_str(";")?;
         for part in feature.get().parts.as_slice() {
             for place in part.as_slice() {
                 let (x, y) = (place.x().get().millionths(), place.y().get().millionths());
-                write!(told, "{x} {y} ")?;
+                write!(out, "{x} {y} ")?;
             }
         }
-        add_texts(&mut told, feature.get().values.as_slice())?;
+        add_texts(&mut out, feature.get().values.as_slice())?;
     }
-    Ok(told)
+    Ok(out)
 }
 
 // The result for a text with the columns and the limit that are requested.
-fn read_told(
+fn result_of(
     alloc: Global,
     text: &str,
     x: &str,
@@ -107,53 +107,53 @@ fn read_told(
 ) -> Result<String, AllocError> {
     let bytes = bytes_of(alloc, text)?;
     match read(alloc, bytes.as_slice(), x, y, limit) {
-        Ok(table) => told(alloc, &table),
+        Ok(table) => written(alloc, &table),
         Err(error) => error.to_string(alloc),
     }
 }
 
 // The result for a text with the columns `x` and `y` and the limit 3.
-fn told_text(alloc: Global, text: &str) -> Result<String, AllocError> {
-    let told = read_told(alloc, text, "x", "y", 3)?;
-    let told = told.replace(alloc, '\n', "/")?;
-    told.replace(alloc, '\r', "^")
+fn result_of_text(alloc: Global, text: &str) -> Result<String, AllocError> {
+    let result = result_of(alloc, text, "x", "y", 3)?;
+    let result = result.replace(alloc, '\n', "/")?;
+    result.replace(alloc, '\r', "^")
 }
 
 #[test]
 fn texts_are_read_as_tables(rt: HostRuntime) -> Result<(), TableFault> {
-    check_rows(rt.alloc(), TABLES, '|', 17, told_text)
+    check_rows(rt.alloc(), TABLES, '|', 17, result_of_text)
 }
 
 #[test]
-fn the_first_fault_is_told(rt: HostRuntime) -> Result<(), TableFault> {
-    check_rows(rt.alloc(), FAULTS, '|', 25, told_text)
+fn the_first_fault_is_reported(rt: HostRuntime) -> Result<(), TableFault> {
+    check_rows(rt.alloc(), FAULTS, '|', 25, result_of_text)
 }
 
 // The result, and after `|` the columns and the limit that are requested, and the text.
-const ASKED: &str = "\
+const REQUESTED: &str = "\
 row 2: more columns or rows than a table may have|x;y;0;x,y,n/1,2,a/
 x+y+n|x;y;0;x,y,n/
 x+y;4000000 3000000 3+4|y;x;1;x,y/3,4
 x+y;4000000 4000000 3+4|y;y;4294967295;x,y/3,4
 Länge+;3000000 4000000 3+4|Länge;;1;Länge,/3,4";
 
-fn asked(row: &str) -> Option<(&str, &str, u32, &str)> {
+fn parts_of(row: &str) -> Option<(&str, &str, u32, &str)> {
     let (x, row) = row.split_once(';')?;
     let (y, row) = row.split_once(';')?;
     let (limit, text) = row.split_once(';')?;
     Some((x, y, limit.parse::<u32>().ok()?, text))
 }
 
-fn told_asked(alloc: Global, row: &str) -> Result<String, AllocError> {
-    match asked(row) {
-        Some((x, y, limit, text)) => read_told(alloc, text, x, y, limit),
+fn result_of_row(alloc: Global, row: &str) -> Result<String, AllocError> {
+    match parts_of(row) {
+        Some((x, y, limit, text)) => result_of(alloc, text, x, y, limit),
         None => String::from_str(alloc, "malformed"),
     }
 }
 
 #[test]
-fn columns_and_limits_are_those_asked_for(rt: HostRuntime) -> Result<(), TableFault> {
-    check_rows(rt.alloc(), ASKED, '|', 5, told_asked)
+fn columns_and_limits_are_those_requested(rt: HostRuntime) -> Result<(), TableFault> {
+    check_rows(rt.alloc(), REQUESTED, '|', 5, result_of_row)
 }
 
 // Likewise, of 64 and of 65 columns: two or three, and 62 more.
@@ -163,7 +163,7 @@ row 1: more columns or rows than a table may have|x;y;1;n,n,n,n,n,n,n,n,n,n,n,n,
 
 #[test]
 fn a_table_has_sixty_four_columns_at_most(rt: HostRuntime) -> Result<(), TableFault> {
-    check_rows(rt.alloc(), COLUMNS, '|', 2, told_asked)
+    check_rows(rt.alloc(), COLUMNS, '|', 2, result_of_row)
 }
 
 // How many features a table of 200,000 rows has with a limit, or its fault.
@@ -171,7 +171,7 @@ const MANY: &str = "\
 200000 features|200000
 row 200001: more columns or rows than a table may have|199999";
 
-fn told_many(alloc: Global, limit: &str) -> Result<String, AllocError> {
+fn result_of_many(alloc: Global, limit: &str) -> Result<String, AllocError> {
     let rows = "12.5,-7.25,a\n".repeat(alloc, 200_000)?;
     let text = format!(in alloc; "x,y,n\n{rows}")?;
     let limit = limit.parse::<u32>().unwrap_or(0);
@@ -183,7 +183,7 @@ fn told_many(alloc: Global, limit: &str) -> Result<String, AllocError> {
 
 #[test]
 fn a_table_may_have_many_rows(rt: HostRuntime) -> Result<(), TableFault> {
-    check_rows(rt.alloc(), MANY, '|', 2, told_many)
+    check_rows(rt.alloc(), MANY, '|', 2, result_of_many)
 }
 
 const KINDS: [CsvKind; 6] = [
@@ -200,7 +200,7 @@ const VALUES: &str = "\
 [1, 2, 3, 4, 5, 6]|numbers
 out of memory|no memory";
 
-fn told_value(alloc: Global, name: &str) -> Result<String, AllocError> {
+fn value_of(alloc: Global, name: &str) -> Result<String, AllocError> {
     match name {
         "numbers" => format!(in alloc; "{:?}", KINDS.map(|kind| kind.number())),
         _ => CsvError::NoMemory.to_string(alloc),
@@ -209,5 +209,5 @@ fn told_value(alloc: Global, name: &str) -> Result<String, AllocError> {
 
 #[test]
 fn kinds_have_their_numbers(rt: HostRuntime) -> Result<(), TableFault> {
-    check_rows(rt.alloc(), VALUES, '|', 2, told_value)
+    check_rows(rt.alloc(), VALUES, '|', 2, value_of)
 }

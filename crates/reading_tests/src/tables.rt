@@ -2,7 +2,7 @@ use std::alloc::{AllocError, Global};
 use test_tables::{TableFault, check_all, check_rows};
 
 // The result for a table that was checked.
-fn told(alloc: Global, found: Result<(), TableFault>) -> Result<String, AllocError> {
+fn result_of(alloc: Global, found: Result<(), TableFault>) -> Result<String, AllocError> {
     match found {
         Ok(()) => format!(in alloc; "holds"),
         Err(TableFault::NoMemory) => Err(AllocError),
@@ -16,9 +16,9 @@ fn length(alloc: Global, text: &str) -> Result<String, AllocError> {
 }
 
 // The result for a table of lengths that has to have two rows. In it `/` stands for the end of a line.
-fn told_of_rows(alloc: Global, table: &str) -> Result<String, AllocError> {
+fn result_of_rows(alloc: Global, table: &str) -> Result<String, AllocError> {
     let table = table.replace(alloc, '/', "\n")?;
-    told(alloc, check_rows(alloc, table.as_str(), '=', 2, length))
+    result_of(alloc, check_rows(alloc, table.as_str(), '=', 2, length))
 }
 
 const ROWS: &str = "\
@@ -42,10 +42,10 @@ fn is_one_byte(_: Global, text: &str) -> Result<bool, AllocError> {
     Ok(text.len() == 1)
 }
 
-// What is found of a table of single bytes that has to have two rows.
-fn told_of_all(alloc: Global, table: &str) -> Result<String, AllocError> {
+// The result for a table of single bytes that has to have two rows.
+fn result_of_all(alloc: Global, table: &str) -> Result<String, AllocError> {
     let table = table.replace(alloc, '/', "\n")?;
-    told(alloc, check_all(alloc, table.as_str(), 2, is_one_byte))
+    result_of(alloc, check_all(alloc, table.as_str(), 2, is_one_byte))
 }
 
 const ALL: &str = "\
@@ -58,10 +58,10 @@ Count(3)|a/b/c";
 
 #[test]
 fn tables_hold_or_have_their_first_fault(rt: HostRuntime) -> Result<(), TableFault> {
-    check_rows(rt.alloc(), ROWS, '|', 14, told_of_rows)
+    check_rows(rt.alloc(), ROWS, '|', 14, result_of_rows)
 }
 
 #[test]
 fn tables_hold_where_all_rows_do(rt: HostRuntime) -> Result<(), TableFault> {
-    check_rows(rt.alloc(), ALL, '|', 6, told_of_all)
+    check_rows(rt.alloc(), ALL, '|', 6, result_of_all)
 }

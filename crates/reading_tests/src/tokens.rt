@@ -5,7 +5,7 @@ use test_tables::{TableFault, check_rows};
 
 // The first eight tokens of a source, each with its line and its shape, and its tail: `ends` and the last
 // line, or the line that is reached before the fault, the fault's kind and its line.
-fn told(alloc: Global, source: &[u8]) -> Result<String, AllocError> {
+fn tokens_of(alloc: Global, source: &[u8]) -> Result<String, AllocError> {
     let mut text = String::new(alloc);
     let mut left = Tokens::new(source);
     let mut last = 0;
@@ -53,10 +53,10 @@ fn source_of(alloc: Global, letters: &str) -> Result<Vec<u8>, AllocError> {
 
 // The result for the source of letters, with `|` for a line feed. The rows below are this, `~` and the
 // letters.
-fn told_letters(alloc: Global, letters: &str) -> Result<String, AllocError> {
+fn tokens_of_letters(alloc: Global, letters: &str) -> Result<String, AllocError> {
     let source = source_of(alloc, letters)?;
-    let told = told(alloc, &source)?;
-    told.replace(alloc, '\n', "|")
+    let tokens = tokens_of(alloc, &source)?;
+    tokens.replace(alloc, '\n', "|")
 }
 
 // Sources of one line.
@@ -79,7 +79,7 @@ ends 1~#";
 
 #[test]
 fn words_and_texts_are_cut(rt: HostRuntime) -> Result<(), TableFault> {
-    check_rows(rt.alloc(), ON_ONE_LINE, '~', 12, told_letters)
+    check_rows(rt.alloc(), ON_ONE_LINE, '~', 12, tokens_of_letters)
 }
 
 const ON_LINES: &str = "\
@@ -99,7 +99,7 @@ ends 2~|
 
 #[test]
 fn lines_are_counted_by_line_feeds(rt: HostRuntime) -> Result<(), TableFault> {
-    check_rows(rt.alloc(), ON_LINES, '~', 9, told_letters)
+    check_rows(rt.alloc(), ON_LINES, '~', 9, tokens_of_letters)
 }
 
 const FAULTS: &str = "\
@@ -127,15 +127,15 @@ const FAULTS: &str = "\
 # of several bad bytes the first
 1 BadByte 2~'a|\x01|\u{ff}'
 1 BadByte 2~'a|\u{ff}|\x01'
-# an open text is told before its bad bytes
+# an open text is reported before its bad bytes
 1 OpenString 1~'a|\x00
 2 OpenString 2~|'a|\u{ff}
-# a fault is told before one further on
+# a fault is reported before one further on
 1 BadByte 1~a\x00b 'c";
 
 #[test]
 fn faults_have_worked_lines(rt: HostRuntime) -> Result<(), TableFault> {
-    check_rows(rt.alloc(), FAULTS, '~', 22, told_letters)
+    check_rows(rt.alloc(), FAULTS, '~', 22, tokens_of_letters)
 }
 
 // Logical expressions and lists. A letter before or after a bracket is a bare word.
@@ -167,7 +167,7 @@ const BRACKETS: &str = "\
 
 #[test]
 fn expressions_and_lists_are_cut(rt: HostRuntime) -> Result<(), TableFault> {
-    check_rows(rt.alloc(), BRACKETS, '~', 18, told_letters)
+    check_rows(rt.alloc(), BRACKETS, '~', 18, tokens_of_letters)
 }
 
 const BRACKET_FAULTS: &str = "\
@@ -183,19 +183,19 @@ const BRACKET_FAULTS: &str = "\
 1 OpenString 1~([a\"] = 'b')
 # a quote in a list is ordinary, and the next one opens a text
 1 List \", 1 OpenString 1~{\"}\"}
-# the line of a bad byte is its own; of several the first is told
+# the line of a bad byte is its own; of several the first is reported
 1 BadByte 2~(a|\x00)
 1 BadByte 2~{|\u{ff}} b
 1 Word a, 2 BadByte 4~a|(b||'\x7f')
 1 BadByte 2~(|\u{ff}|\x01)
 1 BadByte 3~{||\x01|\u{ff}}
-# an open expression or list is told before its bad bytes
+# an open expression or list is reported before its bad bytes
 1 OpenString 1~(a|\x00
 2 OpenString 2~|{a|\u{ff}";
 
 #[test]
 fn expressions_and_lists_have_faults(rt: HostRuntime) -> Result<(), TableFault> {
-    check_rows(rt.alloc(), BRACKET_FAULTS, '~', 17, told_letters)
+    check_rows(rt.alloc(), BRACKET_FAULTS, '~', 17, tokens_of_letters)
 }
 
 // Bad bytes further down than their token begins, and others.
@@ -209,7 +209,7 @@ const REACHED: &str = "\
 
 #[test]
 fn a_fault_is_reached_where_its_token_begins(rt: HostRuntime) -> Result<(), TableFault> {
-    check_rows(rt.alloc(), REACHED, '~', 6, told_letters)
+    check_rows(rt.alloc(), REACHED, '~', 6, tokens_of_letters)
 }
 
 // `*` stands for 65,534 letters. The first row has the limit itself.
@@ -226,7 +226,7 @@ const LONG_TOKENS: &str = "\
 2 TooLong 2~|(*a)b
 2 List *aa, 2 Word b, ends 2~|{*aa}b
 2 TooLong 2~|{*aaa}b
-# a bad byte is told before the length, and an open token before both
+# a bad byte is reported before the length, and an open token before both
 2 BadByte 3~|'*aaa|\x00'
 2 BadByte 3~|(*aaa|\x00)
 2 BadByte 3~|{*aaa|\x00}
@@ -235,24 +235,24 @@ const LONG_TOKENS: &str = "\
 2 OpenString 2~|{*aaa|\x00";
 
 // The result for the source of letters with `*`.
-fn told_long(alloc: Global, letters: &str) -> Result<String, AllocError> {
+fn tokens_of_long(alloc: Global, letters: &str) -> Result<String, AllocError> {
     let many = "a".repeat(alloc, 65_534)?;
     let letters = letters.replace(alloc, '*', many.as_str())?;
-    let told = told_letters(alloc, letters.as_str())?;
-    told.replace(alloc, many.as_str(), "*")
+    let tokens = tokens_of_letters(alloc, letters.as_str())?;
+    tokens.replace(alloc, many.as_str(), "*")
 }
 
-fn told_limit(alloc: Global, letters: &str) -> Result<String, AllocError> {
+fn limit_or_tokens(alloc: Global, letters: &str) -> Result<String, AllocError> {
     if letters == "TOKEN_LIMIT" {
         format!(in alloc; "{TOKEN_LIMIT}")
     } else {
-        told_long(alloc, letters)
+        tokens_of_long(alloc, letters)
     }
 }
 
 #[test]
 fn texts_have_at_most_65536_bytes(rt: HostRuntime) -> Result<(), TableFault> {
-    check_rows(rt.alloc(), LONG_TOKENS, '~', 17, told_limit)
+    check_rows(rt.alloc(), LONG_TOKENS, '~', 17, limit_or_tokens)
 }
 
 // `<` stands for 500,000 opening brackets, `>` for as many that close.
@@ -262,17 +262,17 @@ const DEEP: &str = "\
 1 TooLong 1~<>";
 
 // The result for the source of letters with `<` and `>`.
-fn told_deep(alloc: Global, letters: &str) -> Result<String, AllocError> {
+fn tokens_of_deep(alloc: Global, letters: &str) -> Result<String, AllocError> {
     let opening = "(".repeat(alloc, 500_000)?;
     let closing = ")".repeat(alloc, 500_000)?;
     let letters = letters.replace(alloc, '<', opening.as_str())?;
     let letters = letters.replace(alloc, '>', closing.as_str())?;
-    told_letters(alloc, letters.as_str())
+    tokens_of_letters(alloc, letters.as_str())
 }
 
 #[test]
 fn brackets_may_be_deep(rt: HostRuntime) -> Result<(), TableFault> {
-    check_rows(rt.alloc(), DEEP, '~', 3, told_deep)
+    check_rows(rt.alloc(), DEEP, '~', 3, tokens_of_deep)
 }
 
 fn on(line: u64, kind: LexKind) -> LexFault {
@@ -286,7 +286,7 @@ a bracket that closes nothing, a control character, or a byte that is not UTF-8~
 the token that begins here is longer than 65,536 bytes~TooLong
 line 7: the quoted text, expression or list that begins here is not closed~line 7";
 
-fn told_value(alloc: Global, name: &str) -> Result<String, AllocError> {
+fn message_of(alloc: Global, name: &str) -> Result<String, AllocError> {
     match name {
         "OpenString" => format!(in alloc; "{}", LexKind::OpenString),
         "BadByte" => format!(in alloc; "{}", LexKind::BadByte),
@@ -298,5 +298,5 @@ fn told_value(alloc: Global, name: &str) -> Result<String, AllocError> {
 
 #[test]
 fn faults_are_printed(rt: HostRuntime) -> Result<(), TableFault> {
-    check_rows(rt.alloc(), VALUES, '~', 4, told_value)
+    check_rows(rt.alloc(), VALUES, '~', 4, message_of)
 }

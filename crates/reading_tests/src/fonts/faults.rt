@@ -1,4 +1,4 @@
-use super::{TINY, edited, told_fault};
+use super::{TINY, edited, fault_text};
 use bdffont::{FontError, FontFault, FontKind, read};
 use std::alloc::{AllocError, Global};
 use test_tables::{TableFault, check_rows};
@@ -117,24 +117,24 @@ const FAULTS: &str = "\
 0 0|1|STARTFONT~
 6 16|15|ENDFONT~x";
 
-fn told(alloc: Global, source: &[u8]) -> Result<String, AllocError> {
+fn result_of(alloc: Global, source: &[u8]) -> Result<String, AllocError> {
     match read(alloc, source) {
         Ok(_) => String::from_str(alloc, "0 0"),
-        Err(error) => told_fault(alloc, error),
+        Err(error) => fault_text(alloc, error),
     }
 }
 
-fn told_edited(alloc: Global, row: &str) -> Result<String, AllocError> {
+fn result_of_edited(alloc: Global, row: &str) -> Result<String, AllocError> {
     let Some((number, text)) = row.split_once('|') else {
         return String::from_str(alloc, "malformed");
     };
     let source = edited(alloc, number, text)?;
-    told(alloc, &source)
+    result_of(alloc, &source)
 }
 
 #[test]
 fn fonts_have_their_first_fault(rt: HostRuntime) -> Result<(), TableFault> {
-    check_rows(rt.alloc(), FAULTS, '|', 107, told_edited)
+    check_rows(rt.alloc(), FAULTS, '|', 107, result_of_edited)
 }
 
 // The same of a whole file, and of the tiny font.
@@ -143,17 +143,17 @@ const WHOLE: &str = "\
 6 2|STARTFONT 2.1
 0 0|TINY";
 
-fn told_whole(alloc: Global, text: &str) -> Result<String, AllocError> {
+fn result_of_whole(alloc: Global, text: &str) -> Result<String, AllocError> {
     if text == "TINY" {
-        told(alloc, TINY.as_bytes())
+        result_of(alloc, TINY.as_bytes())
     } else {
-        told(alloc, text.as_bytes())
+        result_of(alloc, text.as_bytes())
     }
 }
 
 #[test]
 fn no_bytes_have_no_first_line(rt: HostRuntime) -> Result<(), TableFault> {
-    check_rows(rt.alloc(), WHOLE, '|', 3, told_whole)
+    check_rows(rt.alloc(), WHOLE, '|', 3, result_of_whole)
 }
 
 const KINDS: [FontKind; 6] = [
@@ -169,7 +169,7 @@ fn fault_on(line: u64, kind: FontKind) -> FontFault {
     FontFault { line, kind }
 }
 
-fn kind_in_words(alloc: Global, kind: FontKind) -> Result<String, AllocError> {
+fn number_and_message(alloc: Global, kind: FontKind) -> Result<String, AllocError> {
     format!(in alloc; "{} {kind}", kind.number())
 }
 
@@ -185,20 +185,20 @@ const VALUES: &str = "\
 line 7: another number of glyphs than CHARS says|fault
 line 7: another number of glyphs than CHARS says; out of memory|errors";
 
-fn told_value(alloc: Global, name: &str) -> Result<String, AllocError> {
+fn message_of(alloc: Global, name: &str) -> Result<String, AllocError> {
     let fault = fault_on(7, FontKind::Count);
     let (error, memory) = (FontError::Fault(fault), FontError::NoMemory);
     match name {
         "fault" => format!(in alloc; "{fault}"),
         "errors" => format!(in alloc; "{error}; {memory}"),
-        place => match KINDS.get(place.parse::<usize>().unwrap_or(9)) {
-            Some(kind) => kind_in_words(alloc, *kind),
+        index => match KINDS.get(index.parse::<usize>().unwrap_or(9)) {
+            Some(kind) => number_and_message(alloc, *kind),
             None => String::from_str(alloc, "malformed"),
         },
     }
 }
 
 #[test]
-fn faults_are_told_in_words(rt: HostRuntime) -> Result<(), TableFault> {
-    check_rows(rt.alloc(), VALUES, '|', 8, told_value)
+fn faults_have_messages(rt: HostRuntime) -> Result<(), TableFault> {
+    check_rows(rt.alloc(), VALUES, '|', 8, message_of)
 }

@@ -1,4 +1,4 @@
-use super::{TINY, edited, told_fault};
+use super::{TINY, edited, fault_text};
 use bdffont::{MAX_CHARACTERS, extent, ink, is_short, read};
 use geom::Pixel;
 use mapdefs::{Font, Glyph};
@@ -161,7 +161,7 @@ fn drawn_letters(alloc: Global, font: &Font) -> Result<String, AllocError> {
     Ok(out)
 }
 
-fn told_of(alloc: Global, font: &Font, row: &str) -> Result<String, AllocError> {
+fn result_of_font(alloc: Global, font: &Font, row: &str) -> Result<String, AllocError> {
     match row {
         "all glyphs" => drawn_glyphs(alloc, font),
         "drawn letters" => drawn_letters(alloc, font),
@@ -173,7 +173,7 @@ fn told_of(alloc: Global, font: &Font, row: &str) -> Result<String, AllocError> 
 }
 
 // The result for a font: its glyphs, its letters, or the extent of a text.
-fn told_font(alloc: Global, row: &str) -> Result<String, AllocError> {
+fn result_of_row(alloc: Global, row: &str) -> Result<String, AllocError> {
     let (name, rest) = row.split_once('|').unwrap_or((row, ""));
     let source = match name {
         "MIXED" => MIXED,
@@ -181,7 +181,7 @@ fn told_font(alloc: Global, row: &str) -> Result<String, AllocError> {
         _ => TINY,
     };
     match read(alloc, source.as_bytes()) {
-        Ok(font) => told_of(alloc, &font, rest),
+        Ok(font) => result_of_font(alloc, &font, rest),
         Err(_) => String::from_str(alloc, "refused"),
     }
 }
@@ -197,7 +197,7 @@ BitmapBox { width: 16, height: 3, xoff: 1, yoff: -1 }|MIXED|all glyphs";
 
 #[test]
 fn glyphs_stand_by_their_encodings(rt: HostRuntime) -> Result<(), TableFault> {
-    check_rows(rt.alloc(), GLYPHS, '|', 1, told_font)
+    check_rows(rt.alloc(), GLYPHS, '|', 1, result_of_row)
 }
 
 // Extents of texts.
@@ -214,7 +214,7 @@ const WIDTHS: &str = "\
 
 #[test]
 fn extents_are_summed_advances(rt: HostRuntime) -> Result<(), TableFault> {
-    check_rows(rt.alloc(), WIDTHS, '|', 9, told_font)
+    check_rows(rt.alloc(), WIDTHS, '|', 9, result_of_row)
 }
 
 const DRAWN_LETTERS: &str = "\
@@ -235,7 +235,7 @@ const DRAWN_LETTERS: &str = "\
 
 #[test]
 fn letters_are_drawn_as_their_rows(rt: HostRuntime) -> Result<(), TableFault> {
-    check_rows(rt.alloc(), DRAWN_LETTERS, '|', 1, told_font)
+    check_rows(rt.alloc(), DRAWN_LETTERS, '|', 1, result_of_row)
 }
 
 // Of 256 characters of 17 columns: the extent, and whether there is ink in row 1 of the columns 4350 and
@@ -243,7 +243,7 @@ fn letters_are_drawn_as_their_rows(rt: HostRuntime) -> Result<(), TableFault> {
 // short.
 const MANY: &str = "(4352, 3) [true, false]; 256 [true, false]|";
 
-fn told_text(alloc: Global, font: &Font, text: &str) -> Result<String, AllocError> {
+fn result_of_text(alloc: Global, font: &Font, text: &str) -> Result<String, AllocError> {
     let further = format!(in alloc; "{text}a")?;
     let are_short = [is_short(text), is_short(further.as_str())];
     let extent = extent_of(font, text);
@@ -254,17 +254,17 @@ fn told_text(alloc: Global, font: &Font, text: &str) -> Result<String, AllocErro
     format!(in alloc; "{extent:?} {inked:?}; {MAX_CHARACTERS} {are_short:?}")
 }
 
-fn told_many(alloc: Global, _row: &str) -> Result<String, AllocError> {
+fn result_of_many(alloc: Global, _row: &str) -> Result<String, AllocError> {
     let text = "\u{1F600}".repeat(alloc, 256)?;
     match read(alloc, MIXED.as_bytes()) {
-        Ok(font) => told_text(alloc, &font, text.as_str()),
+        Ok(font) => result_of_text(alloc, &font, text.as_str()),
         Err(_) => String::from_str(alloc, "refused"),
     }
 }
 
 #[test]
 fn texts_have_at_most_256_characters(rt: HostRuntime) -> Result<(), TableFault> {
-    check_rows(rt.alloc(), MANY, '|', 1, told_many)
+    check_rows(rt.alloc(), MANY, '|', 1, result_of_many)
 }
 
 // A font that has to have 65,536 glyphs, and so many of them by falling encodings, the last of which
@@ -284,7 +284,7 @@ fn falling(alloc: Global, count: u32) -> Result<Vec<u8>, AllocError> {
 }
 
 // How many glyphs a font has, and the encodings of the first and the last of them.
-fn told_ends(alloc: Global, font: &Font) -> Result<String, AllocError> {
+fn ends_of(alloc: Global, font: &Font) -> Result<String, AllocError> {
     let glyphs = font.get().glyphs.as_slice();
     match (glyphs.first(), glyphs.last()) {
         (Some(first), Some(last)) => {
@@ -301,15 +301,15 @@ const FALLING: &str = "\
 5 393220|65537
 4 393214|65535";
 
-fn told_falling(alloc: Global, count: &str) -> Result<String, AllocError> {
+fn result_of_falling(alloc: Global, count: &str) -> Result<String, AllocError> {
     let source = falling(alloc, count.parse::<u32>().unwrap_or(0))?;
     match read(alloc, &source) {
-        Ok(font) => told_ends(alloc, &font),
-        Err(error) => told_fault(alloc, error),
+        Ok(font) => ends_of(alloc, &font),
+        Err(error) => fault_text(alloc, error),
     }
 }
 
 #[test]
 fn fonts_have_at_most_65536_glyphs(rt: HostRuntime) -> Result<(), TableFault> {
-    check_rows(rt.alloc(), FALLING, '|', 3, told_falling)
+    check_rows(rt.alloc(), FALLING, '|', 3, result_of_falling)
 }
