@@ -19,35 +19,35 @@ fn degrees(sides: [i64; 4]) -> WorldBox {
 }
 
 // Adds the indices of the boxes that the window finds.
-fn ask(out: &mut String, grid: &Grid, window: WorldBox) -> Result<(), AllocError> {
+fn query(out: &mut String, grid: &Grid, window: WorldBox) -> Result<(), AllocError> {
     let found = grid.candidates(window)?;
     write!(out, "{:?}", found.as_slice())
 }
 
 // Queries a grid of three boxes, adds one, and begins anew.
-fn ask_of_three(out: &mut String, grid: &mut Grid) -> Result<(), AllocError>
+fn query_three(out: &mut String, grid: &mut Grid) -> Result<(), AllocError>
     requires { length grid.old < 2 ^ 31 }
 {
     let window = degrees([0, 0, 1, 1]);
-    ask(out, grid, window)?;
+    query(out, grid, window)?;
     grid.add(degrees([1, 1, 1, 1]))?;
-    ask(out, grid, window)?;
-    ask(out, grid, degrees([6, -9, 7, 5]))?;
+    query(out, grid, window)?;
+    query(out, grid, degrees([6, -9, 7, 5]))?;
     grid.clear();
-    ask(out, grid, window)?;
+    query(out, grid, window)?;
     grid.add(degrees([1, 1, 1, 1]))?;
-    ask(out, grid, window)
+    query(out, grid, window)
 }
 
 // Queries a grid without boxes, and adds one.
-fn ask_of_none(out: &mut String, grid: &mut Grid) -> Result<(), AllocError>
+fn query_none(out: &mut String, grid: &mut Grid) -> Result<(), AllocError>
     requires { length grid.old < 2 ^ 31 }
 {
     let world = area([LEAST, LEAST, FAR, FAR]);
-    ask(out, grid, world)?;
+    query(out, grid, world)?;
     grid.add(area([FAR, LEAST, FAR, LEAST]))?;
-    ask(out, grid, world)?;
-    ask(out, grid, area([FAR, FAR, LEAST, LEAST]))
+    query(out, grid, world)?;
+    query(out, grid, area([FAR, FAR, LEAST, LEAST]))
 }
 
 // The answers of three boxes.
@@ -55,7 +55,7 @@ fn of_three(alloc: Global, _of: &str) -> Result<String, AllocError> {
     let rows = [[0, 0, 0, 0], [5, 5, 6, 6], [-1, -1, 9, 9]].map(degrees);
     let mut grid = Grid::build(alloc, vec![in alloc; rows[0], rows[1], rows[2]]?)?;
     let mut text = String::new(alloc);
-    ask_of_three(&mut text, &mut grid)?;
+    query_three(&mut text, &mut grid)?;
     Ok(text)
 }
 
@@ -74,12 +74,12 @@ fn windows_find_worked_boxes(rt: HostRuntime) -> Result<(), TableFault> {
 fn of_none(alloc: Global, _of: &str) -> Result<String, AllocError> {
     let mut grid = Grid::build(alloc, Vec::new(alloc))?;
     let mut text = String::new(alloc);
-    ask_of_none(&mut text, &mut grid)?;
+    query_none(&mut text, &mut grid)?;
     Ok(text)
 }
 
 #[test]
-fn no_boxes_and_one_are_asked(rt: HostRuntime) -> Result<(), TableFault> {
+fn no_boxes_and_one_are_queried(rt: HostRuntime) -> Result<(), TableFault> {
     check_rows(rt.alloc(), "[][0][]=none", '=', 1, of_none)
 }
 
@@ -92,7 +92,7 @@ fn next(state: &mut u64, limit: i64) -> i64 {
 }
 
 // A box of whole degrees within 30 of the middle, one in nine of them a point, so that many touch. Of 20
-// boxes one is large, one has no place, and seven reach or lie at the greatest numbers, on each side.
+// boxes one is large, one holds no point, and seven reach or lie at the greatest numbers, on each side.
 fn next_box(state: &mut u64) -> WorldBox {
     let (x, y) = (next(state, 60), next(state, 60));
     let (width, height) = (next(state, 3), next(state, 3));
@@ -119,7 +119,11 @@ fn next_box(state: &mut u64) -> WorldBox {
 }
 
 // The indices of the boxes of a list that meet the window, tested one by one.
-fn asked(alloc: Global, list: &[WorldBox], window: WorldBox) -> Result<Vec<u32>, AllocError> {
+fn found_in_list(
+    alloc: Global,
+    list: &[WorldBox],
+    window: WorldBox,
+) -> Result<Vec<u32>, AllocError> {
     let mut found = Vec::new(alloc);
     let mut index = 0_u32;
     for area in list {
@@ -180,8 +184,8 @@ fn found_in_both(
     window: WorldBox,
 ) -> Result<(bool, usize), AllocError> {
     let found = grid.candidates(window)?;
-    let asked = asked(alloc, list, window)?;
-    Ok((found == asked, found.len()))
+    let expected = found_in_list(alloc, list, window)?;
+    Ok((found == expected, found.len()))
 }
 
 // Queries a thousand windows. How many boxes they find, or the first window for which the list has another
@@ -206,7 +210,12 @@ fn found_by_all(
 
 // Adds the result of the windows: many where they find more boxes than they are themselves, `few`, or the
 // window for which the list has another answer.
-fn tell(out: &mut String, alloc: Global, grid: &Grid, list: &[WorldBox]) -> Result<(), AllocError> {
+fn write_result(
+    out: &mut String,
+    alloc: Global,
+    grid: &Grid,
+    list: &[WorldBox],
+) -> Result<(), AllocError> {
     match found_by_all(alloc, grid, list)? {
         Ok(found) if found > 1_000 => out.push_str("many "),
         Ok(_) => out.push_str("few "),
@@ -215,7 +224,7 @@ fn tell(out: &mut String, alloc: Global, grid: &Grid, list: &[WorldBox]) -> Resu
 }
 
 // Adds the result of a grid that was built, and again after boxes were added.
-fn tell_twice(
+fn write_twice(
     out: &mut String,
     alloc: Global,
     grid: &mut Grid,
@@ -224,9 +233,9 @@ fn tell_twice(
 ) -> Result<(), AllocError>
     requires { length grid.old ≤ 5000 }
 {
-    tell(out, alloc, grid, list)?;
+    write_result(out, alloc, grid, list)?;
     add_some(alloc, grid, list, state)?;
-    tell(out, alloc, grid, list)
+    write_result(out, alloc, grid, list)
 }
 
 // The result of boxes that a sequence from that number on makes.
@@ -237,7 +246,7 @@ fn of_sequence(alloc: Global, number: &str) -> Result<String, AllocError> {
     let mut list = some_boxes(alloc, &mut state, 5_000)?;
     let mut grid = Grid::build(alloc, Vec::from_slice(alloc, &list)?)?;
     let mut text = String::new(alloc);
-    tell_twice(&mut text, alloc, &mut grid, &mut list, &mut state)?;
+    write_twice(&mut text, alloc, &mut grid, &mut list, &mut state)?;
     Ok(text)
 }
 

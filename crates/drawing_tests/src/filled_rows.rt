@@ -1,4 +1,4 @@
-use crate::shapes::{draw_spans, point, rings, side, sides, told_rows};
+use crate::shapes::{draw_spans, point, rings, rows_of_cover, side, sides};
 use geom::{Device, Edge, PictureSide};
 use scanfill::{Cover, Polygon, Span, Spans, Sweep, Work};
 use std::alloc::{AllocError, Global};
@@ -104,7 +104,7 @@ fn rows_of_rings(alloc: Global, row: &str) -> Result<String, AllocError> {
         return format!(in alloc; "malformed");
     };
     let polygon = polygon(alloc, rings)?;
-    told_rows(alloc, &polygon, width, height, false)
+    rows_of_cover(alloc, &polygon, width, height, false)
 }
 
 #[test]
@@ -268,7 +268,7 @@ fn first_row(
 
 // The result of the bars after so many divisions: how many there are then, how many spans the
 // first row has, and the last of them.
-fn told_bars(alloc: Global, before: &str) -> Result<String, AllocError> {
+fn result_of_bars(alloc: Global, before: &str) -> Result<String, AllocError> {
     let Ok(before) = before.parse::<u64>() else {
         return String::from_str(alloc, "malformed");
     };
@@ -284,7 +284,7 @@ fn told_bars(alloc: Global, before: &str) -> Result<String, AllocError> {
 #[test]
 fn widest_rows_have_many_spans(rt: HostRuntime) -> Result<(), TableFault> {
     let row = "18446744073709551615 1024 2046-2047=18446744073709547522";
-    check_rows(rt.alloc(), row, '=', 1, told_bars)
+    check_rows(rt.alloc(), row, '=', 1, result_of_bars)
 }
 
 // Whether spans are equal that have equal ends, and no others.

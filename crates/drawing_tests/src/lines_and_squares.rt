@@ -1,4 +1,6 @@
-use crate::shapes::{draw_spans, drawn, edge, pixel, point, rings, side, sides, three, told_rows};
+use crate::shapes::{
+    draw_spans, drawn, edge, pixel, point, rings, rows_of_cover, side, sides, three,
+};
 use geom::{Device, PictureSide};
 use scanfill::{Cover, Spans};
 use std::alloc::{AllocError, Global};
@@ -136,7 +138,7 @@ fn segment_of(row: &str) -> Option<(Segment, PictureSide, PictureSide)> {
 
 fn rows_of_segment(alloc: Global, row: &str) -> Result<String, AllocError> {
     match segment_of(row) {
-        Some((segment, width, height)) => told_rows(alloc, &segment, width, height, true),
+        Some((segment, width, height)) => rows_of_cover(alloc, &segment, width, height, true),
         None => format!(in alloc; "malformed"),
     }
 }

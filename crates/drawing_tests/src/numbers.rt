@@ -3,7 +3,7 @@ use std::alloc::{AllocError, Global};
 use test_tables::{TableFault, check_rows};
 
 // The number that a text means in millionths, or its fault.
-fn told(alloc: Global, read: Result<Micro, NumberFault>) -> Result<String, AllocError> {
+fn number_or_fault(alloc: Global, read: Result<Micro, NumberFault>) -> Result<String, AllocError> {
     match read {
         Ok(number) => format!(in alloc; "{}", number.millionths()),
         Err(fault) => format!(in alloc; "{fault:?}"),
@@ -12,12 +12,12 @@ fn told(alloc: Global, read: Result<Micro, NumberFault>) -> Result<String, Alloc
 
 // What a text means as a coordinate.
 fn coordinate(alloc: Global, text: &str) -> Result<String, AllocError> {
-    told(alloc, Micro::read(text.as_bytes(), COORDINATE_LIMIT))
+    number_or_fault(alloc, Micro::read(text.as_bytes(), COORDINATE_LIMIT))
 }
 
 // What a text means as another number.
 fn other_number(alloc: Global, text: &str) -> Result<String, AllocError> {
-    told(alloc, Micro::read(text.as_bytes(), NUMBER_LIMIT))
+    number_or_fault(alloc, Micro::read(text.as_bytes(), NUMBER_LIMIT))
 }
 
 // The number in millionths, or the fault, and the text.
@@ -207,7 +207,7 @@ not a decimal number=NotANumber
 a number beyond the limit=TooLarge";
 
 // The message on the fault of a name.
-fn words(alloc: Global, name: &str) -> Result<String, AllocError> {
+fn message_of(alloc: Global, name: &str) -> Result<String, AllocError> {
     match name {
         "NotANumber" => format!(in alloc; "{}", NumberFault::NotANumber),
         "TooLarge" => format!(in alloc; "{}", NumberFault::TooLarge),
@@ -216,6 +216,6 @@ fn words(alloc: Global, name: &str) -> Result<String, AllocError> {
 }
 
 #[test]
-fn faults_are_told_in_words(rt: HostRuntime) -> Result<(), TableFault> {
-    check_rows(rt.alloc(), FAULTS, '=', 2, words)
+fn faults_have_messages(rt: HostRuntime) -> Result<(), TableFault> {
+    check_rows(rt.alloc(), FAULTS, '=', 2, message_of)
 }

@@ -8,7 +8,7 @@ use symbols::{PixFault, Stamp, read, write_pam, write_ppm};
 use test_tables::{TableFault, check_rows, numbers};
 
 // A pixmap as its sides and its last colour.
-fn summed_up(alloc: Global, pixmap: &Pixmap) -> Result<String, AllocError> {
+fn summary_of(alloc: Global, pixmap: &Pixmap) -> Result<String, AllocError> {
     let fields = pixmap.get();
     let (width, height) = (fields.width, fields.height);
     match fields.pixels.as_slice().last() {
@@ -20,9 +20,9 @@ fn summed_up(alloc: Global, pixmap: &Pixmap) -> Result<String, AllocError> {
 }
 
 // A pixmap, or the name of its fault.
-fn told(alloc: Global, bytes: &[u8]) -> Result<String, AllocError> {
+fn pixmap_or_fault(alloc: Global, bytes: &[u8]) -> Result<String, AllocError> {
     match read(alloc, bytes) {
-        Ok(pixmap) => summed_up(alloc, &pixmap),
+        Ok(pixmap) => summary_of(alloc, &pixmap),
         Err(PixFault::NoMemory) => Err(AllocError),
         Err(fault) => format!(in alloc; "{fault:?}"),
     }
@@ -78,7 +78,7 @@ fn read_bytes(alloc: Global, row: &str) -> Result<String, AllocError> {
             _ => {}
         }
     }
-    told(alloc, bytes.as_slice())
+    pixmap_or_fault(alloc, bytes.as_slice())
 }
 
 #[test]
@@ -106,7 +106,7 @@ fn fault(name: &str) -> Option<PixFault> {
     }
 }
 
-fn words(alloc: Global, name: &str) -> Result<String, AllocError> {
+fn message_of(alloc: Global, name: &str) -> Result<String, AllocError> {
     match fault(name) {
         Some(fault) => format!(in alloc; "{fault}"),
         None => format!(in alloc; "malformed"),
@@ -115,7 +115,7 @@ fn words(alloc: Global, name: &str) -> Result<String, AllocError> {
 
 #[test]
 fn faults_have_their_messages(rt: HostRuntime) -> Result<(), TableFault> {
-    check_rows(rt.alloc(), FAULTS, '=', 5, words)
+    check_rows(rt.alloc(), FAULTS, '=', 5, message_of)
 }
 
 // Adds the pixels of rows that `/` parts, transparent where they have a `.`.
@@ -255,20 +255,20 @@ fn written(alloc: Global, side: PictureSide) -> Result<Items<u8>, AllocError> {
     }
 }
 
-// What a picture is read as that was written, and the pixels on each of its sides.
+// The pixmap that is read from a written picture, and the pixels on each side of the picture.
 const WRITTEN: &str = "\
 7x7 6.6.20=7
 256x256 255.255.20=256
 Limit=257";
 
-fn told_again(alloc: Global, row: &str) -> Result<String, AllocError> {
+fn read_again(alloc: Global, row: &str) -> Result<String, AllocError> {
     let bytes = written(alloc, side(row.parse::<i64>().unwrap_or(1)))?;
-    told(alloc, bytes.as_slice())
+    pixmap_or_fault(alloc, bytes.as_slice())
 }
 
 #[test]
 fn written_pictures_are_read(rt: HostRuntime) -> Result<(), TableFault> {
-    check_rows(rt.alloc(), WRITTEN, '=', 3, told_again)
+    check_rows(rt.alloc(), WRITTEN, '=', 3, read_again)
 }
 
 // A picture of two colours and nothing between them.
@@ -283,7 +283,7 @@ fn three_pixels(alloc: Global) -> Result<Option<Picture>, AllocError> {
     Ok(picture(side(3), side(1), pixels))
 }
 
-// The bytes of that picture as a pixmap and as an arbitrary map, none where it isn't one.
+// The bytes of that picture as PPM and as PAM, none where it isn't one.
 fn both_written(alloc: Global) -> Result<(Items<u8>, Items<u8>), AllocError> {
     match three_pixels(alloc)? {
         Some(picture) => Ok((write_ppm(alloc, &picture)?, write_pam(alloc, &picture)?)),
@@ -293,13 +293,13 @@ fn both_written(alloc: Global) -> Result<(Items<u8>, Items<u8>), AllocError> {
 
 #[test]
 fn pictures_are_written_in_both_formats(rt: HostRuntime) -> Result<(), Fail> {
-    let (pixmap, arbitrary_map) = both_written(rt.alloc())?;
+    let (ppm, pam) = both_written(rt.alloc())?;
     assert_eq!(rt;
-        pixmap.as_slice(),
+        ppm.as_slice(),
         b"P6\n3 1\n255\n\x0a\x14\x02\0\0\0\x0a\x14\x05".as_slice()
     );
     assert_eq!(rt;
-        arbitrary_map.as_slice(),
+        pam.as_slice(),
         b"P7\nWIDTH 3\nHEIGHT 1\nDEPTH 4\nMAXVAL 255\nTUPLTYPE RGB_ALPHA\nENDHDR\n\
         \x0a\x14\x02\xff\0\0\0\0\x0a\x14\x05\xff"
             .as_slice()

@@ -50,16 +50,16 @@ fn added(boxes: &mut Boxes, area: PxBox) -> Result<(char, char, char), AllocErro
 
 // The keyword and the box of a step.
 fn parts(step: &str) -> Option<(&str, PxBox)> {
-    let (word, sides) = step.split_once(' ')?;
-    Some((word, pixels(numbers(sides, ' ')?)))
+    let (keyword, sides) = step.split_once(' ')?;
+    Some((keyword, pixels(numbers(sides, ' ')?)))
 }
 
 // Makes a step, and adds its result.
 fn make(out: &mut String, boxes: &mut Boxes, step: &str) -> Result<(), AllocError> {
-    let Some((word, area)) = parts(step) else {
+    let Some((keyword, area)) = parts(step) else {
         return out.push('?');
     };
-    match word {
+    match keyword {
         "ask" => out.push(mark(boxes.hits(area))),
         "add" => boxes.add(area),
         "note" => {
@@ -176,7 +176,7 @@ fn tiled(alloc: Global) -> Result<(u32, [bool; 4]), AllocError> {
 
 #[test]
 fn thousands_of_boxes_fit(rt: HostRuntime) -> Result<(), Fail> {
-    let told = tiled(rt.alloc())?;
-    assert_eq!(rt; told, (5_000, [true, true, false, false]));
+    let result = tiled(rt.alloc())?;
+    assert_eq!(rt; result, (5_000, [true, true, false, false]));
     Ok(())
 }

@@ -57,8 +57,8 @@ pub(crate) fn three(row: &str) -> Option<(&str, &str, &str)> {
 // refused.
 fn ring(alloc: Global, text: &str) -> Result<Vec<Device>, AllocError> {
     let mut ring = Vec::new(alloc);
-    for word in text.split_whitespace() {
-        ring.push(point(numbers(word, ',').ok_or(AllocError)?))?;
+    for pair in text.split_whitespace() {
+        ring.push(point(numbers(pair, ',').ok_or(AllocError)?))?;
     }
     Ok(ring)
 }
@@ -96,7 +96,7 @@ fn draw_rows(alloc: Global, rows: RowRange) -> Result<String, AllocError> {
 
 /// The rows of a cover, or the first one outside of them that covers a pixel. Where the rows are to be the
 /// covered ones alone, also the first one of them that covers none.
-pub(crate) fn told_rows<C: Cover>(
+pub(crate) fn rows_of_cover<C: Cover>(
     alloc: Global,
     cover: &C,
     width: PictureSide,
