@@ -45,16 +45,16 @@ fn styles_of(alloc: Global, letter: &str) -> Result<Items<Style>, AllocError>
 }
 
 // The label with these codes.
-fn label(words: &str) -> Label {
+fn label(codes: &str) -> Label {
     let mut fields = plain_label();
-    for word in words.split(' ') {
-        set(&mut fields, word);
+    for code in codes.split(' ') {
+        set(&mut fields, code);
     }
     label_of(fields)
 }
 
 // One class with this style and the label with these codes.
-fn classes_of(alloc: Global, letter: &str, words: &str) -> Result<SharedItems<Class>, AllocError>
+fn classes_of(alloc: Global, letter: &str, codes: &str) -> Result<SharedItems<Class>, AllocError>
     ensures symbols { IfOk result (All (ClassNamesSymbolsOf 0)) }
     ensures count { IfOk result (λ classes. length classes ≡ 1) }
 {
@@ -65,21 +65,21 @@ fn classes_of(alloc: Global, letter: &str, words: &str) -> Result<SharedItems<Cl
         min: None,
         max: None,
         styles,
-        label: Some(label(words)),
+        label: Some(label(codes)),
     }))?;
     SharedItems::new(alloc, classes)
 }
 
 // A text. `-` and `empty` are texts without characters, and `long` is one of 255 characters of two bytes and two more.
-fn text_of(alloc: Global, word: &str) -> Result<Text, AllocError> {
+fn text_of(alloc: Global, code: &str) -> Result<Text, AllocError> {
     let mut text = String::new(alloc);
-    if word == "long" {
+    if code == "long" {
         for _ in 0..255 {
             text.push('é')?;
         }
         text.push_str("AA")?;
-    } else if word != "-" && word != "empty" {
-        text.push_str(word)?;
+    } else if code != "-" && code != "empty" {
+        text.push_str(code)?;
     }
     Ok(Text::of(text))
 }
@@ -148,12 +148,12 @@ fn feature_of(
 fn feature(alloc: Global, row: &str, unit: Unit) -> Result<Shared<Feature>, AllocError>
     ensures { IfOk result (HasValues 1) }
 {
-    let (word, row) = row.split_once(' ').ok_or(AllocError)?;
+    let (code, row) = row.split_once(' ').ok_or(AllocError)?;
     let (value, vertices) = row.split_once(' ').ok_or(AllocError)?;
     let part = part_of(alloc, vertices, unit)?;
-    let text = text_of(alloc, word)?;
+    let text = text_of(alloc, code)?;
     let value = text_of(alloc, value)?;
-    if word == "-" {
+    if code == "-" {
         feature_of(alloc, part, None, value)
     } else {
         feature_of(alloc, part, Some(text), value)
@@ -201,10 +201,10 @@ fn kind_of(letter: &str) -> Geometry {
 fn layer(alloc: Global, row: &str, unit: Unit) -> Result<Layer, AllocError>
     ensures { IfOk result (LayerNamesSymbolsOf 0) }
 {
-    let (words, list) = row.split_once(';').ok_or(AllocError)?;
-    let (kind, words) = words.split_once(' ').ok_or(AllocError)?;
-    let (letter, words) = words.split_once(' ').ok_or(AllocError)?;
-    let classes = classes_of(alloc, letter, words)?;
+    let (codes, list) = row.split_once(';').ok_or(AllocError)?;
+    let (kind, codes) = codes.split_once(' ').ok_or(AllocError)?;
+    let (letter, codes) = codes.split_once(' ').ok_or(AllocError)?;
+    let classes = classes_of(alloc, letter, codes)?;
     let features = features_of(alloc, list, unit)?;
     let items = one_item(alloc)?;
     let labelitem = Some(Text::from_str(alloc, "n")?);

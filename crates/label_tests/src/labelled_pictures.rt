@@ -100,7 +100,7 @@ fn ground_of(letter: &str) -> (i64, Unit)
 // The picture of a row, once by all features and once by those that served layers find. A row has a letter of the view,
 // the layers that are chosen, and two layers. The letter is `t` where the view begins at 0 and counts are tenths of a
 // degree, `m` where it begins at -5 and counts are millionths, and `x` as `t` where the map has no font.
-fn told(alloc: Global, row: &str) -> Result<String, AllocError> {
+fn labelled_picture(alloc: Global, row: &str) -> Result<String, AllocError> {
     let (ground, rows) = row.split_once('|').ok_or(AllocError)?;
     let (letter, digits) = ground.split_once(' ').ok_or(AllocError)?;
     let Some(chosen) = chosen_of(digits) else {
@@ -159,7 +159,7 @@ const PICTURES: &str = "\
 3:...oo..... 4:...o...... =t 0|p - CC;A AA 45,55|p - CC;- - 0,0
 3:.oo.oo.... 4:.o..o..... =t 0|p - CC;- AA 45,55|p - CC;- - 0,0
 =t 0|p - CC;empty AA 45,55|p - CC;- - 0,0
-# 256 characters count, of two bytes too, and one without a glyph is passed over
+# 256 characters count, of two bytes too, and one without a glyph is skipped
 3:...oo..... 4:...o...... =t 0|p - CC;long - 45,55|p - CC;- - 0,0
 3:...oo..... 4:...o...... =t 0|p - CC;BA - 45,55|p - CC;- - 0,0
 # a map without a font has no labels
@@ -167,5 +167,5 @@ const PICTURES: &str = "\
 
 #[test]
 fn labels_of_maps_are_painted_as_worked(rt: HostRuntime) -> Result<(), TableFault> {
-    check_rows(rt.alloc(), PICTURES, '=', 29, told)
+    check_rows(rt.alloc(), PICTURES, '=', 29, labelled_picture)
 }

@@ -345,7 +345,7 @@ fn compared(
 
 // The result of 500 sets of candidates with a font: `ok` where both programs place the same ones, and many
 // labels are placed and many left out; else the number of the set, or how many.
-fn told(alloc: Global, row: &str) -> Result<String, AllocError> {
+fn result_of_sets(alloc: Global, row: &str) -> Result<String, AllocError> {
     let (name, seed) = row.split_once(' ').ok_or(AllocError)?;
     let font = font_of(alloc, name)?;
     let mut state = seed.parse::<u64>().unwrap_or(0);
@@ -374,5 +374,5 @@ ok=flat 20265";
 
 #[test]
 fn labels_are_those_of_a_plain_program(rt: HostRuntime) -> Result<(), TableFault> {
-    check_rows(rt.alloc(), SETS, '=', 3, told)
+    check_rows(rt.alloc(), SETS, '=', 3, result_of_sets)
 }

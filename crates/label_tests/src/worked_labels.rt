@@ -7,8 +7,8 @@ use std::alloc::{AllocError, Global};
 use test_tables::{TableFault, check_rows};
 
 // The position with this keyword of a mapfile.
-fn position_of(word: &str) -> Position {
-    match word {
+fn position_of(keyword: &str) -> Position {
+    match keyword {
         "UL" => Position::UpperLeft,
         "UC" => Position::UpperCentre,
         "UR" => Position::UpperRight,
@@ -24,33 +24,33 @@ fn position_of(word: &str) -> Position {
 
 /// Sets the field of a code: `F` for FORCE, `P` for PARTIALS, `o` for an outline, `n` for no colour, a colour as `c#`
 /// and that of an outline as `r#`, a priority as `p2`, a buffer as `b3`, a distance as `d5`, and else a position.
-pub(crate) fn set(label: &mut LabelFields, word: &str) {
-    if let Some(letter) = word.strip_prefix('c') {
+pub(crate) fn set(label: &mut LabelFields, code: &str) {
+    if let Some(letter) = code.strip_prefix('c') {
         label.colour = colour_of(letter);
-    } else if let Some(letter) = word.strip_prefix('r') {
+    } else if let Some(letter) = code.strip_prefix('r') {
         label.outline = colour_of(letter);
-    } else if word == "F" {
+    } else if code == "F" {
         label.force = true;
-    } else if word == "P" {
+    } else if code == "P" {
         label.partials = true;
-    } else if word == "o" {
+    } else if code == "o" {
         label.outline = label.colour;
-    } else if word == "n" {
+    } else if code == "n" {
         label.colour = None;
-    } else if let Some(priority) = word.strip_prefix('p') {
+    } else if let Some(priority) = code.strip_prefix('p') {
         label.priority = priority.parse::<u8>().unwrap_or(0);
-    } else if let Some(buffer) = word.strip_prefix('b') {
+    } else if let Some(buffer) = code.strip_prefix('b') {
         label.buffer = buffer.parse::<u8>().unwrap_or(0);
-    } else if let Some(distance) = word.strip_prefix('d') {
+    } else if let Some(distance) = code.strip_prefix('d') {
         label.mindistance = distance.parse::<u16>().unwrap_or(0);
     } else {
-        label.position = position_of(word);
+        label.position = position_of(code);
     }
 }
 
 // The text of a row's code.
-fn text_of(word: &str) -> Option<&'static str> {
-    match word {
+fn text_of(code: &str) -> Option<&'static str> {
+    match code {
         "A" => Some("A"),
         "AA" => Some("AA"),
         "AB" => Some("AB"),
@@ -61,13 +61,13 @@ fn text_of(word: &str) -> Option<&'static str> {
 
 // A candidate as its text, the column and the row of its anchor, and the codes of its label.
 fn entry(row: &str) -> Option<Entry> {
-    let mut words = row.split(' ');
-    let text = text_of(words.next()?)?;
-    let i = words.next()?.parse::<i64>().ok()?;
-    let j = words.next()?.parse::<i64>().ok()?;
+    let mut codes = row.split(' ');
+    let text = text_of(codes.next()?)?;
+    let i = codes.next()?.parse::<i64>().ok()?;
+    let j = codes.next()?.parse::<i64>().ok()?;
     let mut fields = plain_label();
-    for word in words {
-        set(&mut fields, word);
+    for code in codes {
+        set(&mut fields, code);
     }
     Some(Entry {
         text,
@@ -98,7 +98,7 @@ fn placed(alloc: Global, row: &str) -> Result<Vec<Placed>, AllocError> {
 }
 
 // Adds where a label stands, as its number, the upper left pixel of its text, and its box.
-fn tell(out: &mut String, label: &Placed) -> Result<(), AllocError> {
+fn write_label(out: &mut String, label: &Placed) -> Result<(), AllocError> {
     let (at, taken) = (label.at, label.taken);
     write!(out, "{}@{},{}", label.number, at.i(), at.j())?;
     write!(
@@ -112,11 +112,11 @@ fn tell(out: &mut String, label: &Placed) -> Result<(), AllocError> {
 }
 
 // The result for all labels of a row, in order.
-fn told(alloc: Global, row: &str) -> Result<String, AllocError> {
+fn result_of_row(alloc: Global, row: &str) -> Result<String, AllocError> {
     let labels = placed(alloc, row)?;
     let mut text = String::new(alloc);
     for label in labels.as_slice() {
-        tell(&mut text, label)?;
+        write_label(&mut text, label)?;
     }
     Ok(text)
 }
@@ -180,12 +180,12 @@ const PLACED: &str = "\
 0@21,21:21,21-28,26 =uneven 40|AB 20 20 LR";
 
 #[test]
-fn labels_stand_at_worked_places(rt: HostRuntime) -> Result<(), TableFault> {
-    check_rows(rt.alloc(), PLACED, '=', 43, told)
+fn labels_stand_at_worked_corners(rt: HostRuntime) -> Result<(), TableFault> {
+    check_rows(rt.alloc(), PLACED, '=', 43, result_of_row)
 }
 
 // The result for the first candidate of a row: the corner of its text, or `-`.
-fn told_first(alloc: Global, row: &str) -> Result<String, AllocError> {
+fn corner_of_first(alloc: Global, row: &str) -> Result<String, AllocError> {
     let labels = placed(alloc, row)?;
     for label in labels.as_slice() {
         if label.number == 0 {
@@ -212,5 +212,5 @@ const AUTOMATIC: &str = "\
 
 #[test]
 fn automatic_labels_take_the_first_free_position(rt: HostRuntime) -> Result<(), TableFault> {
-    check_rows(rt.alloc(), AUTOMATIC, '=', 10, told_first)
+    check_rows(rt.alloc(), AUTOMATIC, '=', 10, corner_of_first)
 }
