@@ -56,10 +56,10 @@ fn drawn_in_window(alloc: Global, map: &Map, margin: u16) -> Result<String, Allo
 
 // The result for a row: a margin, and the codes and the rings of a layer, in tenths of a degree. The margin of a
 // layer is the greatest of the widths, the sizes and the sides of the symbols of its styles.
-fn told(alloc: Global, row: &str) -> Result<String, AllocError> {
+fn result_of_row(alloc: Global, row: &str) -> Result<String, AllocError> {
     let (margin, layer) = row.split_once(' ').unwrap_or(("", ""));
-    let (words, rings) = layer.split_once(';').unwrap_or(("", ""));
-    let map = map_of_two(alloc, words, rings)?;
+    let (codes, rings) = layer.split_once(';').unwrap_or(("", ""));
+    let map = map_of_two(alloc, codes, rings)?;
     drawn_in_window(alloc, &map, margin.parse().unwrap_or(0))
 }
 
@@ -76,5 +76,5 @@ no memory=4096 polygon o-5/- none;10,10 30,10 30,30 10,30";
 
 #[test]
 fn features_are_looked_for_as_far_off_as_styles_paint(rt: HostRuntime) -> Result<(), TableFault> {
-    check_rows(rt.alloc(), WINDOWS, '=', 9, told)
+    check_rows(rt.alloc(), WINDOWS, '=', 9, result_of_row)
 }

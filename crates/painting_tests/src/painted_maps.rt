@@ -182,8 +182,8 @@ fn feature(alloc: Global, text: &str) -> Result<Feature, AllocError>
     Ok(feature_of(alloc, parts))
 }
 
-fn kind_of(word: &str) -> Option<Geometry> {
-    match word {
+fn kind_of(code: &str) -> Option<Geometry> {
+    match code {
         "polygon" => Some(Geometry::Polygon),
         "line" => Some(Geometry::Line),
         "point" => Some(Geometry::Point),
@@ -198,9 +198,9 @@ fn bounds_of(bounded: &str) -> Option<(Bounds, Bounds)> {
 }
 
 // The kind of a layer, the letters of its class's styles, and the bounds of both.
-fn words_of(words: &str) -> Option<(Geometry, &str, Bounds, Bounds)> {
-    let (kind, words) = words.split_once(' ')?;
-    let (letters, bounded) = words.split_once(' ')?;
+fn codes_of(codes: &str) -> Option<(Geometry, &str, Bounds, Bounds)> {
+    let (kind, codes) = codes.split_once(' ')?;
+    let (letters, bounded) = codes.split_once(' ')?;
     let (of_class, of_layer) = bounds_of(bounded)?;
     Some((kind_of(kind)?, letters, of_class, of_layer))
 }
@@ -243,12 +243,12 @@ fn layer_of(
 /// A layer of this feature with one class. Its kind, the letters of the class's styles, and the bounds on
 /// the scale of the class and of the layer with a comma between them, or `none`. Malformed ones end a test as
 /// those for which memory is refused.
-fn layer(alloc: Global, words: &str, feature: Feature) -> Result<Layer, AllocError>
+fn layer(alloc: Global, codes: &str, feature: Feature) -> Result<Layer, AllocError>
     requires { feature.values ≡ [] }
     ensures { IfOk result (LayerNamesSymbolsOf 2) }
 {
     let features = one_feature(alloc, feature)?;
-    let Some((kind, letters, of_class, of_layer)) = words_of(words) else {
+    let Some((kind, letters, of_class, of_layer)) = codes_of(codes) else {
         return Err(AllocError);
     };
     let classes = classes_of(alloc, letters, of_class)?;
@@ -290,19 +290,19 @@ fn map_of(alloc: Global, layers: Items<Layer>) -> Result<Map, AllocError>
 }
 
 // The layer with these codes and rings.
-fn layer_of_rings(alloc: Global, words: &str, rings: &str) -> Result<Layer, AllocError>
+fn layer_of_rings(alloc: Global, codes: &str, rings: &str) -> Result<Layer, AllocError>
     ensures { IfOk result (LayerNamesSymbolsOf 2) }
 {
     let feature = feature(alloc, rings)?;
-    layer(alloc, words, feature)
+    layer(alloc, codes, feature)
 }
 
 /// A map of two layers. The first has these codes and rings, the second paints the inner square dark.
-pub(crate) fn map_of_two(alloc: Global, words: &str, rings: &str) -> Result<Map, AllocError>
+pub(crate) fn map_of_two(alloc: Global, codes: &str, rings: &str) -> Result<Map, AllocError>
     ensures { IfOk result (λ map. length map.layers ≡ 2) }
 {
     let mut layers = Vec::new(alloc);
-    layers.push(layer_of_rings(alloc, words, rings)?)?;
+    layers.push(layer_of_rings(alloc, codes, rings)?)?;
     layers.push(layer_of_rings(alloc, "polygon o/- none", "10,10 30,10 30,30 10,30")?)?;
     map_of(alloc, Items::of(layers))
 }
@@ -375,15 +375,15 @@ fn drawn(
 fn fields_of(fields: &str) -> Option<(&str, &str, &str, &str)> {
     let (background, fields) = fields.split_once(';')?;
     let (chosen, fields) = fields.split_once(';')?;
-    let (words, rings) = fields.split_once(';')?;
-    Some((background, chosen, words, rings))
+    let (codes, rings) = fields.split_once(';')?;
+    Some((background, chosen, codes, rings))
 }
 
 /// The picture of the fields of a row after the picture. A row is the picture in letters, the letter of the
 /// background, the layers that are chosen, and the codes and the rings of the first layer, in tenths of a
 /// degree.
 pub(crate) fn drawn_row(alloc: Global, fields: &str) -> Result<String, AllocError> {
-    let Some((background, chosen, words, rings)) = fields_of(fields) else {
+    let Some((background, chosen, codes, rings)) = fields_of(fields) else {
         return format!(in alloc; "malformed");
     };
     let Some((background, degrees)) = ground_of(background) else {
@@ -392,6 +392,6 @@ pub(crate) fn drawn_row(alloc: Global, fields: &str) -> Result<String, AllocErro
     let Some(chosen) = chosen_of(chosen) else {
         return format!(in alloc; "malformed");
     };
-    let map = map_of_two(alloc, words, rings)?;
+    let map = map_of_two(alloc, codes, rings)?;
     drawn(alloc, &map, chosen, background, degrees)
 }

@@ -168,7 +168,7 @@ fn points_cover_worked_pixels(rt: HostRuntime) -> Result<(), TableFault> {
 
 // Bounds on the scale denominator, which is 111,319,491, of the class and of the layer.
 const SCALES: &str = "\
-# a thing is visible from its first bound on, and before its second
+# a layer or a class is visible from its first bound on, and before its second
 .... .##. .##. ....;.;0;polygon #/- -..-,111319491..-;10,10 30,10 30,30 10,30
 .... .... .... ....;.;0;polygon #/- -..-,111319491.000001..-;10,10 30,10 30,30 10,30
 .... .... .... ....;.;0;polygon #/- -..-,-..111319491;10,10 30,10 30,30 10,30
@@ -188,6 +188,6 @@ const SCALES: &str = "\
 .... .... .... ....;.;0;polygon #/- -..-,-..0.000001;10,10 30,10 30,30 10,30";
 
 #[test]
-fn things_are_visible_between_their_bounds(rt: HostRuntime) -> Result<(), TableFault> {
+fn layers_and_classes_are_visible_between_their_bounds(rt: HostRuntime) -> Result<(), TableFault> {
     check_rows(rt.alloc(), SCALES, ';', 14, drawn_row)
 }
