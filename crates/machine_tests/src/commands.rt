@@ -81,7 +81,7 @@ fn counts_have_up_to_ten_digits(rt: HostRuntime) {
     );
 }
 
-// Adds a command: that which appends so many points to `p`, where its text is a number.
+// Adds a command. A text that is a number stands for one that appends so many points to `p`.
 fn add_command(alloc: Global, batch: &mut String, text: &str) -> Result<(), AllocError> {
     let Ok(count) = text.parse::<u32>() else {
         batch.push_str(text)?;

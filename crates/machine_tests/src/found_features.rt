@@ -74,12 +74,12 @@ fn hits_in_window(alloc: Global, map: &Map, margin: u16, count: u32) -> Result<S
     let window = view.window(margin.min(MAX_MARGIN));
     let near = InWindow { alloc, map, window };
     let scale = Scale::of(4_000_000, side);
-    let asked = PixelQuery {
+    let query = PixelQuery {
         column: 1,
         row: 1,
         count,
     };
-    match hits(alloc, map, &near, view, scale, 0, asked) {
+    match hits(alloc, map, &near, view, scale, 0, query) {
         Ok(found) => indices(alloc, found.as_slice()),
         Err(_) => format!(in alloc; "no memory"),
     }
@@ -115,8 +115,8 @@ fn features_are_looked_for_a_pixel_beyond_the_tolerance(rt: HostRuntime) -> Resu
 }
 
 // The hits of a code: the index of a layer, a colon and the digits of the features.
-fn hits_of(alloc: Global, word: &str) -> Result<LayerHits, AllocError> {
-    let (layer, digits) = word.split_once(':').unwrap_or(("", ""));
+fn hits_of(alloc: Global, code: &str) -> Result<LayerHits, AllocError> {
+    let (layer, digits) = code.split_once(':').unwrap_or(("", ""));
     let mut features = Items::new(alloc);
     for digit in digits.as_bytes() {
         features.push(u32::from(digit.saturating_sub(b'0')))?;
@@ -130,8 +130,8 @@ fn hits_of(alloc: Global, word: &str) -> Result<LayerHits, AllocError> {
 // The text of the hits of a row, its line ends as `~`.
 fn text_of_row(alloc: Global, row: &str) -> Result<String, AllocError> {
     let mut found = Vec::new(alloc);
-    for word in row.split(' ') {
-        found.push(hits_of(alloc, word)?)?;
+    for code in row.split(' ') {
+        found.push(hits_of(alloc, code)?)?;
     }
     let map = map_of(alloc, POINTS)?;
     let bytes = text(alloc, &map, &found)?;

@@ -3,8 +3,6 @@
 #![tactic(auto)]
 
 #[cfg(test)]
-mod asked_layers;
-#[cfg(test)]
 mod changed_layers;
 #[cfg(test)]
 mod commands;
@@ -16,5 +14,7 @@ mod found_features;
 mod long_rings;
 #[cfg(test)]
 mod maps;
+#[cfg(test)]
+mod queried_layers;
 #[cfg(test)]
 mod runs;

@@ -27,7 +27,7 @@ Empty=CRS:84=4,0,0,4
 Empty=EPSG:4326=0,5,4,5
 Empty=EPSG:4326=4,5,0,6";
 
-fn told(alloc: Global, crs: &str, text: &str) -> Result<String, AllocError> {
+fn box_or_fault(alloc: Global, crs: &str, text: &str) -> Result<String, AllocError> {
     match bbox(crs, text) {
         Ok(area) => {
             let (west, south) = (area.minx().millionths(), area.miny().millionths());
@@ -42,7 +42,7 @@ fn rows_of_boxes(alloc: Global, row: &str) -> Result<String, AllocError> {
     let Some((crs, text)) = row.split_once('=') else {
         return String::from_str(alloc, "malformed");
     };
-    told(alloc, crs, text)
+    box_or_fault(alloc, crs, text)
 }
 
 #[test]

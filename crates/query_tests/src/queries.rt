@@ -59,7 +59,7 @@ InvalidParameterValue: BGCOLOR|BGCOLOR=%23102030&@
 InvalidParameterValue: BGCOLOR|BGCOLOR=0x1020&@
 InvalidParameterValue: BGCOLOR|BGCOLOR=0x10203040&@
 InvalidParameterValue: BGCOLOR|BGCOLOR=0x10203g&@
-# two faults, of which the earlier in the order of refusal is told
+# two faults, of which the earlier in the order of refusal is reported
 InvalidParameterValue: SERVICE|SERVICE=x&REQUEST=x&@
 OperationNotSupported: REQUEST|REQUEST=x&VERSION=x&@
 InvalidParameterValue: VERSION|VERSION=x&LAYERS=x&@
@@ -75,7 +75,7 @@ InvalidParameterValue: TRANSPARENT|TRANSPARENT=x&BGCOLOR=x&@
 InvalidParameterValue: SERVICE|BGCOLOR=x&SERVICE=x&@
 LayerNotDefined: LAYERS|#LAYERS=x&@
 # no fault, and the request worked by hand: the layers, then west, south, east and north in millionths
-# of a degree, width, height and the background, and `map` where the format is that of arbitrary maps
+# of a degree, width, height and the background, and `map` where the format is PAM
 0, 0 0 4000000 4000000 4 4 255 255 255|SERVICE=WMS&@
 2, 0 0 4000000 4000000 4 4 255 255 255|layers=c&@&LAYERS=x
 0, 0 0 4000000 4000000 4 4 255 255 255|StYlEs=default&@&STYLES=x
@@ -98,7 +98,7 @@ LayerNotDefined: LAYERS|#LAYERS=x&@
 
 // The same of the two other operations, at the sequence 2^64 - 1.
 const OTHERS: &str = "\
-# GetCapabilities, of which three parameters are looked at
+# GetCapabilities, which reads three parameters
 capabilities|REQUEST=GetCapabilities
 capabilities|SERVICE=WMS&REQUEST=GetCapabilities&VERSION=x&LAYERS=x&STYLES=x&CRS=x&BBOX=x&WIDTH=x&FORMAT=x&QUERY_LAYERS=x&I=x
 capabilities|REQUEST=GetCapabilities&UPDATESEQUENCE=
@@ -149,7 +149,7 @@ LayerNotDefined: QUERY_LAYERS|QUERY_LAYERS=x&INFO_FORMAT=x&$
 InvalidFormat: INFO_FORMAT|INFO_FORMAT=x&FEATURE_COUNT=x&$
 InvalidParameterValue: FEATURE_COUNT|FEATURE_COUNT=x&I=x&$
 InvalidPoint: I|I=x&J=x&$
-# no fault: the picture as before, the layers that are asked, the count, the column and the row
+# no fault: the picture as before, the queried layers, the count, the column and the row
 0,2,3, 0 0 4000000 4000000 4 3 255 255 255; 3,0, 1 3 2|$
 0,2,3, 0 0 4000000 4000000 4 3 10 20 30; 3,0,3, 7 3 0|QUERY_LAYERS=d,a,d&STYLES=,default,&FORMAT=&BGCOLOR=0x0a141e&FEATURE_COUNT=007&J=00&$
 3,2,0, 0 0 4000000 4000000 4 3 nothing map; 0,3, 200000 1 2|LAYERS=d,c,a&QUERY_LAYERS=a,d&FORMAT=image/x-portable-arbitrarymap&TRANSPARENT=TRUE&FEATURE_COUNT=200001&I=0000000000000000000000001&$
@@ -196,7 +196,7 @@ fn listed(alloc: Global, indices: &[usize]) -> Result<String, AllocError> {
     Ok(list)
 }
 
-// The background of a request, and its format where that is no pixmap.
+// The background of a request, and its format where that isn't PPM.
 fn ground(alloc: Global, request: &MapRequest) -> Result<String, AllocError> {
     let mut text = match request.background {
         Some(Rgb { red, green, blue }) => format!(in alloc; "{red} {green} {blue}")?,
@@ -223,9 +223,9 @@ fn picture(alloc: Global, request: &MapRequest) -> Result<String, AllocError> {
 // A request for features, as a row writes it.
 fn information(alloc: Global, request: &InformationRequest) -> Result<String, AllocError> {
     let picture = picture(alloc, &request.map)?;
-    let asked = listed(alloc, request.asked.as_slice())?;
+    let queried = listed(alloc, request.asked.as_slice())?;
     let (count, column, row) = (request.count, request.column, request.row);
-    format!(in alloc; "{picture}; {asked} {count} {column} {row}")
+    format!(in alloc; "{picture}; {queried} {count} {column} {row}")
 }
 
 // A request as a row writes it.
@@ -238,7 +238,7 @@ fn shown(alloc: Global, request: &Request) -> Result<String, AllocError> {
 }
 
 // The result for a query: its request, or the message of its refusal.
-fn told(alloc: Global, query: &str, map: &Map) -> Result<String, AllocError> {
+fn result_of(alloc: Global, query: &str, map: &Map) -> Result<String, AllocError> {
     match read(alloc, query.as_bytes(), map, u64::MAX) {
         Ok(request) => shown(alloc, &request),
         Err(error) => format!(in alloc; "{error}"),
@@ -258,16 +258,16 @@ fn spelt(alloc: Global, query: &str) -> Result<String, AllocError> {
 fn rows_of_queries(alloc: Global, row: &str) -> Result<String, AllocError> {
     let query = spelt(alloc, row)?;
     let map = test_map(alloc)?;
-    told(alloc, query.as_str(), &map)
+    result_of(alloc, query.as_str(), &map)
 }
 
 #[test]
-fn queries_are_told_as_worked(rt: HostRuntime) -> Result<(), TableFault> {
+fn queries_have_worked_results(rt: HostRuntime) -> Result<(), TableFault> {
     check_rows(rt.alloc(), QUERIES, '|', 70, rows_of_queries)
 }
 
 #[test]
-fn queries_of_other_operations_are_told_as_worked(rt: HostRuntime) -> Result<(), TableFault> {
+fn queries_of_other_operations_have_worked_results(rt: HostRuntime) -> Result<(), TableFault> {
     check_rows(rt.alloc(), OTHERS, '|', 51, rows_of_queries)
 }
 

@@ -9,7 +9,7 @@ const DOCUMENTS: &str = "\
 215 <?xml version=\"1.0\" encoding=\"UTF-8\"?>~<ServiceExceptionReport version=\"1.3.0\" xmlns=\"http://www.opengis.net/ogc\">~<ServiceException code=\"MissingParameterValue\">REQUEST</ServiceException>~</ServiceExceptionReport>~|REQUEST";
 
 // The document where REQUEST is missing, as the row writes it.
-fn told(alloc: Global, name: &str) -> Result<String, AllocError> {
+fn document_of(alloc: Global, name: &str) -> Result<String, AllocError> {
     if name != "REQUEST" {
         return String::from_str(alloc, "malformed");
     }
@@ -25,5 +25,5 @@ fn told(alloc: Global, name: &str) -> Result<String, AllocError> {
 
 #[test]
 fn faults_are_reported_as_documents(rt: HostRuntime) -> Result<(), TableFault> {
-    check_rows(rt.alloc(), DOCUMENTS, '|', 1, told)
+    check_rows(rt.alloc(), DOCUMENTS, '|', 1, document_of)
 }
