@@ -28,17 +28,17 @@ pub struct Ended {
     fault: Option<EdgeFault>,
 }
 
-// Where the end is put.
-type Place = Arc<OnceLock<Ended>, Global>;
+// Where the end of a connection is stored.
+type EndSlot = Arc<OnceLock<Ended>, Global>;
 
-/// The bytes that a client gets, and where its end is put.
+/// The bytes that a client gets, and where the end of its connection is stored.
 #[derive(Drop)]
-pub struct Told {
+pub struct Output {
     going: Going,
-    place: Place,
+    slot: EndSlot,
 }
 
-impl Write for Told {
+impl Write for Output {
     fn write(&mut self, bytes: &[u8]) -> io::Result<usize> {
         self.going.write(bytes)
     }
@@ -52,13 +52,13 @@ impl Write for Told {
 #[derive(Drop)]
 pub struct Call {
     coming: Coming,
-    told: Told,
+    output: Output,
 }
 
 impl Opens for Call {
     type Reader = Flagged<Coming>;
 
-    type Writer = Flagged<Told>;
+    type Writer = Flagged<Output>;
 
     type Closed = NothingLeft;
 
@@ -66,20 +66,23 @@ impl Opens for Call {
 
     ghost closes = { λ _ _ _ _. Unit {0} };
 
-    fn open(self, _alloc: Global) -> Option<Sides<Flagged<Coming>, Flagged<Told>>> {
-        let Call { coming, told } = self;
+    fn open(self, _alloc: Global) -> Option<Sides<Flagged<Coming>, Flagged<Output>>> {
+        let Call { coming, output } = self;
         Some(Sides {
             reader: Flagged::new(coming),
-            writer: Flagged::new(told),
+            writer: Flagged::new(output),
         })
     }
 
-    fn close(sides: Sides<Flagged<Coming>, Flagged<Told>>, fault: Option<EdgeFault>) -> NothingLeft
+    fn close(
+        sides: Sides<Flagged<Coming>, Flagged<Output>>,
+        fault: Option<EdgeFault>,
+    ) -> NothingLeft
         ensures { Unit {0} }
     {
-        let Told { going, place } = sides.writer.into_inner();
+        let Output { going, slot } = sides.writer.into_inner();
         let held = going.held;
-        let _ = place.try_set(Ended { held, fault });
+        let _ = slot.try_set(Ended { held, fault });
         NothingLeft
     }
 }
@@ -97,12 +100,12 @@ impl Connection for Call {
     }
 }
 
-/// Connections that come one after the other, and where their ends are put.
+/// Connections that come one after the other, and where their ends are stored.
 #[derive(Drop)]
 pub struct Calls {
     alloc: Global,
     waiting: VecDeque<Call>,
-    places: Vec<Place>,
+    slots: Vec<EndSlot>,
 }
 
 impl Calls {
@@ -111,7 +114,7 @@ impl Calls {
         Calls {
             alloc,
             waiting: VecDeque::new(alloc),
-            places: Vec::new(alloc),
+            slots: Vec::new(alloc),
         }
     }
 
@@ -123,16 +126,16 @@ impl Calls {
         fails: bool,
         room: usize,
     ) -> Result<(), AllocError> {
-        let place = Arc::new(self.alloc, OnceLock::new())?;
-        let theirs = Arc::try_clone(&place)?;
-        let told = Told {
+        let slot = Arc::new(self.alloc, OnceLock::new())?;
+        let theirs = Arc::try_clone(&slot)?;
+        let output = Output {
             going: Going::new(self.alloc, room),
-            place: theirs,
+            slot: theirs,
         };
         let bytes = Vec::from_slice(self.alloc, bytes)?;
         let coming = Coming::new(bytes, at_once, fails);
-        self.waiting.push_back(Call { coming, told })?;
-        self.places.push(place)?;
+        self.waiting.push_back(Call { coming, output })?;
+        self.slots.push(slot)?;
         Ok(())
     }
 
@@ -145,8 +148,8 @@ impl Calls {
     /// that it got else, and the fault.
     pub fn end_of(&self, number: usize) -> Result<String, AllocError> {
         let alloc = self.alloc;
-        let place = self.places.get(number.wrapping_sub(1));
-        let Some(ended) = place.and_then(|place| place.get()) else {
+        let slot = self.slots.get(number.wrapping_sub(1));
+        let Some(ended) = slot.and_then(|slot| slot.get()) else {
             return String::from_str(alloc, "not served");
         };
         let held = if ended.held.as_slice() == KEPT {

@@ -203,7 +203,7 @@ PUBLISHED 1~IDLE~|BATCH 6~OFF a~RETRY~BAT!
 /PUBLISHED 1~|BATCH 6~OFF a!/BATCH 5~ON a~";
 
 #[test]
-fn commands_are_told_of_in_lines(rt: HostRuntime) -> Result<(), TableFault> {
+fn commands_are_reported_in_lines(rt: HostRuntime) -> Result<(), TableFault> {
     check_rows(rt.alloc(), COMMANDS, '|', 49, |alloc, row| {
         result_of_row(&rt, alloc, row)
     })
@@ -235,13 +235,13 @@ fn cut<R: Wait>(rt: &R, alloc: Global, room: usize) -> Result<String, AllocError
 
 // The expected end of it: the batch was submitted before anything was written.
 fn expected_cut(alloc: Global, room: usize) -> Result<String, AllocError> {
-    let front = WRITTEN.get(..room).unwrap_or(WRITTEN);
+    let prefix = WRITTEN.get(..room).unwrap_or(WRITTEN);
     let left = match left_after(room) {
         0 => String::new(alloc),
         left => format!(in alloc; " {left} left")?,
     };
     let failed = if room < WRITTEN.len() { " failed" } else { "" };
-    format!(in alloc; "{front}{left}{failed}/PUBLISHED 2~")
+    format!(in alloc; "{prefix}{left}{failed}/PUBLISHED 2~")
 }
 
 // The first number of bytes after which a failing writer doesn't end a connection as expected, up to this one.

@@ -32,7 +32,7 @@ fn opened<S: Sharing, R: Wait>(
 }
 
 // How many readers a map has where so many are requested, or the error.
-fn told_of_count<R: Wait>(rt: &R, alloc: Global, row: &str) -> Result<String, AllocError> {
+fn result_of_count<R: Wait>(rt: &R, alloc: Global, row: &str) -> Result<String, AllocError> {
     let machine = machine(alloc)?;
     let count = row.parse().unwrap_or(99);
     match opened::<Brand, R>(rt, alloc, Blank::new(), &machine, count) {
@@ -51,7 +51,7 @@ a map is shared by 1 to 32 readers|33";
 #[test]
 fn a_map_has_1_to_32_readers(rt: HostRuntime) -> Result<(), TableFault> {
     check_rows(rt.alloc(), COUNTS, '|', 4, |alloc, row| {
-        told_of_count(&rt, alloc, row)
+        result_of_count(&rt, alloc, row)
     })
 }
 
@@ -92,10 +92,17 @@ fn switched<S: Sharing, R: Wait>(
     if let Submitted::Published(receipt) = submitted {
         first.learn(receipt);
     }
-    let told = [answered(&mut first), answered(&mut second)];
+    let published = [answered(&mut first), answered(&mut second)];
     admin.close(rt);
     let closed = [answered(&mut first), answered(&mut second)];
-    Some([opened[0], opened[1], told[0], told[1], closed[0], closed[1]])
+    Some([
+        opened[0],
+        opened[1],
+        published[0],
+        published[1],
+        closed[0],
+        closed[1],
+    ])
 }
 
 // Letters in pairs.
@@ -104,7 +111,7 @@ fn in_pairs(alloc: Global, [a, b, c, d, e, f]: [char; 6]) -> Result<String, Allo
 }
 
 // The answers in one text, for a map with the layer, where this is the line of the batch.
-fn told_of_switch<R: Wait>(rt: &R, alloc: Global, row: &str) -> Result<String, AllocError> {
+fn result_of_switch<R: Wait>(rt: &R, alloc: Global, row: &str) -> Result<String, AllocError> {
     let machine = machine(alloc)?;
     let mut batch = Vec::from_slice(alloc, row.as_bytes())?;
     batch.push(b'\n')?;
@@ -122,6 +129,6 @@ pp pp bb|ON a";
 #[test]
 fn readers_answer_by_what_is_published(rt: HostRuntime) -> Result<(), TableFault> {
     check_rows(rt.alloc(), SWITCHES, '|', 3, |alloc, row| {
-        told_of_switch(&rt, alloc, row)
+        result_of_switch(&rt, alloc, row)
     })
 }

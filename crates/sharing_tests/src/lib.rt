@@ -10,8 +10,6 @@ mod commands;
 #[cfg(test)]
 mod counts;
 #[cfg(test)]
-mod crews;
-#[cfg(test)]
 mod crowds;
 #[cfg(test)]
 mod maps;
@@ -20,4 +18,6 @@ mod meeting;
 #[cfg(test)]
 mod memory;
 #[cfg(test)]
-mod told;
+mod published;
+#[cfg(test)]
+mod worked_connections;

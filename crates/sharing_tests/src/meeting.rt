@@ -70,7 +70,7 @@ where
 
 // The ends of two connections of two readers, of which the first is held at the gate: whether they were served, whether the
 // first saw that the second was answered, and both.
-fn told_of_meeting<R>(rt: &R, system: &HostRuntime) -> Result<String, AllocError>
+fn result_of_meeting<R>(rt: &R, system: &HostRuntime) -> Result<String, AllocError>
 where
     R: AllocGlobal + Wait + Threads + Send + Copy + Drop + 'static,
 {
@@ -97,6 +97,6 @@ where
 #[test]
 fn two_readers_answer_at_once(rt: HostRuntime) -> Result<(), TableFault> {
     check_rows(rt.alloc(), "true 1 kept kept|", '|', 1, |_, _| {
-        told_of_meeting(&rt, &rt)
+        result_of_meeting(&rt, &rt)
     })
 }

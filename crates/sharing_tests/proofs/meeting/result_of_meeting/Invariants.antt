@@ -1,4 +1,4 @@
-use Rattle.sharing_tests.proofs.meeting.told_of_meeting.Given as goal
+use Rattle.sharing_tests.proofs.meeting.result_of_meeting.Given as goal
 
 -- the history and the state with which the map is opened
 abbrev pub ghosts-served-S-Naming : goal.ghosts-served-S-Naming

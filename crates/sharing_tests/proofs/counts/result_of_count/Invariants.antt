@@ -1,4 +1,4 @@
-use Rattle.sharing_tests.proofs.counts.told_of_count.Given as goal
+use Rattle.sharing_tests.proofs.counts.result_of_count.Given as goal
 
 -- the history and the state with which the map is opened
 abbrev pub ghosts-opened-S-Naming : goal.ghosts-opened-S-Naming

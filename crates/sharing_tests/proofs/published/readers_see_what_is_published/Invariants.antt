@@ -1,4 +1,4 @@
-use Rattle.sharing_tests.proofs.told.readers_see_what_is_published.Given as goal
+use Rattle.sharing_tests.proofs.published.readers_see_what_is_published.Given as goal
 
 -- the history and the state with which the map is opened
 abbrev pub ghosts-play-S-Naming : goal.ghosts-play-S-Naming

@@ -33,7 +33,7 @@ fn learned<S: Sharing>(reader: &mut Reader<S>, submitted: Submitted<S>) -> u64 {
     sequence
 }
 
-// The course of two readers, by the sequences that they see or learn.
+// What two readers see or learn, as sequences.
 fn play<S: Sharing, R: Wait>(
     rt: &R,
     alloc: Global,
@@ -51,21 +51,21 @@ fn play<S: Sharing, R: Wait>(
     let opened = entered(&mut first);
     let (admin, submitted) = admin.submit(rt, Vec::new(alloc));
     let receipt = learned(&mut first, submitted);
-    let told = entered(&mut first);
+    let first_after = entered(&mut first);
     let (admin, retried) = admin.retry(rt);
     let idle = match retried {
         Retried::Idle => 1,
         Retried::Published(_) | Retried::Held => 0,
     };
-    let untold = entered(&mut second);
+    let second_after = entered(&mut second);
     admin.close(rt);
     let closed = entered(&mut first);
     Some([
         opened,
         receipt,
-        told,
+        first_after,
         idle,
-        untold,
+        second_after,
         closed,
         entered(&mut second),
     ])
@@ -77,7 +77,7 @@ fn play<S: Sharing, R: Wait>(
 fn readers_see_what_is_published(rt: HostRuntime) -> Result<(), Fail> {
     let alloc: Global = rt.alloc();
     let machine = Machine::open_at(alloc, Map::new(map_fields(alloc, Items::new(alloc))), 5)?;
-    let told = play::<Brand, _>(&rt, alloc, Blank::new(), &machine);
-    assert!(rt; told == Some([5, 6, 6, 1, 6, 99, 99]));
+    let sequences = play::<Brand, _>(&rt, alloc, Blank::new(), &machine);
+    assert!(rt; sequences == Some([5, 6, 6, 1, 6, 99, 99]));
     Ok(())
 }

@@ -1,4 +1,4 @@
-use Rattle.sharing_tests.proofs.counts.told_of_switch.Given as goal
+use Rattle.sharing_tests.proofs.counts.result_of_switch.Given as goal
 
 -- the history and the state with which the map is opened
 abbrev pub ghosts-switched-S-Naming : goal.ghosts-switched-S-Naming

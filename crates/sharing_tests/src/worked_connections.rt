@@ -10,70 +10,70 @@ use test_tables::{TableFault, check_rows};
 use workers::{OpenGate, work};
 
 // Queries in brackets, in the order in which they came.
-type Asked = Arc<Mutex<String>, Global>;
+type Queries = Arc<Mutex<String>, Global>;
 
-// A machine that notes its queries.
+// A worker: a machine that notes its queries.
 #[derive(Drop)]
-struct Member<R: Wait + Drop> {
+struct Worker<R: Wait + Drop> {
     rt: R,
     machine: Machine,
-    asked: Asked,
+    queries: Queries,
 }
 
 // Notes a query.
-fn tell(asked: &mut String, query: &[u8]) -> Result<(), AllocError> {
-    asked.push('[')?;
-    asked.push_str(str::from_utf8(query).unwrap_or("?"))?;
-    asked.push(']')?;
+fn note(queries: &mut String, query: &[u8]) -> Result<(), AllocError> {
+    queries.push('[')?;
+    queries.push_str(str::from_utf8(query).unwrap_or("?"))?;
+    queries.push(']')?;
     Ok(())
 }
 
-impl<R: Wait + Drop> Asks for Member<R> {
+impl<R: Wait + Drop> Asks for Worker<R> {
     ghost answers = { λ _ _ _ _. Unit {0} };
 
     fn answer(&mut self, query: &[u8]) -> Result<Answer, Busy> {
-        let mut asked = self.asked.lock(&self.rt);
-        if tell(&mut asked, query).is_err() {
+        let mut queries = self.queries.lock(&self.rt);
+        if note(&mut queries, query).is_err() {
             return Err(Busy);
         }
-        drop(asked);
+        drop(queries);
         self.machine.answer(query)
     }
 }
 
-// Members, and the queries of each.
+// Workers, and the queries of each.
 #[derive(Drop)]
-struct Crew<R: Wait + Drop> {
-    members: Vec<Member<R>>,
-    asked: Vec<Asked>,
+struct Workers<R: Wait + Drop> {
+    list: Vec<Worker<R>>,
+    queries: Vec<Queries>,
 }
 
-// Three members.
-fn crew_of_three<R: AllocGlobal + Wait + Copy + Drop>(rt: &R) -> Result<Crew<R>, AllocError> {
+// Three workers.
+fn three_workers<R: AllocGlobal + Wait + Copy + Drop>(rt: &R) -> Result<Workers<R>, AllocError> {
     let alloc = rt.alloc();
-    let mut crew = Crew {
-        members: Vec::new(alloc),
-        asked: Vec::new(alloc),
+    let mut three = Workers {
+        list: Vec::new(alloc),
+        queries: Vec::new(alloc),
     };
     for _ in 0..3 {
-        let asked = Arc::new(alloc, Mutex::new(String::new(alloc)))?;
-        let theirs = Arc::try_clone(&asked)?;
-        crew.asked.push(asked)?;
-        crew.members.push(Member {
+        let queries = Arc::new(alloc, Mutex::new(String::new(alloc)))?;
+        let theirs = Arc::try_clone(&queries)?;
+        three.queries.push(queries)?;
+        three.list.push(Worker {
             rt: *rt,
             machine: machine(alloc)?,
-            asked: theirs,
+            queries: theirs,
         })?;
     }
-    Ok(crew)
+    Ok(three)
 }
 
 // The queries of each, with spaces between them.
-fn queries_text<R: AllocGlobal + Wait>(rt: &R, all: &[Asked]) -> Result<String, AllocError> {
+fn queries_text<R: AllocGlobal + Wait>(rt: &R, all: &[Queries]) -> Result<String, AllocError> {
     let mut text = String::new(rt.alloc());
-    for asked in all {
-        let asked = asked.lock(rt);
-        text = format!(in rt.alloc(); "{text} {}", asked.as_str())?;
+    for queries in all {
+        let queries = queries.lock(rt);
+        text = format!(in rt.alloc(); "{text} {}", queries.as_str())?;
     }
     Ok(text)
 }
@@ -111,16 +111,16 @@ fn fourteen(alloc: Global, at_once: usize) -> Result<Calls, AllocError> {
     Ok(calls)
 }
 
-// The ends of so many connections, a line each, and the queries of the members.
+// The ends of so many connections, a line each, and the queries of the workers.
 fn worked<R>(rt: &R, mut calls: Calls, count: usize) -> Result<String, AllocError>
 where
     R: AllocGlobal + Wait + Threads + Send + Copy + Drop + 'static,
 {
     let alloc = rt.alloc();
-    let Crew { members, asked } = crew_of_three(rt)?;
+    let Workers { list, queries } = three_workers(rt)?;
     let gate = Arc::new(alloc, OpenGate)?;
-    let done = work(rt, alloc, members, &mut calls, &gate);
-    let mut text = format!(in alloc; "{}:{}", done.is_ok(), queries_text(rt, &asked)?)?;
+    let done = work(rt, alloc, list, &mut calls, &gate);
+    let mut text = format!(in alloc; "{}:{}", done.is_ok(), queries_text(rt, &queries)?)?;
     for number in 1..=count {
         text = format!(in alloc; "{text}\n{number} {}", calls.end_of(number)?)?;
     }
@@ -129,7 +129,7 @@ where
 
 const NONE: &str = "true:   ";
 
-// Member 1 answers the first connection, member 2 the eighth, and member 0 the ninth.
+// Worker 1 answers the first connection, worker 2 the eighth, and worker 0 the ninth.
 const FOURTEEN: &str = "true: [9] [] [8]
 1 kept
 2 HTTP/1.1 400 Bad Request^~Content-Length: 0^~Connection: close^~^~
@@ -173,8 +173,8 @@ fn connections_go_to_their_workers(rt: HostRuntime) -> Result<(), TableFault> {
     )
 }
 
-// Whether a call without members is refused, and how many of two connections still wait then.
-fn told_of_nobody<R>(rt: &R) -> Result<String, AllocError>
+// Whether a call without workers is refused, and how many of two connections still wait then.
+fn result_without_workers<R>(rt: &R) -> Result<String, AllocError>
 where
     R: AllocGlobal + Wait + Threads + Send + Copy + Drop + 'static,
 {
@@ -182,13 +182,19 @@ where
     let mut calls = Calls::new(alloc);
     calls.add(HEAD, 7, false, usize::MAX)?;
     calls.add(HEAD, 7, false, usize::MAX)?;
-    let nobody: Vec<Machine> = Vec::new(alloc);
+    let none: Vec<Machine> = Vec::new(alloc);
     let gate = Arc::new(alloc, OpenGate)?;
-    let done = work(rt, alloc, nobody, &mut calls, &gate);
+    let done = work(rt, alloc, none, &mut calls, &gate);
     format!(in alloc; "{} {}", done.is_err(), calls.waiting())
 }
 
 #[test]
-fn connections_stay_where_nobody_may_be_asked(rt: HostRuntime) -> Result<(), TableFault> {
-    check_rows(rt.alloc(), "true 2|", '|', 1, |_, _| told_of_nobody(&rt))
+fn connections_stay_where_there_are_no_workers(rt: HostRuntime) -> Result<(), TableFault> {
+    check_rows(
+        rt.alloc(),
+        "true 2|",
+        '|',
+        1,
+        |_, _| result_without_workers(&rt),
+    )
 }
