@@ -37,12 +37,12 @@ fn drawn(alloc: Global, rows: &str) -> Result<String, AllocError> {
 }
 
 // The text of an answer in a session: a picture that is drawn in rows, or an exception by its code and the name of its parameter.
-fn answer(alloc: Global, told: &str) -> Result<String, AllocError> {
-    match told.split_once(' ') {
-        Some((code, parameter)) if !told.starts_with(['.', '#']) => {
+fn answer(alloc: Global, answer_code: &str) -> Result<String, AllocError> {
+    match answer_code.split_once(' ') {
+        Some((code, parameter)) if !answer_code.starts_with(['.', '#']) => {
             exception(alloc, code, parameter)
         }
-        _ => drawn(alloc, told),
+        _ => drawn(alloc, answer_code),
     }
 }
 
@@ -74,10 +74,10 @@ POINTS 1 1 3 1 3 3 1 3 END|REQUEST=getmap|OperationNotSupported REQUEST";
 /// Whether a row of rings, of pairs and of an answer has the answer of its query. The rings are those of the one feature of a layer
 /// `a` in the colour 10 20 30.
 pub fn is_answered(alloc: Global, row: &str) -> Result<bool, AllocError> {
-    let (rings, pairs, told) = columns(row);
+    let (rings, pairs, answer_code) = columns(row);
     let map = SQUARE_MAP.replace(alloc, SQUARE, rings)?;
     let script = format!(in alloc; "QUERY {pairs}&{QUERY}\n")?;
-    let text = answer(alloc, told)?;
+    let text = answer(alloc, answer_code)?;
     is_played(alloc, map.as_str(), script.as_str(), text.as_str())
 }
 
@@ -119,7 +119,7 @@ fn is_written_as(alloc: Global, row: &str, mime: &str) -> Result<bool, AllocErro
     is_played(alloc, map.as_str(), script.as_str(), text.as_str())
 }
 
-// Whether a row of the table has the pixmap of its query.
+// Whether a row of the table has the PPM of its query.
 fn is_written(alloc: Global, row: &str) -> Result<bool, AllocError> {
     is_written_as(alloc, row, "image/x-portable-pixmap")
 }
@@ -129,14 +129,14 @@ fn pictures_are_written_as_worked(rt: HostRuntime) -> Result<(), TableFault> {
     check_all(rt.alloc(), WRITTEN, 15, is_written)
 }
 
-// The layer, the query, and the arbitrary map: 65 bytes of header, and four bytes a pixel. The square is red, and around it are white,
+// The layer, the query, and the PAM: 65 bytes of header, and four bytes a pixel. The square is red, and around it are white,
 // a colour, and nothing.
 const MAPS: &str = "\
 CLASS STYLE COLOR 255 0 0 END END FEATURE|VERSION=1.3.0&REQUEST=GetMap&LAYERS=a&STYLES=&CRS=CRS:84&BBOX=0,0,4,4&WIDTH=4&HEIGHT=4&FORMAT=image/x-portable-arbitrarymap|129 50370a574944544820340a48454947485420340a444550544820340a4d415856 414c203235350a5455504c54595045205247425f414c5048410a454e44484452 0affffffffffffffffffffffffffffffffffffffffff0000ffff0000ffffffff ffffffffffff0000ffff0000ffffffffffffffffffffffffffffffffffffffff ff\n\
 CLASS STYLE COLOR 255 0 0 END END FEATURE|VERSION=1.3.0&REQUEST=GetMap&LAYERS=a&STYLES=&CRS=CRS:84&BBOX=0,0,4,4&WIDTH=4&HEIGHT=4&FORMAT=image/x-portable-arbitrarymap&TRANSPARENT=FALSE&BGCOLOR=0x28323C|129 50370a574944544820340a48454947485420340a444550544820340a4d415856 414c203235350a5455504c54595045205247425f414c5048410a454e44484452 0a28323cff28323cff28323cff28323cff28323cffff0000ffff0000ff28323c ff28323cffff0000ffff0000ff28323cff28323cff28323cff28323cff28323c ff\n\
 CLASS STYLE COLOR 255 0 0 END END FEATURE|VERSION=1.3.0&REQUEST=GetMap&LAYERS=a&STYLES=&CRS=CRS:84&BBOX=0,0,4,4&WIDTH=4&HEIGHT=4&FORMAT=image/x-portable-arbitrarymap&TRANSPARENT=TRUE&BGCOLOR=0x28323C|129 50370a574944544820340a48454947485420340a444550544820340a4d415856 414c203235350a5455504c54595045205247425f414c5048410a454e44484452 0a0000000000000000000000000000000000000000ff0000ffff0000ff000000 0000000000ff0000ffff0000ff00000000000000000000000000000000000000 00";
 
-// Whether a row of the table has the arbitrary map of its query.
+// Whether a row of the table has the PAM of its query.
 fn is_map_written(alloc: Global, row: &str) -> Result<bool, AllocError> {
     is_written_as(alloc, row, "image/x-portable-arbitrarymap")
 }
@@ -173,16 +173,16 @@ const MAP_SAMPLES: &str = "\
 // The form of a picture: the first lines of its text, how many bytes are before its pixels, how many a pixel has, the end of its
 // query, and samples of it.
 struct Form {
-    front: &'static str,
+    prefix: &'static str,
     header: usize,
     depth: usize,
     query: &'static str,
     samples: &'static str,
 }
 
-// As a pixmap.
+// As PPM.
 const PIXMAP: Form = Form {
-    front: "ANSWER image/x-portable-pixmap 12582929\n\
+    prefix: "ANSWER image/x-portable-pixmap 12582929\n\
 50360a3230343820323034380a3235350affffffffffffffffffffffffffffff\n",
     header: 17,
     depth: 3,
@@ -190,9 +190,9 @@ const PIXMAP: Form = Form {
     samples: SAMPLES,
 };
 
-// As an arbitrary map.
+// As PAM.
 const MAP: Form = Form {
-    front: "ANSWER image/x-portable-arbitrarymap 16777287\n\
+    prefix: "ANSWER image/x-portable-arbitrarymap 16777287\n\
 50370a574944544820323034380a48454947485420323034380a444550544820\n\
 340a4d415856414c203235350a5455504c54595045205247425f414c5048410a\n\
 454e444844520a00000000000000000000000000000000000000000000000000\n",
@@ -212,13 +212,13 @@ fn has_sample(text: &str, form: &Form, row: &str) -> Option<bool> {
     let byte = pixel.checked_mul(form.depth)?.checked_add(component)?;
     let byte = byte.checked_add(form.header)?;
     let at = (byte / 32).checked_mul(65)?.checked_add(2 * (byte % 32))?;
-    let line = form.front.find('\n')?.checked_add(1)?;
+    let line = form.prefix.find('\n')?.checked_add(1)?;
     let there = text.as_bytes().get(at.checked_add(line)?..)?;
     Some(there.starts_with(columns.next()?.as_bytes()))
 }
 
 // The largest pictures: how the session ended, the length of the text, whether that begins with the header, and how many of the
-// samples it has. A pixmap has 17 bytes of header and 2,048 times 2,048 pixels, 12,582,929 bytes in 393,217 lines. An arbitrary map
+// samples it has. A PPM has 17 bytes of header and 2,048 times 2,048 pixels, 12,582,929 bytes in 393,217 lines. A PAM
 // has 71 bytes and four a pixel, 16,777,287 bytes in 524,291 lines.
 const LARGEST: &str = "\
 0 done 25559115 true 8=pixmap
@@ -241,8 +241,8 @@ fn result_of_picture(alloc: Global, form: &str) -> Result<String, AllocError> {
             samples = samples.saturating_add(1);
         }
     }
-    let is_front = text.starts_with(form.front);
-    format!(in alloc; "{end} {} {is_front} {samples}", text.len())
+    let has_prefix = text.starts_with(form.prefix);
+    format!(in alloc; "{end} {} {has_prefix} {samples}", text.len())
 }
 
 #[test]

@@ -10,13 +10,13 @@ use std::time::Duration;
 use std::{str, thread};
 
 // The two ports of a service, once they are known.
-type Told = Arc<OnceLock<(u16, u16)>, Global>;
+type Ports = Arc<OnceLock<(u16, u16)>, Global>;
 
 // A writer that notes the ports in the addresses, when it is flushed.
 #[derive(Drop)]
 struct Line {
     written: Vec<u8>,
-    ports: Told,
+    ports: Ports,
 }
 
 impl Write for Line {
@@ -35,7 +35,7 @@ impl Write for Line {
 }
 
 // Waits for the ports, ten seconds at most.
-fn wait_for(rt: &HostRuntime, ports: &Told) -> io::Result<(u16, u16)> {
+fn wait_for(rt: &HostRuntime, ports: &Ports) -> io::Result<(u16, u16)> {
     for _ in 0..10_000 {
         if let Some(ports) = ports.get() {
             return Ok(*ports);
@@ -57,7 +57,7 @@ fn picture(rt: &HostRuntime, port: u16) -> io::Result<Vec<u8>> {
 
 // The length of the first answer and the hexadecimal digits of its body, and the lines that the administrator gets before the second
 // request. Then the answer to that, and the lines that the administrator gets then. The layer is switched off between the two answers.
-fn converse(rt: &HostRuntime, ports: &Told) -> io::Result<String> {
+fn converse(rt: &HostRuntime, ports: &Ports) -> io::Result<String> {
     let (clients, administration) = wait_for(rt, ports)?;
     let before = picture(rt, clients)?;
     let mut stream = connected(rt, administration)?;
@@ -71,7 +71,7 @@ fn converse(rt: &HostRuntime, ports: &Told) -> io::Result<String> {
     stream.read_to_end(&mut rest)?;
     // the second connection lets the service end
     drop(connected(rt, administration)?);
-    let told = format!(in rt.alloc();
+    let answers = format!(in rt.alloc();
         "{} {} {} {} {}",
         before.len(),
         hex::encode(rt.alloc(), before.get(97..).unwrap_or(b""))?.as_str(),
@@ -79,7 +79,7 @@ fn converse(rt: &HostRuntime, ports: &Told) -> io::Result<String> {
         str::from_utf8(&after).unwrap_or("?"),
         str::from_utf8(&rest).unwrap_or("?")
     )?;
-    Ok(told)
+    Ok(answers)
 }
 
 // The first answer is the picture of 59 bytes after a head of 97, the second the exception, which has 187 bytes beside its code and the
@@ -97,7 +97,7 @@ Connection: close\r\n\
 </ServiceExceptionReport>\n IDLE\n";
 
 // Where the ports are noted, for two threads.
-fn untold(alloc: Global) -> Result<(Told, Told), AllocError> {
+fn shared_ports(alloc: Global) -> Result<(Ports, Ports), AllocError> {
     let ports = Arc::new(alloc, OnceLock::new())?;
     let theirs = Arc::try_clone(&ports)?;
     Ok((ports, theirs))
@@ -107,18 +107,18 @@ fn untold(alloc: Global) -> Result<(Told, Told), AllocError> {
 fn what_is_published_is_answered_by_each_worker(rt: HostRuntime) -> Result<(), Fail> {
     let alloc = rt.alloc();
     let map = parse(alloc, SQUARE_MAP.as_bytes(), &Files::new(alloc))?;
-    let (ports, theirs) = untold(alloc)?;
+    let (ports, theirs) = shared_ports(alloc)?;
     let line = Line {
         written: Vec::new(alloc),
         ports,
     };
     let client = thread::spawn(&rt, move || match converse(&rt, &theirs) {
-        Ok(told) => told,
+        Ok(answers) => answers,
         Err(_) => String::new(rt.alloc()),
     })?;
     let service = service((0, 0), 2, 2);
     let (outcome, _) = served(&rt, &rt, map, service, line);
-    let told = client.join(&rt);
-    assert_eq!(rt; (outcome.is_ok(), told.as_str()), (true, CONVERSATION));
+    let answers = client.join(&rt);
+    assert_eq!(rt; (outcome.is_ok(), answers.as_str()), (true, CONVERSATION));
     Ok(())
 }

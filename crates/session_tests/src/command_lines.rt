@@ -5,7 +5,7 @@ use test_tables::{TableFault, check_all, check_rows};
 
 // The text of a command's flag.
 fn ending(explains: bool) -> &'static str {
-    if explains { " in words" } else { "" }
+    if explains { " explained" } else { "" }
 }
 
 // The text of a service's flags.
@@ -80,14 +80,14 @@ run a b|run a and then b
 run same same|run same and then same
 check run|check run
 check -- -m|check -m
-check --explain m.map|check m.map in words
-check m.map --explain|check m.map in words
+check --explain m.map|check m.map explained
+check m.map --explain|check m.map explained
 check -- --explain|check --explain
 check --explain|error: the following required arguments were not provided:~  <FILE>~~Usage: mapservd check --explain <FILE>~~For more information, try '--help'.~
 check --explain=no m.map|error: unexpected value 'no' for '--explain' found; no more were expected~~Usage: mapservd check --explain <FILE>~~For more information, try '--help'.~
-run --explain a b|run a and then b in words
-run a --explain b|run a and then b in words
-run a b --explain|run a and then b in words
+run --explain a b|run a and then b explained
+run a --explain b|run a and then b explained
+run a b --explain|run a and then b explained
 run a -- --explain|run a and then --explain
 run --explain a|error: the following required arguments were not provided:~  <SCRIPT>~~Usage: mapservd run --explain <FILE> <SCRIPT>~~For more information, try '--help'.~
 run --verbose a b|error: unexpected argument '--verbose' found~~  tip: to pass '--verbose' as a value, use '-- --verbose'~~Usage: mapservd run [OPTIONS] <FILE> <SCRIPT>~~For more information, try '--help'.~
@@ -101,8 +101,8 @@ serve m.map --port 0 --connections 4294967295|serve m.map on 0 for 4294967295, i
 serve --connections 2 m.map --port 65535|serve m.map on 65535 for 2, idle 60000, timeout 30, batches on 8081 and 4 workers
 serve m.map --timeout 3600 --idle 60000|serve m.map on 8080 for 0, idle 60000, timeout 3600, batches on 8081 and 4 workers
 serve --idle 1 --timeout 1 m.map|serve m.map on 8080 for 0, idle 1, timeout 1, batches on 8081 and 4 workers
-serve --explain m.map|serve m.map on 8080 for 0, idle 60000, timeout 30, batches on 8081 and 4 workers in words
-serve m.map --port 0 --explain --idle 5|serve m.map on 0 for 0, idle 5, timeout 30, batches on 8081 and 4 workers in words
+serve --explain m.map|serve m.map on 8080 for 0, idle 60000, timeout 30, batches on 8081 and 4 workers explained
+serve m.map --port 0 --explain --idle 5|serve m.map on 0 for 0, idle 5, timeout 30, batches on 8081 and 4 workers explained
 serve --explain --explain m.map|error: the argument '--explain' cannot be used multiple times~~Usage: mapservd serve [OPTIONS] <FILE>~~For more information, try '--help'.~
 serve m.map --admin-port 0 --workers 32|serve m.map on 8080 for 0, idle 60000, timeout 30, batches on 0 and 32 workers
 serve --workers 1 --admin-port 65535 m.map|serve m.map on 8080 for 0, idle 60000, timeout 30, batches on 65535 and 1 workers
@@ -110,7 +110,7 @@ serve m.map --until-input-ends|serve m.map on 8080 for 0, idle 60000, timeout 30
 serve m.map --log|serve m.map on 8080 for 0, idle 60000, timeout 30, batches on 8081 and 4 workers with a log
 serve m.map --log --until-input-ends|serve m.map on 8080 for 0, idle 60000, timeout 30, batches on 8081 and 4 workers until its input ends with a log
 serve m.map --journal a.journal|serve m.map on 8080 for 0, idle 60000, timeout 30, batches on 8081 and 4 workers kept in a.journal
-serve --journal b.journal --explain m.map|serve m.map on 8080 for 0, idle 60000, timeout 30, batches on 8081 and 4 workers kept in b.journal in words
+serve --journal b.journal --explain m.map|serve m.map on 8080 for 0, idle 60000, timeout 30, batches on 8081 and 4 workers kept in b.journal explained
 serve m.map --journal|error: a value is required for '--journal <JOURNAL>' but none was supplied~~For more information, try '--help'.~
 serve m.map --workers 0|error: invalid value '0' for '--workers <COUNT>': 0 is not in 1..=32~~For more information, try '--help'.~
 serve m.map --workers 33|error: invalid value '33' for '--workers <COUNT>': 33 is not in 1..=32~~For more information, try '--help'.~
@@ -139,7 +139,7 @@ fn is_command(alloc: Global, row: &str) -> Result<bool, AllocError> {
 }
 
 #[test]
-fn arguments_ask_for_their_commands(rt: HostRuntime) -> Result<(), TableFault> {
+fn arguments_mean_their_commands(rt: HostRuntime) -> Result<(), TableFault> {
     check_all(rt.alloc(), ARGUMENTS, 55, is_command)
 }
 
@@ -154,6 +154,6 @@ fn refusals(alloc: Global, text: &str) -> Result<String, AllocError> {
 
 #[test]
 fn refusals_print_their_text(rt: HostRuntime) -> Result<(), TableFault> {
-    let row = "no such form, out of memory=no such form";
+    let row = "no such command, out of memory=no such command";
     check_rows(rt.alloc(), row, '=', 1, refusals)
 }

@@ -46,14 +46,14 @@ fn result_of_streams(
 fn result_of_row(alloc: Global, calls: &str) -> Result<String, AllocError> {
     let (reading, writing) = calls.split_once(' ').unwrap_or(("", ""));
     let mut machine = opened(alloc, "MAP END")?;
-    let told = result_of_streams(
+    let result = result_of_streams(
         alloc,
         &mut machine,
         reading.parse().ok(),
         writing.parse().ok(),
     );
     drop(machine);
-    told
+    result
 }
 
 #[test]

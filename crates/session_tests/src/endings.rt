@@ -10,15 +10,15 @@ use test_tables::{TableFault, check_all, check_rows};
 // A stream in memory.
 type Stream<'a> = Flagged<Memory<'a>>;
 
-// Performs a form with its job and its script, or with the session that is the input.
+// Performs a subcommand with its job and its script, or with the session that is the input.
 fn performed(
     alloc: Global,
-    form: &str,
+    subcommand: &str,
     job: &mut Job<'_, SomeFiles, Stream<'_>>,
     script: &mut NamedFile<'_, Stream<'_>>,
     console: &mut Console<Stream<'_>, Stream<'_>, Stream<'_>>,
 ) -> Result<(), Failure> {
-    match form {
+    match subcommand {
         "session" => session(alloc, &SomeFiles, console),
         "check" | "explain" => check(alloc, job, console),
         _ => run(alloc, job, script, console),
@@ -41,26 +41,26 @@ fn call_of(failing: Option<(usize, usize)>, stream: usize) -> Option<usize> {
     }
 }
 
-/// The end of a form over two texts, its mapfile or session and its script, with streams that move so many bytes at
+/// The end of a subcommand over two texts, its mapfile or session and its script, with streams that move so many bytes at
 /// once. It has the exit status with the failure, and the bytes that the two writers hold, with bars between them, and
 /// how often its first input, its output and its errors were called. Of these three streams one call may fail, that of
 /// this number.
 pub fn ended(
     alloc: Global,
-    form: &str,
+    subcommand: &str,
     texts: (&str, &str),
     at_once: usize,
     failing: Option<(usize, usize)>,
 ) -> Result<(String, [usize; 3]), AllocError> {
-    let (form, name) = form.split_once(' ').unwrap_or((form, "m.map"));
-    let is_session = form == "session";
+    let (subcommand, name) = subcommand.split_once(' ').unwrap_or((subcommand, "m.map"));
+    let is_session = subcommand == "session";
     let mut job = Job {
         folder: &SomeFiles,
         mapfile: NamedFile {
             name,
             reader: stream_of(alloc, texts.0, at_once, call_of(failing, 0)),
         },
-        explains: form == "explain" || form == "run_explained",
+        explains: subcommand == "explain" || subcommand == "run_explained",
     };
     let mut script = NamedFile {
         name: "s.txt",
@@ -72,7 +72,7 @@ pub fn ended(
         output: stream_of(alloc, "", at_once, call_of(failing, 1)),
         errors: stream_of(alloc, "", at_once, call_of(failing, 2)),
     };
-    let outcome = performed(alloc, form, &mut job, &mut script, &mut console);
+    let outcome = performed(alloc, subcommand, &mut job, &mut script, &mut console);
     let (input, mapfile) = (console.input.into_inner(), job.mapfile.reader.into_inner());
     let read = if is_session {
         input.calls
@@ -96,10 +96,10 @@ pub fn is_played(alloc: Global, map: &str, script: &str, text: &str) -> Result<b
     Ok(found.as_str() == expected.as_str())
 }
 
-// Forms with their mapfile and their script, then the exit status with the failure, the output and the errors. `!` is a
+// Subcommands with their mapfile and their script, then the exit status with the failure, the output and the errors. `!` is a
 // file that can't be read, `*` the map of 2 layers, `@` the exception of a query without parameters. Some mapfiles and
 // scripts have several faults, of which the first is to be reported.
-const FORMS: &str = "\
+const SUBCOMMANDS: &str = "\
 check|MAP END||0 done|ok 0 layers 0 features~|
 check|*||0 done|ok 2 layers 3 features~|
 check|*|!|0 done|ok 2 layers 3 features~|
@@ -181,13 +181,13 @@ session|MAP~~~~FOO END~%%~QUERY a~||1 MapfileFault||fault line 5 kind 2~
 session|MAP~ LAYER~ TYPE BLOB~%%~||1 MapfileFault||fault line 3 kind 3~
 session|MAP~%%~QUIT~||1 MapfileFault||fault line 2 kind 4~";
 
-// Whether a form ends as its row says, however many bytes its streams move at once.
+// Whether a subcommand ends as its row says, however many bytes its streams move at once.
 fn is_ended(alloc: Global, line: &str) -> Result<bool, AllocError> {
     let row = spelt(alloc, line)?;
-    let (form, mapfile, rest) = columns(row.as_str());
+    let (subcommand, mapfile, rest) = columns(row.as_str());
     let (script, expected) = rest.split_once('|').unwrap_or(("", "no row"));
     for at_once in [1, 7, 100_000] {
-        let (found, _) = ended(alloc, form, (mapfile, script), at_once, None)?;
+        let (found, _) = ended(alloc, subcommand, (mapfile, script), at_once, None)?;
         if found.as_str() != expected {
             return Ok(false);
         }
@@ -196,8 +196,8 @@ fn is_ended(alloc: Global, line: &str) -> Result<bool, AllocError> {
 }
 
 #[test]
-fn forms_end_as_they_should(rt: HostRuntime) -> Result<(), TableFault> {
-    check_all(rt.alloc(), FORMS, 66, is_ended)
+fn subcommands_end_as_they_should(rt: HostRuntime) -> Result<(), TableFault> {
+    check_all(rt.alloc(), SUBCOMMANDS, 66, is_ended)
 }
 
 #[test]
@@ -206,7 +206,7 @@ fn sessions_end_as_they_should(rt: HostRuntime) -> Result<(), TableFault> {
 }
 
 // The statuses of failures, and the messages of faults.
-const TOLD: &str = "\
+const FAILURES: &str = "\
 SocketFailed 3, OutputFailed 3, FileFailed 1=some
 MapfileFault 1, FileFailed 1, WordsRefused 2=refusals
 JournalFault 1, JournalFailed 3, WatchFailed 3=journals
@@ -265,5 +265,5 @@ fn result_of_row(alloc: Global, row: &str) -> Result<String, AllocError> {
 
 #[test]
 fn statuses_are_those_of_the_profile(rt: HostRuntime) -> Result<(), TableFault> {
-    check_rows(rt.alloc(), TOLD, '=', 5, result_of_row)
+    check_rows(rt.alloc(), FAILURES, '=', 5, result_of_row)
 }

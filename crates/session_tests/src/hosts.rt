@@ -15,7 +15,7 @@ use test_tables::{TableFault, check_all, check_rows};
 // with the failure, the connections of clients that were answered and those that weren't read, and those of administrators that got
 // the line that nothing is pending. Then it has how often a port was woken, the output, and the errors. `~` is a line feed, `@` the
 // exception of a query without parameters. The session is `MAP END`.
-const WORDS: &str = "\
+const COMMAND_LINES: &str = "\
 ||0 done 0 0 0 0||
 check a.map||0 done 0 0 0 0|ok 0 layers 0 features~|
 check c.map||1 FileFailed 0 0 0 0||fault file c.map~
@@ -62,12 +62,12 @@ serve a.map --port 81 --admin-port 82 --connections 2|cc rf|0 done 2 0 1 0|liste
 serve a.map --port 81 --admin-port 82 --connections 2|cc|0 done 2 0 0 0|listening a port another port~|";
 
 /// The arguments of a line, as the program gets them.
-pub fn words_of(alloc: Global, line: &str) -> Result<Vec<String>, AllocError> {
-    let mut words = Vec::new(alloc);
-    for word in line.split_whitespace() {
-        words.push(String::from_str(alloc, word)?)?;
+pub fn arguments_of(alloc: Global, line: &str) -> Result<Vec<String>, AllocError> {
+    let mut arguments = Vec::new(alloc);
+    for argument in line.split_whitespace() {
+        arguments.push(String::from_str(alloc, argument)?)?;
     }
-    Ok(words)
+    Ok(arguments)
 }
 
 // The four numbers.
@@ -87,7 +87,7 @@ fn result_of_counts(alloc: Global, counts: &Counts) -> Result<String, AllocError
 fn ended<R: Runtime>(
     rt: &R,
     system: &HostRuntime,
-    words: Result<Vec<String>, ArgumentsUnread>,
+    arguments: Result<Vec<String>, ArgumentsUnread>,
     letters: &str,
 ) -> Result<String, AllocError> {
     let alloc = rt.alloc();
@@ -109,7 +109,7 @@ fn ended<R: Runtime>(
         output: stream_of(alloc, "", 7, None),
         errors: stream_of(alloc, "", 7, None),
     };
-    let ending = program.answer(words, &mut console);
+    let ending = program.answer(arguments, &mut console);
     let end = end_of(alloc, ending.outcome())?;
     let counts = result_of_counts(alloc, &counts)?;
     let (output, errors) = (console.output.into_inner(), console.errors.into_inner());
@@ -124,15 +124,20 @@ fn ended<R: Runtime>(
 fn is_ended<R: Runtime>(rt: &R, system: &HostRuntime, line: &str) -> Result<bool, AllocError> {
     let alloc = rt.alloc();
     let row = spelt(alloc, line)?;
-    let (words, letters, expected) = columns(row.as_str());
-    let words = words_of(alloc, words)?;
-    let found = ended(rt, system, Ok(words), letters)?;
+    let (arguments, letters, expected) = columns(row.as_str());
+    let arguments = arguments_of(alloc, arguments)?;
+    let found = ended(rt, system, Ok(arguments), letters)?;
     Ok(found.as_str() == expected)
 }
 
 #[test]
-fn words_are_answered_with_the_files_of_a_host(rt: HostRuntime) -> Result<(), TableFault> {
-    check_all(rt.alloc(), WORDS, 41, |_, line| is_ended(&rt, &rt, line))
+fn arguments_are_answered_with_the_files_of_a_host(rt: HostRuntime) -> Result<(), TableFault> {
+    check_all(
+        rt.alloc(),
+        COMMAND_LINES,
+        41,
+        |_, line| is_ended(&rt, &rt, line),
+    )
 }
 
 // The end of a program whose arguments can't be read, and the message on them.
@@ -155,7 +160,7 @@ a word is not UTF-8: 2 WordsRefused 0 0 0 0||error: a word is not UTF-8~=text
 out of memory: 4 NoMemory 0 0 0 0||=memory";
 
 #[test]
-fn words_that_cant_be_read_are_refused(rt: HostRuntime) -> Result<(), TableFault> {
+fn arguments_that_cant_be_read_are_refused(rt: HostRuntime) -> Result<(), TableFault> {
     check_rows(
         rt.alloc(),
         UNREAD,
@@ -166,7 +171,7 @@ fn words_that_cant_be_read_are_refused(rt: HostRuntime) -> Result<(), TableFault
 }
 
 // The message where the output fails at its first call.
-fn said_of_output<R: Runtime>(
+fn message_on_output<R: Runtime>(
     rt: &R,
     system: &HostRuntime,
     line: &str,
@@ -188,7 +193,7 @@ fn said_of_output<R: Runtime>(
         output: stream_of(alloc, "", 7, Some(0)),
         errors: stream_of(alloc, "", 7, None),
     };
-    let ending = program.answer(Ok(words_of(alloc, line)?), &mut console);
+    let ending = program.answer(Ok(arguments_of(alloc, line)?), &mut console);
     let end = end_of(alloc, ending.outcome())?;
     let errors = console.errors.into_inner();
     let errors = String::from_str(alloc, str::from_utf8(&errors.held).unwrap_or("?"))?;
@@ -206,6 +211,6 @@ fn an_output_that_fails_is_named(rt: HostRuntime) -> Result<(), TableFault> {
         FAILING,
         '=',
         2,
-        |_, line| said_of_output(&rt, &rt, line),
+        |_, line| message_on_output(&rt, &rt, line),
     )
 }

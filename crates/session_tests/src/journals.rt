@@ -1,7 +1,7 @@
 //! The program with a journal.
 
 use crate::endings::end_of;
-use crate::hosts::words_of;
+use crate::hosts::arguments_of;
 use crate::memory::stream_of;
 use crate::shelf::{Shelf, no_counts};
 use crate::texts::{columns, spelt};
@@ -43,7 +43,7 @@ serve a.map --port 80 --journal kept.journal||3 ListenFailed { port: 80, cause: 
 fn ended<R: Runtime>(
     rt: &R,
     system: &HostRuntime,
-    words: &str,
+    arguments: &str,
     letters: &str,
 ) -> Result<String, AllocError> {
     let alloc = rt.alloc();
@@ -65,7 +65,7 @@ fn ended<R: Runtime>(
         output: stream_of(alloc, "", 7, None),
         errors: stream_of(alloc, "", 7, None),
     };
-    let ending = program.answer(Ok(words_of(alloc, words)?), &mut console);
+    let ending = program.answer(Ok(arguments_of(alloc, arguments)?), &mut console);
     let end = end_of(alloc, ending.outcome())?;
     let (output, errors) = (console.output.into_inner(), console.errors.into_inner());
     format!(in alloc;
@@ -81,12 +81,12 @@ fn ended<R: Runtime>(
 // Whether the program ends as a row says.
 fn is_ended<R: Runtime>(rt: &R, system: &HostRuntime, line: &str) -> Result<bool, AllocError> {
     let row = spelt(rt.alloc(), line)?;
-    let (words, letters, expected) = columns(row.as_str());
-    let found = ended(rt, system, words, letters)?;
+    let (arguments, letters, expected) = columns(row.as_str());
+    let found = ended(rt, system, arguments, letters)?;
     Ok(found.as_str() == expected)
 }
 
 #[test]
-fn batches_are_kept_in_the_journal_that_is_asked_for(rt: HostRuntime) -> Result<(), TableFault> {
+fn batches_are_kept_in_the_journal_that_is_named(rt: HostRuntime) -> Result<(), TableFault> {
     check_all(rt.alloc(), JOURNALS, 18, |_, line| is_ended(&rt, &rt, line))
 }

@@ -22,8 +22,8 @@ fn is_long_script(alloc: Global, row: &str) -> Result<bool, AllocError> {
     let long = long_query(alloc)?;
     let script = format!(in alloc; "{turns}QUERY {long}\n{last}")?;
     let text = if last.is_empty() {
-        let told = spelt(alloc, "#@@")?.repeat(alloc, 100)?;
-        format!(in alloc; "{told}{SQUARE_TEXT}")?
+        let answers = spelt(alloc, "#@@")?.repeat(alloc, 100)?;
+        format!(in alloc; "{answers}{SQUARE_TEXT}")?
     } else {
         format!(in alloc; "{fault}\n")?
     };
@@ -87,9 +87,9 @@ fn result_of_replies(alloc: Global, count: &str) -> Result<String, AllocError> {
             right = right.saturating_add(1);
         }
     }
-    let told = format!(in alloc; "{} {right} {sequence}", replies.len());
+    let result = format!(in alloc; "{} {right} {sequence}", replies.len());
     drop(replies);
-    told
+    result
 }
 
 #[test]

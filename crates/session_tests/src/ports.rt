@@ -34,7 +34,7 @@ Connection: close\r\n\
 struct Clients<'a> {
     rt: &'a HostRuntime,
     texts: &'a [&'a str],
-    told: Vec<u8>,
+    line: Vec<u8>,
     streams: Vec<TcpStream>,
 }
 
@@ -74,12 +74,12 @@ impl Clients<'_> {
 
 impl Write for Clients<'_> {
     fn write(&mut self, bytes: &[u8]) -> io::Result<usize> {
-        self.told.extend_from_slice(bytes)?;
+        self.line.extend_from_slice(bytes)?;
         Ok(bytes.len())
     }
 
     fn flush(&mut self) -> io::Result<()> {
-        let Some((clients, administration)) = ports_of(&self.told) else {
+        let Some((clients, administration)) = ports_of(&self.line) else {
             return Err(io::Error::from(io::ErrorKind::InvalidData));
         };
         drop(connected(self.rt, clients)?);
@@ -146,7 +146,7 @@ fn answered<R: Runtime>(
     let clients = Clients {
         rt: system,
         texts,
-        told: Vec::new(alloc),
+        line: Vec::new(alloc),
         streams: Vec::new(alloc),
     };
     let service = service((0, 0), 1, connections);
@@ -161,8 +161,8 @@ fn answered<R: Runtime>(
 #[test]
 fn a_port_answers_its_connections_in_turn(rt: HostRuntime) -> Result<(), Fail> {
     let (outcome, answers) = answered(&rt, &rt, &[LAST, LAST], 3)?;
-    let told = (outcome.is_ok(), answers.get(..298), answers.get(298..));
-    assert_eq!(rt; told, (true, Some(RESPONSE), Some(RESPONSE)));
+    let found = (outcome.is_ok(), answers.get(..298), answers.get(298..));
+    assert_eq!(rt; found, (true, Some(RESPONSE), Some(RESPONSE)));
     Ok(())
 }
 
@@ -173,8 +173,8 @@ fn bytes_after_a_last_head_leave_its_answer_whole(rt: HostRuntime) -> Result<(),
     let body = format!(in alloc; "{head}|abc")?;
     let second = format!(in alloc; "{head}|{HEAD}")?;
     let (_, answers) = answered(&rt, &rt, &[body.as_str(), second.as_str()], 3)?;
-    let told = (answers.get(..298), answers.get(298..));
-    assert_eq!(rt; told, (Some(RESPONSE), Some(RESPONSE)));
+    let found = (answers.get(..298), answers.get(298..));
+    assert_eq!(rt; found, (Some(RESPONSE), Some(RESPONSE)));
     Ok(())
 }
 
@@ -235,7 +235,7 @@ fn result_of_taken<R: Runtime>(
 }
 
 #[test]
-fn a_port_that_is_taken_is_told(rt: HostRuntime) -> Result<(), Fail> {
+fn a_port_that_is_taken_is_reported(rt: HostRuntime) -> Result<(), Fail> {
     let listener = TcpListener::bind(&rt, (Ipv4Addr::LOCALHOST, 0))?;
     let port = listener.local_addr()?.port();
     for ports in [(port, 0), (0, port)] {

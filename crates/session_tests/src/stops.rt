@@ -3,7 +3,7 @@ use crate::texts::{columns, spelt};
 use std::alloc::{AllocError, Global};
 use test_tables::{TableFault, check_all};
 
-// Forms, the number of their output's call that fails, of those that write 5 bytes at most and of the flush after them,
+// Subcommands, the number of their output's call that fails, of those that write 5 bytes at most and of the flush after them,
 // and the end. The line of `check` has five such calls, the fault of a script three.
 const FAILING: &str = "\
 check|0|3 OutputFailed||
@@ -18,22 +18,22 @@ run|2|3 OutputFailed|fault scri|
 run|3|3 OutputFailed|fault script 1~|
 run|4|0 done|fault script 1~|";
 
-// Whether a form whose output fails ends as its row says.
+// Whether a subcommand whose output fails ends as its row says.
 fn is_failed(alloc: Global, line: &str) -> Result<bool, AllocError> {
     let row = spelt(alloc, line)?;
-    let (form, failing, expected) = columns(row.as_str());
+    let (subcommand, failing, expected) = columns(row.as_str());
     let failing: usize = failing.parse().unwrap_or(99);
-    let (found, _) = ended(alloc, form, ("MAP END", "x\n"), 5, Some((1, failing)))?;
+    let (found, _) = ended(alloc, subcommand, ("MAP END", "x\n"), 5, Some((1, failing)))?;
     Ok(found.as_str() == expected)
 }
 
 #[test]
-fn outputs_that_fail_end_a_form(rt: HostRuntime) -> Result<(), TableFault> {
+fn outputs_that_fail_end_a_subcommand(rt: HostRuntime) -> Result<(), TableFault> {
     check_all(rt.alloc(), FAILING, 11, is_failed)
 }
 
 // Whether some text is a prefix of another, and not all of it before the last call.
-fn is_front(held: &str, text: &str, is_last: bool) -> bool {
+fn is_prefix(held: &str, text: &str, is_last: bool) -> bool {
     text.starts_with(held) && (is_last || held.len() < text.len())
 }
 
@@ -46,10 +46,10 @@ fn is_stop(found: &str, stream: usize, whole: &str, is_last: bool) -> bool {
     match stream {
         0 => found == "3 InputFailed||",
         1 => {
-            end == "3 OutputFailed" && is_front(output, all_output, is_last) && errors.is_empty()
+            end == "3 OutputFailed" && is_prefix(output, all_output, is_last) && errors.is_empty()
         }
         _ => {
-            end == "1 MapfileFault" && is_front(errors, all_errors, is_last) && output.is_empty()
+            end == "1 MapfileFault" && is_prefix(errors, all_errors, is_last) && output.is_empty()
         }
     }
 }

@@ -117,17 +117,17 @@ fn result_of_calls<M: Moves>(
     times: &Times<'_>,
     side: &mut M,
 ) -> Result<String, AllocError> {
-    let mut told = String::new(alloc);
+    let mut text = String::new(alloc);
     for _ in 0..10 {
         if !side.moves() {
             break;
         }
         let wait = format!(in alloc; "{} ", times.waits.get())?;
-        told.push_str(wait.as_str())?;
+        text.push_str(wait.as_str())?;
     }
     let calls = format!(in alloc; "in {}", times.calls.get())?;
-    told.push_str(calls.as_str())?;
-    Ok(told)
+    text.push_str(calls.as_str())?;
+    Ok(text)
 }
 
 // The calls of a stream whose first call comes 5 seconds after the time of its head began. The row has how many seconds each call takes,
