@@ -251,9 +251,9 @@ const CUTS: &str = "\
 40 298 164|pieces
 # reads before this one leave nothing written; the head is whole after 40
 (41, true)|failed reads
-# with fewer bytes it is told how many went out
+# with fewer bytes the fault says how many were written
 (298, true)|failed writes
-# two heads have 70 bytes: 71 places, and 71 by 72 by half pairs of them
+# two heads have 70 bytes: 71 positions, and 71 by 72 by half pairs of them
 2556|pairs of cuts
 (1000, true)|many
 (2, 2)|calls";

@@ -30,14 +30,14 @@ fn append(alloc: Global, batch: &mut String, count: usize) -> Result<(), AllocEr
 // The result of a batch at a sequence, and the sequence after it.
 fn result_of_batch(alloc: Global, sequence: u64, batch: &[u8]) -> Result<String, AllocError> {
     let mut machine = machine(alloc, sequence)?;
-    let told = match machine.batch(batch) {
+    let result = match machine.batch(batch) {
         Ok(number) => format!(in alloc; "published {number}")?,
         Err(BatchError::Fault(fault)) => {
             format!(in alloc; "refused {} {}", fault.index, fault.kind.number())?
         }
         Err(BatchError::NoMemory) => return Err(AllocError),
     };
-    format!(in alloc; "{told}, then {}", machine.sequence())
+    format!(in alloc; "{result}, then {}", machine.sequence())
 }
 
 // The result of a batch of commands that append points: at a sequence, how many each.
@@ -104,6 +104,6 @@ fn result_of_copy(alloc: Global) -> Result<(u64, u64, u64, u64), AllocError> {
 
 #[test]
 fn a_copy_is_changed_by_itself(rt: HostRuntime) {
-    let told = result_of_copy(rt.alloc());
-    assert!(rt; matches!(told, Ok((5, 6, 7, 6))));
+    let sequences = result_of_copy(rt.alloc());
+    assert!(rt; matches!(sequences, Ok((5, 6, 7, 6))));
 }

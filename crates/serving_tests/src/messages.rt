@@ -27,6 +27,6 @@ fn rows_of_messages(alloc: Global, row: &str) -> Result<String, AllocError> {
 }
 
 #[test]
-fn faults_are_told_in_words(rt: HostRuntime) -> Result<(), TableFault> {
+fn faults_have_messages(rt: HostRuntime) -> Result<(), TableFault> {
     check_rows(rt.alloc(), MESSAGES, '|', 3, rows_of_messages)
 }

@@ -10,7 +10,7 @@ use test_tables::{TableFault, check_rows};
 // An answerer that is busy. It counts the queries.
 #[derive(Drop)]
 struct Closed {
-    asked: usize,
+    queries: usize,
 }
 
 impl Asks for Closed {
@@ -20,7 +20,7 @@ impl Asks for Closed {
     ghost answers = { λ old query said new. said ≡ Err (record {}) };
 
     fn answer(&mut self, _query: &[u8]) -> Result<Answer, Busy> {
-        self.asked = self.asked.saturating_add(1);
+        self.queries = self.queries.saturating_add(1);
         Err(Busy)
     }
 }
@@ -63,18 +63,20 @@ fn stream(alloc: Global, text: &str, more: usize) -> Result<Vec<u8>, AllocError>
 
 fn rows_of_refusals(alloc: Global, row: &str) -> Result<String, AllocError> {
     let stream = stream(alloc, row, 0)?;
-    let mut closed = Closed { asked: 0 };
+    let mut closed = Closed { queries: 0 };
     let done = exchanged(alloc, &stream, WHOLE, &mut closed)?;
-    let (asked, result) = (closed.asked, done.result);
+    let (queries, result) = (closed.queries, done.result);
     let held = written(alloc, &done.held)?;
     format!(in alloc;
-        "{asked} {result:?} {} {} {held}",
+        "{queries} {result:?} {} {} {held}",
         done.take_failed, done.put_failed
     )
 }
 
 #[test]
-fn streams_are_refused_without_asking_and_busy_is_told(rt: HostRuntime) -> Result<(), TableFault> {
+fn streams_are_refused_without_asking_and_busy_is_reported(
+    rt: HostRuntime,
+) -> Result<(), TableFault> {
     check_rows(rt.alloc(), REFUSALS, '|', 10, rows_of_refusals)
 }
 
@@ -92,7 +94,7 @@ fn result_of_reads(
         &mut conn,
         &mut reader,
         &mut writer,
-        &mut Closed { asked: 0 },
+        &mut Closed { queries: 0 },
     );
     let left = reader.inner().calls;
     let held = writer.into_inner();

@@ -5,7 +5,7 @@ use std::alloc::{AllocError, Global};
 use test_tables::{TableFault, check_rows};
 
 // A status and a query in the form of a row: an empty query is `-`.
-fn asked(alloc: Global, query: &[u8]) -> Result<String, AllocError> {
+fn query_text(alloc: Global, query: &[u8]) -> Result<String, AllocError> {
     match str::from_utf8(query) {
         Ok("") => String::from_str(alloc, "200 -"),
         Ok(text) => format!(in alloc; "200 {text}"),
@@ -20,14 +20,14 @@ fn decided(
     query: &[u8],
     closing: bool,
 ) -> Result<String, AllocError> {
-    let told = match decision {
-        Decision::Ask => asked(alloc, query),
+    let text = match decision {
+        Decision::Ask => query_text(alloc, query),
         Decision::Refused(refusal) => format!(in alloc; "{}", refusal.status().as_str()),
     }?;
     match (decision, closing) {
-        (Decision::Refused(Refusal::BadRequest), false) => format!(in alloc; "{told} and stays"),
-        (Decision::Refused(Refusal::BadRequest), true) | (_, false) => Ok(told),
-        (_, true) => format!(in alloc; "{told} and closes"),
+        (Decision::Refused(Refusal::BadRequest), false) => format!(in alloc; "{text} and stays"),
+        (Decision::Refused(Refusal::BadRequest), true) | (_, false) => Ok(text),
+        (_, true) => format!(in alloc; "{text} and closes"),
     }
 }
 
@@ -143,14 +143,14 @@ const STREAMS: &str = "\
 // The meaning of a stream that comes a byte at a time, and its meaning where it is cut in two, if that is another.
 fn rows_of_streams(alloc: Global, row: &str) -> Result<String, AllocError> {
     let stream = stream_of(alloc, row)?;
-    let told = meaning_by_bytes(alloc, &stream)?;
+    let meaning = meaning_by_bytes(alloc, &stream)?;
     for cut in 0..=stream.len() {
         let other = meaning_of_two(alloc, &stream, cut)?;
-        if other.as_str() != told.as_str() {
-            return format!(in alloc; "{told}, but {other} when cut at {cut}");
+        if other.as_str() != meaning.as_str() {
+            return format!(in alloc; "{meaning}, but {other} when cut at {cut}");
         }
     }
-    Ok(told)
+    Ok(meaning)
 }
 
 #[test]
@@ -168,12 +168,12 @@ const LENGTHS: &str = "\
 16385 400 400>a 16383 a 1";
 
 // The first five bytes of a text, of which there may be fewer.
-fn front(told: &str) -> &str {
-    told.get(..5).unwrap_or(told)
+fn prefix(meaning: &str) -> &str {
+    meaning.get(..5).unwrap_or(meaning)
 }
 
-fn number(word: &str) -> usize {
-    word.parse::<usize>().unwrap_or(0)
+fn number(text: &str) -> usize {
+    text.parse::<usize>().unwrap_or(0)
 }
 
 // The text before the bytes of a row, their number, the text after them, and where the stream is cut.
@@ -189,7 +189,11 @@ fn result_of_long(alloc: Global, stream: &[u8], cut: usize) -> Result<String, Al
     let len = stream.len();
     let whole = meaning_of_two(alloc, stream, cut.min(len))?;
     let bytes = meaning_by_bytes(alloc, stream)?;
-    format!(in alloc; "{len} {} {}", front(whole.as_str()), front(bytes.as_str()))
+    format!(in alloc;
+        "{len} {} {}",
+        prefix(whole.as_str()),
+        prefix(bytes.as_str())
+    )
 }
 
 fn rows_of_lengths(alloc: Global, row: &str) -> Result<String, AllocError> {

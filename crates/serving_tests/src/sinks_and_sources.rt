@@ -13,8 +13,8 @@ fn pattern(alloc: Global, len: usize) -> Result<Vec<u8>, AllocError> {
 }
 
 // A number of a row, or one that no row expects.
-fn number(word: &str) -> usize {
-    word.parse::<usize>().unwrap_or(usize::MAX)
+fn number(text: &str) -> usize {
+    text.parse::<usize>().unwrap_or(usize::MAX)
 }
 
 // Both flags: that of writing, then that of reading.
@@ -40,7 +40,7 @@ Err(PutFailed) (true, false) 0 0 true|100000 70000 0 stalls
 Ok(()) (false, false) 101 101 true|101 7 15 stalls
 Err(PutFailed) (true, false) 98 98 true|101 7 14 stalls
 Err(PutFailed) (true, false) 2 2 true|3 1 2 stalls
-# nothing is asked for no bytes
+# no call is made for no bytes
 Ok(()) (false, false) 0 0 true|0 5 0 fails
 Ok(()) (false, false) 0 0 true|0 5 0 stalls";
 
@@ -57,9 +57,9 @@ fn result_of_put(alloc: Global, bytes: &[u8], writer: Narrow<'_>) -> Result<Stri
     let mut sink = Flagged::new(writer);
     let outcome = put_all(&mut sink, bytes);
     let held = sink.inner().held.as_slice();
-    let (count, is_front) = (held.len(), bytes.starts_with(held));
+    let (count, is_prefix) = (held.len(), bytes.starts_with(held));
     format!(in alloc;
-        "{outcome:?} {:?} {} {count} {is_front}",
+        "{outcome:?} {:?} {} {count} {is_prefix}",
         flags(&sink),
         sink.taken()
     )

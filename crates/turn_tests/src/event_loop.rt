@@ -14,23 +14,23 @@ use std::thread::{self, Threads};
 use std::time::Duration;
 
 // Queries in brackets, in the order in which they came.
-type Asked = Arc<Mutex<String>, Global>;
+type Queries = Arc<Mutex<String>, Global>;
 
 // An answerer that notes its queries, and answers each with nothing.
 #[derive(Drop)]
 struct Noting<R: Wait + Drop> {
     rt: R,
     alloc: Global,
-    asked: Asked,
+    queries: Queries,
 }
 
 impl<R: Wait + Drop> Asks for Noting<R> {
     ghost answers = { λ _ _ _ _. Unit {0} };
 
     fn answer(&mut self, query: &[u8]) -> Result<Answer, Busy> {
-        let mut asked = self.asked.lock(&self.rt);
-        let noted = asked.push_str(str::from_utf8(query).unwrap_or("?"));
-        if noted.is_err() || asked.push(' ').is_err() {
+        let mut queries = self.queries.lock(&self.rt);
+        let noted = queries.push_str(str::from_utf8(query).unwrap_or("?"));
+        if noted.is_err() || queries.push(' ').is_err() {
             return Err(Busy);
         }
         Ok(Answer {
@@ -66,25 +66,25 @@ impl Poller<Client> for Idle {
 }
 
 // Three workers with 4 slots each, and the queries of each.
-fn crew_of_three<R: AllocGlobal + Clock + Wait + Threads + Send + Copy + Drop + 'static>(
+fn three_workers<R: AllocGlobal + Clock + Wait + Threads + Send + Copy + Drop + 'static>(
     rt: &R,
     system: &HostRuntime,
-) -> Result<(WorkerThreads<Client, NoWaker>, Vec<Asked>), Fail> {
+) -> Result<(WorkerThreads<Client, NoWaker>, Vec<Queries>), Fail> {
     let alloc = rt.alloc();
-    let mut crew = WorkerThreads::new(alloc, 3)?;
+    let mut workers = WorkerThreads::new(alloc, 3)?;
     let mut all = Vec::new(alloc);
     for _ in 0..3 {
-        let asked = Arc::new(alloc, Mutex::new(String::new(alloc)))?;
+        let queries = Arc::new(alloc, Mutex::new(String::new(alloc)))?;
         let noting = Noting {
             rt: *rt,
             alloc,
-            asked: Arc::try_clone(&asked)?,
+            queries: Arc::try_clone(&queries)?,
         };
         let worker = Worker::new(alloc, noting, Idle { rt: *system }, (4, TIMEOUTS))?;
-        start_worker(rt, alloc, &mut crew, worker)?;
-        all.push(asked)?;
+        start_worker(rt, alloc, &mut workers, worker)?;
+        all.push(queries)?;
     }
-    Ok((crew, all))
+    Ok((workers, all))
 }
 
 // A client that sends a query with this number, and no more.
@@ -94,32 +94,32 @@ fn asking(alloc: Global, number: u64) -> Result<Client, AllocError> {
 }
 
 // The queries of each, with bars after them.
-fn queries_text<R: AllocGlobal + Wait>(rt: &R, all: &[Asked]) -> Result<String, AllocError> {
+fn queries_text<R: AllocGlobal + Wait>(rt: &R, all: &[Queries]) -> Result<String, AllocError> {
     let mut text = String::new(rt.alloc());
-    for asked in all {
-        let asked = asked.lock(rt);
-        text = format!(in rt.alloc(); "{text}{}| ", asked.as_str())?;
+    for queries in all {
+        let queries = queries.lock(rt);
+        text = format!(in rt.alloc(); "{text}{}| ", queries.as_str())?;
     }
     Ok(text)
 }
 
 // The queries that seven connections have for three workers.
-fn asked_of<R: AllocGlobal + Clock + Wait + Threads + Send + Copy + Drop + 'static>(
+fn queries_of<R: AllocGlobal + Clock + Wait + Threads + Send + Copy + Drop + 'static>(
     rt: &R,
     system: &HostRuntime,
 ) -> Result<String, Fail> {
-    let (mut crew, all) = crew_of_three(rt, system)?;
+    let (mut workers, all) = three_workers(rt, system)?;
     for number in 1..8 {
         let client = asking(rt.alloc(), number)?;
-        crew.hand_over(rt, client);
+        workers.hand_over(rt, client);
     }
-    crew.end(rt, Ending::Finishes);
+    workers.end(rt, Ending::Finishes);
     Ok(queries_text(rt, &all)?)
 }
 
 #[test]
 fn connections_go_to_their_workers(rt: HostRuntime) -> Result<(), Fail> {
-    let text = asked_of(&rt, &rt)?;
+    let text = queries_of(&rt, &rt)?;
     assert_eq!(rt; text.as_str(), "3 6 | 1 4 7 | 2 5 | ");
     Ok(())
 }

@@ -108,7 +108,7 @@ fn kept_of_many<R: AllocGlobal + Clock + Wait + Copy + Drop>(
 }
 
 #[test]
-fn lines_without_a_place_are_dropped_and_counted(rt: HostRuntime) -> Result<(), Fail> {
+fn lines_without_room_are_dropped_and_counted(rt: HostRuntime) -> Result<(), Fail> {
     let (text, kept) = kept_of_many(&rt)?;
     assert_eq!(rt; text.as_str(), "dropped 2\n");
     assert_eq!(rt; kept, 4_096);
@@ -170,13 +170,13 @@ fn logged_of<R: AllocGlobal + Clock + Wait + Threads + Send + Copy + Drop + 'sta
     let Some(queue) = LogQueue::new(rt, alloc) else {
         return Ok(text);
     };
-    let mut crew = WorkerThreads::new(alloc, 1)?;
+    let mut workers = WorkerThreads::new(alloc, 1)?;
     let asks = Echo { alloc, dots: 5 };
     let worker = Worker::new(alloc, asks, Passing { rt: *system }, (1, timeouts))?;
-    start_worker(rt, alloc, &mut crew, worker)?;
+    start_worker(rt, alloc, &mut workers, worker)?;
     let logged = LoggedTransport::new(alloc, client, 9, queue.share().ok());
-    crew.hand_over(rt, logged);
-    crew.end(rt, Ending::Finishes);
+    workers.hand_over(rt, logged);
+    workers.end(rt, Ending::Finishes);
     for _ in 0..4 {
         add(&mut text, queue.take(alloc))?;
     }

@@ -125,13 +125,13 @@ fn taken_of<R: AllocGlobal + Clock + Wait + Threads + Send + Copy + Drop + 'stat
         calls: 0,
         taken: Arc::try_clone(&taken)?,
     };
-    let mut crew = WorkerThreads::new(alloc, 1)?;
+    let mut workers = WorkerThreads::new(alloc, 1)?;
     let asks = Echo { alloc, dots: 3 };
     let worker = Worker::new(alloc, asks, Nudging { rt: *system }, (1, TIMEOUTS))?;
-    start_worker(rt, alloc, &mut crew, worker)?;
-    crew.hand_over(rt, client);
+    start_worker(rt, alloc, &mut workers, worker)?;
+    workers.hand_over(rt, client);
     wait_for_bytes(rt, system, &taken);
-    crew.end(rt, Ending::Stops);
+    workers.end(rt, Ending::Stops);
     let bytes = taken.lock(rt);
     Ok(Vec::from_slice(alloc, &bytes)?)
 }
