@@ -40,9 +40,9 @@ fn answered<S: Sharing, R: Wait>(
 
 // The outcome that a line reports, and its command where it is refused.
 fn add_line(line: &str, tally: &mut Tally) {
-    let mut words = line.split(' ');
-    let first = words.next();
-    let number = words.next().and_then(|word| word.parse::<u64>().ok());
+    let mut parts = line.split(' ');
+    let first = parts.next();
+    let number = parts.next().and_then(|part| part.parse::<u64>().ok());
     match first {
         Some("PUBLISHED") => tally.add(0, 0),
         Some("REFUSED") => tally.add(1, number.unwrap_or(0)),

@@ -105,8 +105,8 @@ fn damage_to_each_byte_is_refused_or_cut_off(rt: HostRuntime) -> Result<(), Fail
             bytes[at] = if bytes[at] == 1 { 2 } else { 1 };
         }
         let count = found(alloc, bytes.as_slice())?;
-        let wanted = if at < first { 99 } else { 1 };
-        assert_eq!(rt; count, wanted, "byte {at}");
+        let expected = if at < first { 99 } else { 1 };
+        assert_eq!(rt; count, expected, "byte {at}");
     }
     Ok(())
 }

@@ -14,7 +14,7 @@ mod sharing_rows;
 
 use crate::changing::{append_row, batch_row, exchange_row, run_row, script_row};
 use crate::journals::{put_row, recover_row};
-use crate::marks::tell;
+use crate::marks::print_answer;
 use crate::reading::{
     document_row, expression_row, font_row, head_row, open_row, parse_row, pixmap_row, query_row,
     reply_row, table_row,
@@ -65,8 +65,8 @@ fn play<R: Wait>(waits: &R, rt: &HostRuntime, name: &str) -> io::Result<()> {
         "submit" => submit_row(waits, rt),
         "enter" => enter_row(waits, rt),
         reading => {
-            if !tell(rt, answer(rt, reading)?)? {
-                tell(rt, answer(rt, reading)?)?;
+            if !print_answer(rt, answer(rt, reading)?)? {
+                print_answer(rt, answer(rt, reading)?)?;
             }
             Ok(())
         }

@@ -13,8 +13,8 @@ pub fn end(rt: &HostRuntime) -> io::Result<()> {
 }
 
 /// Prints the answer of a call, and returns whether there is one.
-pub fn tell(rt: &HostRuntime, answer: Option<String>) -> io::Result<bool>
-    ensures { IfOk result (λ is_told. is_told ≡ is_some answer) }
+pub fn print_answer(rt: &HostRuntime, answer: Option<String>) -> io::Result<bool>
+    ensures { IfOk result (λ is_answered. is_answered ≡ is_some answer) }
 {
     match answer {
         Some(text) => {
@@ -42,11 +42,11 @@ pub trait Call {
 pub fn play_on<C: Call>(rt: &HostRuntime, call: &mut C) -> io::Result<()> {
     println!(rt; "before: {}", call.state(rt)?)?;
     let answer = call.call(rt)?;
-    let is_told = tell(rt, answer)?;
+    let is_answered = print_answer(rt, answer)?;
     println!(rt; "after: {}", call.state(rt)?)?;
-    if !is_told {
+    if !is_answered {
         let answer = call.call(rt)?;
-        tell(rt, answer)?;
+        print_answer(rt, answer)?;
         println!(rt; "after: {}", call.state(rt)?)?;
     }
     Ok(())

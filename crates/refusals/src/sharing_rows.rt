@@ -60,7 +60,7 @@ fn seen<S: Sharing>(readers: &mut Vec<Reader<S>>) -> Option<u64> {
 }
 
 // Prints the result of a batch, and the sequence that readers are shown then.
-fn tell<S: Sharing>(system: &HostRuntime, became: Became, readers: &mut Vec<Reader<S>>) {
+fn print_result<S: Sharing>(system: &HostRuntime, became: Became, readers: &mut Vec<Reader<S>>) {
     let sequence = seen(readers);
     let _printed = println!(system; "{became:?}, readers see {sequence:?}");
 }
@@ -75,14 +75,14 @@ fn submit_often<S: Sharing, R: Wait>(
 ) -> Admin<S> {
     let [first, second] = batches;
     let (admin, became) = submit(rt, system, admin, first);
-    tell(system, became, readers);
+    print_result(system, became, readers);
     let (admin, became) = match became {
         Became::NoMemory => submit(rt, system, admin, second),
         _ => retry(rt, system, admin),
     };
-    tell(system, became, readers);
+    print_result(system, became, readers);
     let (admin, became) = retry(rt, system, admin);
-    tell(system, became, readers);
+    print_result(system, became, readers);
     admin
 }
 

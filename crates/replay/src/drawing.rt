@@ -25,8 +25,8 @@ struct Pixels<'a> {
     bytes: &'a [u8],
 }
 
-// The picture of a pixmap.
-fn pixmap(body: &[u8]) -> Option<Pixels<'_>> {
+// The picture of a PPM.
+fn ppm(body: &[u8]) -> Option<Pixels<'_>> {
     let (format, rest) = split_line(body)?;
     let (sides, rest) = split_line(rest)?;
     let (most, bytes) = split_line(rest)?;
@@ -43,8 +43,8 @@ fn pixmap(body: &[u8]) -> Option<Pixels<'_>> {
     })
 }
 
-// The picture of an arbitrary map with transparency, whose header has the lines that the program writes.
-fn arbitrary_map(body: &[u8]) -> Option<Pixels<'_>> {
+// The picture of a PAM with transparency, whose header has the lines that the program writes.
+fn pam(body: &[u8]) -> Option<Pixels<'_>> {
     let (format, rest) = split_line(body)?;
     let (width, rest) = split_line(rest)?;
     let (height, rest) = split_line(rest)?;
@@ -121,7 +121,7 @@ fn draw_rows(drawing: &mut String, alloc: Global, pixels: &Pixels<'_>) -> Result
 /// point is white, and an underline nothing. There is none where it has more than 64 columns or 52 colours, or where
 /// the bytes are no picture.
 pub fn drawn(alloc: Global, body: &[u8]) -> Result<Option<String>, AllocError> {
-    let Some(pixels) = pixmap(body).or(arbitrary_map(body)) else {
+    let Some(pixels) = ppm(body).or(pam(body)) else {
         return Ok(None);
     };
     if pixels.width > MOST_COLUMNS {

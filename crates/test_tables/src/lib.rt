@@ -64,19 +64,19 @@ pub fn check_rows<F: Fn(Global, &str) -> Result<String, AllocError>>(
     rows: &str,
     separator: char,
     count: usize,
-    tell: F,
+    result_of: F,
 ) -> Result<(), TableFault>
-    requires { F.IsAlwaysCallable tell }
+    requires { F.IsAlwaysCallable result_of }
 {
     check_each(rows, count, |line, row| {
         let Some((expected, rest)) = row.split_once(separator) else {
             return Err(TableFault::NoSeparator(line));
         };
-        let told = tell(alloc, rest)?;
-        if told.as_str() == expected {
+        let result = result_of(alloc, rest)?;
+        if result.as_str() == expected {
             Ok(())
         } else {
-            Err(TableFault::Differs(line, told))
+            Err(TableFault::Differs(line, result))
         }
     })
 }
@@ -102,12 +102,12 @@ pub fn check_all<F: Fn(Global, &str) -> Result<bool, AllocError>>(
 
 /// The numbers of a text with that character between them, if it has just so many.
 pub fn numbers<const N: usize>(text: &str, between: char) -> Option<[i64; N]> {
-    let mut words = text.split(between);
+    let mut parts = text.split(between);
     let mut numbers = [0_i64; N];
     for number in numbers.iter_mut() {
-        *number = words.next()?.parse::<i64>().ok()?;
+        *number = parts.next()?.parse::<i64>().ok()?;
     }
-    match words.next() {
+    match parts.next() {
         None => Some(numbers),
         Some(_) => None,
     }

@@ -7,7 +7,7 @@ fn length(alloc: Global, text: &str) -> Result<String, AllocError> {
 }
 
 // The kind of a fault and its line, or how many rows there were.
-fn told(found: Result<(), TableFault>) -> (u8, usize) {
+fn fault_of(found: Result<(), TableFault>) -> (u8, usize) {
     match found {
         Ok(()) => (0, 0),
         Err(TableFault::NoSeparator(line)) => (1, line),
@@ -23,18 +23,18 @@ fn is_one_byte(_: Global, text: &str) -> Result<bool, AllocError> {
     Ok(text.len() == 1)
 }
 
-// The results for tables, without a table of expected texts.
-fn are_told(alloc: Global) -> bool {
-    told(check_rows(alloc, "3=abc\n1=x", '=', 2, length)) == (0, 0)
-        && told(check_rows(alloc, "3=abc\n2=x", '=', 2, length)) == (2, 2)
-        && told(check_rows(alloc, "3=abc\n1", '=', 2, length)) == (1, 2)
-        && told(check_rows(alloc, "3=abc", '=', 2, length)) == (4, 1)
-        && told(check_all(alloc, "a\nb", 2, is_one_byte)) == (0, 0)
-        && told(check_all(alloc, "a\nbc", 2, is_one_byte)) == (3, 2)
-        && told(check_all(alloc, "a\nb\nc", 2, is_one_byte)) == (4, 3)
+// Whether tables have the expected results, without a table of expected texts.
+fn are_as_worked(alloc: Global) -> bool {
+    fault_of(check_rows(alloc, "3=abc\n1=x", '=', 2, length)) == (0, 0)
+        && fault_of(check_rows(alloc, "3=abc\n2=x", '=', 2, length)) == (2, 2)
+        && fault_of(check_rows(alloc, "3=abc\n1", '=', 2, length)) == (1, 2)
+        && fault_of(check_rows(alloc, "3=abc", '=', 2, length)) == (4, 1)
+        && fault_of(check_all(alloc, "a\nb", 2, is_one_byte)) == (0, 0)
+        && fault_of(check_all(alloc, "a\nbc", 2, is_one_byte)) == (3, 2)
+        && fault_of(check_all(alloc, "a\nb\nc", 2, is_one_byte)) == (4, 3)
 }
 
 #[test]
 fn faults_of_tables_are_found(rt: HostRuntime) {
-    assert!(rt; are_told(rt.alloc()));
+    assert!(rt; are_as_worked(rt.alloc()));
 }
