@@ -156,9 +156,9 @@ fn name_from(bytes: &[u8]) -> Option<&str>
 }
 
 // How many bytes remain at the first that is not UTF-8, or at the end of a prefix of a text.
-fn left_after_text(front: &[u8], text: &[u8]) -> usize {
-    let valid = match str::from_utf8(front) {
-        Ok(_) => front.len(),
+fn left_after_text(prefix: &[u8], text: &[u8]) -> usize {
+    let valid = match str::from_utf8(prefix) {
+        Ok(_) => prefix.len(),
         Err(fault) => fault.valid_up_to(),
     };
     text.len().saturating_sub(valid)

@@ -46,9 +46,9 @@ impl Gathered {
     pub fn fill<'a>(&mut self, piece: &'a [u8]) -> &'a [u8]
         ensures { self.new ++ result.now ≡ self.old ++ piece.now }
     {
-        let (front, rest) = piece.split_at(piece.len().min(GATHERED - self.filled));
-        let end = self.filled + front.len();
-        self.room[self.filled..end].copy_from_slice(front);
+        let (prefix, rest) = piece.split_at(piece.len().min(GATHERED - self.filled));
+        let end = self.filled + prefix.len();
+        self.room[self.filled..end].copy_from_slice(prefix);
         self.filled = end;
         rest
     }

@@ -5,13 +5,13 @@ use Rattle.streams.proofs.putting.put_piece.Goals as goal
 
 pub returns-clause-sent : goal.returns-clause-sent
 returns-clause-sent g c =
-    let front = c.as_slice.result.now in
+    let gathered = c.as_slice.result.now in
     let rest = c.fill-rest.result.now in
     on-ok-so c.put_all-2.result _ _
     (λ sent. (
-      front ++ rest,
+      gathered ++ rest,
       sent-sent _ _ _ _ _ _ _ c.in_ok-put_all.ensures.sent sent,
-      ap (λ l. (front ++ rest) ++ l) c.clear.ensures ∙ append-nil (front ++ rest) ∙ ap (λ l. l ++ rest) c.as_slice.ensures ∙ c.fill-rest.ensures,
+      ap (λ l. (gathered ++ rest) ++ l) c.clear.ensures ∙ append-nil (gathered ++ rest) ∙ ap (λ l. l ++ rest) c.as_slice.ensures ∙ c.fill-rest.ensures,
     ))
     c.put_all-2.ensures.sent
 
