@@ -11,8 +11,8 @@ returns-then-covers c =
     let found = rw c.as_slice-glyphs.ensures at c.in-Some-glyph_of.ensures in
     let here = ink-here c.get-fields.result.now c.args.at _ _ c.loop-character.pen (chars c.loop-character.rest.now) c.in-Some.character (chars c.in-Some.after.now) c.in-Some.ensures.chars
     c.in-Some-glyph_of.glyph.now found (sym c.covers.ensures ∙ c.if-covers.true) in
-    let told = sym here ∙ c.loop-character.invariant.same in
-    rw (← c.get-fields.ensures.value) (rw (same_i, same_j) at told)
+    let same = sym here ∙ c.loop-character.invariant.same in
+    rw (← c.get-fields.ensures.value) (rw (same_i, same_j) at same)
 
 pub loop-character-preserved-else-covers : goal.loop-character-preserved-else-covers
 loop-character-preserved-else-covers c =
@@ -38,5 +38,5 @@ pub returns : goal.returns
 returns c =
     let same_i : to_z w64 (of_z w64 c.args.i) ≡ c.args.i = omega (arith, ints) in
     let same_j : to_z w64 (of_z w64 c.args.j) ≡ c.args.j = omega (arith, ints) in
-    let told = sym (ink-end c.get-fields.result.now c.args.at _ _ c.loop-character.pen (chars c.loop-character.rest.now) c.in_default.ensures.chars) ∙ c.loop-character.invariant.same in
-    rw (← c.get-fields.ensures.value) (rw (same_i, same_j) at told)
+    let same = sym (ink-end c.get-fields.result.now c.args.at _ _ c.loop-character.pen (chars c.loop-character.rest.now) c.in_default.ensures.chars) ∙ c.loop-character.invariant.same in
+    rw (← c.get-fields.ensures.value) (rw (same_i, same_j) at same)
