@@ -62,8 +62,8 @@ module _ (scene : SceneValue) (layer : LayerFields) (i j count : ℕ) where
     rising = first.rising;
     each = λ k c. (first.each k c).1;
     few = first.few;
-    others = λ k hit. let (feature, there, told) = hit in
-        first.others k (candidates.each k feature there (in-window scene.view layer.kind layer.tolerance i j feature told.near extent width height), hit);
+    others = λ k hit. let (feature, there, facts) = hit in
+        first.others k (candidates.each k feature there (in-window scene.view layer.kind layer.tolerance i j feature facts.near extent width height), hit);
   }
 
   -- a layer that doesn't show has no hits
@@ -72,7 +72,7 @@ module _ (scene : SceneValue) (layer : LayerFields) (i j count : ℕ) where
     rising = λ a b e lt within. absurd (omega arith);
     each = λ k c. absurd (omega (arith, c.1));
     few = omega arith;
-    others = λ k hit. let (feature, there, told) = hit in absurd (clash (sym hidden ∙ told.shows));
+    others = λ k hit. let (feature, there, facts) = hit in absurd (clash (sym hidden ∙ facts.shows));
   }
     where
       clash : false ≡ true → ⊥

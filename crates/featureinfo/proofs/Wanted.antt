@@ -31,9 +31,9 @@ module _ (scene : SceneValue) (layer : LayerFields) (i j index : ℕ) (n : Nearb
   clash e t = cc
 
   pub not-wanted : hit ≡ false → IsHitAt scene layer i j index → ⊥
-  not-wanted e (other, at, told) =
+  not-wanted e (other, at, facts) =
       let same : other ≡ feature = same_Some other feature (sym at ∙ there) in
       clash e (says.1 (record {
-        class = rw same at told.class;
-        near = subst (λ (m : Nearby). SomeNear m (covers_plainly scene.view layer.kind feature.parts)) (sym is) (rw same at told.near);
+        class = rw same at facts.class;
+        near = subst (λ (m : Nearby). SomeNear m (covers_plainly scene.view layer.kind feature.parts)) (sym is) (rw same at facts.near);
       }))

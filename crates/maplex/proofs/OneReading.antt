@@ -228,14 +228,14 @@ no_blank-cut : (shape : Shape) (text written after : List ℕ) → IsCut shape t
 no_blank-cut shape text written after c = ap (blank_len false) c.whole ∙ first-no_blank c.first c.others c.is_first
 
 faulty-cut : (line : ℕ) (bytes : List ℕ) (shape : Shape) (text : List ℕ) (f : LexFault) → BeginsWith bytes shape text → text_fault line text ≡ Some f → StopsAt line bytes f
-faulty-cut line bytes shape text f begins told =
+faulty-cut line bytes shape text f begins fault =
     let c = cut shape text begins.written begins.after begins.is_written in
     record {
       no_blank = rw begins.whole (no_blank-cut shape text begins.written begins.after c);
       stops =
           ap (λ bytes. step (record { rest = bytes; line = line })) begins.whole
           ∙ step-cut shape text begins.written begins.after line c
-          ∙ ap (λ o. unless o (Reads (record { shape = shape; text = text; line = line }) (record { rest = begins.after; line = line + line_ends begins.written }))) told;
+          ∙ ap (λ o. unless o (Reads (record { shape = shape; text = text; line = line }) (record { rest = begins.after; line = line + line_ends begins.written }))) fault;
     }
 
 stops-at : (line : ℕ) (bytes : List ℕ) (f : LexFault) → IsFault line bytes f → StopsAt line bytes f
