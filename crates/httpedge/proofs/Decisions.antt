@@ -90,9 +90,9 @@ never-judged bytes query start end none always = record {
 }
 
 -- a test for some field gives the same for the parsed fields as for the fields of the head
-told : (p : List ℕ × List ℕ → Bool) (bytes : List ℕ) (fields front : List HeaderSpan) (r : RequestSpans) (head : RequestHead) → IsRequestAt bytes fields r head → front ≡ take r.headers fields →
+same-test : (p : List ℕ × List ℕ → Bool) (bytes : List ℕ) (fields front : List HeaderSpan) (r : RequestSpans) (head : RequestHead) → IsRequestAt bytes fields r head → front ≡ take r.headers fields →
     list_any p (map (header_bytes bytes) front) ≡ list_any p (map name_and_value head.fields)
-told p bytes fields front r head found is = ap (λ l. list_any p (map (header_bytes bytes) l)) is ∙ ap (list_any p) found.fields
+same-test p bytes fields front r head found is = ap (λ l. list_any p (map (header_bytes bytes) l)) is ∙ ap (list_any p) found.fields
 
 -- a query that lies in the target lies in the head
 query-within : (len : ℕ) (path query : Span) → IsWithin len path → IsWithin path.end query → IsWithin len query
@@ -102,13 +102,13 @@ query-within len path query outer inner = (inner.0, omega (arith, inner.1, outer
 pub body-judged : (bytes : List ℕ) (fields front : List HeaderSpan) (r : RequestSpans) (head : RequestHead) (some : Bool) (query : Span) → IsRequestAt bytes fields r head → length fields ≤ 64 → length bytes ≤ 16384 → r.len ≤ length bytes →
     IsWithin r.len r.path → IsWithin r.path.end query → front ≡ take r.headers fields → some ≡ list_any says_body (map (header_bytes bytes) front) → some ≡ true →
     IsJudged bytes (record { decision = Some (decision.Refused BadRequest); query = query; closes = true; len = r.len })
-body-judged bytes fields front r head some query found room limit len within inner is tells e =
+body-judged bytes fields front r head some query found room limit len within inner is some-is e =
     let whole = parsed-whole bytes fields r head found room limit len in
     record {
       query = query-within r.len r.path query within inner;
       verdict = record {
         len = len;
-        decides = body-decides (take r.len bytes) head whole (sym (told says_body bytes fields front r head found is) ∙ sym tells ∙ e);
+        decides = body-decides (take r.len bytes) head whole (sym (same-test says_body bytes fields front r head found is) ∙ sym some-is ∙ e);
         shortest = head-shortest bytes r.len head whole;
       };
     }
@@ -119,10 +119,10 @@ pub head-judged : (bytes : List ℕ) (fields front : List HeaderSpan) (r : Reque
     ending ≡ ((r.version == 0) || list_any says_close (map (header_bytes bytes) front)) → span_bytes bytes query ≡ after_first is_question_mark (span_bytes bytes r.path) →
     decision_meaning decided (after_first is_question_mark (span_bytes bytes r.path)) ≡ request_meaning (span_bytes bytes r.method) (span_bytes bytes r.path) →
     IsJudged bytes (record { decision = Some decided; query = query; closes = ending; len = r.len })
-head-judged bytes fields front r head some ending decided query found room limit len within inner is tells e ends asked means =
+head-judged bytes fields front r head some ending decided query found room limit len within inner is some-is e ends asked means =
     let whole = parsed-whole bytes fields r head found room limit len in
-    let none : announces_body head ≡ false = sym (told says_body bytes fields front r head found is) ∙ sym tells ∙ e in
-    let closing : ending ≡ closes head = ends ∙ rw (told says_close bytes fields front r head found is, found.version) refl in
+    let none : announces_body head ≡ false = sym (same-test says_body bytes fields front r head found is) ∙ sym some-is ∙ e in
+    let closing : ending ≡ closes head = ends ∙ rw (same-test says_close bytes fields front r head found is, found.version) refl in
     let meaning : decision_meaning decided (span_bytes bytes query) ≡ head_meaning head = ap (decision_meaning decided) asked ∙ means ∙ rw (found.method, found.path) refl in
     record {
       query = query-within r.len r.path query within inner;

@@ -64,7 +64,7 @@ field-at p bytes fields i d name value answer inside n v is passes =
 
 -- an answer that is true for equal texts alone is their comparison
 pub same-text : (answer : Bool) (a b : List ℕ) → (IsTrue answer ↔ (a ≡ b)) → answer ≡ bytes_eq a b
-same-text answer a b tells = grind (arith, bytes_eq-Decides)
+same-text answer a b decides = grind (arith, bytes_eq-Decides)
 
 pub is-first : (rest value : List ℕ) (n : ℕ) (answer : Bool) → n ≡ at rest → n ≤ length rest → answer ≡ is_close (trim_ows (take n rest)) → answer ≡ true →
     list_any is_close (parts rest) ≡ list_any is_close (parts value) → true ≡ list_any is_close (parts value)

@@ -129,7 +129,7 @@ reply-queries answers closing (Asks query) old text new (said, answer, e) =
 pub replied-queries : {A : Type 0} (answers : A → List ℕ → Said → A → Type 0) (piece : List ℕ) (taken : ℕ) (old fed new : Course) (now between : A) (reply : List ℕ) (on : Bool) → HasReplied answers piece taken old fed new now reply between on →
     (queries : List QueryOutcome) × HasAsked answers now queries between × ((later : List QueryOutcome) → HasReplied says_as_listed piece taken old fed new (queries ++ later) reply later on)
 replied-queries answers piece taken old fed new now between reply on r =
-    let (queries, asked, tells) = reply-queries answers (is_closing fed) (decision_meaning r.decision (query_of fed.progress)) now reply between r.replies in (
+    let (queries, asked, replied) = reply-queries answers (is_closing fed) (decision_meaning r.decision (query_of fed.progress)) now reply between r.replies in (
       queries,
       asked,
       λ later. record {
@@ -138,7 +138,7 @@ replied-queries answers piece taken old fed new now between reply on r =
         feeds = r.feeds;
         done = r.done;
         step = r.step;
-        replies = tells later;
+        replies = replied later;
         goes = r.goes;
         next = r.next;
       },

@@ -119,10 +119,10 @@ impl Received {
         ensures takes { Takes self.old.bytes.items piece.now result (progress self.new) }
     {
         let before = self.bytes.len();
-        let (front, _) = piece.split_at(piece.len().min(HEAD_BYTES - before));
-        let is_due = self.is_due(front);
-        self.has_text = self.has_text_with(front);
-        add(&mut self.bytes, front);
+        let (prefix, _) = piece.split_at(piece.len().min(HEAD_BYTES - before));
+        let is_due = self.is_due(prefix);
+        self.has_text = self.has_text_with(prefix);
+        add(&mut self.bytes, prefix);
         self.parsed = last_parsed(is_due, self.bytes.len(), self.parsed);
         let judged = judge(&self.bytes, is_due);
         self.bytes.truncate(judged.len);

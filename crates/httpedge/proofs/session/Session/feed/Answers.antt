@@ -70,14 +70,14 @@ returns-then-not-goes_on-clause-said g c =
       goes = c.reply-outgoing.ensures.next;
       next = c.reply-outgoing.ensures.forgets;
     } in
-    let (queries, asked, tells) = replied-queries g.A.Asks.answers c.args.piece.now c.feed-fed.result.taken c.self.inside.conn c.feed-fed.new.self c.reply-outgoing.new.conn c.args.asks.now c.reply-outgoing.new.asks c.reply-outgoing.result.0 c.reply-outgoing.result.1 r in (
+    let (queries, asked, replied) = replied-queries g.A.Asks.answers c.args.piece.now c.feed-fed.result.taken c.self.inside.conn c.feed-fed.new.self c.reply-outgoing.new.conn c.args.asks.now c.reply-outgoing.new.asks c.reply-outgoing.result.0 c.reply-outgoing.result.1 r in (
       queries,
       asked,
       λ read written earlier responded later.
           subst (λ (first : List QueryOutcome). HasRespondedAt Closed says_as_listed (read ++ take c.feed-fed.result.taken c.args.piece.now) first (written ++ c.reply-outgoing.result.0) c.reply-outgoing.new.conn later)
           (sym (append_assoc earlier queries later))
           (responded-closed says_as_listed c.args.self.now c.self.inside.conn c.self.inside.outgoing c.self.inside.stage c.self.view_is wanted c.args.piece.now c.feed-fed.result.taken c.feed-fed.new.self c.reply-outgoing.new.conn
-          (queries ++ later) later c.reply-outgoing.result.0 c.reply-outgoing.result.1 (tells later) c.if-not-goes_on.true read written (earlier ++ (queries ++ later)) (responded (queries ++ later))),
+          (queries ++ later) later c.reply-outgoing.result.0 c.reply-outgoing.result.1 (replied later) c.if-not-goes_on.true read written (earlier ++ (queries ++ later)) (responded (queries ++ later))),
     )
 
 pub returns-else-not-goes_on-clause-all : goal.returns-else-not-goes_on-clause-all
@@ -133,14 +133,14 @@ returns-else-not-goes_on-clause-said g c =
       goes = c.reply-outgoing.ensures.next;
       next = c.reply-outgoing.ensures.forgets;
     } in
-    let (queries, asked, tells) = replied-queries g.A.Asks.answers c.args.piece.now c.feed-fed.result.taken c.self.inside.conn c.feed-fed.new.self c.reply-outgoing.new.conn c.args.asks.now c.reply-outgoing.new.asks c.reply-outgoing.result.0 c.reply-outgoing.result.1 r in (
+    let (queries, asked, replied) = replied-queries g.A.Asks.answers c.args.piece.now c.feed-fed.result.taken c.self.inside.conn c.feed-fed.new.self c.reply-outgoing.new.conn c.args.asks.now c.reply-outgoing.new.asks c.reply-outgoing.result.0 c.reply-outgoing.result.1 r in (
       queries,
       asked,
       λ read written earlier responded later.
           subst (λ (first : List QueryOutcome). HasRespondedAt c.self.inside.stage says_as_listed (read ++ take c.feed-fed.result.taken c.args.piece.now) first (written ++ c.reply-outgoing.result.0) c.reply-outgoing.new.conn later)
           (sym (append_assoc earlier queries later))
           (responded-on says_as_listed c.args.self.now c.self.inside.conn c.self.inside.outgoing c.self.inside.stage c.self.view_is wanted c.args.piece.now c.feed-fed.result.taken c.feed-fed.new.self c.reply-outgoing.new.conn
-          (queries ++ later) later c.reply-outgoing.result.0 c.reply-outgoing.result.1 (tells later) c.if-not-goes_on.false read written (earlier ++ (queries ++ later)) (responded (queries ++ later))),
+          (queries ++ later) later c.reply-outgoing.result.0 c.reply-outgoing.result.1 (replied later) c.if-not-goes_on.false read written (earlier ++ (queries ++ later)) (responded (queries ++ later))),
     )
 
 pub returns-in_default-clause-said : goal.returns-in_default-clause-said
