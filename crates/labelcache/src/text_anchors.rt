@@ -74,8 +74,8 @@ fn has_close(anchors: &[Pixel], anchor: Pixel, distance: u16) -> bool
     requires anchor { IsAnchor anchor }
     ensures { IsTrue result ↔ Any (IsAnchorNear anchor distance) anchors.now }
 {
-    for place in anchors {
-        if is_close(anchor, *place, distance) {
+    for other in anchors {
+        if is_close(anchor, *other, distance) {
             return true;
         }
     }

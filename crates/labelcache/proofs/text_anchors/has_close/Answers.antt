@@ -7,16 +7,16 @@ use Rattle.labelcache.proofs.text_anchors.has_close.Goals as goal
 
 pub returns : goal.returns
 returns c =
-    let t = c.loop-place-test.false in (
+    let t = c.loop-other-test.false in (
       λ h. absurd (false≢true h),
-      λ a. absurd (c.loop-place.invariant a.0 a.1 (omega (arith, t, a.2)) (slice_get-get_or c.args.anchors.now a.0 a.1 a.2 ∙ ap Some a.3) a.4),
+      λ a. absurd (c.loop-other.invariant a.0 a.1 (omega (arith, t, a.2)) (slice_get-get_or c.args.anchors.now a.0 a.1 a.2 ∙ ap Some a.3) a.4),
     )
 
-pub loop-place-preserved : goal.loop-place-preserved
-loop-place-preserved c = λ i x lt is near. ⊎_elim
-    (λ (h : i < c.loop-place.place-index). c.loop-place.invariant i x h is near)
-    (λ (h : c.loop-place.place-index ≤ i).
-    let e : i ≡ c.loop-place.place-index = omega (arith, lt, h) in
-    let here : c.place-item.result ≡ x = c.place-item.is ∙ get_or_from_slice_get c.args.anchors.now c.loop-place.place-index x c.place-item.result (rw e at is) in
+pub loop-other-preserved : goal.loop-other-preserved
+loop-other-preserved c = λ i x lt is near. ⊎_elim
+    (λ (h : i < c.loop-other.other-index). c.loop-other.invariant i x h is near)
+    (λ (h : c.loop-other.other-index ≤ i).
+    let e : i ≡ c.loop-other.other-index = omega (arith, lt, h) in
+    let here : c.other-item.result ≡ x = c.other-item.is ∙ get_or_from_slice_get c.args.anchors.now c.loop-other.other-index x c.other-item.result (rw e at is) in
     absurd (false≢true (sym c.if-is_close.false ∙ c.is_close.ensures.1 (subst (λ (p : PixelValue). IsAnchorNear c.args.anchor c.args.distance p) (sym here) near))))
-    (cases_lt i c.loop-place.place-index)
+    (cases_lt i c.loop-other.other-index)
