@@ -111,10 +111,10 @@ labelled-more : (scene : SceneValue) (done : List ℕ) (index : ℕ) (a b c : Li
     c ≡ a ++ candidate_list scene.view scene.scale scene.map (done ++ index ∷ [])
 labelled-more scene done index a b c p q =
     let candidates = classified_candidates scene.view scene.map.font in
-    let met = classified_chosen scene.scale scene.map in
-    let early = flat_map candidates (flat_map met done) in
-    let one = flat_map candidates (met index) in
-    rw (flat_map-append met done (index ∷ []), append-nil (met index), flat_map-append candidates (flat_map met done) (met index))
+    let classified = classified_chosen scene.scale scene.map in
+    let early = flat_map candidates (flat_map classified done) in
+    let one = flat_map candidates (classified index) in
+    rw (flat_map-append classified done (index ∷ []), append-nil (classified index), flat_map-append candidates (flat_map classified done) (classified index))
     (q ∙ ap (λ (z : List CandidateValue). z ++ one) p ∙ append_assoc a early one)
 
 pub drawn-to-next : (scene : SceneValue) (chosen : List ℕ) (index : ℕ) (after : List ℕ) (a b c : DrawingValue) → IsDrawnTo scene chosen (index ∷ after) a b →
@@ -173,12 +173,12 @@ pub hidden-layer : (scene : SceneValue) (index : ℕ) (layer : LayerFields) (lab
 hidden-layer scene index layer labels is hidden = rw (is, hidden) (sym (append-nil labels))
 
 -- nor has a layer without a class that has a label
-unlabelled-class : (view : ViewValue) (font : Option FontFields) (met : ClassifiedFeatureValue) → has_label met.class ≡ false → classified_candidates view font met ≡ []
-unlabelled-class view None met none = refl
-unlabelled-class view (Some font) met none = go met.class.label none
+unlabelled-class : (view : ViewValue) (font : Option FontFields) (classified : ClassifiedFeatureValue) → has_label classified.class ≡ false → classified_candidates view font classified ≡ []
+unlabelled-class view None classified none = refl
+unlabelled-class view (Some font) classified none = go classified.class.label none
   where
     go : (label : Option LabelFields) → is_some label ≡ false →
-        option_map_or (λ l. option_map_or (candidate_at l (label_text met.layer met.feature)) (shown_anchor view met.layer.kind met.feature) []) label [] ≡ []
+        option_map_or (λ l. option_map_or (candidate_at l (label_text classified.layer classified.feature)) (shown_anchor view classified.layer.kind classified.feature) []) label [] ≡ []
     go None none = refl
     go (Some l) none = absurd (false≢true (sym none))
 

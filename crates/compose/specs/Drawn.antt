@@ -18,14 +18,14 @@ pub record DrawingValue : Type 0 where
   pub labels : List CandidateValue
 
 -- the classified features have been painted over the picture, and their candidates are added
-pub record IsDrawn (scene : SceneValue) (old new : DrawingValue) (met : List ClassifiedFeatureValue) : Type 0 where
-  pub painted : IsPainted old.canvas new.canvas (flat_map (classified_shapes scene.view scene.map.symbols) met)
-  pub labelled : new.labels ≡ old.labels ++ flat_map (classified_candidates scene.view scene.map.font) met
+pub record IsDrawn (scene : SceneValue) (old new : DrawingValue) (classified : List ClassifiedFeatureValue) : Type 0 where
+  pub painted : IsPainted old.canvas new.canvas (flat_map (classified_shapes scene.view scene.map.symbols) classified)
+  pub labelled : new.labels ≡ old.labels ++ flat_map (classified_candidates scene.view scene.map.font) classified
 
 -- the candidates of the classified features are added, and the picture is as it was
-pub record IsLabelled (scene : SceneValue) (old new : DrawingValue) (met : List ClassifiedFeatureValue) : Type 0 where
+pub record IsLabelled (scene : SceneValue) (old new : DrawingValue) (classified : List ClassifiedFeatureValue) : Type 0 where
   pub canvas : new.canvas ≡ old.canvas
-  pub labelled : new.labels ≡ old.labels ++ flat_map (classified_candidates scene.view scene.map.font) met
+  pub labelled : new.labels ≡ old.labels ++ flat_map (classified_candidates scene.view scene.map.font) classified
 
 -- the layer at an index that stands before others in a list has been drawn; or it stands among these again, and only its candidates are added
 abbrev pub IsMentioned : SceneValue → ℕ → List ℕ → DrawingValue → DrawingValue → Type 0

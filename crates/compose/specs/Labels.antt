@@ -48,13 +48,13 @@ candidate_at label (b ∷ bs) anchor = record { text = b ∷ bs; anchor = anchor
 
 -- the candidate of a classified feature: its text, where its class has a label and its anchor lies in the picture
 abbrev pub label_candidates : ViewValue → ClassifiedFeatureValue → List CandidateValue
-label_candidates view met =
-    option_map_or (λ label. option_map_or (candidate_at label (label_text met.layer met.feature)) (shown_anchor view met.layer.kind met.feature) []) met.class.label []
+label_candidates view classified =
+    option_map_or (λ label. option_map_or (candidate_at label (label_text classified.layer classified.feature)) (shown_anchor view classified.layer.kind classified.feature) []) classified.class.label []
 
 -- the same on a map, which has no labels without a font
 abbrev pub classified_candidates : ViewValue → Option FontFields → ClassifiedFeatureValue → List CandidateValue
-classified_candidates view None met = []
-classified_candidates view (Some font) met = label_candidates view met
+classified_candidates view None classified = []
+classified_candidates view (Some font) classified = label_candidates view classified
 
 -- whether features of a class may have labels
 abbrev pub has_label : ClassFields → Bool

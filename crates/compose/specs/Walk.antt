@@ -41,7 +41,7 @@ classified_list scale m chosen = flat_map (classified_chosen scale m) chosen
 
 -- what is painted of a classified feature
 abbrev pub classified_shapes : ViewValue → List Symbol → ClassifiedFeatureValue → List PaintedShape
-classified_shapes view symbols met = class_shapes view symbols met.layer.kind met.feature met.class
+classified_shapes view symbols classified = class_shapes view symbols classified.layer.kind classified.feature classified.class
 
 -- the law that the paint list is what is painted of the classified features
 abbrev pub PaintListIsOfTheMet : Type 0

@@ -62,21 +62,21 @@ fn label_text<'a>(layer: &LayerFields, feature: &'a FeatureFields) -> &'a str
 pub fn add_candidate<'a>(
     labels: &mut Cache<'a>,
     scene: &Scene<'_>,
-    met: &ClassifiedFeature<'a>,
+    classified: &ClassifiedFeature<'a>,
 ) -> Result<(), AllocError>
-    ensures { OnOk result (labels.new ≡ labels.old ++ classified_candidates scene.now.view scene.now.map.font met.now) }
+    ensures { OnOk result (labels.new ≡ labels.old ++ classified_candidates scene.now.view scene.now.map.font classified.now) }
 {
     let Some(_font) = scene.font() else {
         return Ok(());
     };
-    let Some(label) = &met.class().label else {
+    let Some(label) = &classified.class().label else {
         return Ok(());
     };
-    let text = label_text(met.layer(), met.feature());
+    let text = label_text(classified.layer(), classified.feature());
     if text.is_empty() {
         return Ok(());
     }
-    match shown_anchor(scene, met.layer().kind, met.feature()) {
+    match shown_anchor(scene, classified.layer().kind, classified.feature()) {
         Some(anchor) => labels.add(Candidate::new(text, anchor, label.get())),
         None => Ok(()),
     }

@@ -157,24 +157,24 @@ fn draw_feature<'a>(
     let Some(class) = scene.class_of(layer, feature) else {
         return Ok(());
     };
-    let met = ClassifiedFeature::new(layer, feature, class);
-    paint_feature(&mut drawing.canvas, scene, &met)?;
-    add_candidate(&mut drawing.labels, scene, &met)
+    let classified = ClassifiedFeature::new(layer, feature, class);
+    paint_feature(&mut drawing.canvas, scene, &classified)?;
+    add_candidate(&mut drawing.labels, scene, &classified)
 }
 
 // Paints a classified feature.
 fn paint_feature(
     canvas: &mut Canvas,
     scene: &Scene<'_>,
-    met: &ClassifiedFeature<'_>,
+    classified: &ClassifiedFeature<'_>,
 ) -> Result<(), AllocError>
     requires width { canvas.old.width ≡ scene.now.view.width }
     requires height { canvas.old.height ≡ scene.now.view.height }
-    ensures { OnOk result (IsPainted canvas.old canvas.new (classified_shapes scene.now.view scene.now.map.symbols met.now)) }
+    ensures { OnOk result (IsPainted canvas.old canvas.new (classified_shapes scene.now.view scene.now.map.symbols classified.now)) }
 {
-    let parts = met.feature().parts.as_slice();
-    let styles = met.class().styles.as_slice();
-    match met.layer().kind {
+    let parts = classified.feature().parts.as_slice();
+    let styles = classified.class().styles.as_slice();
+    match classified.layer().kind {
         Geometry::Polygon => paint_polygon(canvas, scene, parts, styles),
         Geometry::Line => paint_lines(canvas, scene, parts, styles),
         Geometry::Point => {
