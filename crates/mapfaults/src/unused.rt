@@ -34,7 +34,7 @@ fn lacks_side(items: &[Text], side: &Operand) -> bool
 }
 
 // Whether one of some parts does.
-#[cycle(lacking)]
+#[cycle(missing)]
 fn lacks_in_some(items: &[Text], parts: &[Expr]) -> bool
     ensures { result ≡ list_any (lacks_in items.now) parts.now }
 {
@@ -47,7 +47,7 @@ fn lacks_in_some(items: &[Text], parts: &[Expr]) -> bool
 }
 
 // Whether an expression looks at a missing item.
-#[cycle(lacking)]
+#[cycle(missing)]
 fn lacks_in(items: &[Text], expr: &Expr) -> bool
     ensures { result ≡ lacks_in items.now expr.now }
 {

@@ -23,10 +23,14 @@ fn read_number(text: &str) -> Option<u128>
 }
 
 // Refuses a text other than this one.
-fn fixed(wanted: &str, refusal: Code, text: &str) -> Result<(), Code>
-    ensures { result ≡ fixed wanted.now refusal text.now }
+fn fixed(expected: &str, refusal: Code, text: &str) -> Result<(), Code>
+    ensures { result ≡ fixed expected.now refusal text.now }
 {
-    if text == wanted { Ok(()) } else { Err(refusal) }
+    if text == expected {
+        Ok(())
+    } else {
+        Err(refusal)
+    }
 }
 
 /// What SERVICE means.
