@@ -17,7 +17,7 @@ use Rattle.mapparse.specs.Fault.{fault_in, kind_of}
 use Rattle.mapparse.specs.Mapping.{map_of, reported_by}
 use Rattle.mapparse.specs.Uses.{uses_of}
 use Rattle.mapfaults.specs.Missing.{AreOnCause, AreOnFiles, NamesMissing}
-use Rattle.subcommands.specs.Explained.{IsMapFault, NamesFirst, with_words}
+use Rattle.subcommands.specs.Explained.{IsMapFault, NamesFirst, with_message}
 use Rattle.subcommands.specs.Folder.{ComesTo, FilesOf, Giving}
 use Rattle.subcommands.specs.Mapfiles.{HasReadFile, HasReadMapfile}
 
@@ -27,33 +27,33 @@ reported first (Ok map) fault e = absurd (cc e)
 reported first (Err other) fault e = cc e
 
 -- the message on a file that can't be read names it
-names : (cause : FileCause) (files : List FileBytes) (tree : MapTree) (words : List ℕ) → kind_of cause ≡ MissingFile → AreOnCause cause files tree words →
-    NamesMissing files tree words
-names Missing files tree words e on = on
-names (NoPixmap fault) files tree words e on = absurd (cc e)
-names (NoTable fault) files tree words e on = absurd (cc e)
-names (NoFont fault) files tree words e on = absurd (cc e)
+names : (cause : FileCause) (files : List FileBytes) (tree : MapTree) (message : List ℕ) → kind_of cause ≡ MissingFile → AreOnCause cause files tree message →
+    NamesMissing files tree message
+names Missing files tree message e on = on
+names (NoPixmap fault) files tree message e on = absurd (cc e)
+names (NoTable fault) files tree message e on = absurd (cc e)
+names (NoFont fault) files tree message e on = absurd (cc e)
 
-named : (mapfile : List ℕ) (tree : MapTree) (files : List FileBytes) (fault : Fault) (words : Option (List ℕ)) → tree_of (lexed mapfile) ≡ Ok tree →
-    map_of files tree ≡ Err fault → IfSome words (AreOnFiles files tree) → fault.kind ≡ MissingFile → IfSome words (NamesFirst files mapfile)
+named : (mapfile : List ℕ) (tree : MapTree) (files : List FileBytes) (fault : Fault) (message : Option (List ℕ)) → tree_of (lexed mapfile) ≡ Ok tree →
+    map_of files tree ≡ Err fault → IfSome message (AreOnFiles files tree) → fault.kind ≡ MissingFile → IfSome message (NamesFirst files mapfile)
 named mapfile tree files fault None read is on e = tt
-named mapfile tree files fault (Some words) read is on e =
+named mapfile tree files fault (Some message) read is on e =
     let same : fault_in on.fault ≡ fault = reported _ _ fault (rw on.is_first at is) in
-    record { tree = tree; is_read = read; names = names on.fault.cause files tree words (ap (λ (f : Fault). f.kind) same ∙ e) on.on }
+    record { tree = tree; is_read = read; names = names on.fault.cause files tree message (ap (λ (f : Fault). f.kind) same ∙ e) on.on }
 
 -- the fault of a file, with the message on it
-pub of-files : (gives : Giving) (explains : Bool) (mapfile : List ℕ) (tree : MapTree) (files : List FileBytes) (fault : ParseFault) (words : Option (List ℕ)) →
+pub of-files : (gives : Giving) (explains : Bool) (mapfile : List ℕ) (tree : MapTree) (files : List FileBytes) (fault : ParseFault) (message : Option (List ℕ)) →
     tree_of (lexed mapfile) ≡ Ok tree → FilesOf gives (uses_of tree) files → IsFaultOf (map_of files tree) fault →
-    (explains ≡ false → words ≡ None) → IfSome words (AreOnFiles files tree) → IsMapFault gives explains mapfile (with_words fault words)
-of-files gives explains mapfile tree files NoMemory words read are is unasked on = tt
-of-files gives explains mapfile tree files (At line kind) words read are is unasked on = record {
+    (explains ≡ false → message ≡ None) → IfSome message (AreOnFiles files tree) → IsMapFault gives explains mapfile (with_message fault message)
+of-files gives explains mapfile tree files NoMemory message read are is unasked on = tt
+of-files gives explains mapfile tree files (At line kind) message read are is unasked on = record {
   is_fault = record {
     files = files;
     are = λ names e. let same : uses_of tree ≡ names = cc (rw read at e) in rw same at are;
     is = rw read is;
   };
   unasked = unasked;
-  named = named mapfile tree files _ words read is on;
+  named = named mapfile tree files _ message read is on;
 }
 
 -- the map of a mapfile with the files of a folder, and these files

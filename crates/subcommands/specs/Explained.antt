@@ -14,21 +14,21 @@ use Rattle.subcommands.specs.declared.map_fault.MapFault.{MapFault}
 use Rattle.subcommands.specs.declared.map_fault.MapFault.TheVariants as unmapped
 
 -- a message names the first file that a mapfile uses and that isn't among these
-pub record NamesFirst (files : List FileBytes) (mapfile words : List ℕ) : Type 0 where
+pub record NamesFirst (files : List FileBytes) (mapfile message : List ℕ) : Type 0 where
   pub tree : MapTree
   pub is_read : tree_of (lexed mapfile) ≡ Ok tree
-  pub names : NamesMissing files tree words
+  pub names : NamesMissing files tree message
 
 -- a mapfile has this fault with the files of a folder, and this message is on it. There is none where `explains` is false, or where memory was
 -- refused for it; the message on a file that can't be read names it
-pub record IsExplained (gives : Giving) (explains : Bool) (mapfile : List ℕ) (fault : Fault) (words : Option (List ℕ)) : Type 0 where
+pub record IsExplained (gives : Giving) (explains : Bool) (mapfile : List ℕ) (fault : Fault) (message : Option (List ℕ)) : Type 0 where
   pub is_fault : ComesTo gives mapfile (Err fault)
-  pub unasked : explains ≡ false → words ≡ None
-  pub named : fault.kind ≡ MissingFile → IfSome words (NamesFirst is_fault.files mapfile)
+  pub unasked : explains ≡ false → message ≡ None
+  pub named : fault.kind ≡ MissingFile → IfSome message (NamesFirst is_fault.files mapfile)
 
 -- why a mapfile gives no map: its fault, or memory was refused
 abbrev pub IsMapFault : Giving → Bool → List ℕ → MapFault → Type 0
-IsMapFault gives explains mapfile (unmapped.Faulty fault words) = IsExplained gives explains mapfile fault words
+IsMapFault gives explains mapfile (unmapped.Faulty fault message) = IsExplained gives explains mapfile fault message
 IsMapFault gives explains mapfile unmapped.NoMemory = Unit {0}
 
 -- a fault is that of a file that can't be read
@@ -37,6 +37,6 @@ has_missing (At line MissingFile) = true
 has_missing fault = false
 
 -- a fault with the message on it
-abbrev pub with_words : ParseFault → Option (List ℕ) → MapFault
-with_words (At line kind) words = unmapped.Faulty (record { line = line; kind = kind }) words
-with_words NoMemory words = unmapped.NoMemory
+abbrev pub with_message : ParseFault → Option (List ℕ) → MapFault
+with_message (At line kind) message = unmapped.Faulty (record { line = line; kind = kind }) message
+with_message NoMemory message = unmapped.NoMemory

@@ -58,17 +58,17 @@ pub record HasReadMapfile (gives : Giving) (before after : Option (List ℕ)) (m
 -- the report on a fault: its line, and then, if there is one, the message on it. Before the message are the name of the mapfile and the fault's line
 abbrev pub explained_fault : List ℕ → Fault → Option (List ℕ) → List ℕ
 explained_fault name fault None = mapfile_fault fault.line (number_of fault.kind)
-explained_fault name fault (Some words) =
-    mapfile_fault fault.line (number_of fault.kind) ++ (name ++ (codes ":" ++ (decimal fault.line ++ (codes ": " ++ (words ++ codes "\n")))))
+explained_fault name fault (Some message) =
+    mapfile_fault fault.line (number_of fault.kind) ++ (name ++ (codes ":" ++ (decimal fault.line ++ (codes ": " ++ (message ++ codes "\n")))))
 
 -- a mapfile was read, and its fault was reported with the message on it, if there is one
 pub record HasExplainedFault (gives : Giving) (explains : Bool) (name : List ℕ) (before after : Option (List ℕ)) (old new : WriterState) : Type 0 where
   pub mapfile : List ℕ
   pub read : HasReadFile before after mapfile
   pub fault : Fault
-  pub words : Option (List ℕ)
-  pub explained : IsExplained gives explains mapfile fault words
-  pub reported : IsReported old new (explained_fault name fault words)
+  pub message : Option (List ℕ)
+  pub explained : IsExplained gives explains mapfile fault message
+  pub reported : IsReported old new (explained_fault name fault message)
 
 -- a mapfile gave no map: it has a fault, or was not read
 abbrev pub GivesNoMap : Giving → Bool → Failure → ReadFile → Option (List ℕ) → Option (List ℕ) → WriterState → WriterState → Type 0

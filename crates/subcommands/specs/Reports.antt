@@ -5,10 +5,10 @@ use Rattle.subcommands.specs.declared.unread.UnreadCause.{UnreadCause}
 use Rattle.subcommands.specs.declared.unread.UnreadCause.TheVariants.{Missing, NotAllowed, Other}
 
 -- why a file can't be read, in a message that follows its name
-unfoldable pub cause_words : UnreadCause → List ℕ
-cause_words Missing = codes ": the file is missing\n"
-cause_words NotAllowed = codes ": the file may not be read\n"
-cause_words Other = codes ": the file can't be read\n"
+unfoldable pub cause_message : UnreadCause → List ℕ
+cause_message Missing = codes ": the file is missing\n"
+cause_message NotAllowed = codes ": the file may not be read\n"
+cause_message Other = codes ": the file can't be read\n"
 
 -- a file that is read by its name, and why it can't be read, if it can't
 pub record ReadFile : Type 0 where
@@ -18,7 +18,7 @@ pub record ReadFile : Type 0 where
 -- a file that can't be read, by its name; where `explains` is true, a second line says why
 abbrev pub file_fault : Bool → ReadFile → List ℕ
 file_fault false file = codes "fault file " ++ (file.name ++ codes "\n")
-file_fault true file = codes "fault file " ++ (file.name ++ (codes "\n" ++ (file.name ++ cause_words file.cause)))
+file_fault true file = codes "fault file " ++ (file.name ++ (codes "\n" ++ (file.name ++ cause_message file.cause)))
 
 -- the fault of a mapfile, by its line and the number of its kind
 abbrev pub mapfile_fault : ℕ → ℕ → List ℕ

@@ -1,5 +1,5 @@
 ghost use Rattle.std.specs.Prelude.{◌≡◌};
-ghost use Rattle.subcommands.specs.Explained.{with_words};
+ghost use Rattle.subcommands.specs.Explained.{with_message};
 
 use mapdefs::Text;
 use mapparse::ParseFault;
@@ -14,7 +14,7 @@ pub enum MapFault {
         /// Its first one.
         fault: Fault,
         /// The message on it, where it is requested and memory isn't refused for it.
-        words: Option<Text>,
+        message: Option<Text>,
     },
     /// Memory was refused.
     NoMemory,
@@ -22,13 +22,13 @@ pub enum MapFault {
 
 impl MapFault {
     /// A fault with the message on it.
-    pub fn new(fault: ParseFault, words: Option<Text>) -> Self
-        ensures { result ≡ with_words fault words }
+    pub fn new(fault: ParseFault, message: Option<Text>) -> Self
+        ensures { result ≡ with_message fault message }
     {
         match fault {
             ParseFault::At { line, kind } => MapFault::Faulty {
                 fault: Fault { line, kind },
-                words,
+                message,
             },
             ParseFault::NoMemory => MapFault::NoMemory,
         }

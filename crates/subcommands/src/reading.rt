@@ -18,7 +18,7 @@ use std::alloc::Global;
 use streams::{Sink, Source};
 
 // The message on a fault of the text of a mapfile, where it is requested.
-fn source_words(alloc: Global, explains: bool, source: &[u8], fault: &ParseFault) -> Option<Text>
+fn source_message(alloc: Global, explains: bool, source: &[u8], fault: &ParseFault) -> Option<Text>
     ensures unasked { explains ≡ false → result ≡ None }
     ensures unnamed { has_missing fault.now ≡ true → result ≡ None }
 {
@@ -34,7 +34,7 @@ fn source_words(alloc: Global, explains: bool, source: &[u8], fault: &ParseFault
 }
 
 // The message on a fault of the files of a mapfile, where it is requested.
-fn file_words(alloc: Global, explains: bool, at_hand: MapfileAtHand<'_>) -> Option<Text>
+fn file_message(alloc: Global, explains: bool, at_hand: MapfileAtHand<'_>) -> Option<Text>
     ensures unasked { explains ≡ false → result ≡ None }
     ensures on { IfSome result (AreOnFiles at_hand.entry.files.now at_hand.entry.mapfile.now) }
 {
@@ -59,8 +59,8 @@ pub fn read_map_of<F: Folder>(
     let mapfile = match Mapfile::read(alloc, source) {
         Ok(mapfile) => mapfile,
         Err(fault) => {
-            let words = source_words(alloc, explains, source, &fault);
-            return Err(MapFault::new(fault, words));
+            let message = source_message(alloc, explains, source, &fault);
+            return Err(MapFault::new(fault, message));
         }
     };
     let files = files_of(alloc, folder, &mapfile)?;
@@ -69,10 +69,10 @@ pub fn read_map_of<F: Folder>(
         mapfile: &mapfile,
         files: &files,
     };
-    let words = file_words(alloc, explains, at_hand);
+    let message = file_message(alloc, explains, at_hand);
     match mapfile.into_map(alloc, &files) {
         Ok(map) => Ok((map, files)),
-        Err(fault) => Err(MapFault::new(fault, words)),
+        Err(fault) => Err(MapFault::new(fault, message)),
     }
 }
 
@@ -130,8 +130,8 @@ pub fn read_explained<F: Folder, I: Source + HasCause, E: Sink>(
     let source = read_file(alloc, job.explains, &mut job.mapfile, errors)?;
     match read_map_of(alloc, job.folder, job.explains, &source) {
         Ok((map, files)) => Ok(ReadMap { map, source, files }),
-        Err(MapFault::Faulty { fault, words }) => {
-            report_explained(errors, job.mapfile.name, fault, &words);
+        Err(MapFault::Faulty { fault, message }) => {
+            report_explained(errors, job.mapfile.name, fault, &message);
             Err(Failure::MapfileFault)
         }
         Err(MapFault::NoMemory) => Err(Failure::NoMemory),

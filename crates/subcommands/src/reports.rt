@@ -1,7 +1,7 @@
 ghost use Rattle.std.specs.Prelude.{◌≡◌, ◌++◌, codes};
 ghost use Rattle.console.specs.Console.{IsReported};
 ghost use Rattle.subcommands.specs.Mapfiles.{explained_fault};
-ghost use Rattle.subcommands.specs.Reports.{ReadFile, cause_words, file_fault, mapfile_fault};
+ghost use Rattle.subcommands.specs.Reports.{ReadFile, cause_message, file_fault, mapfile_fault};
 
 use crate::unread::UnreadCause;
 use console::{Writes, report};
@@ -11,9 +11,9 @@ use mapwords::Fault;
 use streams::Sink;
 
 // Why a file can't be read, in a message that follows its name.
-#[tactic(auto, unfolding(crate::specs::Reports::cause_words))]
-fn cause_words(cause: UnreadCause) -> &'static str
-    ensures { result.now ≡ cause_words cause }
+#[tactic(auto, unfolding(crate::specs::Reports::cause_message))]
+fn cause_message(cause: UnreadCause) -> &'static str
+    ensures { result.now ≡ cause_message cause }
 {
     match cause {
         UnreadCause::Missing => ": the file is missing\n",
@@ -23,10 +23,10 @@ fn cause_words(cause: UnreadCause) -> &'static str
 }
 
 // Reports a file that can't be read: its name, and on a second line its name and the message on the cause.
-fn report_with_cause<'a, E: Sink>(errors: &mut E, name: &'a [u8], words: &'a [u8])
-    ensures { IsReported (⟦<E as Writes>⟧.state errors.old) (⟦<E as Writes>⟧.state errors.new) (codes "fault file " ++ (name.now ++ (codes "\n" ++ (name.now ++ words.now)))) }
+fn report_with_cause<'a, E: Sink>(errors: &mut E, name: &'a [u8], message: &'a [u8])
+    ensures { IsReported (⟦<E as Writes>⟧.state errors.old) (⟦<E as Writes>⟧.state errors.new) (codes "fault file " ++ (name.now ++ (codes "\n" ++ (name.now ++ message.now)))) }
 {
-    report(errors, &[b"fault file ", name, b"\n", name, words]);
+    report(errors, &[b"fault file ", name, b"\n", name, message]);
 }
 
 /// Reports a file that can't be read: its name, and, where that is requested, the cause.
@@ -34,7 +34,7 @@ pub fn report_file<E: Sink>(errors: &mut E, explains: bool, name: &str, cause: U
     ensures { IsReported (⟦<E as Writes>⟧.state errors.old) (⟦<E as Writes>⟧.state errors.new) (file_fault explains (record { name = name.now; cause = cause })) }
 {
     if explains {
-        report_with_cause(errors, name.as_bytes(), cause_words(cause).as_bytes());
+        report_with_cause(errors, name.as_bytes(), cause_message(cause).as_bytes());
     } else {
         report(errors, &[b"fault file ", name.as_bytes(), b"\n"]);
     }
@@ -51,11 +51,11 @@ pub fn report_mapfile_fault<E: Sink>(errors: &mut E, line: u64, kind: u8)
 }
 
 /// Reports the fault of a mapfile, and the message on it, if there is one.
-pub fn report_explained<E: Sink>(errors: &mut E, name: &str, fault: Fault, words: &Option<Text>)
-    ensures { IsReported (⟦<E as Writes>⟧.state errors.old) (⟦<E as Writes>⟧.state errors.new) (explained_fault name.now fault words.now) }
+pub fn report_explained<E: Sink>(errors: &mut E, name: &str, fault: Fault, message: &Option<Text>)
+    ensures { IsReported (⟦<E as Writes>⟧.state errors.old) (⟦<E as Writes>⟧.state errors.new) (explained_fault name.now fault message.now) }
 {
     let Fault { line, kind } = fault;
-    let Some(words) = words else {
+    let Some(message) = message else {
         report_mapfile_fault(errors, line, kind.number());
         return;
     };
@@ -74,7 +74,7 @@ pub fn report_explained<E: Sink>(errors: &mut E, name: &str, fault: Fault, words
             b":",
             line,
             b": ",
-            words.as_str().as_bytes(),
+            message.as_str().as_bytes(),
             b"\n",
         ],
     );
