@@ -17,16 +17,16 @@ explains_end (Run name script explains) = explains
 explains_end (Serve name explains service journal) = explains
 
 -- the message why a port can't be listened on
-unfoldable pub cause_words : ListenCause → List ℕ
-cause_words Taken = codes " is taken\n"
-cause_words NotAllowed = codes " may not be listened on\n"
-cause_words Other = codes " can't be listened on\n"
+unfoldable pub cause_message : ListenCause → List ℕ
+cause_message Taken = codes " is taken\n"
+cause_message NotAllowed = codes " may not be listened on\n"
+cause_message Other = codes " can't be listened on\n"
 
 -- the message on a failure of the output, a port, the input with whose end a service ends, or memory. Other failures were reported by a line of their
 -- own; a session, which reads standard input, takes no option
 unfoldable pub sentence_on : Failure → Option (List ℕ)
 sentence_on OutputFailed = Some (codes "error: standard output can't be written\n")
-sentence_on (ListenFailed port cause) = Some (codes "error: port " ++ (decimal port ++ (codes " of 127.0.0.1" ++ cause_words cause)))
+sentence_on (ListenFailed port cause) = Some (codes "error: port " ++ (decimal port ++ (codes " of 127.0.0.1" ++ cause_message cause)))
 sentence_on SocketFailed = Some (codes "error: a port gives no connections, or a thread can't be started\n")
 sentence_on WatchFailed = Some (codes "error: standard input can't be read\n")
 sentence_on NoMemory = Some (codes "error: out of memory\n")

@@ -54,14 +54,14 @@ fault_of recover_fault.NoMemory = fault.NoMemory
 fault_of (recover_fault.Failed cause) = fault.Unavailable
 
 -- the message on a journal's fault, which a number may follow
-unfoldable pub fault_words : JournalFault → List ℕ
-fault_words fault.NotAJournal = codes "it is no journal"
-fault_words fault.OtherMap = codes "it is of another map"
-fault_words (fault.Damaged number) = codes "it is damaged behind record "
-fault_words (fault.Refused number) = codes "the map doesn't accept record "
-fault_words fault.InUse = codes "another program has it"
-fault_words fault.Unavailable = codes "it can't be read or written"
-fault_words fault.NoMemory = codes "out of memory"
+unfoldable pub fault_message : JournalFault → List ℕ
+fault_message fault.NotAJournal = codes "it is no journal"
+fault_message fault.OtherMap = codes "it is of another map"
+fault_message (fault.Damaged number) = codes "it is damaged behind record "
+fault_message (fault.Refused number) = codes "the map doesn't accept record "
+fault_message fault.InUse = codes "another program has it"
+fault_message fault.Unavailable = codes "it can't be read or written"
+fault_message fault.NoMemory = codes "out of memory"
 
 -- the number of a record
 abbrev pub number_text : JournalFault → List ℕ
@@ -78,7 +78,7 @@ failure_of other = failure.JournalFault
 
 -- the line that reports it, with the path of the journal
 abbrev pub journal_fault : List ℕ → JournalFault → List ℕ
-journal_fault path why = codes "fault journal " ++ (path ++ (codes ": " ++ (fault_words why ++ (number_text why ++ codes "\n"))))
+journal_fault path why = codes "fault journal " ++ (path ++ (codes ": " ++ (fault_message why ++ (number_text why ++ codes "\n"))))
 
 -- a host gave no log for a path, or memory was refused
 abbrev pub is_unopened : JournalFault → Type 0

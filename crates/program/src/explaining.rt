@@ -1,5 +1,5 @@
 ghost use Rattle.std.specs.Prelude.{◌≡◌, IfErr};
-ghost use Rattle.program.specs.Explaining.{ExplainsEnd, HasSaid, cause_words, explains_end, sentence_on};
+ghost use Rattle.program.specs.Explaining.{ExplainsEnd, HasSaid, cause_message, explains_end, sentence_on};
 
 use commandline::Command;
 use console::{Failure, ListenCause, Writes, report};
@@ -19,9 +19,9 @@ pub(crate) fn explains_end(command: Command<'_>) -> bool
 }
 
 // Why a port can't be listened on.
-#[tactic(auto, unfolding(crate::specs::Explaining::cause_words))]
-fn cause_words(cause: ListenCause) -> &'static [u8]
-    ensures { result.now ≡ cause_words cause }
+#[tactic(auto, unfolding(crate::specs::Explaining::cause_message))]
+fn cause_message(cause: ListenCause) -> &'static [u8]
+    ensures { result.now ≡ cause_message cause }
 {
     match cause {
         ListenCause::Taken => b" is taken\n",
@@ -42,7 +42,12 @@ fn report_failure<E: Sink>(failure: Failure, errors: &mut E)
             let port = digits.format(port).as_bytes();
             report(
                 errors,
-                &[b"error: port ", port, b" of 127.0.0.1", cause_words(cause)],
+                &[
+                    b"error: port ",
+                    port,
+                    b" of 127.0.0.1",
+                    cause_message(cause),
+                ],
             )
         }
         Failure::SocketFailed => report(

@@ -6,7 +6,7 @@ ghost use Rattle.console.specs.Console.{IsReported};
 ghost use Rattle.journal.specs.Fingerprint.{file_message};
 ghost use Rattle.journalfile.specs.Settled.{GarblesNoRecord};
 ghost use Rattle.subcommands.specs.Mapfiles.{TouchesNeither};
-ghost use Rattle.program.specs.Journals.{IsOpened, IsUnopened, ReportsEnd, failure_of, fault_of, fault_words, given_message, is_unopened, journal_fault, map_fingerprint, number_text};
+ghost use Rattle.program.specs.Journals.{IsOpened, IsUnopened, ReportsEnd, failure_of, fault_of, fault_message, given_message, is_unopened, journal_fault, map_fingerprint, number_text};
 
 use crate::host::{Files, Host, OpenFault};
 use console::{Failure, Writes, report};
@@ -66,9 +66,9 @@ impl JournalFault {
     }
 
     // The message on it, which a number may follow.
-    #[tactic(auto, unfolding(crate::specs::Journals::fault_words))]
-    fn words(self) -> &'static [u8]
-        ensures { result.now ≡ fault_words self }
+    #[tactic(auto, unfolding(crate::specs::Journals::fault_message))]
+    fn message(self) -> &'static [u8]
+        ensures { result.now ≡ fault_message self }
     {
         match self {
             JournalFault::NotAJournal => b"it is no journal",
@@ -83,12 +83,12 @@ impl JournalFault {
 }
 
 // Reports a fault, in parts.
-fn report_parts<'a, E: Sink>(errors: &mut E, path: &'a [u8], words: &'a [u8], number: &'a [u8])
-    ensures { IsReported (⟦<E as Writes>⟧.state errors.old) (⟦<E as Writes>⟧.state errors.new) (codes "fault journal " ++ (path.now ++ (codes ": " ++ (words.now ++ (number.now ++ codes "\n"))))) }
+fn report_parts<'a, E: Sink>(errors: &mut E, path: &'a [u8], message: &'a [u8], number: &'a [u8])
+    ensures { IsReported (⟦<E as Writes>⟧.state errors.old) (⟦<E as Writes>⟧.state errors.new) (codes "fault journal " ++ (path.now ++ (codes ": " ++ (message.now ++ (number.now ++ codes "\n"))))) }
 {
     report(
         errors,
-        &[b"fault journal ", path, b": ", words, number, b"\n"],
+        &[b"fault journal ", path, b": ", message, number, b"\n"],
     );
 }
 
@@ -100,9 +100,9 @@ pub(crate) fn report_journal_fault<E: Sink>(errors: &mut E, path: &str, fault: J
         Some(number) => {
             let mut digits = Buffer::new();
             let number = digits.format(number).as_bytes();
-            report_parts(errors, path.as_bytes(), fault.words(), number);
+            report_parts(errors, path.as_bytes(), fault.message(), number);
         }
-        None => report_parts(errors, path.as_bytes(), fault.words(), b""),
+        None => report_parts(errors, path.as_bytes(), fault.message(), b""),
     }
 }
 
