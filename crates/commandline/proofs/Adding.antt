@@ -16,7 +16,7 @@ pub stays-local : (old new : Command) (a : Arg) → (out-Command old).has_global
 stays-local old new a is local adds = adds.globals ∙ ap₂ ◌||◌ is local
 
 -- a subcommand that was made is the one of its definition
-pub joined : {E : Type 0} (old new : Command) (form : Result Command E) (line made : App) → app_of old ≡ line → IfOk form (λ f. app_of f ≡ made)
-    → IfOk form (λ f. (out-Command f).has_globals ≡ false) → IsWithSubcommand old form new → app_of new ≡ with_subcommand line made.top
+pub joined : {E : Type 0} (old new : Command) (subcommand : Result Command E) (line made : App) → app_of old ≡ line → IfOk subcommand (λ f. app_of f ≡ made)
+    → IfOk subcommand (λ f. (out-Command f).has_globals ≡ false) → IsWithSubcommand old subcommand new → app_of new ≡ with_subcommand line made.top
 joined old new (Ok f) line made is by local with = with local ∙ ap₂ with_subcommand is (ap (λ (a : App). a.top) by)
 joined old new (Err e) line made is by local with = absurd with

@@ -32,11 +32,11 @@ so-not : (b : Bool) → ¬ (b ≡ true) → b ≡ false
 so-not true none = absurd (none refl)
 so-not false none = refl
 
-pub not-taken : (forms line : App) (words : List Text) (refusal : Bool) (K : Type 0) → forms ≡ line → (takes forms words ≡ true → K) → (refusal ≡ true → ¬ K) →
-    refusal ≡ true → takes line words ≡ false
-not-taken forms line words refusal K same passes none is =
-    let P : App → Type 0 = λ a. takes a words ≡ true → K in
-    so-not (takes line words) (λ t. none is (subst P same passes t))
+pub not-taken : (program line : App) (arguments : List Text) (refusal : Bool) (K : Type 0) → program ≡ line → (takes program arguments ≡ true → K) → (refusal ≡ true → ¬ K) →
+    refusal ≡ true → takes line arguments ≡ false
+not-taken program line arguments refusal K same passes none is =
+    let P : App → Type 0 = λ a. takes a arguments ≡ true → K in
+    so-not (takes line arguments) (λ t. none is (subst P same passes t))
 
 -- the command line is among those that the definitions cover
 simple : is_simple app ≡ true
@@ -48,11 +48,11 @@ unfolding clap_on_literals
 free = refl
 
 -- so the matches are those of the arguments, which are taken
-pub parsed : (forms : App) (words : List Text) (m : ArgMatches) → forms ≡ app → HasMatchesOf forms words m → subcommand_rows_of m ≡ subcommand_of app words
-parsed forms words m same has = (subst (λ a. HasMatchesOf a words m) same has simple).1
+pub parsed : (program : App) (arguments : List Text) (m : ArgMatches) → program ≡ app → HasMatchesOf program arguments m → subcommand_rows_of m ≡ subcommand_of app arguments
+parsed program arguments m same has = (subst (λ a. HasMatchesOf a arguments m) same has simple).1
 
-pub taken : (forms : App) (words : List Text) → forms ≡ app → (is_simple_and_free forms ≡ true → fault_of forms words ≡ []) → fault_of app words ≡ []
-taken forms words same has = subst (λ a. is_simple_and_free a ≡ true → fault_of a words ≡ []) same has free
+pub taken : (program : App) (arguments : List Text) → program ≡ app → (is_simple_and_free program ≡ true → fault_of program arguments ≡ []) → fault_of app arguments ≡ []
+taken program arguments same has = subst (λ a. is_simple_and_free a ≡ true → fault_of a arguments ≡ []) same has free
 
 -- a result made of an option has the property of the option's value
 pub given : {A E : Type 0} (o : Option A) (e : E) (P : A → Type 0) → IfSome o P → IfOk (ok_or o e) P

@@ -31,9 +31,9 @@ fn file_command<'a>(
     ensures local { IfOk result (λ c. (out-Command c).has_globals ≡ false) }
 {
     let file = Arg::new(alloc, "FILE").required(true).help("The mapfile");
-    let form = clap::Command::new(alloc, name).about(about).arg(file)?;
+    let subcommand = clap::Command::new(alloc, name).about(about).arg(file)?;
     let help = "Explain the mapfile's first fault, or print warnings";
-    form.arg(flag(alloc, "explain", help))
+    subcommand.arg(flag(alloc, "explain", help))
 }
 
 // `check --explain FILE`.
@@ -50,9 +50,9 @@ fn run_command<'a>(alloc: Global) -> Result<clap::Command<'a>, AllocError>
     ensures app { IfOk result (λ c. app_of c ≡ run_app) }
     ensures local { IfOk result (λ c. (out-Command c).has_globals ≡ false) }
 {
-    let form = file_command(alloc, "run", "Run a script against a map")?;
+    let subcommand = file_command(alloc, "run", "Run a script against a map")?;
     let script = Arg::new(alloc, "SCRIPT").required(true);
-    form.arg(script.help("The script: queries and batches"))
+    subcommand.arg(script.help("The script: queries and batches"))
 }
 
 // The argument of an option.
@@ -72,18 +72,18 @@ fn argument_of<'a>(alloc: Global, option: &NumberOption<'a>) -> Arg<'a>
 // A subcommand with further options.
 fn with_options<'a>(
     alloc: Global,
-    form: clap::Command<'a>,
+    subcommand: clap::Command<'a>,
     options: &[NumberOption<'a>],
 ) -> Result<clap::Command<'a>, AllocError>
-    requires local { (out-Command form).has_globals ≡ false }
-    ensures app { IfOk result (λ c. app_of c ≡ fold with_option (app_of form.entry) (map option_of options.now)) }
+    requires local { (out-Command subcommand).has_globals ≡ false }
+    ensures app { IfOk result (λ c. app_of c ≡ fold with_option (app_of subcommand.entry) (map option_of options.now)) }
     ensures local { IfOk result (λ c. (out-Command c).has_globals ≡ false) }
 {
-    let mut form = form;
+    let mut subcommand = subcommand;
     for option in options {
-        form = form.arg(argument_of(alloc, option))?;
+        subcommand = subcommand.arg(argument_of(alloc, option))?;
     }
-    Ok(form)
+    Ok(subcommand)
 }
 
 // `serve --explain FILE` with the options that are numbers.
@@ -91,8 +91,8 @@ fn numbered_command<'a>(alloc: Global) -> Result<clap::Command<'a>, AllocError>
     ensures app { IfOk result (λ c. app_of c ≡ numbered_app) }
     ensures local { IfOk result (λ c. (out-Command c).has_globals ≡ false) }
 {
-    let form = file_command(alloc, "serve", "Serve the map over HTTP on 127.0.0.1")?;
-    with_options(alloc, form, &SERVE_OPTIONS)
+    let subcommand = file_command(alloc, "serve", "Serve the map over HTTP on 127.0.0.1")?;
+    with_options(alloc, subcommand, &SERVE_OPTIONS)
 }
 
 // The same with `--until-input-ends`.
@@ -100,9 +100,9 @@ fn ended_command<'a>(alloc: Global) -> Result<clap::Command<'a>, AllocError>
     ensures app { IfOk result (λ c. app_of c ≡ ended_app) }
     ensures local { IfOk result (λ c. (out-Command c).has_globals ≡ false) }
 {
-    let form = numbered_command(alloc)?;
+    let subcommand = numbered_command(alloc)?;
     let help = "End when standard input does, once those being answered have their answers";
-    form.arg(flag(alloc, "until-input-ends", help))
+    subcommand.arg(flag(alloc, "until-input-ends", help))
 }
 
 // The same with `--log`.
@@ -110,9 +110,9 @@ fn logged_command<'a>(alloc: Global) -> Result<clap::Command<'a>, AllocError>
     ensures app { IfOk result (λ c. app_of c ≡ logged_app) }
     ensures local { IfOk result (λ c. (out-Command c).has_globals ≡ false) }
 {
-    let form = ended_command(alloc)?;
+    let subcommand = ended_command(alloc)?;
     let help = "Log each answer and each batch in a line of standard error";
-    form.arg(flag(alloc, "log", help))
+    subcommand.arg(flag(alloc, "log", help))
 }
 
 // An option of this name, which is a text.
@@ -131,10 +131,10 @@ fn serve_command<'a>(alloc: Global) -> Result<clap::Command<'a>, AllocError>
     ensures app { IfOk result (λ c. app_of c ≡ serve_app) }
     ensures local { IfOk result (λ c. (out-Command c).has_globals ≡ false) }
 {
-    let form = logged_command(alloc)?;
+    let subcommand = logged_command(alloc)?;
     let help =
         "Journal that keeps batches, so that they outlive the program; made where it isn't there";
-    form.arg(text_option(alloc, "journal", "JOURNAL", help))
+    subcommand.arg(text_option(alloc, "journal", "JOURNAL", help))
 }
 
 // The program by its name, without subcommands.
@@ -149,12 +149,12 @@ fn program<'a>(alloc: Global) -> Result<clap::Command<'a>, AllocError>
 // The program so far with one more subcommand, if that was made.
 fn with_subcommand<'a>(
     program: clap::Command<'a>,
-    form: Result<clap::Command<'a>, AllocError>,
+    subcommand: Result<clap::Command<'a>, AllocError>,
 ) -> Result<clap::Command<'a>, AllocError>
-    ensures { IfOk result (λ c. IsWithSubcommand program.entry form.entry c) }
+    ensures { IfOk result (λ c. IsWithSubcommand program.entry subcommand.entry c) }
 {
-    match form {
-        Ok(form) => program.subcommand(form),
+    match subcommand {
+        Ok(subcommand) => program.subcommand(subcommand),
         Err(error) => {
             drop(program);
             Err(error)

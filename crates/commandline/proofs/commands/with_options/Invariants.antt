@@ -7,5 +7,5 @@ use Rattle.commandline.proofs.commands.with_options.Given as goal
 -- the subcommand so far with the options left is the one with all of them
 abbrev pub invariant-loop-option : goal.invariant-loop-option
 invariant-loop-option l =
-    (fold with_option (app_of l.form) (map option_of (drop l.option-index l.options)) ≡ fold with_option (app_of l.fn.form) (map option_of l.options))
-    × ((out-Command l.form).has_globals ≡ false)
+    (fold with_option (app_of l.subcommand) (map option_of (drop l.option-index l.options)) ≡ fold with_option (app_of l.fn.subcommand) (map option_of l.options))
+    × ((out-Command l.subcommand).has_globals ≡ false)
