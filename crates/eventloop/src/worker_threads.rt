@@ -98,7 +98,7 @@ impl<T: Transport + Drop, W: Wakes + Drop> WorkerThreads<T, W> {
 pub fn start_worker<R, A, T, P>(
     rt: &R,
     alloc: Global,
-    crew: &mut WorkerThreads<T, P::Waker>,
+    workers: &mut WorkerThreads<T, P::Waker>,
     worker: Worker<A, T, P>,
 ) -> Result<(), WorkerStartError>
 where
@@ -113,12 +113,12 @@ where
     let Ok((ours, theirs)) = both_ends(alloc, waker) else {
         return Err(WorkerStartError);
     };
-    if crew.handovers.push(ours).is_err() {
+    if workers.handovers.push(ours).is_err() {
         return Err(WorkerStartError);
     }
     let handle = *rt;
     match thread::spawn(rt, move || run(&handle, worker, &theirs)) {
-        Ok(thread) => match crew.threads.push(thread) {
+        Ok(thread) => match workers.threads.push(thread) {
             Ok(()) => Ok(()),
             Err(_) => Err(WorkerStartError),
         },

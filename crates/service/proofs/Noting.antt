@@ -20,5 +20,5 @@ pub one-failed-more : (a b c : Option (List PortEvent)) (n : ℕ) → Notes a b 
 one-failed-more a b c n p q = rw (replicate_next n Failed) (Notes-trans a b c (replicate n Failed) (Failed ∷ []) p q)
 
 -- a number that isn't 0, or none
-pub more-wanted : (wanted : Option ℕ) → option_eq eqb wanted (Some 0) ≡ false → wanted ≢ Some 0
-more-wanted wanted h e = let clash : true ≡ false = rw e at h in absurd (cc)
+pub more-remain : (remaining : Option ℕ) → option_eq eqb remaining (Some 0) ≡ false → remaining ≢ Some 0
+more-remain remaining h e = let clash : true ≡ false = rw e at h in absurd (cc)

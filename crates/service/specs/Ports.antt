@@ -13,20 +13,20 @@ Notes (Some before) None events = ⊥
 Notes (Some before) (Some after) events = after ≡ before ++ events
 
 -- how many connections are requested, if there is an end: 0 requests no end
-abbrev pub wanted_of : ℕ → Option ℕ
-wanted_of zero = None
-wanted_of (suc n) = Some (suc n)
+abbrev pub requested : ℕ → Option ℕ
+requested zero = None
+requested (suc n) = Some (suc n)
 
 -- some calls failed, fewer than 100, and then a connection was opened: one fewer remains, where there is an end
-pub record HasOpened (wanted : Option ℕ) (before after : Option (List PortEvent)) (left : Option ℕ) : Type 0 where
-  pub more : wanted ≢ Some 0
+pub record HasOpened (remaining : Option ℕ) (before after : Option (List PortEvent)) (left : Option ℕ) : Type 0 where
+  pub more : remaining ≢ Some 0
   pub failures : ℕ
   pub few : failures < 100
   pub noted : Notes before after (replicate failures Failed ++ Opened ∷ [])
-  pub one_less : left ≡ option_map (λ n. n - 1) wanted
+  pub one_less : left ≡ option_map (λ n. n - 1) remaining
 
 -- none was opened: no more remain, and nothing was done; or 100 calls failed one after the other, and the port was given up
 abbrev pub HasEnded : Option ℕ → Option (List PortEvent) → Option (List PortEvent) → Option ℕ → Bool → Type 0
-HasEnded wanted before after left given_up =
-    (left ≡ wanted) × (((wanted ≡ Some 0) × (after ≡ before))
-    ⊎ ((wanted ≢ Some 0) × Notes before after (replicate 100 Failed) × (given_up ≡ true)))
+HasEnded remaining before after left given_up =
+    (left ≡ remaining) × (((remaining ≡ Some 0) × (after ≡ before))
+    ⊎ ((remaining ≢ Some 0) × Notes before after (replicate 100 Failed) × (given_up ≡ true)))

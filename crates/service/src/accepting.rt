@@ -1,5 +1,5 @@
 ghost use Rattle.std.specs.Prelude.{◌≡◌, ◌≢◌, ◌-◌, [], ◌∷◌, Some, false, option_map, MatchOption, IfOk, OnErr};
-ghost use Rattle.service.specs.Ports.{Failed, HasEnded, HasOpened, Notes, Opened, wanted_of};
+ghost use Rattle.service.specs.Ports.{Failed, HasEnded, HasOpened, Notes, Opened, requested};
 
 use crate::port::{AcceptFailed, Port};
 
@@ -7,11 +7,11 @@ use crate::port::{AcceptFailed, Port};
 pub(crate) const MAX_FAILURES: u32 = 100;
 
 // How many connections remain after one has come.
-fn one_less(wanted: Option<u32>) -> Option<u32>
-    ensures { result ≡ option_map (λ n. n - 1) wanted }
+fn one_less(remaining: Option<u32>) -> Option<u32>
+    ensures { result ≡ option_map (λ n. n - 1) remaining }
 {
-    match wanted {
-        Some(wanted) => Some(wanted.saturating_sub(1)),
+    match remaining {
+        Some(remaining) => Some(remaining.saturating_sub(1)),
         None => None,
     }
 }
@@ -21,7 +21,7 @@ fn one_less(wanted: Option<u32>) -> Option<u32>
 pub struct Accepting<P> {
     port: P,
     // How many connections remain, where there is an end.
-    wanted: Option<u32>,
+    remaining: Option<u32>,
     is_given_up: bool,
 }
 
@@ -29,12 +29,12 @@ impl<P> Accepting<P> {
     /// So many connections of a port, or all that come where that is 0.
     pub fn new(port: P, connections: u32) -> Self
         ensures port { result.port ≡ port }
-        ensures wanted { result.wanted ≡ wanted_of connections }
+        ensures remaining { result.remaining ≡ requested connections }
         ensures kept { result.is_given_up ≡ false }
     {
         Accepting {
             port,
-            wanted: if connections == 0 {
+            remaining: if connections == 0 {
                 None
             } else {
                 Some(connections)
@@ -56,18 +56,18 @@ impl<P> Accepting<P> {
     where
         P: Port<C>,
         ensures accepts { MatchOption result
-            (HasEnded self.old.wanted (P.log self.old.port) (P.log self.new.port) self.new.wanted self.new.is_given_up)
-            (λ _. HasOpened self.old.wanted (P.log self.old.port) (P.log self.new.port) self.new.wanted) }
+            (HasEnded self.old.remaining (P.log self.old.port) (P.log self.new.port) self.new.remaining self.new.is_given_up)
+            (λ _. HasOpened self.old.remaining (P.log self.old.port) (P.log self.new.port) self.new.remaining) }
         ensures kept { MatchOption result
-            (self.old.wanted ≡ Some 0 → self.new.is_given_up ≡ self.old.is_given_up)
+            (self.old.remaining ≡ Some 0 → self.new.is_given_up ≡ self.old.is_given_up)
             (λ _. self.new.is_given_up ≡ self.old.is_given_up) }
     {
-        if self.wanted == Some(0) {
+        if self.remaining == Some(0) {
             return None;
         }
         for _ in 0..MAX_FAILURES {
             if let Ok(connection) = self.port.accept() {
-                self.wanted = one_less(self.wanted);
+                self.remaining = one_less(self.remaining);
                 return Some(connection);
             }
         }
@@ -80,15 +80,15 @@ impl<P> Accepting<P> {
     where
         P: Port<C>,
         ensures opened { IfOk result (λ found. MatchOption found
-            ((self.new ≡ self.old) × (self.old.wanted ≡ Some 0))
-            (λ _. Notes (P.log self.old.port) (P.log self.new.port) (Opened ∷ []) × (self.old.wanted ≢ Some 0) × (self.new.wanted ≡ option_map (λ n. n - 1) self.old.wanted))) }
-        ensures failed { OnErr result (Notes (P.log self.old.port) (P.log self.new.port) (Failed ∷ []) × (self.new.wanted ≡ self.old.wanted)) }
+            ((self.new ≡ self.old) × (self.old.remaining ≡ Some 0))
+            (λ _. Notes (P.log self.old.port) (P.log self.new.port) (Opened ∷ []) × (self.old.remaining ≢ Some 0) × (self.new.remaining ≡ option_map (λ n. n - 1) self.old.remaining))) }
+        ensures failed { OnErr result (Notes (P.log self.old.port) (P.log self.new.port) (Failed ∷ []) × (self.new.remaining ≡ self.old.remaining)) }
     {
-        if self.wanted == Some(0) {
+        if self.remaining == Some(0) {
             return Ok(None);
         }
         let connection = self.port.accept()?;
-        self.wanted = one_less(self.wanted);
+        self.remaining = one_less(self.remaining);
         Ok(Some(connection))
     }
 }

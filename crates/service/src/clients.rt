@@ -17,7 +17,7 @@ use turns::Transport;
 // Starts a worker for a reader.
 fn start_one<S, R, T, Q>(
     rt: &R,
-    crew: &mut WorkerThreads<LoggedTransport<T, R>, Q::Waker>,
+    workers: &mut WorkerThreads<LoggedTransport<T, R>, Q::Waker>,
     asked: (Reader<S>, Q),
     service: Service,
 ) -> Result<(), Failure>
@@ -34,7 +34,7 @@ where
     let Ok(worker) = Worker::new(rt.alloc(), reader, poller, places) else {
         return Err(Failure::NoMemory);
     };
-    match start_worker(rt, rt.alloc(), crew, worker) {
+    match start_worker(rt, rt.alloc(), workers, worker) {
         Ok(()) => Ok(()),
         Err(_) => Err(Failure::SocketFailed),
     }
@@ -43,7 +43,7 @@ where
 // Starts a worker for each reader, with a poller of its own.
 fn start_all<S, R, T, Q>(
     rt: &R,
-    crew: &mut WorkerThreads<LoggedTransport<T, R>, Q::Waker>,
+    workers: &mut WorkerThreads<LoggedTransport<T, R>, Q::Waker>,
     asked: (Vec<Reader<S>>, Vec<Q>),
     service: Service,
 ) -> Result<(), Failure>
@@ -59,7 +59,7 @@ where
         let Some(poller) = pollers.pop() else {
             return Err(Failure::SocketFailed);
         };
-        start_one::<S, R, T, Q>(rt, crew, (reader, poller), service)?;
+        start_one::<S, R, T, Q>(rt, workers, (reader, poller), service)?;
     }
     Ok(())
 }
@@ -77,7 +77,7 @@ pub(crate) fn queue_of<R: Runtime>(log: &Option<LogQueue<R>>) -> Option<LogQueue
 fn accept_all<R, C, T, P, W>(
     rt: &R,
     clients: (&mut Accepting<PortFor<Clients, P>>, &AtomicBool),
-    crew: &mut WorkerThreads<LoggedTransport<T, R>, W>,
+    workers: &mut WorkerThreads<LoggedTransport<T, R>, W>,
     log: &Option<LogQueue<R>>,
 ) -> Result<(), Failure>
 where
@@ -104,13 +104,13 @@ where
                 if let Some(transport) = connection.into_transport() {
                     let queue = queue_of(log);
                     let logged = LoggedTransport::new(rt.alloc(), transport, count, queue);
-                    crew.hand_over(rt, logged);
+                    workers.hand_over(rt, logged);
                 }
             }
             Err(_) => {
                 failures = failures.saturating_add(1);
-                crew.press(rt);
-                if failures >= MAX_FAILURES && !crew.is_serving(rt) {
+                workers.press(rt);
+                if failures >= MAX_FAILURES && !workers.is_serving(rt) {
                     return Err(Failure::SocketFailed);
                 }
             }
@@ -155,15 +155,20 @@ where
         service,
         log,
     } = side;
-    let Ok(mut crew) = WorkerThreads::<LoggedTransport<T, R>, Q::Waker>::new(
+    let Ok(mut workers) = WorkerThreads::<LoggedTransport<T, R>, Q::Waker>::new(
         rt.alloc(),
         readers.len(),
     ) else {
         return Err(Failure::NoMemory);
     };
-    let mut served = start_all::<S, R, T, Q>(rt, &mut crew, (readers, pollers), service);
+    let mut served = start_all::<S, R, T, Q>(rt, &mut workers, (readers, pollers), service);
     if served.is_ok() {
-        served = accept_all::<R, C, T, P, Q::Waker>(rt, (&mut port, is_stopped), &mut crew, &log);
+        served = accept_all::<R, C, T, P, Q::Waker>(
+            rt,
+            (&mut port, is_stopped),
+            &mut workers,
+            &log,
+        );
     }
     // from now on the system refuses further ones
     drop(port);
@@ -172,6 +177,6 @@ where
     } else {
         Ending::Finishes
     };
-    crew.end(rt, ending);
+    workers.end(rt, ending);
     served
 }
