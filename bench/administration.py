@@ -99,8 +99,8 @@ class Trial:
         for worker in ("one worker", "the other"):
             self.look(f"{name}, picture by {worker}", self.get(PICTURE), picture)
         for worker in ("one worker", "the other"):
-            told = re.search(rb'updateSequence="(\d+)"', self.get("SERVICE=WMS&REQUEST=GetCapabilities"))
-            self.look(f"{name}, sequence by {worker}", told and int(told[1]), sequence)
+            shown = re.search(rb'updateSequence="(\d+)"', self.get("SERVICE=WMS&REQUEST=GetCapabilities"))
+            self.look(f"{name}, sequence by {worker}", shown and int(shown[1]), sequence)
 
     def send(self, commands):
         """The lines that answer them over a connection of their own, up to the server's end."""

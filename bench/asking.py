@@ -80,10 +80,10 @@ def ask(counting, path, places, is_hit, box):
         for pixel in [tuple(part // 16 for part in device(place, box))]
         if is_hit(place, box, *pixel)
     )
-    wanted, hit = answer(places, is_hit, box, column, row)
-    cost, told = counting.each(path, information(box, column, row))
-    if told != wanted or hit == 0:
-        sys.exit(f"failed: another answer at {column} {row}: {told[:300]}")
+    expected, hit = answer(places, is_hit, box, column, row)
+    cost, reply = counting.each(path, information(box, column, row))
+    if reply != expected or hit == 0:
+        sys.exit(f"failed: another answer at {column} {row}: {reply[:300]}")
     return cost, hit
 
 
@@ -93,10 +93,10 @@ def layers(count):
 
 def document(counting, count):
     path = counting.path("a.map", f'MAP\nNAME "many layers"\n{layers(count)}END\n')
-    cost, told = counting.each(path, "QUERY REQUEST=GetCapabilities\n")
+    cost, reply = counting.each(path, "QUERY REQUEST=GetCapabilities\n")
     titles = [f"<Title>{k} &amp; more</Title>\n" for k in range(count)]
-    if not told.startswith("ANSWER text/xml ") or told.count("<Title>") != count + 2 or not all(t in told for t in titles):
-        sys.exit(f"failed: another document: {told[:300]}")
+    if not reply.startswith("ANSWER text/xml ") or reply.count("<Title>") != count + 2 or not all(t in reply for t in titles):
+        sys.exit(f"failed: another document: {reply[:300]}")
     return cost
 
 

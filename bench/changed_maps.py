@@ -81,11 +81,11 @@ class Counting:
 
     def instructions(self, mapfile, script):
         words = ["valgrind", "--tool=callgrind", "--callgrind-out-file=/dev/null", self.program, "run", mapfile, script]
-        told = subprocess.run(words, stdout=subprocess.PIPE, stderr=subprocess.PIPE, text=True)
-        counted = re.search(r"Collected\s*:\s*(\d+)", told.stderr)
-        if told.returncode != 0 or not counted:
-            sys.exit(f"failed: status {told.returncode}: {told.stderr[-300:]}")
-        return int(counted.group(1)), told.stdout
+        done = subprocess.run(words, stdout=subprocess.PIPE, stderr=subprocess.PIPE, text=True)
+        counted = re.search(r"Collected\s*:\s*(\d+)", done.stderr)
+        if done.returncode != 0 or not counted:
+            sys.exit(f"failed: status {done.returncode}: {done.stderr[-300:]}")
+        return int(counted.group(1)), done.stdout
 
     def each(self, mapfile, command):
         """What one of the same commands costs, and what the first one is answered."""

@@ -10,7 +10,7 @@ server behind it, or fails; while the journal is made, while batches come, and w
 library that is loaded before the C library, built here with cc, does that, and tells how much was put away.
 
 After each the server is started again: its sequence, its pictures and what it tells of its features have to be those of
-a list of batches that begins with all that a client was told of, and that each was submitted. At last a byte of a journal
+a list of batches that begins with all that was reported to a client, and that each was submitted. At last a byte of a journal
 is changed at random, CHANGES times, 10,000 where it isn't given: the server refuses it and leaves it as it is, or the last
 record is cut off, and no other. It ends with 1 where something else came out.
 """
@@ -182,7 +182,7 @@ class Life:
     """A server with a journal, from its start to its end."""
 
     def __init__(self, bench, at=0, how="none"):
-        self.bench, self.told = bench, []
+        self.bench, self.published = bench, []
         bench.count(0, bench.away)
         words = [bench.program, "serve", "--explain", "map.map", "--port", "0", "--admin-port", "0", "--workers", "1", "--journal", str(bench.journal)]
         env = {"LD_PRELOAD": bench.shim, "SEEN": str(bench.seen), "JOURNAL": str(bench.journal), "AT": str(at), "HOW": how}
@@ -212,7 +212,7 @@ class Life:
 
 
 class Bench:
-    """A folder with a journal, and the batches that it has by what clients were told and what servers showed."""
+    """A folder with a journal, and the batches that it has by what was reported to clients and what servers showed."""
 
     def __init__(self, program, shim, folder, seed):
         self.program, self.shim, self.folder = program, shim, pathlib.Path(folder)
@@ -246,14 +246,14 @@ class Bench:
         self.number += 1
         return batch_by_lot(self.chance, str(self.number))
 
-    def client(self, life, end, told, open_batches, lock):
+    def client(self, life, end, published, open_batches, lock):
         """Submits batches until the server is gone."""
         while not end.is_set():
             with lock:
                 batch = self.batch()
             line = life.submit(batch)
             if line.startswith(b"PUBLISHED ") and line.endswith(b"\n"):
-                told[int(line.split()[1])] = batch
+                published[int(line.split()[1])] = batch
             elif batch.refusal and line == batch.refusal + b"\n":
                 continue
             else:
@@ -263,9 +263,9 @@ class Bench:
                 return
 
     def lead(self, life, seconds):
-        """Lets two clients submit until the server is killed: what was told, by sequence, and what was not answered."""
-        end, told, open_batches, lock = threading.Event(), {}, [], threading.Lock()
-        clients = [threading.Thread(target=self.client, args=(life, end, told, open_batches, lock)) for _ in range(2)]
+        """Lets two clients submit until the server is killed: what was reported as published, by sequence, and what was not answered."""
+        end, published, open_batches, lock = threading.Event(), {}, [], threading.Lock()
+        clients = [threading.Thread(target=self.client, args=(life, end, published, open_batches, lock)) for _ in range(2)]
         for client in clients:
             client.start()
         if seconds is not None:
@@ -273,25 +273,25 @@ class Bench:
             life.process.kill()
         for client in clients:
             client.join()
-        return told, open_batches
+        return published, open_batches
 
-    def look(self, life, told, open_batches):
-        """Takes over what the server has: a list that begins with all that was told of, and has nothing but what was submitted."""
+    def look(self, life, published, open_batches):
+        """Takes over what the server has: a list that begins with all that was reported, and has nothing but what was submitted."""
         sequence = sequence_of(life.ports[0])
-        if sequence < max(told, default=len(self.kept)):
-            raise Wrong(f"the sequence is {sequence}, and {max(told, default=len(self.kept))} was told")
+        if sequence < max(published, default=len(self.kept)):
+            raise Wrong(f"the sequence is {sequence}, and {max(published, default=len(self.kept))} was reported")
         found = answers_of(life.ports[0])
-        missing = [number for number in range(len(self.kept) + 1, sequence + 1) if number not in told]
+        missing = [number for number in range(len(self.kept) + 1, sequence + 1) if number not in published]
         accepted = [batch for batch in open_batches if not batch.refusal]
         for filling in itertools.permutations(accepted, len(missing)):
-            batches = {**told, **dict(zip(missing, filling))}
+            batches = {**published, **dict(zip(missing, filling))}
             states = self.states[-1:]
             for number in range(len(self.kept) + 1, sequence + 1):
                 states.append(batches[number].after(states[-1]))
             if states[-1].answers() == found:
                 self.kept += [batches[number] for number in range(len(self.kept) + 1, sequence + 1)]
                 self.states += states[1:]
-                return sequence - max(told, default=0) if told else 0
+                return sequence - max(published, default=0) if published else 0
         raise Wrong(f"at sequence {sequence} the answers are those of no list of batches that was submitted: {found[1][-300:]!r}")
 
     def lose(self):
@@ -314,22 +314,22 @@ class Bench:
 
 def kills_of(bench, count, found):
     """Kills a server at random moments."""
-    told, open_batches = {}, []
+    published, open_batches = {}, []
     for number in range(count):
         if number % LIVES == 0:
             bench.renew()
-            told, open_batches = {}, []
+            published, open_batches = {}, []
         life = bench.must_start()
-        found["shown and not told"] += bench.look(life, told, open_batches)
-        told, open_batches = bench.lead(life, bench.chance.uniform(0, 0.1))
+        found["shown and not reported"] += bench.look(life, published, open_batches)
+        published, open_batches = bench.lead(life, bench.chance.uniform(0, 0.1))
         life.end()
         found["kills"] += 1
-        found["told"] += len(told)
+        found["reported"] += len(published)
         found["not answered"] += len(open_batches)
         if bench.chance.random() < 0.5:
             found["bytes lost"] += bench.lose()
     life = bench.must_start()
-    bench.look(life, told, open_batches)
+    bench.look(life, published, open_batches)
     life.end()
 
 
@@ -344,13 +344,13 @@ def tried_at(bench, at, how, is_torn, found):
     bench.renew()
     if is_torn:
         life = bench.must_start()
-        told, open_batches = few(bench, life)
+        published, open_batches = few(bench, life)
         life.end()
         tear(bench)
     life = Life(bench, at, how)
     if is_torn and life.ports:
-        bench.look(life, told, open_batches)
-    told_now, open_now = few(bench, life) if life.ports else ({}, [])
+        bench.look(life, published, open_batches)
+    published_now, open_now = few(bench, life) if life.ports else ({}, [])
     reached = bench.calls >= at
     if how == "fail" and reached:
         # a server that can't keep a batch ends by itself
@@ -364,9 +364,9 @@ def tried_at(bench, at, how, is_torn, found):
     if how == "fail" and reached and status != 3:
         raise Wrong(f"where call {at} fails the status is {status}: {errors!r}")
     if is_torn and not life.ports:
-        told_now, open_now = told, open_batches
+        published_now, open_now = published, open_batches
     after = bench.must_start()
-    bench.look(after, told_now, open_now)
+    bench.look(after, published_now, open_now)
     # and it takes further ones
     last, rest = few(bench, after)
     if rest:
@@ -378,15 +378,15 @@ def tried_at(bench, at, how, is_torn, found):
 
 def few(bench, life):
     """Five batches, one after the other, up to the first that isn't answered."""
-    told = {}
+    published = {}
     for _ in range(5):
         batch = bench.batch()
         line = life.submit(batch)
         if line.startswith(b"PUBLISHED ") and line.endswith(b"\n"):
-            told[int(line.split()[1])] = batch
+            published[int(line.split()[1])] = batch
         elif not (batch.refusal and line == batch.refusal + b"\n"):
-            return told, [batch]
-    return told, []
+            return published, [batch]
+    return published, []
 
 
 def calls_of(bench, found):

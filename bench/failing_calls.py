@@ -8,7 +8,7 @@ lets it move one byte alone. For `refusals.py` it can count calls for memory bet
 labels, for the capabilities document and for feature information; and a map is served by two workers, to three clients
 and three administrators, who change it between the clients' requests. What comes out may be less than the right answer,
 never another: a reply is right or NOMEMORY; where a file or a stream fails, what was written is a front of the right
-output, with the status of that failure; words on a fault may be missing, and with `--explain` the line on memory may
+output, with the status of that failure; the message on a fault may be missing, and with `--explain` the line on memory may
 stand in their place; where a call moves one byte, nothing changes. Of what is served each picture is, by hand, that of
 the state which the lines of the administration leave, where a line that is cut or missing leaves two or three; at most
 one of the six connections has less than its whole answer, 503, HELD or NOMEMORY; and where the service fails, no client
@@ -212,8 +212,8 @@ class Run:
             self.status = program.returncode
             watch.cancel()
         with os.fdopen(out, "rb") as counts:
-            told = counts.read()
-        self.memory, self.bytes, self.threads = (int.from_bytes(told[at : at + 8], "little") for at in (0, 8, 16))
+            counted = counts.read()
+        self.memory, self.bytes, self.threads = (int.from_bytes(counted[at : at + 8], "little") for at in (0, 8, 16))
 
     def ask(self, program):
         """What clients and administrators are answered by turns, if the program gets so far as to listen."""

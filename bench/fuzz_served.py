@@ -74,8 +74,8 @@ def start(program, folder, count):
     pid = os.posix_spawn(program, words, {}, file_actions=[(os.POSIX_SPAWN_DUP2, into, 1)])
     resource.prlimit(pid, resource.RLIMIT_CPU, (6 * LONGEST, 6 * LONGEST))
     os.close(into)
-    with os.fdopen(out, "rb") as told:
-        return pid, ports_of(told.readline())
+    with os.fdopen(out, "rb") as output:
+        return pid, ports_of(output.readline())
 
 
 def seconds_of(pid):

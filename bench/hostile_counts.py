@@ -269,8 +269,8 @@ def made_of(source, way):
 
 
 def one(read):
-    told = outcome(read)
-    return lambda source: [told(source)]
+    outcome_of = outcome(read)
+    return lambda source: [outcome_of(source)]
 
 
 READERS = {
@@ -286,10 +286,10 @@ READERS = {
 }
 
 
-def row(told, source, way):
+def row(outcomes_of, source, way):
     counts, lines = [0] * OUTCOMES, 0
     for made in made_of(source, way):
-        for kind, line in told(made):
+        for kind, line in outcomes_of(made):
             counts[kind] += 1
             lines += line
     return f"{' '.join(map(str, counts))}; {lines}={way}"
@@ -306,9 +306,9 @@ def literal(source):
 def written():
     """The module of the tests that has the sources and the rows."""
     parts = ["//! The sources, and what comes of them: written by `bench/hostile_counts.py --write`, from the rules of `docs/`.\n"]
-    for name, told in READERS.items():
+    for name, outcomes_of in READERS.items():
         source, constant = SOURCES[name], name.upper()
-        rows = "\n".join(row(told, source, way) for way in WAYS)
+        rows = "\n".join(row(outcomes_of, source, way) for way in WAYS)
         parts.append(f'/// A worked source of the reader of the {name}.\npub const {constant}: &[u8] = b"\\\n{literal(source)}";\n')
         parts.append(f'/// What comes of all that is made of it.\npub const {constant}_ROWS: &str = "\\\n{rows}";\n')
     return "\n".join(parts)

@@ -19,14 +19,14 @@ class Fault(Exception):
 def outcome(read):
     """A reader that gives the outcome 0, or its fault."""
 
-    def told(source):
+    def outcome_of(source):
         try:
             read(source)
         except Fault as fault:
             return fault.kind, fault.line
         return 0, 0
 
-    return told
+    return outcome_of
 
 
 def line_at(source, index):

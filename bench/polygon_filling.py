@@ -4,7 +4,7 @@
 Usage: polygon_filling.py PROGRAM WORLD [PICTURES]
 
 WORLD is a mapfile with a layer "countries", whose outlines are left out: line_drawing.py measures them. Words
-of it that the program refuses are left out too, and told.
+of it that the program refuses are left out too, and printed.
 Of each workload the time of as many pictures of an empty layer in the same session is taken away, so that
 what is left is the painting alone: not the reading of the map, nor the hexadecimal.
 """
@@ -68,7 +68,7 @@ def without(lines, word):
 
 
 def accepted(program, path):
-    """The layer of countries without the words that the program refuses."""
+    """The layer of countries without the keywords that the program refuses."""
     with open(path) as file:
         countries, *rivers = file.read().split('NAME "rivers"')
     if rivers:
@@ -79,8 +79,8 @@ def accepted(program, path):
         with tempfile.NamedTemporaryFile("w", suffix=".map") as file:
             file.write("".join(lines))
             file.flush()
-            told = subprocess.run([program, "check", file.name], capture_output=True, text=True)
-        words = (told.stdout + told.stderr).split()
+            done = subprocess.run([program, "check", file.name], capture_output=True, text=True)
+        words = (done.stdout + done.stderr).split()
         if words[:2] != ["fault", "line"]:
             print(" ".join(words))
             return "".join(lines)

@@ -212,13 +212,13 @@ class Server:
         self.port, self.admin = ports_of(self.process.stdout.readline())
 
     def took(self):
-        told = pathlib.Path(f"/proc/{self.process.pid}/status").read_text()
+        status = pathlib.Path(f"/proc/{self.process.pid}/status").read_text()
         fields = pathlib.Path(f"/proc/{self.process.pid}/stat").read_text().rsplit(")", 1)[1].split()
         seconds = (int(fields[11]) + int(fields[12])) / os.sysconf("SC_CLK_TCK")
         self.process.kill()
         self.process.wait()
         self.process.stdout.close()
-        return seconds, int(re.search(r"VmHWM:\s+(\d+)", told)[1]) / 1024
+        return seconds, int(re.search(r"VmHWM:\s+(\d+)", status)[1]) / 1024
 
 
 def reads(bench, size):
@@ -255,7 +255,7 @@ def pictures(bench, size):
 SERVED = [("reads of a head", 16_384, reads), ("pictures of 2,048 by 2,048 at once", 32, pictures)]
 
 
-def told(name, double, once, twice):
+def print_row(name, double, once, twice):
     """The row of two sizes, and whether it is marked."""
     ratio = twice[0] / max(once[0], 0.001)
     is_high = ratio > HIGH and twice[0] > LEAST
@@ -281,7 +281,7 @@ def main():
         if not words or any(word in name for word in words):
             with tempfile.TemporaryDirectory() as folder:
                 bench = Bench(sys.argv[1], folder)
-                high += told(name, double, take(bench, double // 2), take(bench, double))
+                high += print_row(name, double, take(bench, double // 2), take(bench, double))
     sys.exit(f"{high} above {HIGH}" if high else 0)
 
 

@@ -45,10 +45,10 @@ class Shim:
         done = subprocess.run([self.program], input=f"{name}\n".encode(), stdout=subprocess.PIPE, env=env, pass_fds=[into], timeout=60)
         os.close(into)
         with os.fdopen(out, "rb") as counts:
-            told = counts.read()
-        if done.returncode != 0 or len(told) != 24:
+            counted = counts.read()
+        if done.returncode != 0 or len(counted) != 24:
             return f"status {done.returncode}", 0, 0
-        return done.stdout.decode("latin-1").partition("\n")[2], int.from_bytes(told[:8], "little"), int.from_bytes(told[16:], "little")
+        return done.stdout.decode("latin-1").partition("\n")[2], int.from_bytes(counted[:8], "little"), int.from_bytes(counted[16:], "little")
 
 
 def may_be(name, got, right):

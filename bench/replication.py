@@ -144,7 +144,7 @@ class Trial:
         subprocess.run([TOP / "deploy" / "replicate", "init", self.engine.dsn], check=True)
         self.servers = [Server(name, program, folder, self.engine.dsn, has_journal) for name in ("one", "two", "three")]
         self.front = self.start_front()
-        self.told, self.batches, self.wrong, self.done = [], {}, 0, []
+        self.reported, self.batches, self.wrong, self.done = [], {}, 0, []
         self.pictures = {"200": 0, "other": 0}
         # no batch is added any more, and nothing is stopped; and nothing is asked
         self.is_quiet, self.end = threading.Event(), threading.Event()
@@ -174,7 +174,7 @@ class Trial:
             batch = batch_by_lot(chance, f"{name}{number}")
             place, line = self.insist(batch)
             self.batches[place] = batch
-            self.told.append((place, line))
+            self.reported.append((place, line))
 
     def insist(self, batch):
         """What becomes of a batch, which is submitted again while nobody answers: then it isn't in the log."""
@@ -198,7 +198,7 @@ class Trial:
     def disturb(self):
         """Stops something and starts it again, until the submitters are done."""
         ways = [self.stop_engine, self.crash_engine, self.kill_follower, self.kill_server, self.kill_without_journal]
-        while len(self.told) < self.count // 4 and not self.is_quiet.is_set():
+        while len(self.reported) < self.count // 4 and not self.is_quiet.is_set():
             time.sleep(0.01)
         while True:
             for way in ways:
@@ -304,8 +304,8 @@ class Trial:
 
     def judge(self):
         state, sequence, lines = self.expected()
-        for number, line in self.told:
-            self.look(f"what was told of {number}", line, lines[number])
+        for number, line in self.reported:
+            self.look(f"what was reported of {number}", line, lines[number])
         for server in self.servers:
             self.look(f"the sequence of {server.name}", sequence_of(server.port), sequence)
             self.look(f"the answers of {server.name}", answers_of(server.port), state.answers())

@@ -60,8 +60,8 @@ def played(program, folder):
 def resident(process):
     """What the process takes now, and what it took at most, in words."""
     with open(f"/proc/{process.pid}/status") as status:
-        told = status.read()
-    now, most = (int(re.search(rf"{name}:\s+(\d+)", told).group(1)) // 1024 for name in ("VmRSS", "VmHWM"))
+        text = status.read()
+    now, most = (int(re.search(rf"{name}:\s+(\d+)", text).group(1)) // 1024 for name in ("VmRSS", "VmHWM"))
     return f"{now} MB, {most} MB at most,"
 
 
@@ -87,9 +87,9 @@ def watch(process):
     with socket.create_connection(("127.0.0.1", admin_port)) as administrator, administrator.makefile("rb") as lines:
         for number, (what, batch) in enumerate(batches, 1):
             administrator.sendall(b"BATCH %d\n%s" % (len(batch), batch))
-            told = lines.readline()
-            if told != b"PUBLISHED %d\n" % number:
-                sys.exit(f"{what}: {told}")
+            line = lines.readline()
+            if line != b"PUBLISHED %d\n" % number:
+                sys.exit(f"{what}: {line}")
             ask(port)
             print(f"serve: {resident(process)} after {what}")
 

@@ -83,11 +83,11 @@ class Soak:
         self.sent, self.reported, self.stop = 0, 0, threading.Event()
         self.counts, self.wrong = collections.Counter(), []
 
-    def told(self, name):
+    def proc_text(self, name):
         return pathlib.Path(f"/proc/{self.process.pid}/{name}").read_text()
 
     def resident(self):
-        return int(re.search(r"VmRSS:\s+(\d+)", self.told("status"))[1])
+        return int(re.search(r"VmRSS:\s+(\d+)", self.proc_text("status"))[1])
 
     def held(self):
         """How many threads and descriptors the program has."""

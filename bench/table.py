@@ -77,8 +77,8 @@ class Bench:
     def run(self, *words, out=os.devnull):
         """The seconds of processor and the megabytes of a run, whose output goes to a file."""
         command = [sys.executable, "-I", "-S", "-c", CHILD, out, self.program, *words]
-        told = subprocess.run(command, stdout=subprocess.PIPE, check=True).stdout
-        status, seconds, kilobytes = json.loads(told)
+        usage = subprocess.run(command, stdout=subprocess.PIPE, check=True).stdout
+        status, seconds, kilobytes = json.loads(usage)
         if status != 0:
             sys.exit(f"failed: status {status} of {words}")
         return seconds, kilobytes / 1024
@@ -138,9 +138,9 @@ class Bench:
         command = f"BATCH {len(text)}\n{text}"
         many = self.path(f"many{number}.script", command * (count + 1))
         one = self.path(f"one{number}.script", command)
-        told = self.written("run", mapfile, many)
-        if told != "".join(f"PUBLISHED {k + 1}\n" for k in range(count + 1)):
-            sys.exit(f"failed: {name}: {told[:200]}")
+        output = self.written("run", mapfile, many)
+        if output != "".join(f"PUBLISHED {k + 1}\n" for k in range(count + 1)):
+            sys.exit(f"failed: {name}: {output[:200]}")
         self.workloads.append(Workload(name, count, ("run", mapfile, many), ("run", mapfile, one)))
 
     def reading(self, count):

@@ -82,15 +82,15 @@ class Server:
         self.process = subprocess.Popen(words, cwd=folder, stdout=subprocess.PIPE)
         self.port, self.admin = ports_of(self.process.stdout.readline())
 
-    def told(self, name):
+    def proc_text(self, name):
         return pathlib.Path(f"/proc/{self.process.pid}/{name}").read_text()
 
     def seconds(self):
-        fields = self.told("stat").rsplit(")", 1)[1].split()
+        fields = self.proc_text("stat").rsplit(")", 1)[1].split()
         return (int(fields[11]) + int(fields[12])) / os.sysconf("SC_CLK_TCK")
 
     def resident(self):
-        return int(re.search(r"VmRSS:\s+(\d+)", self.told("status")).group(1))
+        return int(re.search(r"VmRSS:\s+(\d+)", self.proc_text("status")).group(1))
 
     def connection(self):
         return http.client.HTTPConnection("127.0.0.1", self.port, timeout=60)
@@ -176,8 +176,8 @@ def compare(server, seconds):
     first = server.connection()
     below = body(first, BELOW)
     possible = [with_points(below, 256, longitude, LATITUDES) for longitude in LONGITUDES]
-    told = re.search(rb'updateSequence="(\d+)"', body(first, "/wms?REQUEST=GetCapabilities&SERVICE=WMS"))
-    administrator = Administrator(server, int(told[1]))
+    shown = re.search(rb'updateSequence="(\d+)"', body(first, "/wms?REQUEST=GetCapabilities&SERVICE=WMS"))
+    administrator = Administrator(server, int(shown[1]))
     for batch, picture in [(b"", possible[0]), (THERE, possible[1]), (BACK, possible[0])]:
         administrator.publish(batch)
         if body(first, TILE) != picture:
