@@ -84,7 +84,7 @@ none:~MAP CONFIG labelfont a.bdf END
 4 by 9 66:b.bdf,~MAP CONFIG 'LABELFONT' \"b.bdf\" CONFIG LABELFONTS a.bdf END
 # The last one counts, and one that it replaces is no use of its file.
 4 by 9 66:b.bdf,~MAP CONFIG LABELFONT none.bdf config LABELFONT b.bdf END
-# The file is used where the font is named: before, between and behind those of symbols and of layers.
+# The file is used where the font is named: before, between and after those of symbols and of layers.
 5 by 7 65:a.bdf,p.ppm,p.csv,~MAP CONFIG LABELFONT a.bdf SYMBOL NAME s TYPE PIXMAP IMAGE p.ppm END LAYER NAME l TYPE POINT DATA p.csv END END
 5 by 7 65:p.ppm,a.bdf,p.csv,~MAP SYMBOL NAME s TYPE PIXMAP IMAGE p.ppm END CONFIG LABELFONT a.bdf LAYER NAME l TYPE POINT DATA p.csv END END
 5 by 7 65:p.ppm,p.csv,a.bdf,~MAP CONFIG LABELFONT b.bdf SYMBOL NAME s TYPE PIXMAP IMAGE p.ppm END LAYER NAME l TYPE POINT DATA p.csv END CONFIG LABELFONT a.bdf END

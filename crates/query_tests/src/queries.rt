@@ -187,7 +187,7 @@ fn test_map(alloc: Global) -> Result<Map, AllocError> {
     Ok(map_of(alloc, layers))
 }
 
-// Indices, each with a comma behind it.
+// Indices, each with a comma after it.
 fn listed(alloc: Global, indices: &[usize]) -> Result<String, AllocError> {
     let mut list = String::new(alloc);
     for index in indices {

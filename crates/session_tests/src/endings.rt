@@ -157,7 +157,7 @@ session|<P.ppm>%%~QUERY ^~||1 MapfileFault||fault line 4 kind 7~
 explain maps/m.map|MAP SYMBOL NAME s~TYPE PIXMAP~IMAGE p.ppm~END END||0 done|ok 0 layers 0 features~|maps/m.map: warning: the service has no wms_onlineresource, and http://localhost/wms? has no port~
 explain maps/m.map|MAP SYMBOL NAME s~TYPE PIXMAP~IMAGE bad.ppm~END END||1 MapfileFault||fault line 3 kind 10~maps/m.map:3: the file that IMAGE names is no pixmap in Netpbm's P6 format of at most 256 by 256 pixels~
 explain maps/m.map|MAP SYMBOL NAME s~TYPE PIXMAP~IMAGE none.ppm~END END||1 MapfileFault||fault line 3 kind 7~maps/m.map:3: the file none.ppm, which IMAGE names, can't be read~
-# Of several files that can't be read the first is named, behind one that can be. A name with a control character isn't shown.
+# Of several files that can't be read the first is named, after one that can be. A name with a control character isn't shown.
 explain|MAP SYMBOL NAME s TYPE PIXMAP~IMAGE p.ppm END~SYMBOL NAME t TYPE PIXMAP IMAGE 'one two.ppm' END~SYMBOL NAME u TYPE PIXMAP IMAGE three.ppm END END||1 MapfileFault||fault line 3 kind 7~m.map:3: the file one two.ppm, which IMAGE names, can't be read~
 explain|MAP SYMBOL NAME s TYPE PIXMAP IMAGE 'a\tb' END END||1 MapfileFault||fault line 1 kind 7~m.map:1: the file that IMAGE names can't be read~
 explain|MAP SYMBOL NAME s TYPE PIXMAP IMAGE 'a\u{9f}b' END END||1 MapfileFault||fault line 1 kind 7~m.map:1: the file that IMAGE names can't be read~
