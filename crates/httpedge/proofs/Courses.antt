@@ -150,11 +150,11 @@ broken-came answers n read said rest reply first now last old fed taken d readin
     come-broken answers n k read (came_of old.progress) (take taken rest) said reply first now last decided.closes (is_closing fed) (decision_meaning d (query_of fed.progress)) c decided.decides closed replies
 
 -- the bytes that were read of a piece, and those left of it, are the piece
-pub piece-parts : (came front rest piece more : List ℕ) (taken : ℕ) → front ++ rest ≡ piece → ((came ++ front) ++ take taken rest) ++ (drop taken rest ++ more) ≡ (came ++ piece) ++ more
-piece-parts came front rest piece more taken all =
-    sym (append_assoc ((came ++ front) ++ take taken rest) (drop taken rest) more)
-    ∙ ap (λ l. l ++ more) (append_assoc (came ++ front) (take taken rest) (drop taken rest) ∙ ap (λ l. (came ++ front) ++ l) (take-append-drop taken rest) ∙ append_assoc came front rest ∙ ap (λ l. came ++ l) all)
+pub piece-parts : (came prefix rest piece more : List ℕ) (taken : ℕ) → prefix ++ rest ≡ piece → ((came ++ prefix) ++ take taken rest) ++ (drop taken rest ++ more) ≡ (came ++ piece) ++ more
+piece-parts came prefix rest piece more taken all =
+    sym (append_assoc ((came ++ prefix) ++ take taken rest) (drop taken rest) more)
+    ∙ ap (λ l. l ++ more) (append_assoc (came ++ prefix) (take taken rest) (drop taken rest) ∙ ap (λ l. (came ++ prefix) ++ l) (take-append-drop taken rest) ∙ append_assoc came prefix rest ∙ ap (λ l. came ++ l) all)
 
 -- the prefix of a piece grows
-pub front-grows : (front rest piece : List ℕ) (taken : ℕ) → front ++ rest ≡ piece → (front ++ take taken rest) ++ drop taken rest ≡ piece
-front-grows front rest piece taken all = append_assoc front (take taken rest) (drop taken rest) ∙ ap (λ l. front ++ l) (take-append-drop taken rest) ∙ all
+pub prefix-grows : (prefix rest piece : List ℕ) (taken : ℕ) → prefix ++ rest ≡ piece → (prefix ++ take taken rest) ++ drop taken rest ≡ piece
+prefix-grows prefix rest piece taken all = append_assoc prefix (take taken rest) (drop taken rest) ∙ ap (λ l. prefix ++ l) (take-append-drop taken rest) ∙ all

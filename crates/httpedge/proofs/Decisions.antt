@@ -30,13 +30,13 @@ pub parsed-whole : (bytes : List ℕ) (fields : List HeaderSpan) (r : RequestSpa
     IsWhole (take r.len bytes) head
 parsed-whole bytes fields r head found room limit len =
     let p = print_request head in
-    let front : take r.len bytes ≡ p = rw (found.len) (ap (take (length p)) found.reads.1 ∙ take-append_seam p (drop r.len bytes)) in
+    let prefix : take r.len bytes ≡ p = rw (found.len) (ap (take (length p)) found.reads.1 ∙ take-append_seam p (drop r.len bytes)) in
     let count : length head.fields ≤ length fields =
     omega (arith, ap length found.fields, length-map (take r.headers fields) (header_bytes bytes), length-map head.fields name_and_value, length-take r.headers fields) in
     record {
       has = record {
         rest = [];
-        reads = (found.reads.0, front ∙ sym (append-nil p));
+        reads = (found.reads.0, prefix ∙ sym (append-nil p));
         bytes = omega (arith, found.len, len, limit);
         fields = omega (arith, count, room);
       };
@@ -71,10 +71,10 @@ head-shortest bytes len head whole n bound none =
     elim (leb_tells n len) [
       | inl short ↦ short.1
       | inr long ↦
-          let front : take len (take n bytes) ++ drop len (take n bytes) ≡ take n bytes = take-append-drop len (take n bytes) in
+          let prefix : take len (take n bytes) ++ drop len (take n bytes) ≡ take n bytes = take-append-drop len (take n bytes) in
           let same : take len (take n bytes) ≡ take len bytes = take-take len n bytes (omega (arith, long.1)) in
           let has : HasHead (take len (take n bytes) ++ drop len (take n bytes)) head = head-more _ (drop len (take n bytes)) head (subst (λ (l : List ℕ). HasHead l head) (sym same) whole.has) in
-          absurd (none head (subst (λ (l : List ℕ). HasHead l head) front has))
+          absurd (none head (subst (λ (l : List ℕ). HasHead l head) prefix has))
     ]
 
 -- where no head can come, all bytes decide
@@ -90,39 +90,39 @@ never-judged bytes query start end none always = record {
 }
 
 -- a test for some field gives the same for the parsed fields as for the fields of the head
-same-test : (p : List ℕ × List ℕ → Bool) (bytes : List ℕ) (fields front : List HeaderSpan) (r : RequestSpans) (head : RequestHead) → IsRequestAt bytes fields r head → front ≡ take r.headers fields →
-    list_any p (map (header_bytes bytes) front) ≡ list_any p (map name_and_value head.fields)
-same-test p bytes fields front r head found is = ap (λ l. list_any p (map (header_bytes bytes) l)) is ∙ ap (list_any p) found.fields
+same-test : (p : List ℕ × List ℕ → Bool) (bytes : List ℕ) (fields prefix : List HeaderSpan) (r : RequestSpans) (head : RequestHead) → IsRequestAt bytes fields r head → prefix ≡ take r.headers fields →
+    list_any p (map (header_bytes bytes) prefix) ≡ list_any p (map name_and_value head.fields)
+same-test p bytes fields prefix r head found is = ap (λ l. list_any p (map (header_bytes bytes) l)) is ∙ ap (list_any p) found.fields
 
 -- a query that lies in the target lies in the head
 query-within : (len : ℕ) (path query : Span) → IsWithin len path → IsWithin path.end query → IsWithin len query
 query-within len path query outer inner = (inner.0, omega (arith, inner.1, outer.1))
 
 -- a head that announces a body
-pub body-judged : (bytes : List ℕ) (fields front : List HeaderSpan) (r : RequestSpans) (head : RequestHead) (some : Bool) (query : Span) → IsRequestAt bytes fields r head → length fields ≤ 64 → length bytes ≤ 16384 → r.len ≤ length bytes →
-    IsWithin r.len r.path → IsWithin r.path.end query → front ≡ take r.headers fields → some ≡ list_any says_body (map (header_bytes bytes) front) → some ≡ true →
+pub body-judged : (bytes : List ℕ) (fields prefix : List HeaderSpan) (r : RequestSpans) (head : RequestHead) (some : Bool) (query : Span) → IsRequestAt bytes fields r head → length fields ≤ 64 → length bytes ≤ 16384 → r.len ≤ length bytes →
+    IsWithin r.len r.path → IsWithin r.path.end query → prefix ≡ take r.headers fields → some ≡ list_any says_body (map (header_bytes bytes) prefix) → some ≡ true →
     IsJudged bytes (record { decision = Some (decision.Refused BadRequest); query = query; closes = true; len = r.len })
-body-judged bytes fields front r head some query found room limit len within inner is some-is e =
+body-judged bytes fields prefix r head some query found room limit len within inner is some-is e =
     let whole = parsed-whole bytes fields r head found room limit len in
     record {
       query = query-within r.len r.path query within inner;
       verdict = record {
         len = len;
-        decides = body-decides (take r.len bytes) head whole (sym (same-test says_body bytes fields front r head found is) ∙ sym some-is ∙ e);
+        decides = body-decides (take r.len bytes) head whole (sym (same-test says_body bytes fields prefix r head found is) ∙ sym some-is ∙ e);
         shortest = head-shortest bytes r.len head whole;
       };
     }
 
 -- one that announces none
-pub head-judged : (bytes : List ℕ) (fields front : List HeaderSpan) (r : RequestSpans) (head : RequestHead) (some ending : Bool) (decided : Decision) (query : Span) → IsRequestAt bytes fields r head → length fields ≤ 64 → length bytes ≤ 16384 →
-    r.len ≤ length bytes → IsWithin r.len r.path → IsWithin r.path.end query → front ≡ take r.headers fields → some ≡ list_any says_body (map (header_bytes bytes) front) → some ≡ false →
-    ending ≡ ((r.version == 0) || list_any says_close (map (header_bytes bytes) front)) → span_bytes bytes query ≡ after_first is_question_mark (span_bytes bytes r.path) →
+pub head-judged : (bytes : List ℕ) (fields prefix : List HeaderSpan) (r : RequestSpans) (head : RequestHead) (some ending : Bool) (decided : Decision) (query : Span) → IsRequestAt bytes fields r head → length fields ≤ 64 → length bytes ≤ 16384 →
+    r.len ≤ length bytes → IsWithin r.len r.path → IsWithin r.path.end query → prefix ≡ take r.headers fields → some ≡ list_any says_body (map (header_bytes bytes) prefix) → some ≡ false →
+    ending ≡ ((r.version == 0) || list_any says_close (map (header_bytes bytes) prefix)) → span_bytes bytes query ≡ after_first is_question_mark (span_bytes bytes r.path) →
     decision_meaning decided (after_first is_question_mark (span_bytes bytes r.path)) ≡ request_meaning (span_bytes bytes r.method) (span_bytes bytes r.path) →
     IsJudged bytes (record { decision = Some decided; query = query; closes = ending; len = r.len })
-head-judged bytes fields front r head some ending decided query found room limit len within inner is some-is e ends asked means =
+head-judged bytes fields prefix r head some ending decided query found room limit len within inner is some-is e ends asked means =
     let whole = parsed-whole bytes fields r head found room limit len in
-    let none : announces_body head ≡ false = sym (same-test says_body bytes fields front r head found is) ∙ sym some-is ∙ e in
-    let closing : ending ≡ closes head = ends ∙ rw (same-test says_close bytes fields front r head found is, found.version) refl in
+    let none : announces_body head ≡ false = sym (same-test says_body bytes fields prefix r head found is) ∙ sym some-is ∙ e in
+    let closing : ending ≡ closes head = ends ∙ rw (same-test says_close bytes fields prefix r head found is, found.version) refl in
     let meaning : decision_meaning decided (span_bytes bytes query) ≡ head_meaning head = ap (decision_meaning decided) asked ∙ means ∙ rw (found.method, found.path) refl in
     record {
       query = query-within r.len r.path query within inner;

@@ -45,22 +45,22 @@ exchange-is-one (suc n) stream old a b c d (t, p, q) (u, r, s) =
     follows-is-one (IsExchange says_next n) (exchange-is-one n) u old a b c d (subst (λ (w : Turn). Follows says_next (IsExchange says_next n) w old a c) same q) s
 
 -- a begun answer to a turn is a prefix of its answer
-front-follows : (part next : List ℕ → List Said → List ℕ → List Said → Type 0) →
+prefix-follows : (part next : List ℕ → List Said → List ℕ → List Said → Type 0) →
     ((stream : List ℕ) (old : List Said) (a b : List ℕ) (c d : List Said) → part stream old a c → next stream old b d → (more : List ℕ) × (b ≡ a ++ more)) →
     (turn : Turn) (old : List Said) (a b : List ℕ) (c d : List Said) → Follows says_next part turn old a c → Follows says_next next turn old b d → (more : List ℕ) × (b ≡ a ++ more)
-front-follows part next front (Last meaning) old a b c d x y = ([], sym (append-nil a ∙ (reply-is-one true meaning old a b c d x y).0))
-front-follows part next front (Further meaning after) old a b c d (f, r, m, p, q, e) (g, s, n, u, v, h) =
+prefix-follows part next prefix (Last meaning) old a b c d x y = ([], sym (append-nil a ∙ (reply-is-one true meaning old a b c d x y).0))
+prefix-follows part next prefix (Further meaning after) old a b c d (f, r, m, p, q, e) (g, s, n, u, v, h) =
     let first = reply-is-one false meaning old f g m n p u in
-    let (more, rest) = front after n r s c d (subst (λ w. part after w r c) first.1 q) v in
+    let (more, rest) = prefix after n r s c d (subst (λ w. part after w r c) first.1 q) v in
     (more, h ∙ ap (λ l. g ++ l) rest ∙ ap (λ l. l ++ (r ++ more)) (sym first.0) ∙ sym (append_assoc f r more) ∙ ap (λ l. l ++ more) (sym e))
 
-pub begun-front : (n : ℕ) (stream : List ℕ) (old : List Said) (a b : List ℕ) (c d : List Said) → IsBegun says_next n stream old a c → IsExchange says_next n stream old b d → (more : List ℕ) × (b ≡ a ++ more)
+pub begun-prefix : (n : ℕ) (stream : List ℕ) (old : List Said) (a b : List ℕ) (c d : List Said) → IsBegun says_next n stream old a c → IsExchange says_next n stream old b d → (more : List ℕ) × (b ≡ a ++ more)
 unfolding IsExchange IsBegun
-begun-front zero stream old a b c d x y = (b, rw (x.0) refl)
-begun-front (suc n) stream old a b c d (inl x) y = (b, rw (x.0) refl)
-begun-front (suc n) stream old a b c d (inr (t, p, q)) (u, r, s) =
+begun-prefix zero stream old a b c d x y = (b, rw (x.0) refl)
+begun-prefix (suc n) stream old a b c d (inl x) y = (b, rw (x.0) refl)
+begun-prefix (suc n) stream old a b c d (inr (t, p, q)) (u, r, s) =
     let same = turn-is-one (n == 0) stream t u p r in
-    front-follows (IsBegun says_next n) (IsExchange says_next n) (begun-front n) u old a b c d (subst (λ (w : Turn). Follows says_next (IsBegun says_next n) w old a c) same q) s
+    prefix-follows (IsBegun says_next n) (IsExchange says_next n) (begun-prefix n) u old a b c d (subst (λ (w : Turn). Follows says_next (IsBegun says_next n) w old a c) same q) s
 
 -- one head that doesn't end the connection, and then the rest
 pub one-more : (head : RequestHead) (m : ℕ) (rest : List ℕ) (old between new : List Said) (first text : List ℕ) → IsFurther head →
@@ -73,13 +73,13 @@ one-more head m rest old between new first text further reply some others =
 some-left : (k n : ℕ) → (k + suc n == 0) ≡ false
 some-left k n = ne_eqb (k + suc n) 0 (λ e. absurd (omega (arith, e)))
 
-pub heads-in-turn : (heads : List RequestHead) (n : ℕ) (rest : List ℕ) (old between new : List Said) (front text : List ℕ) → All IsFurther heads →
-    AreReplies says_next heads old front between → IsExchange says_next (suc n) rest between text new →
-    IsExchange says_next (length heads + suc n) (flat_map print_request heads ++ rest) old (front ++ text) new
-heads-in-turn [] n rest old between new front text further replies others =
+pub heads-in-turn : (heads : List RequestHead) (n : ℕ) (rest : List ℕ) (old between new : List Said) (prefix text : List ℕ) → All IsFurther heads →
+    AreReplies says_next heads old prefix between → IsExchange says_next (suc n) rest between text new →
+    IsExchange says_next (length heads + suc n) (flat_map print_request heads ++ rest) old (prefix ++ text) new
+heads-in-turn [] n rest old between new prefix text further replies others =
     let none : length {A = RequestHead} [] + suc n ≡ suc n = omega arith in
     rw (none, replies.0, ← replies.1) others
-heads-in-turn (head ∷ heads) n rest old between new front text further (first, later, middle, reply, replies, e) others =
+heads-in-turn (head ∷ heads) n rest old between new prefix text further (first, later, middle, reply, replies, e) others =
     let count : length (head ∷ heads) + suc n ≡ suc (length heads + suc n) = omega arith in
     let after = heads-in-turn heads n rest middle between new later text (λ k d below. further (suc k) d (omega (arith, below))) replies others in
     rw (count, e, append_assoc first later text, append_assoc (print_request head) (flat_map print_request heads) rest)

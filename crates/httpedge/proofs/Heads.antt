@@ -16,9 +16,9 @@ use Rattle.httpedge.specs.Turn.{Turn, IsTurn, AlwaysTurns}
 use Rattle.httpedge.specs.declared.refusal.Refusal.TheVariants.{BadRequest}
 
 -- the end of a line ends in LF
-line-ends : (front : List ℕ) (last : LineEnd) → (x : List ℕ) × (front ++ print_end last ≡ x ++ 10 ∷ [])
-line-ends front crlf = (front ++ 13 ∷ [], sym (append_assoc front (13 ∷ []) (10 ∷ [])))
-line-ends front lf = (front, refl)
+line-ends : (prefix : List ℕ) (last : LineEnd) → (x : List ℕ) × (prefix ++ print_end last ≡ x ++ 10 ∷ [])
+line-ends prefix crlf = (prefix ++ 13 ∷ [], sym (append_assoc prefix (13 ∷ []) (10 ∷ [])))
+line-ends prefix lf = (prefix, refl)
 
 section-ends : (p f : List ℕ) (last : LineEnd) → (x : List ℕ) × (p ++ (f ++ print_end last) ≡ x ++ 10 ∷ [])
 section-ends p f last = let (x, e) = line-ends (p ++ f) last in (x, sym (append_assoc p f (print_end last)) ∙ e)
@@ -43,13 +43,13 @@ blank-headless bytes blank head has =
     let e : false ≡ true = sym (head-not-blank head has.rest) ∙ ap (list_all is_newline) (sym has.reads.1) ∙ blank in cc
 
 -- a head that isn't longer than the prefix of a stream is the head of the prefix
-pub head-front : (a b : List ℕ) (head : RequestHead) → HasHead (a ++ b) head → length (print_request head) ≤ length a → HasHead a head
-head-front a b head has short =
+pub head-prefix : (a b : List ℕ) (head : RequestHead) → HasHead (a ++ b) head → length (print_request head) ≤ length a → HasHead a head
+head-prefix a b head has short =
     let p = print_request head in
-    let front : take (length p) a ≡ p = sym (take-append-le (length p) a b short) ∙ ap (take (length p)) has.reads.1 ∙ take-append_seam p has.rest in
+    let prefix : take (length p) a ≡ p = sym (take-append-le (length p) a b short) ∙ ap (take (length p)) has.reads.1 ∙ take-append_seam p has.rest in
     record {
       rest = drop (length p) a;
-      reads = (has.reads.0, sym (take-append-drop (length p) a) ∙ ap (λ l. l ++ drop (length p) a) front);
+      reads = (has.reads.0, sym (take-append-drop (length p) a) ∙ ap (λ l. l ++ drop (length p) a) prefix);
       bytes = has.bytes;
       fields = has.fields;
     }
@@ -65,7 +65,7 @@ head-more a b head has = record {
 
 -- so many bytes without a head begin no stream that has one
 pub full-headless : (a b : List ℕ) → length a ≡ 16384 → HasNoHead a → HasNoHead (a ++ b)
-full-headless a b full none head has = none head (head-front a b head has (omega (arith, full, has.bytes)))
+full-headless a b full none head has = none head (head-prefix a b head has (omega (arith, full, has.bytes)))
 
 -- a head that ends in a piece has an LF there
 head-in-piece : (a b : List ℕ) (head : RequestHead) → HasHead (a ++ b) head → length a < length (print_request head) → list_any is_line_feed b ≡ true
@@ -80,7 +80,7 @@ head-in-piece a b head has long =
 pub piece-headless : (a b : List ℕ) → HasNoHead a → list_any is_line_feed b ≡ false → HasNoHead (a ++ b)
 piece-headless a b none line head has =
     elim (leb_tells (length (print_request head)) (length a)) [
-      | inl short ↦ none head (head-front a b head has short.1)
+      | inl short ↦ none head (head-prefix a b head has short.1)
       | inr long ↦ let e : true ≡ false = sym (head-in-piece a b head has long.1) ∙ line in cc
     ]
 

@@ -15,8 +15,8 @@ use Rattle.httpedge.specs.declared.decision.Decision.{Decision}
 use Rattle.httpedge.specs.declared.verdict.Judged.{Judged}
 
 -- a range within the first bytes is a range of all
-pub range-front : (bytes : List ℕ) (n start end : ℕ) → start ≤ end → end ≤ n → n ≤ length bytes → slice_range (take n bytes) start end ≡ slice_range bytes start end
-range-front bytes n start end ordered within bound =
+pub range-prefix : (bytes : List ℕ) (n start end : ℕ) → start ≤ end → end ≤ n → n ≤ length bytes → slice_range (take n bytes) start end ≡ slice_range bytes start end
+range-prefix bytes n start end ordered within bound =
     let long : length (take n bytes) ≡ n = length-take-le n bytes bound in
     let all : take n bytes ++ drop n bytes ≡ bytes = take-append-drop n bytes in
     let at : drop start (take n bytes ++ drop n bytes) ≡ drop start (take n bytes) ++ drop n bytes = drop-append-le start (take n bytes) (drop n bytes) (omega (arith, long, ordered, within)) in
@@ -24,29 +24,29 @@ range-front bytes n start end ordered within bound =
     sym (ap (λ l. take (end - start) (drop start l)) (sym all) ∙ ap (take (end - start)) at ∙ take-append-le (end - start) (drop start (take n bytes)) (drop n bytes) (omega (arith, rest, within)))
 
 -- the first bytes that are judged are the old ones and a prefix of the piece
-cut : (old piece front all : List ℕ) (count len : ℕ) → front ≡ take count piece → count ≤ length piece → all ≡ old ++ front → length old ≤ len → len ≤ length all → take len all ≡ old ++ take (len - length old) piece
-cut old piece front all count len is bound e from to =
+cut : (old piece prefix all : List ℕ) (count len : ℕ) → prefix ≡ take count piece → count ≤ length piece → all ≡ old ++ prefix → length old ≤ len → len ≤ length all → take len all ≡ old ++ take (len - length old) piece
+cut old piece prefix all count len is bound e from to =
     let n : len ≡ length old + (len - length old) = omega arith in
-    let size : length all ≡ length old + length front = ap length e ∙ length-append old front in
+    let size : length all ≡ length old + length prefix = ap length e ∙ length-append old prefix in
     let short : len - length old ≤ count = omega (arith, size, ap length is, length-take count piece, to) in
     rw (e, is) (ap (λ m. take m (old ++ take count piece)) n ∙ take-append-add old (take count piece) (len - length old) ∙ ap (λ l. old ++ l) (take-take (len - length old) count piece short))
 
 -- no prefix decides that is shorter than the bytes that have no head
-pub from-old : (old front all : List ℕ) (judged : Judged) (meaning : Meaning) → HasNoHead old → all ≡ old ++ front → IsDecision all judged meaning → length old ≤ judged.len
-from-old old front all judged meaning none e decision =
-    let size : length all ≡ length old + length front = ap length e ∙ length-append old front in
-    decision.shortest (length old) (omega (arith, size)) (subst HasNoHead (sym (ap (take (length old)) e ∙ take-append_seam old front)) none)
+pub from-old : (old prefix all : List ℕ) (judged : Judged) (meaning : Meaning) → HasNoHead old → all ≡ old ++ prefix → IsDecision all judged meaning → length old ≤ judged.len
+from-old old prefix all judged meaning none e decision =
+    let size : length all ≡ length old + length prefix = ap length e ∙ length-append old prefix in
+    decision.shortest (length old) (omega (arith, size)) (subst HasNoHead (sym (ap (take (length old)) e ∙ take-append_seam old prefix)) none)
 
-pub old-first : (old front all : List ℕ) (judged : Judged) (d : Option Decision) → HasNoHead old → all ≡ old ++ front → IsJudgedAs all judged d → length old ≤ judged.len
-old-first old front all judged None none e judges = omega (arith, judges.2, ap length e, length-append old front)
-old-first old front all judged (Some decided) none e judges = from-old old front all judged _ none e judges
+pub old-first : (old prefix all : List ℕ) (judged : Judged) (d : Option Decision) → HasNoHead old → all ≡ old ++ prefix → IsJudgedAs all judged d → length old ≤ judged.len
+old-first old prefix all judged None none e judges = omega (arith, judges.2, ap length e, length-append old prefix)
+old-first old prefix all judged (Some decided) none e judges = from-old old prefix all judged _ none e judges
 
 -- what the prefix of the piece decides
-pub taken : (old piece front all new : List ℕ) (count : ℕ) (judged : Judged) (d : Option Decision) → length old < 16384 → count ≡ min (length piece) (16384 - length old) → front ≡ take count piece →
-    all ≡ old ++ front → new ≡ take judged.len all → HasNoHead old → IsWithin judged.len judged.query → IsJudgedAs all judged d → Takes old piece (judged.len - length old) (progress_by d judged.closes (span_bytes new judged.query) new)
-taken old piece front all new count judged None room is part e kept none within judges =
-    let size : length all ≡ length old + length front = ap length e ∙ length-append old front in
-    let m : length front ≡ min count (length piece) = ap length part ∙ length-take count piece in
+pub taken : (old piece prefix all new : List ℕ) (count : ℕ) (judged : Judged) (d : Option Decision) → length old < 16384 → count ≡ min (length piece) (16384 - length old) → prefix ≡ take count piece →
+    all ≡ old ++ prefix → new ≡ take judged.len all → HasNoHead old → IsWithin judged.len judged.query → IsJudgedAs all judged d → Takes old piece (judged.len - length old) (progress_by d judged.closes (span_bytes new judged.query) new)
+taken old piece prefix all new count judged None room is part e kept none within judges =
+    let size : length all ≡ length old + length prefix = ap length e ∙ length-append old prefix in
+    let m : length prefix ≡ min count (length piece) = ap length part ∙ length-take count piece in
     let whole : judged.len - length old ≡ length piece = omega (arith, size, m, is, judges.1, judges.2, room) in
     let all-is : all ≡ old ++ take (judged.len - length old) piece = e ∙ ap (λ l. old ++ l) (part ∙ take_all count piece (omega (arith, whole, size, m, judges.2)) ∙ sym (take_all (judged.len - length old) piece (omega (arith, whole)))) in
     record {
@@ -54,14 +54,14 @@ taken old piece front all new count judged None room is part e kept none within 
       bound = omega (arith, whole);
       cut = λ short. absurd (omega (arith, whole, short));
     }
-taken old piece front all new count judged (Some decided) room is part e kept none within judges =
+taken old piece prefix all new count judged (Some decided) room is part e kept none within judges =
     let query = judged.query in
-    let from = from-old old front all judged _ none e judges in
-    let bytes : take judged.len all ≡ old ++ take (judged.len - length old) piece = cut old piece front all count judged.len part (omega (arith, is)) e from judges.len in
-    let same : span_bytes all query ≡ span_bytes new query = sym (rw kept (range-front all judged.len query.start query.end within.0 within.1 judges.len)) in
+    let from = from-old old prefix all judged _ none e judges in
+    let bytes : take judged.len all ≡ old ++ take (judged.len - length old) piece = cut old piece prefix all count judged.len part (omega (arith, is)) e from judges.len in
+    let same : span_bytes all query ≡ span_bytes new query = sym (rw kept (range-prefix all judged.len query.start query.end within.0 within.1 judges.len)) in
     record {
       comes = subst (λ l. Decides l judged.closes (decision_meaning decided (span_bytes new query))) bytes (subst (λ q. Decides (take judged.len all) judged.closes (decision_meaning decided q)) same judges.decides);
-      bound = omega (arith, is, ap length e, length-append old front, ap length part, length-take count piece, judges.len);
+      bound = omega (arith, is, ap length e, length-append old prefix, ap length part, length-take count piece, judges.len);
       cut = λ short. refl;
     }
 

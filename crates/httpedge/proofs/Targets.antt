@@ -33,6 +33,6 @@ query-at bytes start end from text n ordered within is count e =
 pub target-served : (target path : List ℕ) (n : ℕ) (served : Bool) → n ≡ position_or_len is_question_mark target → path ≡ take n target → served ≡ is_served path →
     target_meaning target ≡ (if served then Asks (after_first is_question_mark target) else Refused NotFound)
 unfolding target_meaning
-target-served target path n served count front e =
-    let same : is_served (before_first is_question_mark target) ≡ served = rw (e, front, count) refl in
+target-served target path n served count prefix e =
+    let same : is_served (before_first is_question_mark target) ≡ served = rw (e, prefix, count) refl in
     rw same refl

@@ -18,12 +18,12 @@ use Rattle.httpedge.specs.Serving.{HasCome}
 use Rattle.httpedge.specs.Turn.{Turn, Last, Further, headless_turn}
 use Rattle.httpedge.specs.declared.conn.TheConstants.{REQUESTS}
 use Rattle.httpedge.specs.declared.refusal.Refusal.TheVariants.{BadRequest}
-use Rattle.httpedge.proofs.Heads.{head-front, head-more, nothing-headless}
+use Rattle.httpedge.proofs.Heads.{head-prefix, head-more, nothing-headless}
 
 -- each prefix of bytes that leave a stream open does so
-fronts-leave-open : (front more : List ℕ) → LeavesOpen (front ++ more) → LeavesOpen front
-fronts-leave-open front more leaves =
-    ((λ head has. leaves.0 head (head-more front more head has)), omega (arith, leaves.1, length-append front more))
+prefixes-leave-open : (prefix more : List ℕ) → LeavesOpen (prefix ++ more) → LeavesOpen prefix
+prefixes-leave-open prefix more leaves =
+    ((λ head has. leaves.0 head (head-more prefix more head has)), omega (arith, leaves.1, length-append prefix more))
 
 -- a stream without a head has no further turn
 no-further : (stream after : List ℕ) (meaning : Meaning) → Further meaning after ≡ headless_turn stream → ⊥
@@ -42,23 +42,23 @@ further-by false true meaning asked rest after e = absurd (cc)
 further-by false false meaning asked rest after e = let m : meaning ≡ asked = cc in (cc, λ other. ap (λ x. Further x other) m)
 
 -- where a read is needed after some bytes, one was needed after each prefix of them
-pub fronts-want : (n : ℕ) (front more : List ℕ) → Wants n (front ++ more) → Wants n front
+pub prefixes-want : (n : ℕ) (prefix more : List ℕ) → Wants n (prefix ++ more) → Wants n prefix
 unfolding Wants turn-by
-fronts-want zero front more wants = wants
-fronts-want (suc n) front more (inl leaves) = inl (fronts-leave-open front more leaves)
-fronts-want (suc n) front more (inr (meaning, after, inr (none, e), wants)) = absurd (no-further (front ++ more) after meaning e)
-fronts-want (suc n) front more (inr (meaning, after, inl (head, has, e), wants)) =
-    elim (leb_tells (length (print_request head)) (length front)) [
+prefixes-want zero prefix more wants = wants
+prefixes-want (suc n) prefix more (inl leaves) = inl (prefixes-leave-open prefix more leaves)
+prefixes-want (suc n) prefix more (inr (meaning, after, inr (none, e), wants)) = absurd (no-further (prefix ++ more) after meaning e)
+prefixes-want (suc n) prefix more (inr (meaning, after, inl (head, has, e), wants)) =
+    elim (leb_tells (length (print_request head)) (length prefix)) [
       | inl short ↦
-          let own = head-front front more head has short.1 in
-          let same = request_unique (front ++ more) head head has.rest (own.rest ++ more) has.reads (ReadsRequest-append front head own.rest more own.reads) in
+          let own = head-prefix prefix more head has short.1 in
+          let same = request_unique (prefix ++ more) head head has.rest (own.rest ++ more) has.reads (ReadsRequest-append prefix head own.rest more own.reads) in
           let further = further-by (announces_body head) (closes head || (n == 0)) meaning (head_meaning head) has.rest after e in
           let rest : Wants n (own.rest ++ more) = subst (Wants n) (further.0 ∙ same.1) wants in
-          inr (meaning, own.rest, inl (head, own, further.1 own.rest), fronts-want n own.rest more rest)
+          inr (meaning, own.rest, inl (head, own, further.1 own.rest), prefixes-want n own.rest more rest)
       | inr long ↦ inl (
         (λ other own.
-            let same = request_unique (front ++ more) other head (own.rest ++ more) has.rest (ReadsRequest-append front other own.rest more own.reads) has.reads in
-            let fits : length (print_request other) ≤ length front = omega (arith, ap length own.reads.1, length-append (print_request other) own.rest) in
+            let same = request_unique (prefix ++ more) other head (own.rest ++ more) has.rest (ReadsRequest-append prefix other own.rest more own.reads) has.reads in
+            let fits : length (print_request other) ≤ length prefix = omega (arith, ap length own.reads.1, length-append (print_request other) own.rest) in
             omega (arith, long.1, fits, ap (λ h. length (print_request h)) same.0)),
         omega (arith, long.1, has.bytes),
       )

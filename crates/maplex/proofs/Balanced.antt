@@ -50,10 +50,10 @@ Closes n None bytes = ClosesBrackets n bytes
 Closes n (Some quote) bytes = (part : List ℕ) × (rest : List ℕ) × (bytes ≡ part ++ (quote ∷ rest)) × All (λ b. b ≢ quote) part × ClosesBrackets n rest
 
 -- what may stand before balanced bytes changes nothing
-closes-after : (n : ℕ) (front bytes : List ℕ) → ((bs : List ℕ) → AreBalanced bs → AreBalanced (front ++ bs)) → ClosesBrackets n bytes → ClosesBrackets n (front ++ bytes)
-closes-after zero front bytes balanced h = balanced bytes h
-closes-after (suc n) front bytes balanced (part, rest, is, within, others) =
-    (front ++ part, rest, ap (λ bs. front ++ bs) is ∙ sym (append_assoc front part (41 ∷ rest)), balanced part within, others)
+closes-after : (n : ℕ) (prefix bytes : List ℕ) → ((bs : List ℕ) → AreBalanced bs → AreBalanced (prefix ++ bs)) → ClosesBrackets n bytes → ClosesBrackets n (prefix ++ bytes)
+closes-after zero prefix bytes balanced h = balanced bytes h
+closes-after (suc n) prefix bytes balanced (part, rest, is, within, others) =
+    (prefix ++ part, rest, ap (λ bs. prefix ++ bs) is ∙ sym (append_assoc prefix part (41 ∷ rest)), balanced part within, others)
 
 -- one more byte before such bytes, by what it is
 closes-in_quotes : (n quote b : ℕ) (bytes : List ℕ) → b ≢ quote → Closes n (Some quote) bytes → Closes n (Some quote) (b ∷ bytes)
@@ -66,14 +66,14 @@ closes-end_of_quotes n quote b bytes same h = ([], bytes, ap (λ c. c ∷ bytes)
 closes-quote : (n b : ℕ) (bytes : List ℕ) → is_quote b ≡ true → Closes n (Some b) bytes → ClosesBrackets n (b ∷ bytes)
 closes-quote n b bytes quote (part, rest, is, goes_on, others) =
     let apart : (bs : List ℕ) → (b ∷ (part ++ (b ∷ []))) ++ bs ≡ b ∷ (part ++ (b ∷ bs)) = λ bs. ap (λ cs. b ∷ cs) (append_assoc part (b ∷ []) bs) in
-    let front = closes-after n (b ∷ (part ++ (b ∷ []))) rest (λ bs h. subst AreBalanced (sym (apart bs)) (quoted b part bs quote goes_on h)) others in
-    subst (ClosesBrackets n) (apart rest ∙ ap (λ bs. b ∷ bs) (sym is)) front
+    let prefix = closes-after n (b ∷ (part ++ (b ∷ []))) rest (λ bs h. subst AreBalanced (sym (apart bs)) (quoted b part bs quote goes_on h)) others in
+    subst (ClosesBrackets n) (apart rest ∙ ap (λ bs. b ∷ bs) (sym is)) prefix
 
 closes-bracket : (n b : ℕ) (bytes : List ℕ) → b ≡ 40 → ClosesBrackets (suc n) bytes → ClosesBrackets n (b ∷ bytes)
 closes-bracket n b bytes opens (part, rest, is, within, others) =
     let apart : (bs : List ℕ) → (40 ∷ (part ++ (41 ∷ []))) ++ bs ≡ 40 ∷ (part ++ (41 ∷ bs)) = λ bs. ap (λ cs. 40 ∷ cs) (append_assoc part (41 ∷ []) bs) in
-    let front = closes-after n (40 ∷ (part ++ (41 ∷ []))) rest (λ bs h. subst AreBalanced (sym (apart bs)) (bracketed part bs within h)) others in
-    subst (ClosesBrackets n) (apart rest ∙ ap (λ bs. 40 ∷ bs) (sym is) ∙ ap (λ c. c ∷ bytes) (sym opens)) front
+    let prefix = closes-after n (40 ∷ (part ++ (41 ∷ []))) rest (λ bs h. subst AreBalanced (sym (apart bs)) (bracketed part bs within h)) others in
+    subst (ClosesBrackets n) (apart rest ∙ ap (λ bs. 40 ∷ bs) (sym is) ∙ ap (λ c. c ∷ bytes) (sym opens)) prefix
 
 closes-byte : (n b : ℕ) (bytes : List ℕ) → is_quote b ≡ false → b ≢ 40 → b ≢ 41 → ClosesBrackets n bytes → ClosesBrackets n (b ∷ bytes)
 closes-byte n b bytes quote opens closes h = closes-after n (b ∷ []) bytes (λ bs balanced. byte b bs quote opens closes balanced) h
@@ -150,7 +150,7 @@ never-closed_by bs true e never =
     let at = inner_len (opened 0 None) bs in
     let lt = ltb-true at (length bs) e in
     let whole : bs ≡ take at bs ++ (41 ∷ drop (suc at) bs) =
-    sym (take-append-drop (suc at) bs) ∙ ap (λ front. front ++ drop (suc at) bs) (closing-after bs lt) ∙ append_assoc (take at bs) (41 ∷ []) (drop (suc at) bs) in
+    sym (take-append-drop (suc at) bs) ∙ ap (λ prefix. prefix ++ drop (suc at) bs) (closing-after bs lt) ∙ append_assoc (take at bs) (41 ∷ []) (drop (suc at) bs) in
     absurd (never (take at bs) (drop (suc at) bs) (balanced-before bs lt) whole)
 
 pub never-closed_to : (bs : List ℕ) → IsNeverClosed bs → nat_lt (inner_len (opened 0 None) bs) (length bs) ≡ false

@@ -200,16 +200,16 @@ begins-token b bs false true c s h = absurd (omega arith)
 begins-token b bs false false c s h = record { separates = s; comments = c }
 
 -- the prefixes of a text that are UTF-8
-valid_len-front : (bs : List ℕ) (m : ℕ) → IsUtf8 (take (valid_len_up_to bs m) bs)
-valid_len-front bs zero = IsUtf8-nil
-valid_len-front bs (suc m) =
-    cond_both (is_utf8 (take (suc m) bs)) (suc m) (valid_len_up_to bs m) (λ n. IsUtf8 (take n bs)) (λ e. IsUtf8-from_is_utf8 _ e) (λ e. valid_len-front bs m)
+valid_len-prefix : (bs : List ℕ) (m : ℕ) → IsUtf8 (take (valid_len_up_to bs m) bs)
+valid_len-prefix bs zero = IsUtf8-nil
+valid_len-prefix bs (suc m) =
+    cond_both (is_utf8 (take (suc m) bs)) (suc m) (valid_len_up_to bs m) (λ n. IsUtf8 (take n bs)) (λ e. IsUtf8-from_is_utf8 _ e) (λ e. valid_len-prefix bs m)
 
 IsUtf8-from_len : (bs : List ℕ) → length bs ≤ utf8_valid_len bs → IsUtf8 bs
 unfolding utf8_valid_len
 IsUtf8-from_len bs h =
     let all : utf8_valid_len bs ≡ length bs = omega (arith, utf8_valid_len_le bs) in
-    rw (all, take-length) at (valid_len-front bs (length bs))
+    rw (all, take-length) at (valid_len-prefix bs (length bs))
 
 good-text : (text : List ℕ) → length text ≤ bad_at text → length text ≤ TOKEN_LIMIT → IsGoodText text
 good-text text h limit = record {

@@ -39,7 +39,7 @@ follows-parting bytes s (inr is) = rw is.0 refl
 -- whole lines are those after which a line begins
 pub lines-begin : (m : List ℕ) → AreLines m → begins_after true m ≡ true
 lines-begin m (inl is) = rw is refl
-lines-begin m (inr (front, is)) = rw is (after front true)
+lines-begin m (inr (prefix, is)) = rw is (after prefix true)
   where
     after : (bytes : List ℕ) (at_line : Bool) → begins_after at_line (bytes ++ codes "\n") ≡ true
     after [] at_line = refl
@@ -49,9 +49,9 @@ pub begin-lines : (m : List ℕ) → begins_after true m ≡ true → AreLines m
 begin-lines [] h = inl refl
 begin-lines (b ∷ m) h = inr (last b m h)
   where
-    last : (c : ℕ) (bs : List ℕ) → begins_after (is_line_end c) bs ≡ true → (front : List ℕ) × (c ∷ bs ≡ front ++ codes "\n")
+    last : (c : ℕ) (bs : List ℕ) → begins_after (is_line_end c) bs ≡ true → (prefix : List ℕ) × (c ∷ bs ≡ prefix ++ codes "\n")
     last c [] h = ([], ap (λ x. x ∷ []) (eqb-true c 10 h))
-    last c (d ∷ bs) h = let (front, is) = last d bs h in (c ∷ front, ap (λ x. c ∷ x) is)
+    last c (d ∷ bs) h = let (prefix, is) = last d bs h in (c ∷ prefix, ap (λ x. c ∷ x) is)
 
 -- a mapfile that such a line follows is no shorter
 pub parting-least : (at_line : Bool) (bytes m s : List ℕ) → begins_after at_line m ≡ true → IsFollowed bytes m s → parting_at at_line bytes ≤ length m
@@ -135,8 +135,8 @@ line-passed (b ∷ bs) some h = rw h (line-left (b ∷ bs))
 pub parted-here : (session here line rest : List ℕ) (at : ℕ) → here ≡ drop at session → line ≡ before_first is_line_end here → rest ≡ after_first is_line_end here →
     at < length session → at + parting_at true (drop at session) ≡ parting_at true session → pointwise nat_eq line (codes "%%") ≡ true →
     AreParts session (take at session) rest
-parted-here session here line rest at is front back inside first test =
-    let parting : is_parting (drop at session) ≡ true = rw (← is, ← front) test in
+parted-here session here line rest at is prefix back inside first test =
+    let parting : is_parting (drop at session) ≡ true = rw (← is, ← prefix) test in
     let none : parting_at true (drop at session) ≡ 0 = parting-here (drop at session) (omega (arith, length-drop at session)) parting in
     let found : parting_at true session ≡ at = omega (arith, first, none) in
     rw (back, is, ← found) (are-parts session (omega (arith, found)))
@@ -149,9 +149,9 @@ parted-here session here line rest at is front back inside first test =
 pub passed-here : (session here line rest : List ℕ) (at : ℕ) → here ≡ drop at session → line ≡ before_first is_line_end here → rest ≡ after_first is_line_end here →
     at < length session → at + parting_at true (drop at session) ≡ parting_at true session → pointwise nat_eq line (codes "%%") ≡ false →
     (length session - length rest) + parting_at true (drop (length session - length rest) session) ≡ parting_at true session
-passed-here session here line rest at is front back inside first test =
+passed-here session here line rest at is prefix back inside first test =
     let n = position_or_len is_line_end (drop at session) + 1 in
-    let parting : is_parting (drop at session) ≡ false = rw (← is, ← front) test in
+    let parting : is_parting (drop at session) ≡ false = rw (← is, ← prefix) test in
     let after : rest ≡ after_first is_line_end (drop at session) = rw (← is) back in
     let later : rest ≡ drop (at + n) session = after ∙ drop-drop n at session in
     let left : drop (length session - length rest) session ≡ rest = rw later (drop-rest (at + n) session) in

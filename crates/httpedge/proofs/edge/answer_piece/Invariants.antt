@@ -6,11 +6,11 @@ use Rattle.httpedge.proofs.edge.answer_piece.Given as goal
 -- a prefix of the piece was read and its heads answered, and the rest is left
 abbrev pub invariant-loop-decision : goal.invariant-loop-decision
 invariant-loop-decision g l = record {
-  front : List ℕ;
+  prefix : List ℕ;
   text : List ℕ;
-  all : front ++ l.rest ≡ l.piece;
+  all : prefix ++ l.rest ≡ l.piece;
   reading : IsReading l.conn;
-  come : HasCome g.A.Asks.answers (requests_left l.fn.conn) (came_of l.fn.conn.progress ++ front) l.fn.asks text (requests_left l.conn) (came_of l.conn.progress) l.asks;
+  come : HasCome g.A.Asks.answers (requests_left l.fn.conn) (came_of l.fn.conn.progress ++ prefix) l.fn.asks text (requests_left l.conn) (came_of l.conn.progress) l.asks;
   sent : IsSent g.W.Sink.held g.W.Sink.taken l.fn.writer text l.writer;
   less : (l.rest ≡ l.piece) × (missing l.conn ≡ missing l.fn.conn) ⊎ (missing l.conn < missing l.fn.conn);
   flag : g.W.Sink.put_failed l.writer ≡ g.W.Sink.put_failed l.fn.writer;

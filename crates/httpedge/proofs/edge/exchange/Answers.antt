@@ -67,11 +67,11 @@ loop-count-preserved g c =
     let before = c.loop-count.invariant in
     let conn = c.loop-count.conn in
     let piece = take c.in-Ok.count c.take.new.room in
-    let front : c.split_at.result.0.now ≡ piece = c.split_at.ensures.front in
+    let prefix : c.split_at.result.0.now ≡ piece = c.split_at.ensures.front in
     let (text, sent, (reading, come)) = rw (c.in-Ok-true.field-0-test) at c.in-Ok-true.ensures.serves in
     let way = come-then g.A.Asks.answers REQUESTS (requests_left conn) (requests_left c.answer_piece.new.conn) (concat before.pieces) (came_of conn.progress) piece (came_of c.answer_piece.new.conn.progress) before.text text
-    c.args.asks.now c.loop-count.asks c.answer_piece.new.asks before.come (rw front at come) in
-    let some : 0 < length piece = omega (arith, ap length front, c.split_at.ensures.front_len, c.if-count-eq0.false) in
+    c.args.asks.now c.loop-count.asks c.answer_piece.new.asks before.come (rw prefix at come) in
+    let some : 0 < length piece = omega (arith, ap length prefix, c.split_at.ensures.front_len, c.if-count-eq0.false) in
     let wants = wants-now g.A.Asks.answers REQUESTS (requests_left c.answer_piece.new.conn) (concat before.pieces ++ piece) (before.text ++ text) (came_of c.answer_piece.new.conn.progress) c.args.asks.now c.answer_piece.new.asks way
     (omega (arith, reading.count)) (opened-leaves c.answer_piece.new.conn.progress reading.opened) in
     record {

@@ -1,6 +1,6 @@
 use Rattle.httpedge.specs.declared.conn.TheConstants.{REQUESTS}
-use Rattle.httpedge.proofs.Wanted.{fronts-want}
+use Rattle.httpedge.proofs.Wanted.{prefixes-want}
 use Rattle.httpedge.proofs.laws.prefixes_want.Goals as goal
 
 pub returns : goal.returns
-returns c = fronts-want REQUESTS
+returns c = prefixes-want REQUESTS
