@@ -50,7 +50,7 @@ TRIED = [
     (["APPEND cities"], None, 1, "", "and no 'APPEND cities'; nothing was sent\n"),
     (["APPEND large.csv cities"], None, 1, "", "this one would have 4,400,026: send it in parts; nothing was sent\n"),
     (["ON roads\nOFF roads"], None, 1, "", "is more than one line: give each command by itself; nothing was sent\n"),
-    (["--front", "none", "ON roads"], None, 4, "PUBLISHED 5\n", "the map has changed, and the front still keeps pictures from before\n"),
+    (["--proxy", "none", "ON roads"], None, 4, "PUBLISHED 5\n", "the map has changed, and the proxy still keeps pictures from before\n"),
     ([], None, 2, "", "which commands? As 'OFF roads'; - reads them from standard input\n"),
 ]
 # lines that a server gives, the last one before it ends the connection

@@ -6,7 +6,7 @@ Usage: beside_mapserver.py PROGRAM [WORLD]
 It needs Debian's cgi-mapserver, gdal-bin, nginx-light, spawn-fcgi and fonts-dejavu-core. WORLD is a mapfile whose first
 layer has the polygons of countries; without it demo/world.map is taken. Lines, squares and labels are made by rule. MapServer
 gets them as shapefiles with an index of their own each (ogr2ogr, shptree), and runs as one FastCGI process behind nginx.
-The built program reads them from its mapfile, and runs with one worker and nothing in front. Both are asked over a kept
+The built program reads them from its mapfile, and runs with one worker and no proxy. Both are asked over a kept
 connection, each scenario in turn, and answer pictures as PPM; the last figure is that of MapServer's PNG. A figure is what
 /proc says that the threads of the server's process took, with HTTP here and without nginx there. An answer of another kind
 or size ends the script with 1.

@@ -105,7 +105,7 @@ class Server:
     def follow(self, is_killed=False):
         words = [sys.executable, "-c", KILLED, str(TOP / "deploy")] if is_killed else [str(TOP / "deploy" / "replicate")]
         words += ["follow", self.dsn, "--admin", f"127.0.0.1:{self.admin}", "--clients", f"127.0.0.1:{self.port}"]
-        words += ["--note", str(self.folder / f"{self.name}.note"), "--front", str(self.folder)]
+        words += ["--note", str(self.folder / f"{self.name}.note"), "--proxy", str(self.folder)]
         with open(self.folder / f"{self.name}.log", "ab") as log:
             self.following = subprocess.Popen(words, stderr=log)
 
@@ -143,13 +143,13 @@ class Trial:
         (folder / "map.map").write_text(MAP)
         subprocess.run([TOP / "deploy" / "replicate", "init", self.engine.dsn], check=True)
         self.servers = [Server(name, program, folder, self.engine.dsn, has_journal) for name in ("one", "two", "three")]
-        self.front = self.start_front()
+        self.proxy = self.start_proxy()
         self.reported, self.batches, self.wrong, self.done = [], {}, 0, []
         self.pictures = {"200": 0, "other": 0}
         # no batch is added any more, and nothing is stopped; and nothing is asked
         self.is_quiet, self.end = threading.Event(), threading.Event()
 
-    def start_front(self):
+    def start_proxy(self):
         """nginx before the three, by the configuration of deploy/."""
         port = free_ports(1)[0]
         text = (TOP / "deploy" / "nginx.conf").read_text()
@@ -158,7 +158,7 @@ class Trial:
         first, found, rest = text.partition("        server 127.0.0.1:8080;")
         assert found
         (self.folder / "nginx.conf").write_text(first + lines + rest.replace("127.0.0.1:8080", f"127.0.0.1:{self.servers[0].port}"))
-        (self.folder / "front").mkdir()
+        (self.folder / "proxy").mkdir()
         subprocess.run(["nginx", "-p", str(self.folder), "-c", "nginx.conf"], check=True, stdout=subprocess.DEVNULL, stderr=subprocess.DEVNULL)
         return port
 
@@ -185,11 +185,11 @@ class Trial:
                 self.look("whether a batch is in the log", why.is_open, False)
                 time.sleep(0.1)
 
-    def look_at_front(self):
-        """Asks the front for pictures without pause."""
+    def look_at_proxy(self):
+        """Asks the proxy for pictures without pause."""
         while not self.end.is_set():
             try:
-                is_picture = ask(self.front, PICTURE).startswith((b"P6\n", point_batches.NO_LAYER[:40]))
+                is_picture = ask(self.proxy, PICTURE).startswith((b"P6\n", point_batches.NO_LAYER[:40]))
             except OSError:
                 is_picture = False
             self.pictures["200" if is_picture else "other"] += 1
@@ -263,7 +263,7 @@ class Trial:
             server.start()
             server.follow()
         watches = [threading.Thread(target=server.watch, args=(self.end,)) for server in self.servers]
-        watches.append(threading.Thread(target=self.look_at_front))
+        watches.append(threading.Thread(target=self.look_at_proxy))
         submitters = [threading.Thread(target=self.submit, args=(name,)) for name in "pq"]
         disturbing = threading.Thread(target=self.disturb)
         begun = time.monotonic()
@@ -310,9 +310,9 @@ class Trial:
             self.look(f"the sequence of {server.name}", sequence_of(server.port), sequence)
             self.look(f"the answers of {server.name}", answers_of(server.port), state.answers())
             self.look(f"the follower of {server.name}", server.following.poll(), None)
-        # The front forgets its pictures a moment after the last follower has asked it to.
+        # The proxy forgets its pictures a moment after the last follower has asked it to.
         time.sleep(3)
-        self.look("the front's picture", ask(self.front, PICTURE), state.picture())
+        self.look("the proxy's picture", ask(self.proxy, PICTURE), state.picture())
 
     def report(self, spent):
         print(f"{self.count} batches in {spent:.1f} s, {sum(not batch.refusal for batch in self.batches.values())} accepted; disturbed {len(self.done)} times:", end=" ")
@@ -320,7 +320,7 @@ class Trial:
         quiet, last = self.count // 5, max(self.servers[0].sequences)
         for name, first, end in (("before the first stop", 1, quiet), ("from then on", quiet + 1, last)):
             self.report_between(name, first, end)
-        print(f"the front: {self.pictures['200']} pictures, {self.pictures['other']} other answers")
+        print(f"the proxy: {self.pictures['200']} pictures, {self.pictures['other']} other answers")
 
     def report_between(self, name, first, last):
         """How far apart the servers were, by the batches of these sequences."""

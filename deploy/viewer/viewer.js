@@ -28,13 +28,13 @@ const byId = (id) => document.getElementById(id);
 const say = (text) => { byId("message").textContent = text; };
 const source = () => document.querySelector("input[name=source]:checked").value;
 const isTiled = () => ["png", "tiles"].includes(source());
-// as many names of QUERY_LAYERS as the front hands on
+// as many names of QUERY_LAYERS as the proxy hands on
 const MOST_ASKED = 16;
 const layersOn = () => served.layers.filter((layer) => layer.input.checked);
 
 // Asking
 
-/** What the front answers, which has to be a success. */
+/** What the proxy answers, which has to be a success. */
 async function get(address, signal) {
     let response;
     try {
@@ -313,7 +313,7 @@ function clickOf(layers, latlng, point) {
     return { ...picture, I: column, J: row };
 }
 
-/** Shows the features at a click, of the layers that can be asked: the topmost, as the front refuses more names. */
+/** Shows the features at a click, of the layers that can be asked: the topmost, as the proxy refuses more names. */
 async function showFeatures(event) {
     const layers = layersOn().filter((layer) => layer.queryable).slice(-MOST_ASKED);
     if (layers.length === 0) {

@@ -1,11 +1,11 @@
 #!/usr/bin/env python3
-"""Measures the front of deploy/nginx.conf before a server, by how many connections it keeps between both.
+"""Measures the proxy of deploy/nginx.conf before a server, by how many connections it keeps between both.
 
-Usage: front.py PROGRAM [SECONDS [KEPT ..]]
+Usage: proxy.py PROGRAM [SECONDS [KEPT ..]]
 
 Tiles, whole pictures and the document of demo/world.map are asked for by 6, 50 and 500 clients that keep their
-connections, SECONDS each, 3 where it isn't given. Nothing comes from the cache. A front keeps KEPT connections, by
-default none, then 16, 64 and 256; and without a front the clients ask the server itself. A line has requests a second, the
+connections, SECONDS each, 3 where it isn't given. Nothing comes from the cache. A proxy keeps KEPT connections, by
+default none, then 16, 64 and 256; and without a proxy the clients ask the server itself. A line has requests a second, the
 median wait and that of 99 of 100 in milliseconds, and how many answers failed. It needs Debian's nginx-light and wrk.
 """
 import os
@@ -30,10 +30,10 @@ CLIENTS = (6, 50, 500)
 UNITS = {"us": 0.001, "ms": 1, "s": 1000, "m": 60_000}
 
 
-def configured(server, front, kept):
+def configured(server, port, kept):
     """The configuration of deploy/, for these ports, without the cache, keeping so many connections to the server."""
     text = (TOP / "deploy" / "nginx.conf").read_text()
-    text = text.replace("listen 127.0.0.1:8000;", f"listen 127.0.0.1:{front};").replace("127.0.0.1:8080", f"127.0.0.1:{server}")
+    text = text.replace("listen 127.0.0.1:8000;", f"listen 127.0.0.1:{port};").replace("127.0.0.1:8080", f"127.0.0.1:{server}")
     # nothing listens there
     text = text.replace("127.0.0.1:8070", "127.0.0.1:9").replace("proxy_cache pictures;", "proxy_cache off;")
     text, count = re.subn(r"^        keepalive \d+;\n", f"        keepalive {kept};\n" if kept else "", text, flags=re.M)
@@ -62,17 +62,17 @@ def measure(name, port, seconds):
             print(f"| {name} | {kind} | {clients} | {rate:,.0f} | {median:.1f} | {late:.1f} | {failed} |", flush=True)
 
 
-def by_front(folder, server, kept, seconds):
-    """The same by a front that keeps so many."""
-    front = 18_999
+def by_proxy(folder, server, kept, seconds):
+    """The same by a proxy that keeps so many."""
+    port = 18_999
     folder = pathlib.Path(folder)
-    (folder / "front").mkdir(exist_ok=True)
-    (folder / "nginx.conf").write_text(configured(server, front, kept))
+    (folder / "proxy").mkdir(exist_ok=True)
+    (folder / "nginx.conf").write_text(configured(server, port, kept))
     call = ["nginx", "-p", str(folder), "-c", "nginx.conf"]
     subprocess.run(call, check=True, stdout=subprocess.DEVNULL, stderr=subprocess.DEVNULL)
     try:
         time.sleep(0.3)
-        measure(f"keeps {kept}", front, seconds)
+        measure(f"keeps {kept}", port, seconds)
     finally:
         subprocess.run([*call, "-s", "stop"], check=False, stderr=subprocess.DEVNULL)
         time.sleep(0.5)
@@ -84,7 +84,7 @@ def main():
         sys.exit(__doc__.split("\n\n")[1])
     lacking = [name for name in ("nginx", "wrk") if shutil.which(name) is None]
     if lacking:
-        sys.exit(f"front.py: {', '.join(lacking)} is missing")
+        sys.exit(f"proxy.py: {', '.join(lacking)} is missing")
     seconds, *kept = [int(word) for word in words[1:]] or [3]
     with tempfile.TemporaryDirectory() as folder:
         os.chmod(folder, 0o755)
@@ -92,10 +92,10 @@ def main():
         with subprocess.Popen(served, stdout=subprocess.PIPE) as server:
             try:
                 port = ports_of(server.stdout.readline())[0]
-                print("| Front | Asked for | Clients | Requests a second | Median | 99 of 100 | Failed |\n|---|---|---|---|---|---|---|")
+                print("| Proxy | Asked for | Clients | Requests a second | Median | 99 of 100 | Failed |\n|---|---|---|---|---|---|---|")
                 measure("none", port, seconds)
                 for count in kept or (0, 16, 64, 256):
-                    by_front(folder, port, count, seconds)
+                    by_proxy(folder, port, count, seconds)
             finally:
                 server.kill()
 

@@ -1,7 +1,7 @@
 #!/usr/bin/env python3
-"""Tries which queries the front of deploy/nginx.conf refuses with 403, and which it hands on. It needs Debian's nginx-light.
+"""Tries which queries the proxy of deploy/nginx.conf refuses with 403, and which it hands on. It needs Debian's nginx-light.
 
-Usage: front_refusals.py
+Usage: proxy_refusals.py
 
 A server that answers everything with 200 stands behind it. Each row that is answered otherwise than it says is written,
 and the script then ends with 1.
@@ -17,7 +17,7 @@ import threading
 import time
 
 TOP = pathlib.Path(__file__).resolve().parent.parent
-FRONT = 18_998
+PORT = 18_998
 INFORMATION = "VERSION=1.3.0&REQUEST=GetFeatureInfo"
 
 
@@ -62,7 +62,7 @@ ROWS = [
 def configured(server):
     """The configuration of deploy/, for these ports."""
     text = (TOP / "deploy" / "nginx.conf").read_text()
-    return text.replace("listen 127.0.0.1:8000;", f"listen 127.0.0.1:{FRONT};").replace("127.0.0.1:8080", f"127.0.0.1:{server}")
+    return text.replace("listen 127.0.0.1:8000;", f"listen 127.0.0.1:{PORT};").replace("127.0.0.1:8080", f"127.0.0.1:{server}")
 
 
 class Server(http.server.BaseHTTPRequestHandler):
@@ -76,7 +76,7 @@ class Server(http.server.BaseHTTPRequestHandler):
 
 
 def status_of(query):
-    connection = http.client.HTTPConnection("127.0.0.1", FRONT, timeout=10)
+    connection = http.client.HTTPConnection("127.0.0.1", PORT, timeout=10)
     connection.request("GET", "/wms?" + query)
     return connection.getresponse().status
 
@@ -90,7 +90,7 @@ def main():
     with tempfile.TemporaryDirectory() as folder:
         os.chmod(folder, 0o755)
         folder = pathlib.Path(folder)
-        (folder / "front").mkdir()
+        (folder / "proxy").mkdir()
         (folder / "nginx.conf").write_text(configured(server.server_port))
         call = ["nginx", "-p", str(folder), "-c", "nginx.conf"]
         subprocess.run(call, check=True, stderr=subprocess.DEVNULL)
