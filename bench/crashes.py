@@ -295,7 +295,7 @@ class Bench:
         raise Wrong(f"at sequence {sequence} the answers are those of no list of batches that was submitted: {found[1][-300:]!r}")
 
     def lose(self):
-        """What a loss of power may leave: a front of what wasn't put away, or other bytes in its place."""
+        """What a loss of power may leave: a prefix of what wasn't put away, or other bytes in its place."""
         data, away = self.journal.read_bytes(), self.away
         if len(data) <= away:
             return False
@@ -400,7 +400,7 @@ def calls_of(bench, found):
 
 def changed(job):
     """A journal with a byte changed: what a start makes of it."""
-    program, data, fronts, seed = job
+    program, data, prefixes, seed = job
     chance = random.Random(seed)
     place, change = chance.randrange(len(data)), chance.randrange(1, 256)
     other = bytearray(data)
@@ -415,7 +415,7 @@ def changed(job):
     refused = re.fullmatch(rb"fault journal journal: ([a-z ]+)( \d+)?\n", done.stderr)
     if done.returncode == 1 and refused and left == bytes(other):
         return f"refused: {refused[1].decode()}"
-    if done.returncode == 0 and left == fronts[-1] and place >= len(fronts[-1]):
+    if done.returncode == 0 and left == prefixes[-1] and place >= len(prefixes[-1]):
         return "the last record is cut off"
     return f"wrong: byte {place} of {len(data)} by {change}: {done.returncode}, {done.stderr!r}, {len(left)} bytes left"
 
@@ -430,8 +430,8 @@ def changes_of(bench, count, found):
             sizes.append(bench.journal.stat().st_size)
     life.end()
     data = bench.journal.read_bytes()
-    fronts = [data[:size] for size in sizes[-2:-1]]
-    jobs = ((bench.program, data, fronts, f"{bench.chance.random()}") for _ in range(count))
+    prefixes = [data[:size] for size in sizes[-2:-1]]
+    jobs = ((bench.program, data, prefixes, f"{bench.chance.random()}") for _ in range(count))
     with multiprocessing.Pool() as pool:
         for outcome in pool.imap_unordered(changed, jobs, 16):
             found[outcome] += 1

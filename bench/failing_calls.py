@@ -7,7 +7,7 @@ A library that is loaded before the C library, built here with cc, counts the ca
 lets it move one byte alone. For `refusals.py` it can count calls for memory between two marks alone. Maps of demo/ are checked and played; sessions of a map's own ask for a picture with
 labels, for the capabilities document and for feature information; and a map is served by two workers, to three clients
 and three administrators, who change it between the clients' requests. What comes out may be less than the right answer,
-never another: a reply is right or NOMEMORY; where a file or a stream fails, what was written is a front of the right
+never another: a reply is right or NOMEMORY; where a file or a stream fails, what was written is a prefix of the right
 output, with the status of that failure; the message on a fault may be missing, and with `--explain` the line on memory may
 stand in their place; where a call moves one byte, nothing changes. Of what is served each picture is, by hand, that of
 the state which the lines of the administration leave, where a line that is cut or missing leaves two or three; at most
@@ -308,8 +308,8 @@ def may_fail(run, right):
     """A run of which one call for bytes failed."""
     if right.got and run.status in (0, 3):
         return may_have_served(run, (3,), lambda got, wanted: wanted.startswith(got))
-    front = right.output.startswith(run.output) and right.errors.startswith(run.errors)
-    if front and (run.status == 3 or (run.status == right.status and run.output == right.output)):
+    is_prefix = right.output.startswith(run.output) and right.errors.startswith(run.errors)
+    if is_prefix and (run.status == 3 or (run.status == right.status and run.output == right.output)):
         return True
     no_file = re.fullmatch(rb"fault (file ([a-z.]+)\n(\2: the file can't be read\n)?|line \d+ kind 7\n)", run.errors)
     return (run.status, run.output, run.got) == (1, b"", []) and no_file is not None

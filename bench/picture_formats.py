@@ -48,7 +48,7 @@ def until_answered(port):
     raise SystemExit("picture_formats: nothing answers")
 
 
-def pictures(server, front):
+def pictures(server, formats_port):
     """How many pictures were compared, and how many differ."""
     count = wrong = 0
     for box in BOXES:
@@ -56,7 +56,7 @@ def pictures(server, front):
             plain = "image/x-portable-arbitrarymap" if clear == "TRUE" else "image/x-portable-pixmap"
             wanted = wmsformats.picture_of(get(server, PICTURE.format(box, plain, clear))[2])
             for form in ("image/png", "image/png;%20mode=8bit", "image/webp"):
-                _, kind, body = get(front, PICTURE.format(box, form, clear))
+                _, kind, body = get(formats_port, PICTURE.format(box, form, clear))
                 came = Image.open(io.BytesIO(body)).convert(wanted.mode)
                 # What is clear has no colour that could differ.
                 same = came.tobytes() == wanted.tobytes() or wanted.mode == "RGBA" and all(
@@ -65,17 +65,17 @@ def pictures(server, front):
     return count, wrong
 
 
-def others(server, front):
+def others(server, formats_port):
     """What else is wrong, in words."""
-    document = get(front, "REQUEST=GetCapabilities")[2].decode()
-    if set(re.findall('href="(http[^"]*wms[^"]*)"', document)) != {f"http://127.0.0.1:{front}/wms?"}:
+    document = get(formats_port, "REQUEST=GetCapabilities")[2].decode()
+    if set(re.findall('href="(http[^"]*wms[^"]*)"', document)) != {f"http://127.0.0.1:{formats_port}/wms?"}:
         yield "the document has another address"
     if re.findall("<Format>(.*)</Format>", document.split("<GetMap>")[1].split("</GetMap>")[0])[:4] != list(wmsformats.FORMATS):
         yield "the document has other formats"
     for query in (PICTURE.format("0,0,1,1", "image/gif", "FALSE"), CLICK.replace("image/png", "image/x-portable-pixmap"), "x"):
-        if get(server, query) != get(front, query):
+        if get(server, query) != get(formats_port, query):
             yield f"another answer to {query}"
-    if b"Germany" not in get(front, CLICK)[2]:
+    if b"Germany" not in get(formats_port, CLICK)[2]:
         yield "no features at a click with FORMAT=image/png"
 
 
@@ -92,19 +92,19 @@ def main():
         sys.exit(__doc__.split("\n")[0])
     words = [os.path.abspath(sys.argv[1]), "serve", os.path.join(TOP, "demo", "world.map"), "--port", "0", "--admin-port", "0", "--idle", "20"]
     served = subprocess.Popen(words, stdout=subprocess.PIPE)
-    server, front = int(re.search(rb":(\d+) ", served.stdout.readline())[1]), 18071
-    words = [os.path.join(TOP, "deploy", "formats"), "--server", f"http://127.0.0.1:{server}/wms", "--port", str(front)]
+    server, formats_port = int(re.search(rb":(\d+) ", served.stdout.readline())[1]), 18071
+    words = [os.path.join(TOP, "deploy", "formats"), "--server", f"http://127.0.0.1:{server}/wms", "--port", str(formats_port)]
     packing = subprocess.Popen(words, stdout=subprocess.DEVNULL)
     try:
-        until_answered(front)
-        count, differing = pictures(server, front)
-        wrong = list(others(server, front))
+        until_answered(formats_port)
+        count, differing = pictures(server, formats_port)
+        wrong = list(others(server, formats_port))
         tile = wmsformats.picture_of(get(server, PICTURE.format("0,40,20,60", "image/x-portable-pixmap", "FALSE").replace("401", "256").replace("300", "256"))[2])
         for name, (_, pack, _) in wmsformats.FORMATS.items():
             print(f"{name}: {processor_of(lambda: pack(tile)):.1f} ms, {len(pack(tile)):,} bytes")
         served.terminate()
         served.wait()
-        if get(front, CLICK)[0] != 502:
+        if get(formats_port, CLICK)[0] != 502:
             wrong.append("no 502 where the server is down")
     finally:
         packing.terminate()
