@@ -57,11 +57,11 @@ TRIED = [
 LINES = [
     (["HELD", "HELD", "PUBLISHED 7"], 0, "PUBLISHED 7\n", "batch: HELD: the batch is accepted, and there was no memory to show it; tries again\n"),
     (["NOMEMORY"], 3, "", "batch: the server had no memory for the batch" + NOTHING),
-    (["FAILED"], 3, "", "the sequence tells, once it runs again, whether the batch is in it\n"),
+    (["FAILED"], 3, "", "the sequence says, once it runs again, whether the batch is in it\n"),
     (["MALFORMED"], 1, "", "is it one of another version?\n"),
     (["REFUSED 0 8"], 1, "", "batch: no further batch can be counted" + NOTHING),
     (["HTTP/1.1 400 Bad Request"], 2, "", "is no administration port: it answers 'HTTP/1.1 400 Bad Request'\n"),
-    ([], 2, "", "whether the batch was accepted isn't known: the sequence of the capabilities tells\n"),
+    ([], 2, "", "whether the batch was accepted isn't known: the sequence in the capabilities document shows it\n"),
 ]
 
 

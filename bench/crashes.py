@@ -7,9 +7,9 @@ Two clients submit batches by lot, and the server is killed at random moments, K
 After half of the kills the bytes that no call has put away are lost, or others stand in their place, as after a loss of
 power. Then each call that the server makes on the journal is, in turn, not made or made by half, with the death of the
 server behind it, or fails; while the journal is made, while batches come, and while one with a torn end is opened. A
-library that is loaded before the C library, built here with cc, does that, and tells how much was put away.
+library that is loaded before the C library, built here with cc, does that, and reports how much was put away.
 
-After each the server is started again: its sequence, its pictures and what it tells of its features have to be those of
+After each the server is started again: its sequence, its pictures and the features that it lists have to be those of
 a list of batches that begins with all that was reported to a client, and that each was submitted. At last a byte of a journal
 is changed at random, CHANGES times, 10,000 where it isn't given: the server refuses it and leaves it as it is, or the last
 record is cut off, and no other. It ends with 1 where something else came out.

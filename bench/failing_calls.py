@@ -88,14 +88,14 @@ int pthread_create(pthread_t *thread, const pthread_attr_t *how, void *(*run)(vo
 __attribute__((constructor)) static void begin(void) {
     start = (int (*)(pthread_t *, const pthread_attr_t *, void *(*)(void *), void *))dlsym(RTLD_NEXT, "pthread_create");
 }
-__attribute__((destructor)) static void tell(void) {
+__attribute__((destructor)) static void report(void) {
     long counts[3] = {getenv("MARKED") ? marked[1] : memory, bytes, getenv("MARKED") ? marked[2] : threads};
     const char *pipe = getenv("COUNTS");
     if (pipe) syscall(SYS_write, atoi(pipe), counts, sizeof counts);
 }
 // by which a program with threads ends, and no destructor is called
 void _exit(int status) {
-    tell();
+    report();
     for (;;) syscall(SYS_exit_group, status);
 }
 """

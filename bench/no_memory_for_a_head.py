@@ -1,7 +1,7 @@
 #!/usr/bin/env python3
 """Serves two connections where each request for the memory of a head is refused. Usage: no_memory_for_a_head.py PROGRAM
 
-Both, of which each has a worker of its own, are to be told that the server is busy, and the program is to end with 0. The memory of a head is the only
+Both, of which each has a worker of its own, are to get the answer that the server is busy, and the program is to end with 0. The memory of a head is the only
 allocation of 16,384 bytes: a library that is loaded before the C library, built here with cc, refuses those.
 """
 import pathlib

@@ -3,8 +3,8 @@
 
 Ten views of demo/world.map are asked for as PNG, 8-bit PNG and WebP, opaque and transparent, and unpacked: each pixel has
 to be that of the server's own picture. The document has to name the formats and the address that was asked, a fault and a
-text of features have to come as the server gave them, and a server that is down has to give 502. It tells the time of
-processor for a tile of 256 by 256 pixels, and ends with 1 where something is wrong. It needs gunicorn and python3-pil.
+text of features have to come as the server gave them, and a server that is down has to give 502. It prints the
+processor time of a tile of 256 by 256 pixels, and ends with 1 where something is wrong. It needs gunicorn and python3-pil.
 """
 import http.client
 import io

@@ -1,7 +1,7 @@
 """A small map, batches on it by lot, and what a server answers after a list of them, worked out by the rules of docs/SERVICE.md.
 
 Used by crashes.py and replication.py. The layer a has points, of which each has a name of its own, and b a square. So
-the features that are told show which batches were applied, in which order, and the pictures that they are drawn.
+the features that are listed show which batches were applied, in which order, and the pictures that they are drawn.
 """
 import http.client
 import re

@@ -6,7 +6,7 @@ Usage: replication.py PROGRAM [BATCHES [SEED]]
 Two submitters add BATCHES by lot, 1,000 where it isn't given, one in ten of them refused, and wait for each answer.
 After a quarter of them the engine is stopped, and once as by a crash, and started; a follower is killed between submitting and noting,
 and started; a server is killed and started from its journal, another without it; all again and again. At the end each
-server has the sequence that the log says, and draws and tells what the log's accepted batches give by the rules; each
+server has the sequence that the log says, and draws and lists what the log's accepted batches give by the rules; each
 answer that a submitter got stands in the log. It says how far apart the servers were meanwhile, in batches and
 milliseconds. It needs Debian's postgresql, python3-psycopg2 and nginx-light. Where PROGRAM takes no --journal, servers
 start from the mapfile alone. It ends with 1 where something is wrong.

@@ -3,7 +3,7 @@
 
 In each of ROUNDS, 20 where it isn't given, a server with a journal gets up to 60 batches by lot, in the first none, and is killed; every third
 time the journal ends within a record. What is written of the journal is sent by `deploy/batch` to a server with a new one, which is killed and
-started again: its picture and what it tells of its features have to be those of all batches, worked out by the rules. A journal with
+started again: its picture and the features that it lists have to be those of all batches, worked out by the rules. A journal with
 a changed byte has to be refused, or to lack its last record, and a file that is none to be refused. It ends with 1 where something else came out.
 """
 import os

@@ -25,7 +25,7 @@ CREATE TABLE IF NOT EXISTS kesmoch_log (
     refused text,
     CHECK (sequence IS NULL OR refused IS NULL)
 );
-CREATE OR REPLACE FUNCTION kesmoch_log_tells() RETURNS trigger LANGUAGE plpgsql AS $$
+CREATE OR REPLACE FUNCTION kesmoch_log_notifies() RETURNS trigger LANGUAGE plpgsql AS $$
 BEGIN
     PERFORM pg_notify(CASE TG_OP WHEN 'INSERT' THEN 'kesmoch_log' ELSE 'kesmoch_answer' END, NEW.number::text);
     RETURN NULL;
@@ -41,7 +41,7 @@ BEGIN
     END IF;
     RAISE EXCEPTION 'what stands in the log stays';
 END $$;
-CREATE OR REPLACE TRIGGER kesmoch_log_tells AFTER INSERT OR UPDATE ON kesmoch_log FOR EACH ROW EXECUTE FUNCTION kesmoch_log_tells();
+CREATE OR REPLACE TRIGGER kesmoch_log_notifies AFTER INSERT OR UPDATE ON kesmoch_log FOR EACH ROW EXECUTE FUNCTION kesmoch_log_notifies();
 CREATE OR REPLACE TRIGGER kesmoch_log_stays BEFORE UPDATE OR DELETE ON kesmoch_log FOR EACH ROW EXECUTE FUNCTION kesmoch_log_stays();
 CREATE OR REPLACE TRIGGER kesmoch_log_whole BEFORE TRUNCATE ON kesmoch_log FOR EACH STATEMENT EXECUTE FUNCTION kesmoch_log_stays();
 """
@@ -143,7 +143,7 @@ class Log:
         self.ask(f"LISTEN {channel}")
 
     def wait(self, seconds):
-        """Waits until something is told, at most so long."""
+        """Waits for a notification, at most so long."""
         if not self.connection.notifies:
             select.select([self.connection], [], [], max(seconds, 0))
             try:

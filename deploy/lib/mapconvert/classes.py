@@ -104,7 +104,7 @@ BRACKETS = re.compile(r"\[([^\]]+)\]")
 
 
 def text_of(label_text, values):
-    """The text of a label, as TEXT says it with the values of a feature; nothing where it can't be told."""
+    """The text of a label, as TEXT says it with the values of a feature; nothing where it can't be worked out."""
     known = {name.lower(): value for name, value in values.items()}
     if label_text.startswith('"') and label_text.endswith('"'):
         return BRACKETS.sub(lambda found: known.get(found[1].lower(), ""), label_text[1:-1])

@@ -111,7 +111,7 @@ def side_by_side(one, other, both):
 
 
 def compare(source, made, folder, program, count, side):
-    """The lines that tell of each view, and the largest share without and with half-tones. The longer side of a picture has so many pixels."""
+    """A line for each view, and the largest share without and with half-tones. The longer side of a picture has so many pixels."""
     map = mapscript.mapObj(source)
     map.scalebar.status = map.legend.status = mapscript.MS_OFF
     map.web.metadata.set("ows_enable_request", "*")

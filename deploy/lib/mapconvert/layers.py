@@ -24,7 +24,7 @@ class LayerWriter:
     def __init__(self, map, layer, marks, report, node, options):
         self.map, self.layer, self.marks, self.report, self.node = map, layer, marks, report, node
         self.kind, self.options = shapes.TYPES[layer.type], options
-        self.told = shapes.Told(report, node.place)
+        self.layer_report = shapes.LayerReport(report, node.place)
 
     def place(self, *path):
         return self.node.at(*path)
@@ -37,7 +37,7 @@ class LayerWriter:
             self.report.changed(self.place("TRANSFORM"), "TRANSFORM FALSE: the features stand in the map's EXTENT, not on the page")
         self.rules = classes.Rules(self.layer, self.names, self.report, self.node)
         self.written = [(number, self.rules.rule(number)) for number in range(self.layer.numclasses) if self.is_on(number)]
-        self.features = shapes.features_of(found, self.names, self.kind, page, self.told)
+        self.features = shapes.features_of(found, self.names, self.kind, page, self.layer_report)
         for shape, feature in zip(found, self.features):
             for item, holding in self.rules.computed.items():
                 feature.values[item] = "1" if (shape.tileindex, feature.number) in holding else "0"
@@ -222,7 +222,7 @@ class LayerWriter:
 
     def feature_blocks(self, items, with_texts):
         for feature in self.features:
-            lines = shapes.features.block(feature, items, self.told)
+            lines = shapes.features.block(feature, items, self.layer_report)
             if with_texts and feature.text:
                 lines.insert(1, f"      TEXT {quoted(shapes.features.CONTROL.sub('?', feature.text))}")
             yield from lines
@@ -230,7 +230,7 @@ class LayerWriter:
     def whole(self, name, blocks, is_top):
         """A LAYER."""
         layer = self.layer
-        items = shapes.features.items_of(self.items(), [], "_", self.told)
+        items = shapes.features.items_of(self.items(), [], "_", self.layer_report)
         title = layer.metadata.get("wms_title") or layer.metadata.get("ows_title") if is_top else None
         lines = ["  LAYER", f"    NAME {quoted(name)}", f"    TYPE {self.kind}"]
         lines += [f"    METADATA \"wms_title\" {quoted(title)} END"] if title else []

@@ -89,7 +89,7 @@ class Locator:
                 self.next += 1
 
     def layer(self, number, count):
-        """The block of a layer; that of the map where the layers can't be told apart."""
+        """The block of a layer; that of the map where it isn't known which block is the layer's."""
         layers = self.map.blocks.get("LAYER", [])
         return layers[number] if len(layers) == count else self.map
 

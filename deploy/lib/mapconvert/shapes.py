@@ -22,8 +22,8 @@ TYPES = {mapscript.MS_LAYER_POINT: "POINT", mapscript.MS_LAYER_LINE: "LINE", map
 WHOLE = 1e30
 
 
-class Told(features.Told):
-    """What the format can't hold, for the report."""
+class LayerReport(features.Report):
+    """What the format can't hold of a layer, as lines of a report on the whole map."""
 
     def __init__(self, report, place):
         super().__init__()
@@ -97,19 +97,19 @@ def shapes_of(layer, map):
     return names, found
 
 
-def features_of(shapes, names, kind, page, told):
-    """Features as deploy/features writes them; those that the format can't hold are told."""
+def features_of(shapes, names, kind, page, report):
+    """Features as deploy/features writes them; those that the format can't hold are reported."""
     kept = []
     for shape in shapes:
         values = {name: shape.getValue(number) or "" for number, name in enumerate(names)}
         try:
             parts = parts_of(shape, kind, page)
         except features.Shape as why:
-            told.leaves_out(f"feature {shape.index}", str(why))
+            report.leaves_out(f"feature {shape.index}", str(why))
             continue
         feature = features.Feature(shape.index, values, kind, parts)
         feature.text = shape.text
         kept.append(feature)
     if len(kept) > features.FEATURES:
-        told.leaves_out(f"feature {features.FEATURES} and what follows", f"a layer has at most {features.FEATURES} features")
+        report.leaves_out(f"feature {features.FEATURES} and what follows", f"a layer has at most {features.FEATURES} features")
     return kept[: features.FEATURES]
