@@ -4,7 +4,7 @@ ghost use Rattle.geom.specs.Range.{IsBelow};
 ghost use Rattle.compose.specs.Flipped.{AreBands, IsBand, row_of};
 
 use clip::clamped;
-use geom::{Coordinate, Micro, PictureSide};
+use geom::{Coordinate, GREATEST_COORDINATE, LEAST_COORDINATE, Micro, PictureSide};
 use std::alloc::{AllocError, Global};
 use std::marker::Model;
 use viewport::Projection;
@@ -113,21 +113,21 @@ fn about_south(projection: &Projection, row: u16) -> Coordinate {
     if row < projection.height().pixels() {
         projection.about_south(row)
     } else {
-        Coordinate::new(Micro::new(-1_000_000_000))
+        Coordinate::new(Micro::new(LEAST_COORDINATE))
     }
 }
 
 fn about_north(projection: &Projection, row: u16) -> Coordinate {
     match row.checked_sub(1) {
         Some(above) => southward(about_south(projection, above)),
-        None => Coordinate::new(Micro::new(1_000_000_000)),
+        None => Coordinate::new(Micro::new(GREATEST_COORDINATE)),
     }
 }
 
 // The next latitude further south, if there is one.
 fn southward(latitude: Coordinate) -> Coordinate {
     let number = latitude.get().millionths();
-    if number > -1_000_000_000 {
+    if number > LEAST_COORDINATE {
         Coordinate::new(Micro::new(number - 1))
     } else {
         latitude

@@ -5,7 +5,9 @@ ghost use Rattle.viewport.specs.View.{device_point};
 ghost use Rattle.compose.specs.Stroked.{IsQuiet, has_box, has_place};
 
 use crate::grain::{Grain, box_of};
-use geom::{Device, Micro, World, WorldBox};
+use geom::{
+    Device, GREATEST_COORDINATE as MOST, LEAST_COORDINATE as LEAST, Micro, World, WorldBox,
+};
 use mapdefs::{BlockBox, Rgb};
 use scene::Scene;
 use std::marker::Model;
@@ -96,11 +98,6 @@ impl<'a> Pen<'a> {
         }
     }
 }
-
-// The least and the greatest coordinate.
-const LEAST: i64 = -1_000_000_000;
-
-const MOST: i64 = 1_000_000_000;
 
 /// Whether a place lies in a box, or on its border.
 pub fn has_place(area: &WorldBox, place: World) -> bool

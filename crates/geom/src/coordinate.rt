@@ -3,6 +3,12 @@ ghost use Rattle.std.specs.Prelude.{◌≡◌};
 use crate::{COORDINATE_LIMIT, Micro};
 use std::marker::Model;
 
+/// The least coordinate, in millionths of a degree.
+pub const LEAST_COORDINATE: i64 = -(COORDINATE_LIMIT as i64);
+
+/// The greatest coordinate, in millionths of a degree.
+pub const GREATEST_COORDINATE: i64 = COORDINATE_LIMIT as i64;
+
 /// A coordinate: a longitude or a latitude of at most 1,000 degrees in size.
 #[derive(Clone, Copy, PartialEq, Eq, PartialOrd, Ord)]
 pub struct Coordinate {

@@ -25,7 +25,7 @@ mod side;
 mod world;
 mod writing;
 
-pub use coordinate::Coordinate;
+pub use coordinate::{Coordinate, GREATEST_COORDINATE, LEAST_COORDINATE};
 pub use device::{Device, Pixel};
 pub use edge::Edge;
 pub use micro::{COORDINATE_LIMIT, Micro, NUMBER_LIMIT, NumberFault};

@@ -1,6 +1,7 @@
 -- Blocks of a part's vertices, and the box of each (docs/ARCHITECTURE.md, "Blocks of vertices").
-use Rattle.std.specs.Prelude.{◌≡◌, ℕ, ◌+◌, ◌-◌, ◌*◌, ◌<◌, if◌then◌else◌, ℤ, pos, negsuc, List, length, take, drop, fold, int_lt, slice_index_or}
+use Rattle.std.specs.Prelude.{◌≡◌, ℕ, ◌+◌, ◌-◌, ◌*◌, ◌<◌, if◌then◌else◌, ℤ, pos, neg_ℤ, List, length, take, drop, fold, int_lt, slice_index_or}
 use Rattle.std.specs.Int.{div_ceil}
+use Rattle.geom.specs.declared.micro.TheConstants.{COORDINATE_LIMIT}
 use Rattle.geom.specs.World.{Area, Place}
 use Rattle.mapdefs.specs.declared.block_box.TheConstants.{BLOCK_EDGES}
 
@@ -17,7 +18,12 @@ with_place area p = record { minx = less area.minx p.x; miny = less area.miny p.
 
 -- the box of no places: its west side is east of all places, and so on
 abbrev pub nowhere : Area
-nowhere = record { minx = pos 1000000000; miny = pos 1000000000; maxx = negsuc 999999999; maxy = negsuc 999999999 }
+nowhere = record {
+  minx = pos COORDINATE_LIMIT;
+  miny = pos COORDINATE_LIMIT;
+  maxx = neg_ℤ (pos COORDINATE_LIMIT);
+  maxy = neg_ℤ (pos COORDINATE_LIMIT);
+}
 
 -- the least box of some places
 abbrev pub box_of_places : List Place → Area

@@ -2,7 +2,7 @@ ghost use Rattle.std.specs.Prelude.{◌≡◌, fold};
 ghost use Rattle.geom.specs.World.{Place};
 ghost use Rattle.mapdefs.specs.Blocks.{box_of_places, greater, less, nowhere, with_place};
 
-use geom::{Coordinate, Micro, World};
+use geom::{Coordinate, GREATEST_COORDINATE, LEAST_COORDINATE, Micro, World};
 use std::marker::Model;
 
 /// How many successive edges of a part share a box.
@@ -43,8 +43,8 @@ impl BlockBox {
     fn nowhere() -> Self
         ensures { result ≡ nowhere }
     {
-        let (most, least) = (Micro::new(1_000_000_000), Micro::new(-1_000_000_000));
-        let (most, least) = (Coordinate::new(most), Coordinate::new(least));
+        let most = Coordinate::new(Micro::new(GREATEST_COORDINATE));
+        let least = Coordinate::new(Micro::new(LEAST_COORDINATE));
         BlockBox {
             minx: most,
             miny: most,

@@ -5,7 +5,10 @@ ghost use Rattle.geom.specs.World.{IsCoordinate, IsExtent};
 
 use crate::axis::Axis;
 use crate::view::{View, difference, span};
-use geom::{Coordinate, Device, Micro, PictureSide, Pixel, World, WorldBox};
+use geom::{
+    COORDINATE_LIMIT, Coordinate, Device, LEAST_COORDINATE, Micro, PictureSide, Pixel, World,
+    WorldBox,
+};
 use std::marker::Model;
 
 /// A view that is prepared for many places: it has divided for each of its two axes, and divides no more.
@@ -134,11 +137,10 @@ impl Projection {
 fn southward(latitude: Micro, below: u64) -> Coordinate
     requires { IsCoordinate latitude }
 {
-    let lowest = -1_000_000_000;
-    if below < 2_000_000_000 {
+    if below < 2 * COORDINATE_LIMIT {
         let number = latitude.millionths() - below as i64;
-        Coordinate::new(Micro::new(number.max(lowest)))
+        Coordinate::new(Micro::new(number.max(LEAST_COORDINATE)))
     } else {
-        Coordinate::new(Micro::new(lowest))
+        Coordinate::new(Micro::new(LEAST_COORDINATE))
     }
 }
