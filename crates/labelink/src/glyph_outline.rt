@@ -1,13 +1,11 @@
-ghost use Rattle.std.specs.Prelude.{◌≡◌, ℕ, ◌+◌, ◌<◌, ◌≤◌, ◌^◌, [], false, ◌||◌, pos, ◌+ℤ◌, ◌-ℤ◌, ◌<ℤ◌, ◌≤ℤ◌, OnOk};
+ghost use Rattle.std.specs.Prelude.{◌≡◌, ℕ, ◌+◌, ◌<◌, ◌≤◌, ◌^◌, ◌||◌, pos, ◌+ℤ◌, ◌-ℤ◌, ◌<ℤ◌, ◌≤ℤ◌};
 ghost use Rattle.geom.specs.Range.{IsBelow};
-ghost use Rattle.geom.specs.declared.side.TheConstants.{MAX_PICTURE_SIDE};
-ghost use Rattle.scanfill.specs.Runs.{AreRunsFrom};
 ghost use Rattle.labelink.specs.Ink.{covers_glyph, outlines_glyph};
 
 use crate::placed_glyph::PlacedGlyph;
 use clip::{RowRange, clamped};
 use geom::PictureSide;
-use scanfill::{Cover, Reading, Span, Spans};
+use scanfill::{BoxShape, Cover, Span, Spans, row_of_box};
 use std::alloc::AllocError;
 use std::marker::Model;
 
@@ -82,33 +80,6 @@ impl<'a> GlyphOutline<'a> {
     {
         self.covers_near(i, i64::from(j) - 1) || self.covers_beside_or_below(i, j)
     }
-
-    // The columns, of so many, that the glyph's box lies in, and one more on each side.
-    fn columns(&self, end: u16) -> Span
-        ensures rising { result.from ≤ result.to }
-        ensures within { result.to ≤ end }
-        ensures before { (i j : ℕ) → i < result.from → outlines_glyph self.now (pos i) (pos j) ≡ false }
-        ensures after { (i j : ℕ) → result.to ≤ i → i < end → outlines_glyph self.now (pos i) (pos j) ≡ false }
-    {
-        let (side, left) = self.glyph.columns_of_box();
-        span_round(side, left, end)
-    }
-
-    // Adds to the empty `out` the runs of a row.
-    fn read_row(&self, j: u16, width: PictureSide, out: &mut Spans) -> Result<(), AllocError>
-        requires row { j < MAX_PICTURE_SIDE }
-        requires empty { out.old ≡ [] }
-        ensures { OnOk result (AreRunsFrom (λ i. outlines_glyph self.now (pos i) (pos j)) 0 width out.new) }
-    {
-        let end = width.pixels();
-        let span = self.columns(end);
-        let mut reading = Reading::Outside.go_on(0, span.from, false, out)?;
-        for column in span.from..span.to {
-            reading = reading.go_on(column, column + 1, self.is_outlined(column, j), out)?;
-        }
-        let reading = reading.go_on(span.to, end, false, out)?;
-        reading.finish(end, out)
-    }
 }
 
 impl Cover for GlyphOutline<'_> {
@@ -128,13 +99,20 @@ impl Cover for GlyphOutline<'_> {
     }
 
     fn row(&self, j: u16, width: PictureSide, out: &mut Spans) -> Result<(), AllocError> {
-        out.clear();
-        match self.read_row(j, width, out) {
-            Ok(()) => Ok(()),
-            Err(error) => {
-                out.clear();
-                Err(error)
-            }
-        }
+        row_of_box(self, j, width, out)
+    }
+}
+
+impl BoxShape for GlyphOutline<'_> {
+    ghost covered = { λ o i j. outlines_glyph o (pos i) (pos j) };
+
+    fn has_pixel(&self, i: u16, j: u16) -> bool {
+        self.is_outlined(i, j)
+    }
+
+    // The box is that of the glyph with one more column on each side.
+    fn columns(&self, end: u16) -> Span {
+        let (side, left) = self.glyph.columns_of_box();
+        span_round(side, left, end)
     }
 }

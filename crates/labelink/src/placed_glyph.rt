@@ -1,14 +1,12 @@
-ghost use Rattle.std.specs.Prelude.{◌≡◌, ℕ, ◌<◌, ◌≤◌, ◌^◌, [], false, pos, ◌+ℤ◌, ◌<ℤ◌, ◌≤ℤ◌, OnOk};
+ghost use Rattle.std.specs.Prelude.{◌≡◌, ℕ, ◌<◌, ◌≤◌, ◌^◌, pos, ◌+ℤ◌, ◌<ℤ◌, ◌≤ℤ◌};
 ghost use Rattle.geom.specs.Range.{IsBelow};
-ghost use Rattle.geom.specs.declared.side.TheConstants.{MAX_PICTURE_SIDE};
-ghost use Rattle.scanfill.specs.Runs.{AreRunsFrom};
 ghost use Rattle.labelink.specs.Ink.{covers_glyph};
 
 use bdffont::inks_at;
 use clip::{RowRange, clamped};
 use geom::PictureSide;
 use mapdefs::Glyph;
-use scanfill::{Cover, Reading, Span, Spans};
+use scanfill::{BoxShape, Cover, Span, Spans, row_of_box};
 use std::alloc::AllocError;
 use std::marker::Model;
 
@@ -114,41 +112,18 @@ impl Cover for PlacedGlyph<'_> {
     }
 
     fn row(&self, j: u16, width: PictureSide, out: &mut Spans) -> Result<(), AllocError> {
-        out.clear();
-        match self.read_row(j, width, out) {
-            Ok(()) => Ok(()),
-            Err(error) => {
-                out.clear();
-                Err(error)
-            }
-        }
+        row_of_box(self, j, width, out)
     }
 }
 
-impl PlacedGlyph<'_> {
-    // Adds to the empty `out` the runs of a row.
-    fn read_row(&self, j: u16, width: PictureSide, out: &mut Spans) -> Result<(), AllocError>
-        requires row { j < MAX_PICTURE_SIDE }
-        requires empty { out.old ≡ [] }
-        ensures { OnOk result (AreRunsFrom (λ i. covers_glyph self.now (pos i) (pos j)) 0 width out.new) }
-    {
-        let end = width.pixels();
-        let span = self.columns(end);
-        let mut reading = Reading::Outside.go_on(0, span.from, false, out)?;
-        for column in span.from..span.to {
-            reading = reading.go_on(column, column + 1, self.is_inked(column, j), out)?;
-        }
-        let reading = reading.go_on(span.to, end, false, out)?;
-        reading.finish(end, out)
+impl BoxShape for PlacedGlyph<'_> {
+    ghost covered = { λ g i j. covers_glyph g (pos i) (pos j) };
+
+    fn has_pixel(&self, i: u16, j: u16) -> bool {
+        self.is_inked(i, j)
     }
 
-    // The columns, of so many, that the glyph's box lies in.
-    fn columns(&self, end: u16) -> Span
-        ensures rising { result.from ≤ result.to }
-        ensures within { result.to ≤ end }
-        ensures before { (i j : ℕ) → i < result.from → covers_glyph self.now (pos i) (pos j) ≡ false }
-        ensures after { (i j : ℕ) → result.to ≤ i → i < end → covers_glyph self.now (pos i) (pos j) ≡ false }
-    {
+    fn columns(&self, end: u16) -> Span {
         span_on(self.glyph.bounds.width, self.left, end)
     }
 }

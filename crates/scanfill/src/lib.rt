@@ -17,6 +17,7 @@
 //! rows from the top.
 #![tactic(auto)]
 
+mod box_shape;
 mod cover;
 mod crossing;
 mod crossings;
@@ -32,6 +33,7 @@ mod sweep;
 mod walk;
 mod work;
 
+pub use box_shape::{BoxShape, row_of_box};
 pub use clip::RowRange;
 pub use cover::Cover;
 pub use polygon::Polygon;

@@ -2,13 +2,12 @@ ghost use Rattle.std.specs.Prelude.{◌≡◌, ℕ, ◌<◌, ◌≤◌, ◌^◌,
 ghost use Rattle.clip.specs.EdgeClass.{has_row};
 ghost use Rattle.geom.specs.Range.{IsBelow};
 ghost use Rattle.geom.specs.declared.side.TheConstants.{MAX_PICTURE_SIDE};
-ghost use Rattle.scanfill.specs.Runs.{AreRunsFrom};
 ghost use Rattle.symbols.specs.Stamp.{covers_pixel, is_transparent, pixel_at, pixel_from, position_on, skipped};
 
 use clip::{RowRange, clamped};
 use geom::{PictureSide, Pixel};
 use mapdefs::{Pixmap, Rgb};
-use scanfill::{Cover, Reading, Span, Spans};
+use scanfill::{BoxShape, Cover, Span, Spans, row_of_box};
 use std::alloc::AllocError;
 use std::marker::Model;
 
@@ -130,12 +129,8 @@ pub struct RowPixels<'a> {
 impl Cover for Stamp<'_> {
     ghost covered = { λ s i j. covers_pixel s (pos i) (pos j) };
 
-    #[tactic(auto, unfolding(crate::specs::Stamp::covers_pixel))]
     fn covers(&self, i: u16, j: u16) -> bool {
-        match self.pixel_at(i, j) {
-            Some(colour) => !is_transparent(colour),
-            None => false,
-        }
+        self.has_pixel(i, j)
     }
 
     fn rows(&self, width: PictureSide, height: PictureSide) -> RowRange {
@@ -151,41 +146,22 @@ impl Cover for Stamp<'_> {
     }
 
     fn row(&self, j: u16, width: PictureSide, out: &mut Spans) -> Result<(), AllocError> {
-        out.clear();
-        match self.read_row(j, width, out) {
-            Ok(()) => Ok(()),
-            Err(error) => {
-                out.clear();
-                Err(error)
-            }
-        }
+        row_of_box(self, j, width, out)
     }
 }
 
-impl Stamp<'_> {
-    // Adds to the empty `out` the runs of a row.
-    fn read_row(&self, j: u16, width: PictureSide, out: &mut Spans) -> Result<(), AllocError>
-        requires row { j < MAX_PICTURE_SIDE }
-        requires empty { out.old ≡ [] }
-        ensures { OnOk result (AreRunsFrom (λ i. covers_pixel self.now (pos i) (pos j)) 0 width out.new) }
-    {
-        let end = width.pixels();
-        let span = self.columns(end);
-        let mut reading = Reading::Outside.go_on(0, span.from, false, out)?;
-        for column in span.from..span.to {
-            reading = reading.go_on(column, column + 1, self.covers(column, j), out)?;
+impl BoxShape for Stamp<'_> {
+    ghost covered = { λ s i j. covers_pixel s (pos i) (pos j) };
+
+    #[tactic(auto, unfolding(crate::specs::Stamp::covers_pixel))]
+    fn has_pixel(&self, i: u16, j: u16) -> bool {
+        match self.pixel_at(i, j) {
+            Some(colour) => !is_transparent(colour),
+            None => false,
         }
-        let reading = reading.go_on(span.to, end, false, out)?;
-        reading.finish(end, out)
     }
 
-    // The columns, of so many, that the pixmap lies in.
-    fn columns(&self, end: u16) -> Span
-        ensures rising { result.from ≤ result.to }
-        ensures within { result.to ≤ end }
-        ensures before { (i j : ℕ) → i < result.from → covers_pixel self.now (pos i) (pos j) ≡ false }
-        ensures after { (i j : ℕ) → result.to ≤ i → i < end → covers_pixel self.now (pos i) (pos j) ≡ false }
-    {
+    fn columns(&self, end: u16) -> Span {
         span_on(self.pixmap.get().width, self.pixel.i(), end)
     }
 }

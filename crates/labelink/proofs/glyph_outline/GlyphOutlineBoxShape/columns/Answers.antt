@@ -2,7 +2,7 @@ use Rattle.std.proofs.Common.{◌^◌, arith}
 use lib.IntN.{pos}
 use Rattle.scanfill.proofs.Words.{word}
 use Rattle.labelink.proofs.Boxed.{outline-left, outline-right}
-use Rattle.labelink.proofs.glyph_outline.GlyphOutline.columns.Goals as goal
+use Rattle.labelink.proofs.glyph_outline.GlyphOutlineBoxShape.columns.Goals as goal
 
 pub returns-clause-before : goal.returns-clause-before
 returns-clause-before c = λ i j h.

@@ -3,7 +3,7 @@ use lib.IntN.{pos}
 use Rattle.scanfill.proofs.Words.{word}
 use Rattle.labelink.specs.Ink.{GlyphValue}
 use Rattle.labelink.proofs.Boxed.{left-of, right-of}
-use Rattle.labelink.proofs.placed_glyph.PlacedGlyph.columns.Goals as goal
+use Rattle.labelink.proofs.placed_glyph.PlacedGlyphBoxShape.columns.Goals as goal
 
 pub returns-clause-before : goal.returns-clause-before
 returns-clause-before c = λ i j h.

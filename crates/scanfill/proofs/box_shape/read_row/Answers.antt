@@ -1,28 +1,26 @@
 use Rattle.std.proofs.Common.{◌≡◌, ℕ, ◌+◌, false, sym, arith}
 use Rattle.std.proofs.lemmas.Result.{on_ok_weaker}
-use lib.IntN.{pos}
 use Rattle.scanfill.specs.Reading.{AllAre, IsReading}
-use Rattle.symbols.specs.Stamp.{covers_pixel}
-use Rattle.symbols.proofs.stamp.Stamp.read_row.Goals as goal
+use Rattle.scanfill.proofs.box_shape.read_row.Goals as goal
 
 pub loop-column-init : goal.loop-column-init
-loop-column-init c =
-    let test = λ (i : ℕ). covers_pixel c.args.self.now (pos i) (pos c.args.j) in
+loop-column-init g c =
+    let test = λ (i : ℕ). g.S.BoxShape.covered c.args.shape.now i c.args.j in
     let quiet : AllAre test false 0 c.columns-span.result.from = record { each = λ i from past. c.columns-span.ensures.before i c.args.j past } in
     c.in_ok-reading.ensures test c.pixels-end.result (omega (arith, c.columns-span.ensures.rising, c.columns-span.ensures.within)) quiet (rw c.requires.empty (λ rest runs. runs))
 
 pub loop-column-preserved : goal.loop-column-preserved
-loop-column-preserved c =
-    let test = λ (i : ℕ). covers_pixel c.args.self.now (pos i) (pos c.args.j) in
+loop-column-preserved g c =
+    let test = λ (i : ℕ). g.S.BoxShape.covered c.args.shape.now i c.args.j in
     let l = c.loop-column in
-    let one : AllAre test c.covers.result l.column (l.column + 1) = record {
-      each = λ i from past. let same : i ≡ l.column = omega arith in rw same (sym c.covers.ensures);
+    let one : AllAre test c.has_pixel.result l.column (l.column + 1) = record {
+      each = λ i from past. let same : i ≡ l.column = omega arith in rw same (sym c.has_pixel.ensures);
     } in
     c.in_ok-reading-2.ensures test c.pixels-end.result (omega (arith, c.columns-span.ensures.within, c.loop-column-test.true)) one l.invariant
 
 pub returns : goal.returns
-returns c =
-    let test = λ (i : ℕ). covers_pixel c.args.self.now (pos i) (pos c.args.j) in
+returns g c =
+    let test = λ (i : ℕ). g.S.BoxShape.covered c.args.shape.now i c.args.j in
     let l = c.loop-column in
     let span = c.columns-span.result in
     let at : span.to ≡ l.column = omega (arith, c.columns-span.ensures.rising, l.auto.column-end, c.loop-column-test.false) in

@@ -3,7 +3,7 @@ use lib.IntN.{pos}
 use Rattle.scanfill.proofs.Words.{word}
 use Rattle.symbols.specs.Stamp.{StampValue}
 use Rattle.symbols.proofs.Stamping.{no-column}
-use Rattle.symbols.proofs.stamp.Stamp.columns.Goals as goal
+use Rattle.symbols.proofs.stamp.StampBoxShape.columns.Goals as goal
 
 pub returns-clause-before : goal.returns-clause-before
 returns-clause-before c = λ i j h.
