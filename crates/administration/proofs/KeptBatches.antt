@@ -25,12 +25,6 @@ submitted_done opening old batch submitted.Held new is = is
 submitted_done opening old batch (submitted.Refused fault) new is = is
 submitted_done opening old batch submitted.NoMemory new is = is
 
--- a batch for which the keeper failed changed nothing
-pub failed_done : (opening : State) (old : Batches) (command : Command) (new : Batches) → HasFailed opening old command new → HasDone opening old command done.NoMemory new
-failed_done opening old (Submit batch) new is = is.1
-failed_done opening old Publish new is = absurd is
-failed_done opening old Malformed new is = absurd is
-
 -- a command whose bytes are held is a batch
 pub held_batch : (command : Command) (held : Option (Vec ℕ Global)) (P : Command → Type 0) → IsHeldOf command (asked.Batch held) → ((batch : List ℕ) → IfSome held (λ bytes. bytes.items ≡ batch) → P (Submit batch)) → P command
 held_batch (Submit bytes) held P is f = f bytes is

@@ -11,10 +11,6 @@ use Rattle.std.proofs.lemmas.Bool.Decides.{nat_tests}
 use Rattle.std.proofs.lemmas.Option.{slice_get_past}
 use Rattle.bdffont.specs.Words.{is_space, words}
 
--- a line feed
-abbrev is_feed : ℕ → Bool
-is_feed b = b == 10
-
 -- without a byte that passes there is one part
 split-none_cons : (p : ℕ → Bool) (x : ℕ) (xs : List ℕ) (t : Bool) → p x ≡ t → position_or_len p (x ∷ xs) ≡ length (x ∷ xs) →
     (position_or_len p xs ≡ length xs → slice_split p xs ≡ xs ∷ []) → slice_split p (x ∷ xs) ≡ (x ∷ xs) ∷ []

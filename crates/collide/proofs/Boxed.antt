@@ -45,7 +45,8 @@ numbered : (count : ℕ) (z : ℤ) → negsuc 0 ≤ℤ z → z <ℤ (pos count -
 numbered count (pos n) low high = (n + 1, omega (arith, ints, high), omega (arith, ints))
 numbered count (negsuc n) low high = (0, omega (arith, ints, high, low), omega (arith, ints, low))
 
-any-left : {X : Type 0} (P : X → Type 0) (xs ys : List X) → Any P xs → Any P (xs ++ ys)
+-- what holds for one element of a list holds for one of a longer list
+pub any-left : {X : Type 0} (P : X → Type 0) (xs ys : List X) → Any P xs → Any P (xs ++ ys)
 any-left P xs ys a = (a.0, a.1, omega (arith, a.2, length-append xs ys), get_or_append_left xs ys a.1 a.0 a.2 ∙ a.3, a.4)
 
 any-cases : {X : Type 0} (P : X → Type 0) (xs : List X) (y : X) → Any P (xs ++ y ∷ []) → P y ⊎ Any P xs

@@ -13,6 +13,7 @@ use Rattle.mapdefs.specs.declared.colour.Rgb.{Rgb}
 use Rattle.mapdefs.specs.declared.feature.FeatureFields.{FeatureFields}
 use Rattle.compose.specs.Near.{CandidatesPaintAll}
 use Rattle.compose.specs.Walk.{given_at}
+use Rattle.geom.proofs.Rising.{first-least, first-below}
 use Rattle.mapdefs.proofs.Containing.{first_or}
 use Rattle.compose.proofs.Finding.{here, there}
 
@@ -37,21 +38,6 @@ one-on h shapes from k e = ap h (turn from k) ∙ e
   where
     turn : (n k : ℕ) → n + 1 + k ≡ n + suc k
     turn n k = omega arith
-
--- the first number of a rising list is the least
-pub first-least : (y : ℕ) (ys : List ℕ) (x : ℕ) → IsStrictlySortedBy nat_cmp (y ∷ ys) → Contains (y ∷ ys) x → y ≤ x
-first-least y ys x s c = ⊎_elim
-    (λ (e : c.0 ≡ 0). let f : get_or (y ∷ ys) 0 x ≡ x = rw e at c.2 in omega (arith, f))
-    (λ (p : c.0 ≡ 0 → ⊥).
-    let lt = below_from_sorted (y ∷ ys) 0 c.0 x s (omega arith) c.1 in
-    omega (arith, lt, c.2))
-    (cases_eq c.0 0)
-
-pub first-below : (y : ℕ) (ys : List ℕ) (x : ℕ) → IsStrictlySortedBy nat_cmp (y ∷ ys) → Contains ys x → y < x
-first-below y ys x s c =
-    let lt = below_from_sorted (y ∷ ys) 0 (1 + c.0) x s (omega arith) (omega (arith, c.1)) in
-    let e = get_or-append-add (y ∷ []) ys c.0 x in
-    omega (arith, lt, e, c.2)
 
 -- the numbers lie between two
 abbrev pub AreFrom : ℕ → ℕ → List ℕ → Type 0

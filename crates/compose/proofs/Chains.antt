@@ -10,7 +10,8 @@ use Rattle.geom.specs.EvenOdd.{is_covered, is_odd}
 use Rattle.geom.specs.Laws.{is_one_of}
 use Rattle.clip.proofs.Sides.{left-crosses, right-crosses}
 use Rattle.compose.specs.Chain.{chain_edges, chain_end, chord}
-use Rattle.compose.proofs.Flipping.{odd-add, odd-one}
+use Rattle.geom.proofs.Together.{odd-add}
+use Rattle.compose.proofs.Flipping.{odd-one}
 
 -- what one edge adds to the crossings
 abbrev pub share : DevicePoint → EdgeEnds → ℕ

@@ -151,15 +151,6 @@ filled-rows test colour width height rows past a b area last none filled = λ k 
     (cases_lt (k / width) past))
     (cases_lt (k / width) rows.from)
 
--- no row is filled yet
-pub rows-start : (test : ℕ → ℕ → Bool) (colour : ℕ → ℕ → Option Rgb) (from : ℕ) (a : PictureFields) → HasRowsFilled test colour from from a a
-rows-start test colour from a = record {
-  width = refl;
-  height = refl;
-  area = refl;
-  rows = record { filled = λ at h low high. absurd (omega arith); before = λ at h low. refl; after = λ at h high. refl };
-}
-
 -- a picture's rows after rows
 pub rows-more : (test : ℕ → ℕ → Bool) (colour : ℕ → ℕ → Option Rgb) (from at past : ℕ) (a b c : PictureFields) → from ≤ at → at ≤ past →
     HasRowsFilled test colour from at a b → HasRowsFilled test colour at past b c → HasRowsFilled test colour from past a c

@@ -24,9 +24,6 @@ pub record IsFilling (flips left : List ℕ) (colour : Rgb) (a b : PictureFields
       cond (is_pixel_flipped left (at % a.width) (at / a.width)) (Some colour) (colour_of b.pixels at)
       ≡ cond (is_pixel_flipped flips (at % a.width) (at / a.width)) (Some colour) (colour_of a.pixels at)
 
-pub filling-first : (flips : List ℕ) (colour : Rgb) (a : PictureFields) → IsFilling flips flips colour a a
-filling-first flips colour a = record { width = refl; height = refl; area = refl; pixels = λ at h. refl }
-
 -- the columns of a span
 abbrev pub columns-of : RowSpan → Span
 columns-of span = record { from = span.from; to = span.to }
@@ -60,15 +57,6 @@ filling-next flips left rest span colour a b c area flipped is f = record {
       ∙ (cond-either s t (Some colour) (colour_of b.pixels at)
       ∙ (ap (λ x. cond x (Some colour) (colour_of b.pixels at)) (sym (flipped (at % b.width) (at / b.width) column))
       ∙ rw (← is.width) at (is.pixels at h))));
-}
-
--- no flip remains
-pub filling-last : (flips left : List ℕ) (colour : Rgb) (a b : PictureFields) → left ≡ [] → IsFilling flips left colour a b → IsFilled (is_pixel_flipped flips) (one_colour colour) a b
-filling-last flips left colour a b none is = record {
-  width = is.width;
-  height = is.height;
-  area = is.area;
-  filled = λ at h. sym (ap (λ ts. cond (is_pixel_flipped ts (at % a.width) (at / a.width)) (Some colour) (colour_of b.pixels at)) none) ∙ is.pixels at h;
 }
 
 -- a picture that is filled where a shape covers its pixels is painted over with the shape

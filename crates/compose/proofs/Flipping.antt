@@ -18,6 +18,7 @@ use Rattle.geom.specs.World.{Place}
 use Rattle.geom.proofs.Products.{le_of, mul-sub, not_le_of, product_nonneg}
 use Rattle.geom.proofs.Rings.{closing_edges}
 use Rattle.geom.proofs.Quotients.{at_most-by_product, quotient_parts}
+use Rattle.geom.proofs.Together.{odd-add}
 use Rattle.clip.specs.EdgeClass.{at_least_zero, first_row, rows_of}
 use Rattle.clip.specs.declared.rows.RowRange.{RowRange}
 use Rattle.clip.proofs.Rowed.{first_row-at_most}
@@ -90,9 +91,6 @@ one-assoc false false true = refl
 one-assoc false false false = refl
 
 -- crossings of two lists of edges
-pub odd-add : (m n : ℕ) → is_odd (m + n) ≡ is_one_of (is_odd m) (is_odd n)
-odd-add m n = grind arith
-
 pub odd-one : (b : Bool) → is_odd (cond {A = ℕ} b 1 0) ≡ b
 odd-one true = refl
 odd-one false = refl

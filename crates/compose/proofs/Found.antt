@@ -20,7 +20,8 @@ use Rattle.viewport.specs.View.{ViewValue, window}
 use Rattle.compose.specs.Anchor.{shown_anchor}
 use Rattle.compose.specs.Labels.{FoundLabelAll, candidate_at, label_text, classified_candidates}
 use Rattle.compose.specs.Walk.{given_at, classified_feature}
-use Rattle.compose.proofs.Candidates.{AreFrom, at-start, first-below, first-least, one-on}
+use Rattle.geom.proofs.Rising.{first-least, first-below}
+use Rattle.compose.proofs.Candidates.{AreFrom, at-start, one-on}
 use Rattle.mapdefs.proofs.Containing.{first_or}
 use Rattle.compose.proofs.Finding.{here, there}
 use Rattle.compose.proofs.NearAnchors.{anchors-near}

@@ -58,18 +58,6 @@ same-pixel-of pixels part other whole grain n some is small at least most =
     at_most-by_product e (q *ℤ pos 16 +ℤ pos 15) whole some (omega (arith, ints, first.1, second.0, past, split, rest, add-mul (q *ℤ pos 16) (pos 15) whole)) in
     quotient_is e (pos 16) q (omega (arith, ints)) low (omega (arith, ints, high))
 
--- the quotient is a grain
-pub grain-is : (side : ℕ) (whole : ℤ) → 1 ≤ side → pos 0 <ℤ whole → IsBelow (2 ^ 31) whole → IsGrain side whole (int_div_euclid whole (pos (16 * side)))
-grain-is side whole some more below =
-    let k = pos (16 * side) in
-    let q = int_div_euclid whole k in
-    let parts = quotient_parts whole k (omega (arith, ints, some)) in
-    record {
-      least = at_most-by_product (pos 0) q k (omega (arith, ints, some)) (omega (arith, ints, parts.1, more));
-      most = quotient-below (2 ^ 31) whole k (omega (arith, ints, some)) below;
-      fits = omega (arith, ints, parts.0, mul-comm k q);
-    }
-
 -- what i64 holds of a coordinate, and of one that is moved by so many grains
 pub coordinate-held : (a z : ℤ) → a ≡ z → IsCoordinate z → IsBelow (2 ^ 31) (to_z w64 (of_z w64 a))
 coordinate-held a z e h = record { above = omega (arith, ints, e, h); below = omega (arith, ints, e, h) }

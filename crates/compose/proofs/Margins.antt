@@ -22,15 +22,6 @@ furthest-append symbols [] ys = sym (zero-max (furthest symbols ys))
 furthest-append symbols (x ∷ xs) ys =
     ap (λ n. max (reach_of symbols x) n) (furthest-append symbols xs ys) ∙ sym (max-assoc (reach_of symbols x) (furthest symbols xs) (furthest symbols ys))
 
--- one style more
-pub further-step : (symbols : List Symbol) (styles : List StyleFields) (i found new all : ℕ) (style : StyleFields) → i < length styles → style ≡ get_or styles i style →
-    new ≡ max found (reach_of symbols style) → max found (furthest symbols (drop i styles)) ≡ all → max new (furthest symbols (drop (i + 1) styles)) ≡ all
-further-step symbols styles i found new all style h is more before =
-    ap (λ n. max n (furthest symbols (drop (i + 1) styles))) more
-    ∙ (max-assoc found (reach_of symbols style) (furthest symbols (drop (i + 1) styles))
-    ∙ (ap (λ (s : StyleFields). max found (max (reach_of symbols s) (furthest symbols (drop (i + 1) styles)))) is
-    ∙ (sym (ap (λ n. max found n) (at_drop_more (furthest symbols) styles i style h)) ∙ before)))
-
 -- the styles of some classes
 abbrev pub styles_of : List ClassFields → List StyleFields
 styles_of classes = flat_map (λ (class : ClassFields). class.styles) classes

@@ -20,7 +20,8 @@ use Rattle.strokes.specs.Square.{covers_square}
 use Rattle.viewport.specs.View.{ViewValue, device_point}
 use Rattle.compose.proofs.NearBoxes.{AreRound}
 use Rattle.compose.proofs.NearEdges.{FailsBetween, parts-fail}
-use Rattle.compose.proofs.Finding.{any-weaker, must-pass}
+use Rattle.mapdefs.proofs.Containing.{any-weaker}
+use Rattle.compose.proofs.Finding.{must-pass}
 use Rattle.compose.proofs.NearShapes.{by-round, square-by}
 
 -- a segment covers no point by its rows that lies beyond both ends

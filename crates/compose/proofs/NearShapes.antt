@@ -28,8 +28,9 @@ use Rattle.symbols.specs.Stamp.{covers_pixel, is_coloured, position_on}
 use Rattle.viewport.specs.View.{ViewValue, device_point}
 use Rattle.compose.proofs.NearBoxes.{AreRound}
 use Rattle.compose.proofs.NearEdges.{FailsBetween, count-failed, parts-fail}
-use Rattle.compose.proofs.Finding.{any-one, any-weaker, must-pass}
-use Rattle.compose.proofs.Flipping.{odd-add}
+use Rattle.mapdefs.proofs.Containing.{any-weaker}
+use Rattle.compose.proofs.Finding.{any-one, must-pass}
+use Rattle.geom.proofs.Together.{odd-add}
 
 -- one more is odd where the others aren't
 odd-share : (t : Bool) (n : ℕ) → is_odd (cond {A = ℕ} t 1 0 + n) ≡ is_one_of t (is_odd n)

@@ -98,20 +98,3 @@ painted-shape shape test colour a b same shown f = record {
   pixels = λ at h. f.filled at h
       ∙ sym (colour_at-one (colour_of a.pixels at) shape (at % a.width) (at / a.width) ∙ rw (same (at % a.width) (at / a.width), shown (at % a.width) (at / a.width)) refl);
 }
-
--- the same where the shape covers what the test says in the rows of the picture
-pub painted-rows : (shape : PaintedShape) (test : ℕ → ℕ → Bool) (colour : ℕ → ℕ → Option Rgb) (a b : PictureFields) → length a.pixels ≡ a.width * a.height →
-    ((i j : ℕ) → j < a.height → covers shape i j ≡ test i j) →
-    ((i j : ℕ) → colour_in shape i j ≡ colour i j) → IsFilled test colour a b → IsPainted a b (shape ∷ [])
-painted-rows shape test colour a b area same shown f = record {
-  width = f.width;
-  height = f.height;
-  area = f.area;
-  pixels = λ at h. f.filled at h
-      ∙ sym (colour_at-one (colour_of a.pixels at) shape (at % a.width) (at / a.width)
-      ∙ rw (same (at % a.width) (at / a.width) (row-below at a.width a.height (rw area at h)), shown (at % a.width) (at / a.width)) refl);
-}
-  where
-    row-below : (at w h : ℕ) → at < w * h → at / w < h
-    row-below at zero h below = absurd (omega arith)
-    row-below at (suc w) h below = div_below at (suc w) h (omega arith) (omega arith)

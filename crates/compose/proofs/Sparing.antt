@@ -1,5 +1,5 @@
 -- Painting what is found of a layer paints the layer.
-use Rattle.std.proofs.Common.{◌≡◌, ◌∙◌, ℕ, ◌*◌, ◌/◌, ◌%◌, ◌<◌, List, ◌++◌, length, get_or, Some, Result, Ok, Err, OnOk, ap, arith}
+use Rattle.std.proofs.Common.{◌≡◌, ◌∙◌, ℕ, ◌*◌, ◌/◌, ◌%◌, ◌<◌, List, ◌++◌, length, get_or, Some, ap, arith}
 use Rattle.std.proofs.lemmas.Nat.{div_below}
 use Rattle.std.proofs.lemmas.Option.{slice_get-get_or}
 use Rattle.std.specs.List.{flat_map}
@@ -24,11 +24,6 @@ use Rattle.compose.specs.Paint.{feature_shapes}
 use Rattle.compose.specs.Painted.{IsPainted, colour_of}
 use Rattle.compose.proofs.Candidates.{paint-all}
 use Rattle.compose.proofs.NearThings.{paints-near}
-
--- what follows from what holds at a success holds there
-pub on-ok : {T E : Type 0} (r : Result T E) (P Q : Type 0) → (P → Q) → OnOk r P → OnOk r Q
-on-ok (Ok x) P Q f p = f p
-on-ok (Err e) P Q f p = tt
 
 -- the classified features of an element are those of its index
 pub drawn-at : {X : Type 0} (scene : SceneValue) (f : X → List ClassifiedFeatureValue) (xs : List X) (k : ℕ) (x : X) (a b : DrawingValue) → k < length xs → x ≡ get_or xs k x →

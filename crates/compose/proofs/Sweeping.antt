@@ -22,11 +22,6 @@ inside_of polygon i j = is_covered polygon (pixel_centre (pos i) (pos j))
 abbrev pub one_colour : Rgb → ℕ → ℕ → Option Rgb
 one_colour colour i j = Some colour
 
--- the row that comes next lies in the picture
-pub row-inside : (old skipped : SweepValue) (height : ℕ) → old.height ≡ height → skipped ≡ record old { row = skipped.row } → true ≡ nat_lt skipped.row skipped.height → skipped.row < height
-row-inside old skipped height high skip more =
-    omega (arith, ltb-true skipped.row skipped.height (sym more), ap (λ (s : SweepValue). s.height) skip)
-
 -- its runs are those of the polygon on that many columns
 pub runs-inside : (old skipped : SweepValue) (width : ℕ) (runs : List Span) → old.width ≡ width → skipped ≡ record old { row = skipped.row } →
     AreRunsFrom (covers_next skipped) 0 skipped.width runs → AreRunsFrom (λ i. inside_of old.edges i skipped.row) 0 width runs

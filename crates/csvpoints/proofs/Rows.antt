@@ -17,10 +17,6 @@ use Rattle.csvpoints.specs.Table.{all_of, features_of}
 abbrev pub with_before : List FeatureFields → Result (List FeatureFields) CsvFault → Result (List FeatureFields) CsvFault
 with_before so_far r = and_then r (λ others. Ok (so_far ++ others))
 
-pub none-before : (r : Result (List FeatureFields) CsvFault) → with_before [] r ≡ r
-none-before (Ok fs) = refl
-none-before (Err e) = refl
-
 -- no row is left
 pub none-after : (c : Columns) (limit n : ℕ) (so_far : List FeatureFields) (rows : List (List (List ℕ))) → rows ≡ [] →
     with_before so_far (features_of c limit n rows) ≡ Ok so_far

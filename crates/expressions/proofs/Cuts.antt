@@ -5,17 +5,8 @@ use Rattle.std.specs.List.{position_or_len}
 use Rattle.std.proofs.lemmas.Bool.{eqb-true, eqb-false, ne_eqb, eq-eqb, ltb-true, lt-ltb}
 use Rattle.std.proofs.lemmas.List.Elements.{All-nil, All-cons, All-head, All-tail, All-weaker}
 use Rattle.std.proofs.Math.Seq.{take-append_seam, drop-append-add}
+use Rattle.geom.proofs.Passing.{fails-before, position_or_len-before}
 use Rattle.expressions.specs.Reading.{split_before}
-
--- the bytes before the first that passes a test
-fails-before_cons : (p : ℕ → Bool) (x : ℕ) (xs : List ℕ) (t : Bool) → p x ≡ t → All (λ c. IsFalse (p c)) (take (position_or_len p xs) xs) →
-    All (λ c. IsFalse (p c)) (take (cond (not t) (1 + position_or_len p xs) 0) (x ∷ xs))
-fails-before_cons p x xs true e others = All-nil (λ c. IsFalse (p c))
-fails-before_cons p x xs false e others = rw one-add (All-cons (λ c. IsFalse (p c)) x (take (position_or_len p xs) xs) e others)
-
-fails-before : (p : ℕ → Bool) (xs : List ℕ) → All (λ c. IsFalse (p c)) (take (position_or_len p xs) xs)
-fails-before p [] = All-nil (λ c. IsFalse (p c))
-fails-before p (x ∷ xs) = fails-before_cons p x xs (p x) refl (fails-before p xs)
 
 -- where a byte comes: it comes after the bytes before it
 comes-cons : (b x : ℕ) (xs : List ℕ) (t : Bool) → (x == b) ≡ t → cond (not t) (1 + position_or_len (λ c. c == b) xs) 0 < length (x ∷ xs) →
@@ -47,12 +38,6 @@ split-sound quote bytes = by (nat_lt (position_or_len (λ b. b == quote) bytes) 
       comes quote bytes (ltb-true _ _ e),
     )
     by false e = tt
-
--- where a test fails for all bytes of a list, none passes before what comes after them
-position_or_len-before : (p : ℕ → Bool) (xs ys : List ℕ) → All (λ c. IsFalse (p c)) xs → position_or_len p (xs ++ ys) ≡ length xs + position_or_len p ys
-position_or_len-before p [] ys h = omega arith
-position_or_len-before p (x ∷ xs) ys h =
-    rw (All-head (λ c. IsFalse (p c)) x xs h, position_or_len-before p xs ys (All-tail (λ c. IsFalse (p c)) x xs h)) (omega arith)
 
 -- bytes without a byte are cut off before it
 pub split-found : (quote : ℕ) (text after : List ℕ) → All (λ b. b ≢ quote) text → split_before quote (text ++ (quote ∷ after)) ≡ Some (text, after)

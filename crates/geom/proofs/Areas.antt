@@ -27,10 +27,6 @@ meets-from a b x y = (
   record { west = x.3; east = x.4; south = y.3; north = y.4 },
 )
 
--- the longitudes of boxes that share a place overlap
-pub meets-across : (a b : Area) → Meets a b → Overlap a.minx a.maxx b.minx b.maxx
-meets-across a b m = (m.0.x, m.1.west, m.1.east, m.2.west, m.2.east)
-
 -- and so do their latitudes
 pub meets-down : (a b : Area) → Meets a b → Overlap a.miny a.maxy b.miny b.maxy
 meets-down a b m = (m.0.y, m.1.south, m.1.north, m.2.south, m.2.north)

@@ -7,10 +7,12 @@ pub mod Integers
 pub mod Lines
 pub mod Numerals
 pub mod OneText
+pub mod Passing
 pub mod Products
 pub mod Quotients
 pub mod Readings
 pub mod Rings
+pub mod Rising
 pub mod Rounding
 pub mod Together
 pub mod Turning

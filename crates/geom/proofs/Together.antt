@@ -35,7 +35,7 @@ pub inside-turned : (before after : List (List DevicePoint)) (ring : List Device
 inside-turned before after ring p = inside-same before after (reverse ring) ring p (crossings-turned p ring)
 
 -- a sum is odd exactly where one of its parts is and the other isn't
-odd-add : (m n : ℕ) → is_odd (m + n) ≡ is_one_of (is_odd m) (is_odd n)
+pub odd-add : (m n : ℕ) → is_odd (m + n) ≡ is_one_of (is_odd m) (is_odd n)
 odd-add m n = grind arith
 
 pub inside-together : (one other : List (List DevicePoint)) (p : DevicePoint) → is_inside (one ++ other) p ≡ is_one_of (is_inside one p) (is_inside other p)

@@ -6,23 +6,8 @@ use Rattle.std.proofs.lemmas.List.Elements.{Contains-append_cases, Contains-appe
 use Rattle.std.proofs.lemmas.Map.Keys.{below_from_sorted, sorted_from_strictly_increasing, sorted_tail}
 use Rattle.std.specs.List.{Contains}
 use Rattle.std.specs.List.Sorted.{IsStrictlySortedBy}
+use Rattle.geom.proofs.Rising.{first-least, first-below}
 use Rattle.gridindex.specs.Window.{AnswersAreOne}
-
--- the first number is the least
-pub first-least : (y : ℕ) (ys : List ℕ) (x : ℕ) → IsStrictlySortedBy nat_cmp (y ∷ ys) → Contains (y ∷ ys) x → y ≤ x
-first-least y ys x s c = ⊎_elim
-    (λ (e : c.0 ≡ 0). let f : get_or (y ∷ ys) 0 x ≡ x = rw e at c.2 in omega (arith, f))
-    (λ (p : c.0 ≡ 0 → ⊥).
-    let lt = below_from_sorted (y ∷ ys) 0 c.0 x s (omega arith) c.1 in
-    omega (arith, lt, c.2))
-    (cases_eq c.0 0)
-
--- and below each further one
-pub first-below : (y : ℕ) (ys : List ℕ) (x : ℕ) → IsStrictlySortedBy nat_cmp (y ∷ ys) → Contains ys x → y < x
-first-below y ys x s c =
-    let lt = below_from_sorted (y ∷ ys) 0 (1 + c.0) x s (omega arith) (omega (arith, c.1)) in
-    let e = get_or-append-add (y ∷ []) ys c.0 x in
-    omega (arith, lt, e, c.2)
 
 -- a number that isn't the first is a further one
 pub further : (y : ℕ) (ys : List ℕ) (x : ℕ) → Contains (y ∷ ys) x → y < x → Contains ys x

@@ -89,9 +89,3 @@ pub piece-exchanged : {A S : Type 0} (answers : A → List ℕ → Said → A �
     IfSome a (λ stream. HasExchanged answers held taken stream old new x y)
 piece-exchanged answers held taken a b read text old new x y consumed all sent =
     whatever-follows a b read (λ stream. HasExchanged answers held taken stream old new x y) consumed (λ more. record { text = text; exchange = all more; sent = sent })
-
--- or the stream ended
-pub end-exchanged : {A S : Type 0} (answers : A → List ℕ → Said → A → Type 0) (held : S → Option (List ℕ)) (taken : S → ℕ) (a b : Option (List ℕ)) (read text : List ℕ) (old new : A) (x y : S) →
-    Consumes a b read → IsAtEnd b → IsExchange answers REQUESTS read old text new → IsSent held taken x text y → IfSome a (λ stream. HasExchanged answers held taken stream old new x y)
-end-exchanged answers held taken a b read text old new x y consumed end all sent =
-    Consumes-whole a b read (λ stream. HasExchanged answers held taken stream old new x y) consumed end (record { text = text; exchange = all; sent = sent })

@@ -96,10 +96,7 @@ pub always-overflow : (a : List ℕ) → 0 < length a → RequestOverflows 64 a 
 always-overflow a some over =
     always-refused a some (λ more head has. let n : 64 < length head.fields = over more head has.rest has.reads in let f = has.fields in omega arith)
 
--- a stream has one head
-head-is-one : (stream : List ℕ) (a b : RequestHead) → HasHead stream a → HasHead stream b → a ≡ b
-head-is-one stream a b x y = (request_unique stream a b x.rest y.rest x.reads y.reads).0
-
+-- a stream has one turn
 pub turn-is-one : (is-last : Bool) (rest : List ℕ) (a b : Turn) → IsTurn is-last rest a → IsTurn is-last rest b → a ≡ b
 turn-is-one is-last rest a b (inl x) (inl y) =
     let same = request_unique rest x.0 y.0 x.1.rest y.1.rest x.1.reads y.1.reads in

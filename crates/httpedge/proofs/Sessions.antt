@@ -36,10 +36,6 @@ feeds-all (Open came) (Open bytes) piece taken opened feeds step =
 feeds-all (Open came) (Decided closes decided query) piece taken opened feeds step = absurd (cc)
 feeds-all (Decided closes decided query) q piece taken opened feeds step = absurd opened
 
-feeds-bound : (p q : Progress) (piece : List ℕ) (taken : ℕ) → IsOpen p → Feeds p piece taken q → taken ≤ length piece
-feeds-bound (Open came) q piece taken opened feeds = feeds.bound
-feeds-bound (Decided closes decided query) q piece taken opened feeds = absurd opened
-
 -- the response of a connection to a decision, and its course after that
 pub record HasReplied {A : Type 0} (answers : A → List ℕ → Said → A → Type 0) (piece : List ℕ) (taken : ℕ) (old fed new : Course) (now : A) (reply : List ℕ) (between : A) (on : Bool) : Type 0 where
   pub decision : Decision

@@ -117,30 +117,3 @@ gone-further {R} left took pieces piece old middle new before once bytes some wa
   reads = FoldsTo-push (λ (reader : R) (given : List ℕ) (next : R). took reader (Some given) next) old pieces middle piece new before.reads once;
   bytes = subst (Consumes (left old) (left new)) (sym (concat-one pieces piece)) (Consumes-trans (left old) (left middle) (left new) (concat pieces) piece before.bytes bytes);
 }
-
--- the read after needed ones was needed
-pub read-last : {R : Type 0} (left : R → Option (List ℕ)) (took : R → Option (List ℕ) → R → Type 0) (pieces : List (List ℕ)) (piece : List ℕ) (old middle new : R) →
-    HasGoneOn left took pieces old middle → took middle (Some piece) new → Consumes (left middle) (left new) piece → ReadsToPiece left took old new
-read-last left took pieces piece old middle new before once bytes = (
-  piece,
-  record {
-    earlier = pieces;
-    before = middle;
-    wanted = before.wanted;
-    reads = before.reads;
-    final = once;
-    bytes = Consumes-trans (left old) (left middle) (left new) (concat pieces) piece before.bytes bytes;
-  },
-)
-
--- and so was one that failed
-pub read-failed : {R : Type 0} (left : R → Option (List ℕ)) (took : R → Option (List ℕ) → R → Type 0) (pieces : List (List ℕ)) (old middle new : R) →
-    HasGoneOn left took pieces old middle → took middle None new → Keeps (left middle) (left new) → ReadsTo left took None old new
-read-failed left took pieces old middle new before once kept = record {
-  earlier = pieces;
-  before = middle;
-  wanted = before.wanted;
-  reads = before.reads;
-  final = once;
-  bytes = subst (Consumes (left old) (left new)) (sym (append-nil (concat pieces))) (Consumes-kept (left old) (left middle) (left new) (concat pieces) before.bytes kept);
-}

@@ -14,7 +14,7 @@ use Rattle.labelcache.specs.Candidate.{IsAnchor}
 use Rattle.labelcache.specs.Cells.{AreNoted, HasNearPoint, IsMarked, IsPointNear, IsWithin, apart, cell_of, has, offset, point_of}
 use Rattle.labelcache.specs.declared.cells.Cell.{Cell}
 use Rattle.labelcache.specs.declared.cells.GridPoint.{GridPoint}
-use Rattle.labelcache.proofs.SameText.{any-append}
+use Rattle.collide.proofs.Boxed.{any-left}
 
 -- two columns, or rows, are as far apart from wherever they are counted
 apart-offset : (a b : ℤ) → IsBelow (2 ^ 32) a → IsBelow (2 ^ 32) b → apart (offset a) (offset b) ≡ unsigned_abs (a -ℤ b)
@@ -70,7 +70,7 @@ noted-more old new anchors anchor noted size grows is only = record {
   each = All-push (λ p. IsMarked new (point_of p)) anchors anchor
       (All-weaker (λ p. IsMarked old (point_of p)) (λ p. IsMarked new (point_of p)) (λ p m level most. grows (cell_of level (point_of p)) (m level most)) anchors noted.each) is;
   only = λ cell low marked. ⊎_elim
-      (λ was. any-append (λ p. cell ≡ cell_of 0 (point_of p)) anchors anchor (noted.only cell low was))
+      (λ was. any-left (λ p. cell ≡ cell_of 0 (point_of p)) anchors (anchor ∷ []) (noted.only cell low was))
       (λ here. Any-push (λ p. cell ≡ cell_of 0 (point_of p)) anchors anchor here)
       (only cell low marked);
 }

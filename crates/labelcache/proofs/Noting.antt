@@ -80,9 +80,3 @@ with-more q [] c = with-last (bytes_eq c.text q) c
 with-more q (x ∷ placed) c =
     with-step (bytes_eq x.text q) (bytes_eq c.text q) x (filter (λ (o : CandidateValue). bytes_eq o.text q) (placed ++ c ∷ []))
     (filter (λ (o : CandidateValue). bytes_eq o.text q) placed) c.anchor (with-more q placed c)
-
--- the kept anchors match the candidates with one more
-pub kept-more : {Y : Type 0} (m n : BTreeMap (String Y) (List PixelValue)) (placed : List CandidateValue) (c : CandidateValue) → AreKept m placed →
-    ((q : List ℕ) → anchors_of n q ≡ (if bytes_eq c.text q then anchors_of m q ++ c.anchor ∷ [] else anchors_of m q)) → AreKept n (placed ++ c ∷ [])
-kept-more m n placed c kept h q =
-    h q ∙ ap (λ (ps : List PixelValue). more (bytes_eq c.text q) ps c.anchor) (kept q) ∙ sym (with-more q placed c)

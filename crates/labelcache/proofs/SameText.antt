@@ -9,11 +9,9 @@ use Rattle.std.proofs.lemmas.Slice.Eq.{bytes_eq-Decides}
 use Rattle.std.specs.List.{Any, filter, list_any}
 use Rattle.std.specs.Str.{bytes_eq}
 use Rattle.geom.specs.Device.{PixelValue}
+use Rattle.mapdefs.proofs.Containing.{any-weaker}
 use Rattle.labelcache.specs.Anchors.{IsNear, IsAnchorNear, anchors_with}
 use Rattle.labelcache.specs.Candidate.{CandidateValue, square, squared_distance}
-
-pub any-weaker : {X : Type 0} (P Q : X → Type 0) (xs : List X) → ((x : X) → P x → Q x) → Any P xs → Any Q xs
-any-weaker P Q xs h a = (a.0, a.1, a.2, a.3, h a.1 a.4)
 
 -- what is tested for those that pass a filter
 filtered-step : {X Y : Type 0} (b : Bool) (p : Y → Bool) (f : X → Y) (x : X) (ys : List X) (r : Bool) →
@@ -64,15 +62,7 @@ place-near c placed a =
 pub none-any : {X : Type 0} {P : X → Type 0} → Any P [] → ⊥
 none-any a = absurd (omega (arith, a.2))
 
--- what holds for one element of a list holds for one of the list with another element
-pub any-append : {X : Type 0} (P : X → Type 0) (xs : List X) (y : X) → Any P xs → Any P (xs ++ y ∷ [])
-any-append P xs y a =
-    (a.0, a.1, omega (arith, a.2, length-append xs (y ∷ [])), get_or_append_left xs (y ∷ []) a.1 a.0 a.2 ∙ a.3, a.4)
-
-pub any-left : {X : Type 0} (P : X → Type 0) (xs ys : List X) → Any P xs → Any P (xs ++ ys)
-any-left P xs ys a =
-    (a.0, a.1, omega (arith, a.2, length-append xs ys), get_or_append_left xs ys a.1 a.0 a.2 ∙ a.3, a.4)
-
+-- what holds for one element of the second of two lists holds for one of both, and for one of them what holds for one of both
 pub any-right : {X : Type 0} (P : X → Type 0) (xs ys : List X) → Any P ys → Any P (xs ++ ys)
 any-right P xs ys a =
     (length xs + a.0, a.1, omega (arith, a.2, length-append xs ys), get_or-append-add xs ys a.0 a.1 ∙ a.3, a.4)

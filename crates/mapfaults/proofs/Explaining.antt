@@ -169,18 +169,3 @@ after-map t left (finding.Faulty e) is p = record {
   position = rw is p.position;
 }
 after-map t left finding.NoMemory is p = tt
-
--- before MAP
-pub before-map : (t : TokenValue) (left : Lexed) (e : Explained) → is_at keyword.Map t ≡ false → fault_in e ≡ fault_of UnknownWord t →
-    e.openings ≡ [] → e.token ≡ Some t → IsFinding (with_token t left) (finding.Faulty e)
-before-map t left e is fault none token = record {
-  fault = sym (same-meaning (t ∷ left.tokens) left.tail) ∙ rw (is, fault) refl;
-  position = rw (is, token, none) (record { after = left.tokens; is_first = refl; is_not_map = is; nothing_open = refl });
-}
-
-pub without-map : (line : ℕ) (tail : Tail) (e : Explained) → fault_in e ≡ missing tail →
-    e.openings ≡ [] → e.token ≡ None → IsFinding (stopped line tail) (finding.Faulty e)
-without-map line tail e fault none token = record {
-  fault = sym (same-meaning [] tail) ∙ rw fault refl;
-  position = rw (token, none) (record { no_token = refl; nothing_open = refl });
-}

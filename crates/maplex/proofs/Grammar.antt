@@ -11,6 +11,7 @@ use Rattle.std.proofs.lemmas.List.Elements.{All-nil, All-cons, All-weaker}
 use Rattle.std.proofs.lemmas.List.Sums.{sum_by-append, prefix_len-le-length}
 use Rattle.std.proofs.lemmas.Str.{IsUtf8-nil, IsUtf8-from_is_utf8, utf8_valid_len_le}
 use Rattle.std.proofs.Math.Seq.{take-length}
+use Rattle.geom.proofs.Passing.{fails-before}
 use Rattle.maplex.specs.declared.extent.Extent.{Extent}
 use Rattle.maplex.specs.declared.fault.LexKind.{LexKind}
 use Rattle.maplex.specs.declared.fault.LexKind.TheVariants.{BadByte, TooLong}
@@ -58,16 +59,6 @@ blanks-from true [] = last_comment [] (All-nil (λ c. c ≢ 10)) refl
 blanks-from false [] = nothing
 blanks-from true (b ∷ bs) = rw one-add (comment-goes_on b (b == 10) _ _ refl (blanks-from (not (b == 10)) bs))
 blanks-from false (b ∷ bs) = blanks-at b bs (b == 35) (is_separator b) refl refl (blanks-from true bs) (blanks-from false bs)
-
--- the bytes before the first that passes a test
-fails-before_cons : (p : ℕ → Bool) (x : ℕ) (xs : List ℕ) (t : Bool) → p x ≡ t → All (λ c. IsFalse (p c)) (take (position_or_len p xs) xs) →
-    All (λ c. IsFalse (p c)) (take (cond (not t) (1 + position_or_len p xs) 0) (x ∷ xs))
-fails-before_cons p x xs true e others = All-nil (λ c. IsFalse (p c))
-fails-before_cons p x xs false e others = rw one-add (All-cons (λ c. IsFalse (p c)) x (take (position_or_len p xs) xs) e others)
-
-fails-before : (p : ℕ → Bool) (xs : List ℕ) → All (λ c. IsFalse (p c)) (take (position_or_len p xs) xs)
-fails-before p [] = All-nil (λ c. IsFalse (p c))
-fails-before p (x ∷ xs) = fails-before_cons p x xs (p x) refl (fails-before p xs)
 
 -- a byte that doesn't end a bare word is one of its bytes, and only such a byte
 pub plain-from : (b : ℕ) → IsFalse (ends_word b) → IsPlain b

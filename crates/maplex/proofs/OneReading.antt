@@ -8,6 +8,7 @@ use Rattle.std.proofs.lemmas.List.Elements.{All-head, All-tail, All-weaker}
 use Rattle.std.proofs.lemmas.Bool.Decides.{nat_tests}
 use Rattle.std.proofs.lemmas.Str.{utf8_valid_len-IsUtf8}
 use Rattle.std.proofs.Math.Seq.{take-append_seam, drop-append_seam}
+use Rattle.geom.proofs.Passing.{position_or_len-before}
 use Rattle.maplex.specs.declared.extent.Extent.{Extent}
 use Rattle.maplex.specs.declared.fault.LexFault.{LexFault}
 use Rattle.maplex.specs.declared.fault.Tail.TheVariants.{Breaks}
@@ -53,12 +54,6 @@ lexed-after before blanks after are none =
     sym (lexed_from-after_blanks p)
     ∙ ap (λ n. lexed_from (further n p)) (blank_len-blanks after blanks are none)
     ∙ rw (drop-append_seam blanks after, take-append_seam blanks after, line_after-append before blanks) refl
-
--- where a test fails for all bytes of a list, none passes before what comes after them
-position_or_len-before : (p : ℕ → Bool) (xs ys : List ℕ) → All (λ c. IsFalse (p c)) xs → position_or_len p (xs ++ ys) ≡ length xs + position_or_len p ys
-position_or_len-before p [] ys h = omega arith
-position_or_len-before p (x ∷ xs) ys h =
-    rw (All-head (λ c. IsFalse (p c)) x xs h, position_or_len-before p xs ys (All-tail (λ c. IsFalse (p c)) x xs h)) (omega arith)
 
 position_or_len-none : (p : ℕ → Bool) (xs : List ℕ) → All (λ c. IsFalse (p c)) xs → position_or_len p xs ≡ length xs
 position_or_len-none p xs h = ap (position_or_len p) (sym (append-nil xs)) ∙ position_or_len-before p xs [] h ∙ add-zero (length xs)

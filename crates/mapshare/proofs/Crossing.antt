@@ -114,12 +114,6 @@ feature-send = search (wrapped) depth 12
 pub feature-sync : IsSync FeatureFields.the_row
 feature-sync = search (wrapped) depth 12
 
-pub operand-send : IsSend Operand.the_row
-operand-send = search (wrapped) depth 12
-
-pub operand-sync : IsSync Operand.the_row
-operand-sync = search (wrapped) depth 12
-
 pub rgb-send : IsSend Rgb.the_row
 rgb-send = search (fielded) depth 12
 

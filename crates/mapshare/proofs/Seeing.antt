@@ -23,10 +23,6 @@ admits opening x views h = (
   (λ seat v at. ⊎_elim (h.1 seat v) (λ (e : nothing_seen ≡ v). nothing_begins v x.prefix e) (at_snoc views nothing_seen v seat at)),
 )
 
--- the first end has seen nothing
-pub starts : {S : Type 0} (opening : State) (x : Replica S) → IsMade opening (shape_of x) → Keeps opening x (nothing_seen ∷ [])
-starts opening x made = admits opening x [] (made, (λ seat v at. absurd (cc at)))
-
 -- the view of one end becomes another that begins the batches after the step
 keeps_on : {S : Type 0} (opening : State) (seat : ℕ) (w : View) (x y : Replica S) (views : List View) → Keeps opening x views → IsPrefix x.prefix y.prefix → IsMade opening (shape_of y) → IsPrefix w.seen y.prefix
     → Keeps opening y (set views seat w)

@@ -32,28 +32,6 @@ flip-test i j row column left right = elim (cases_order j row) [
         (le-leb (index_of j 0) (index_of row column) (omega arith)) (le-leb (index_of row column) (index_of j i) (omega arith))
         ∙ sym (and_from (j == row) (nat_le column i) (eq-eqb j row same) (le-leb column i ge))
 
--- the flip of a row from a column on, which is cut to the picture
-pub flip-more : (flips : List ℕ) (i j row at width : ℕ) (column : ℤ) → i < width → width ≤ 2048 → at < width → at ≡ min (at_least_zero column) width →
-    count_by (flips_by i j) (flips ++ index_of row at ∷ []) ≡ count_by (flips_by i j) flips + cond {A = ℕ} (j == row && int_le column (pos i)) 1 0
-flip-more flips i j row at width column left most inside cut =
-    let test : nat_le at i ≡ int_le column (pos i) = ap (λ n. nat_le n i) cut ∙ cut-at_most column width i left in
-    sum_by_push (λ (k : ℕ). cond {A = ℕ} (flips_by i j k) 1 0) flips (index_of row at)
-    ∙ ap (λ (b : Bool). count_by (flips_by i j) flips + cond {A = ℕ} b 1 0) (flip-test i j row at (omega arith) (omega arith) ∙ ap (λ b. j == row && b) test)
-
--- a column past the end adds no flip
-pub flip-none : (n i j row at width : ℕ) (column : ℤ) → i < width → width ≤ at → at ≡ min (at_least_zero column) width →
-    n ≡ n + cond {A = ℕ} (j == row && int_le column (pos i)) 1 0
-flip-none n i j row at width column left past cut =
-    let test : int_le column (pos i) ≡ false = sym (ap (λ n. nat_le n i) cut ∙ cut-at_most column width i left) ∙ lt-leb at i (omega arith) in
-    rw (and_right (j == row) (int_le column (pos i)) test) (omega arith)
-
--- a flip that is added is at a pixel of the picture
-pub flip-of : (width height row at : ℕ) → width ≤ 2048 → row < height → at < width → IsFlipOf width height (index_of row at)
-flip-of width height row at most above left = record {
-  above = rw (div-mul-add row 2048 at (omega arith)) above;
-  left = rw (mod-mul-add row 2048 at (omega arith)) left;
-}
-
 -- one more row
 pub rows-step : (from row j : ℕ) (t : Bool) → from ≤ row →
     cond {A = ℕ} (has_row (record { from = from; to = row }) j && t) 1 0 + cond {A = ℕ} (j == row && t) 1 0

@@ -5,12 +5,6 @@ use Rattle.scanfill.specs.Reading.{AllAre, LeadsFrom}
 use Rattle.scanfill.specs.Runs.{AreRunsFrom}
 use Rattle.scanfill.specs.declared.span.Span.{Span}
 
--- pixels of one answer after pixels of the same
-pub all_are-more : (test : ℕ → Bool) (answer : Bool) (from at past : ℕ) → AllAre test answer from at → AllAre test answer at past → AllAre test answer from past
-all_are-more test answer from at past before after = record {
-  each = λ i first last. ⊎_elim (λ (lt : i < at). before.each i first lt) (λ (ge : at ≤ i). after.each i ge last) (cases_lt i at);
-}
-
 -- the runs from a column on are those from an earlier one, where no pixel between passes
 pub runs-back : (test : ℕ → Bool) (from at end : ℕ) (spans : List Span) → from ≤ at → AllAre test false from at → AreRunsFrom test at end spans → AreRunsFrom test from end spans
 runs-back test from at end [] le none runs = λ i first last. ⊎_elim (λ (lt : i < at). none.each i first lt) (λ (ge : at ≤ i). runs i ge last) (cases_lt i at)

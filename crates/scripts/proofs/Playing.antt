@@ -83,26 +83,3 @@ at-none (Some x) P Q m other = absurd (other x refl)
 pub refused : (read : Result (List Event) ℕ) (number : ℕ) → Some number ≡ fault_of read → read ≡ Err number
 refused (Ok events) number e = cc
 refused (Err n) number e = cc
-
--- the fault of a script is its transcript
-pub is-refused : (state : State) (script : List ℕ) (number : ℕ) → script_of script ≡ Err number → IsTranscript state script state (script_fault number)
-is-refused state script number all =
-    let nothing : IsRefused number state state (script_fault number) = record { state = refl; written = refl } in
-    subst (λ (read : Result (List Event) ℕ). IsSessionOf state read state (script_fault number)) (sym all) nothing
-
--- only a prefix of it was sent
-pub has-partly-refused : {S : Type 0} (held : S → Option (List ℕ)) (taken : S → ℕ) (state : State) (script : List ℕ) (number : ℕ) (a b : S) → script_of script ≡ Err number →
-    IsCutSomewhere held taken a (script_fault number) b → HasPartlyPlayed state script state (held a) (held b) (taken b - taken a)
-has-partly-refused held taken state script number a b all (part, cut) =
-    let count : taken b - taken a ≡ part = omega (arith, cut.count) in
-    let refused : HasPartlyRefused number state state (held a) (held b) (taken b - taken a) = record { state = refl; short = omega (arith, count, cut.short); bytes = rw count cut.bytes } in
-    subst (λ (read : Result (List Event) ℕ). HasStoppedIn state read state (held a) (held b) (taken b - taken a)) (sym all) refused
-
--- all of it was sent
-pub has-refused : {S : Type 0} (held : S → Option (List ℕ)) (taken : S → ℕ) (state : State) (script : List ℕ) (number : ℕ) (a b : S) → script_of script ≡ Err number →
-    IsSent held taken a (script_fault number) b → HasPlayed state script state (held a) (held b)
-has-refused held taken state script number a b all sent = record {
-  text = script_fault number;
-  transcript = is-refused state script number all;
-  bytes = sent.bytes;
-}

@@ -67,10 +67,6 @@ none-more f xs k x bound is before h =
 pub or-none : (t u : Bool) → t ≡ false → u ≡ false → (t || u) ≡ false
 or-none t u p q = ap (λ x. x || u) p ∙ q
 
--- a column of the first so many is one of them
-pub in-first : (end i : ℕ) → i < end → has_column (record { from = 0; to = end }) i ≡ true
-in-first end i h = rw (le-leb 0 i (omega arith), lt-ltb i end h)
-
 -- what two rounds of marks come to, over none
 pub marked-all : (n i : ℕ) (first second : Bool) (none_yet one both : List Bool) → i < n → none_yet ≡ replicate n false →
     is_marked one i ≡ (first || is_marked none_yet i) → is_marked both i ≡ (second || is_marked one i) → is_marked both i ≡ (first || second)

@@ -145,14 +145,7 @@ seen-part s i j end row start columns colours is up before after on wide part so
     (cases_lt i columns.to))
     (cases_lt i columns.from)
 
--- nothing falls into a row beside the pixmap, or into one of which no column is seen
-pub unseen-row : (s : StampValue) (i j : ℕ) → position_on s.pixmap.height s.pixel.j (pos j) ≡ None → None ≡ pixel_at s (pos i) (pos j)
-unseen-row s i j h = rw h (go (position_on s.pixmap.width s.pixel.i (pos i)))
-  where
-    go : (p : Option ℕ) → None ≡ option_and_then (λ column. option_and_then (λ row. slice_get s.pixmap.pixels (row * s.pixmap.width + column)) None) p
-    go None = refl
-    go (Some column) = refl
-
+-- nothing falls into a row of which no column is seen
 pub unseen-columns : (s : StampValue) (i j end : ℕ) (columns : Span) → columns.to ≤ columns.from → ((i : ℕ) → i < columns.from → position_on s.pixmap.width s.pixel.i (pos i) ≡ None) →
     ((i : ℕ) → columns.to ≤ i → i < end → position_on s.pixmap.width s.pixel.i (pos i) ≡ None) → i < end → None ≡ pixel_at s (pos i) (pos j)
 unseen-columns s i j end columns empty before after below = ⊎_elim

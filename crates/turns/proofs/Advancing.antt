@@ -6,11 +6,6 @@ use Rattle.httpedge.specs.Session.{QueryOutcome, HasAsked}
 use Rattle.turns.specs.Advancing.{HasServed, HasSaid, Advances, Sends, Receives}
 use Rattle.turns.specs.declared.buffered_session.BufferedSession.{BufferedSession}
 
--- one query that was answered is a list of them
-queries-of : {A : Type 0} (answers : A → List ℕ → Said → A → Type 0) (old : A) (queries : List QueryOutcome) (new : A) → HasAsked answers old queries new → HasSaid answers old queries new
-queries-of answers old queries new (inl (none, same)) = subst (λ (h : List QueryOutcome). HasSaid answers old h new) (sym none) same
-queries-of answers old queries new (inr (one, is, answer)) = subst (λ (h : List QueryOutcome). HasSaid answers old h new) (sym is) (new, answer, refl)
-
 -- some queries and then others
 queries-then : {A : Type 0} (answers : A → List ℕ → Said → A → Type 0) (a : A) (some others : List QueryOutcome) (b c : A) → HasSaid answers a some b → HasSaid answers b others c → HasSaid answers a (some ++ others) c
 queries-then answers a [] others b c same rest = subst (λ x. HasSaid answers x others c) same rest
@@ -55,20 +50,6 @@ receives-advance answers delivered accepted old new before after asks r = record
   writes = r.writes;
   says = refl;
   keeps = λ read written earlier holds. rw (append-nil written, append-nil earlier) (r.keeps read written earlier holds);
-}
-
--- bytes that came were taken
-pub feeds-advance : {A T : Type 0} (answers : A → List ℕ → Said → A → Type 0) (delivered accepted : T → Option (List ℕ)) (old new : BufferedSession) (transport : T) (before after : A) (queries : List QueryOutcome) → HasAsked answers before queries after →
-    ((read written : List ℕ) (earlier : List QueryOutcome) → HasServed read earlier written old → HasServed read (earlier ++ queries) written new) → Advances answers delivered accepted old transport before new transport after 0
-feeds-advance answers delivered accepted old new transport before after queries asked keeps = record {
-  came = [];
-  went = [];
-  count = refl;
-  queries = queries;
-  reads = Appends-nil (delivered transport);
-  writes = Appends-nil (accepted transport);
-  says = queries-of answers before queries after asked;
-  keeps = λ read written earlier holds. rw (append-nil read, append-nil written) (keeps read written earlier holds);
 }
 
 -- the end was taken

@@ -135,21 +135,6 @@ marked-rest marks slot queue fits distinct marked one = go (slot == one) refl
         let is : has one queue ≡ get_or marks one false = rw e at (marked one) in
         is ∙ sym (get_or-set_other marks slot one false false (λ same. eqb-false slot one e (sym same)))
 
--- a slot that comes is in the queue, whichever slots come then
-pub has-joined : (queue : List ℕ) (slot : ℕ) → has slot (joined queue slot) ≡ true
-has-joined queue slot = go (has slot queue) refl
-  where
-    go : (b : Bool) → has slot queue ≡ b → has slot (joined queue slot) ≡ true
-    go true e = rw e e
-    go false e = rw (e, has-more slot slot queue, eq-eqb slot slot refl, e) refl
-
-pub has-stays : (queue : List ℕ) (slot other : ℕ) → has slot queue ≡ true → has slot (joined queue other) ≡ true
-has-stays queue slot other there = go (has other queue) refl
-  where
-    go : (b : Bool) → has other queue ≡ b → has slot (joined queue other) ≡ true
-    go true e = rw e there
-    go false e = rw (e, has-more slot other queue, there) refl
-
 -- a slot comes to a queue, if there is such a slot
 pub add-joins : (old new : Queue) (slot : ℕ) → (slot < old.slots → new ≡ record old { order = joined old.order slot }) → (old.slots ≤ slot → new ≡ old) → (slots : List ℕ) × (new.order ≡ joins old.order slots)
 add-joins old new slot comes stays = elim (cases_lt slot old.slots) [

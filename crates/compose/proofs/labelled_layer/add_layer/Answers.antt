@@ -1,8 +1,9 @@
 use Rattle.std.proofs.Common.{sym, ◌∙◌, subst}
+use Rattle.std.proofs.lemmas.Result.{on_ok_weaker}
 use Rattle.mapdefs.specs.Near.{AreCandidatesOf}
 use Rattle.mapdefs.specs.declared.map.MapFields.{MapFields}
 use Rattle.compose.proofs.Mentions.{found-layer, hidden-layer, unlabelled-layer}
-use Rattle.compose.proofs.Sparing.{candidates-of, on-ok}
+use Rattle.compose.proofs.Sparing.{candidates-of}
 use Rattle.compose.proofs.labelled_layer.add_layer.Goals as goal
 
 pub returns-then-not-shows : goal.returns-then-not-shows
@@ -22,6 +23,6 @@ returns g c =
     let shown = sym c.shows.ensures ∙ c.if-not-shows.false in
     let near = subst (λ (m : MapFields). AreCandidatesOf m c.args.index c.window.result found) c.requires.near c.in_ok-found.ensures in
     let are = rw c.window.ensures.value at (candidates-of scene.map c.args.index layer c.window.result found c.layer-layer.ensures near) in
-    on-ok c.add_features.result _ _
+    on_ok_weaker c.add_features.result
     (λ p. found-layer scene c.args.index layer found _ _ c.layer-layer.ensures shown c.window.ensures.limits c.window.ensures.width c.window.ensures.height are p)
     (rw c.deref.ensures.value at c.add_features.ensures)

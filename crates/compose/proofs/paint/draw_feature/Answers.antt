@@ -1,4 +1,4 @@
-use Rattle.compose.proofs.Meeting.{drawn-none}
+use Rattle.compose.proofs.Classifying.{drawn-none}
 use Rattle.compose.proofs.paint.draw_feature.Goals as goal
 
 pub returns-in_default : goal.returns-in_default

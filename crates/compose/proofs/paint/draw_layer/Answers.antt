@@ -1,9 +1,10 @@
 use Rattle.std.proofs.Common.{sym, ◌∙◌, ap, subst}
+use Rattle.std.proofs.lemmas.Result.{on_ok_weaker}
 use Rattle.mapdefs.specs.Near.{AreCandidatesOf}
 use Rattle.mapdefs.specs.declared.map.MapFields.{MapFields}
 use Rattle.compose.specs.Near.{margin_of}
-use Rattle.compose.proofs.Meeting.{drawn-none}
-use Rattle.compose.proofs.Sparing.{candidates-of, drawn-chosen, on-ok, spared-drawing}
+use Rattle.compose.proofs.Classifying.{drawn-none}
+use Rattle.compose.proofs.Sparing.{candidates-of, drawn-chosen, spared-drawing}
 use Rattle.compose.proofs.paint.draw_layer.Goals as goal
 
 pub returns-then-not-shows : goal.returns-then-not-shows
@@ -20,7 +21,7 @@ returns g c =
     let margin = c.margin_of-margin.ensures.value ∙ ap (λ symbols. margin_of symbols layer) c.symbols.ensures in
     let near = subst (λ (m : MapFields). AreCandidatesOf m c.args.index c.window.result found) c.requires.near c.in_ok-found.ensures in
     let are = rw (c.window.ensures.value, margin) at (candidates-of scene.map c.args.index layer c.window.result found c.layer-layer.ensures near) in
-    on-ok c.draw_features.result _ _
+    on_ok_weaker c.draw_features.result
     (λ p. drawn-chosen scene c.args.index layer _ _ c.layer-layer.ensures
     (rw shown (spared-drawing scene layer found _ _ c.window.ensures.limits c.window.ensures.width c.window.ensures.height
     c.requires.width c.requires.height c.requires.area are p)))

@@ -2,7 +2,8 @@ use Rattle.std.proofs.Common.{◌∙◌, ◌≤◌, ◌-◌, ◌++◌, ap, sym, 
 use Rattle.scripts.specs.Transcript.{hex_lines, hex_within}
 use Rattle.scripts.proofs.Filling.{length-put, put-behind}
 use Rattle.scripts.proofs.HexLines.{hex_lines-cut}
-use Rattle.scripts.proofs.Rests.{some-left, none-left}
+use Rattle.batches.proofs.Leading.{some-left}
+use Rattle.scripts.proofs.Rests.{none-left}
 use Rattle.scripts.proofs.hexadecimal.fill_lines.Goals as goal
 
 pub loop-rest-preserved : goal.loop-rest-preserved

@@ -1,6 +1,7 @@
 use Rattle.std.proofs.Common.{◌∙◌, sym, ap, arith}
 use Rattle.scripts.specs.Script.{fault_of}
-use Rattle.scripts.proofs.Rests.{some-left, none-left}
+use Rattle.batches.proofs.Leading.{some-left}
+use Rattle.scripts.proofs.Rests.{none-left}
 use Rattle.scripts.proofs.ScriptSteps.{script_from, script_from-nil, fault-readable, fault-unreadable}
 use Rattle.scripts.proofs.script.unreadable_command.Goals as goal
 
