@@ -19,7 +19,7 @@ use Rattle.compose.specs.Paint.{paint_list}
 use Rattle.compose.specs.Picture.{HasOnePicture, IsPictureOf, colour_at}
 use Rattle.compose.specs.Walk.{classified_list}
 use Rattle.compose.proofs.Painting.{painted-append, painted-area, painted-pixels}
-use Rattle.compose.proofs.Walking.{paint-list-of-the-met}
+use Rattle.compose.proofs.Walking.{paint-list-of-classified}
 
 -- a canvas of the background, without candidates
 abbrev pub blank_of : ViewValue → Option Rgb → DrawingValue
@@ -35,7 +35,7 @@ finished-canvas scene chosen background b c drawn labelled =
     let labels = rw drawn.labelled at labelled.placed in
     let ink = rw drawn.labelled at labelled.painted in
     let blank = (blank_of view background).canvas in
-    let painted = rw (← paint-list-of-the-met view scene.scale scene.map chosen) at drawn.painted in
+    let painted = rw (← paint-list-of-classified view scene.scale scene.map chosen) at drawn.painted in
     let all = painted-append blank b.canvas c shapes (ink_list scene.map.font (candidate_list view scene.scale scene.map chosen) labelled.labels) painted ink in
     record {
       labels = labelled.labels;

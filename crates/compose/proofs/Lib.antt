@@ -8,7 +8,7 @@ pub mod Found
 pub mod Graining
 pub mod Labelling
 pub mod Margins
-pub mod Meeting
+pub mod Classifying
 pub mod Mentions
 pub mod NearAnchors
 pub mod NearBoxes

@@ -33,7 +33,7 @@ use Rattle.compose.specs.Picture.{LastMentionsPaintAll, colour_at}
 use Rattle.compose.specs.Walk.{ClassifiedFeatureValue, given_at, classified_chosen, classified_feature, classified_list}
 use Rattle.compose.proofs.Found.{found-label-all}
 use Rattle.compose.proofs.Painting.{colour_at-append, painted-append, painted-none}
-use Rattle.compose.proofs.Walking.{of-chosen, paint-list-of-the-met}
+use Rattle.compose.proofs.Walking.{of-chosen, paint-list-of-classified}
 
 -- shapes give a pixel the same colour over any background, or leave it as it is
 abbrev Hides : List PaintedShape → ℕ → ℕ → Type 0
@@ -147,7 +147,7 @@ drawn-to-last scene chosen [] a b none p =
     let all = paint_list scene.view scene.scale scene.map chosen in
     let is = p.is ∙ append-nil p.done in
     record {
-      painted = rw (← paint-list-of-the-met scene.view scene.scale scene.map chosen)
+      painted = rw (← paint-list-of-classified scene.view scene.scale scene.map chosen)
           (painted-as a.canvas b.canvas (paint_list scene.view scene.scale scene.map p.kept) all (rw (append-nil p.kept) at p.same) p.painted);
       labelled = rw is p.labelled;
     }

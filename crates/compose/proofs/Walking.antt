@@ -13,7 +13,7 @@ use Rattle.mapdefs.specs.declared.map.MapFields.{MapFields}
 use Rattle.mapdefs.specs.declared.symbol.Symbol.{Symbol}
 use Rattle.viewport.specs.View.{ViewValue}
 use Rattle.compose.specs.Paint.{chosen_shapes, class_shapes, feature_shapes, layer_shapes}
-use Rattle.compose.specs.Walk.{PaintListIsOfTheMet, classified_chosen, classified_feature, classified_layer, classified_shapes}
+use Rattle.compose.specs.Walk.{PaintListIsOfClassified, classified_chosen, classified_feature, classified_layer, classified_shapes}
 
 -- what each element gives, one after another
 pub nested : {X Y Z : Type 0} (f : Y → List Z) (g : X → List Y) (h : X → List Z) → ((x : X) → h x ≡ flat_map f (g x)) → (xs : List X) → flat_map h xs ≡ flat_map f (flat_map g xs)
@@ -46,5 +46,5 @@ of-chosen view scale m index = go (slice_get m.layers index)
     go None = refl
     go (Some layer) = of-layer view scale m.symbols layer
 
-pub paint-list-of-the-met : PaintListIsOfTheMet
-paint-list-of-the-met view scale m chosen = nested (classified_shapes view m.symbols) (classified_chosen scale m) (chosen_shapes view scale m) (of-chosen view scale m) chosen
+pub paint-list-of-classified : PaintListIsOfClassified
+paint-list-of-classified view scale m chosen = nested (classified_shapes view m.symbols) (classified_chosen scale m) (chosen_shapes view scale m) (of-chosen view scale m) chosen

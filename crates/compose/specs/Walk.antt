@@ -44,6 +44,6 @@ abbrev pub classified_shapes : ViewValue → List Symbol → ClassifiedFeatureVa
 classified_shapes view symbols classified = class_shapes view symbols classified.layer.kind classified.feature classified.class
 
 -- the law that the paint list is what is painted of the classified features
-abbrev pub PaintListIsOfTheMet : Type 0
-PaintListIsOfTheMet = (view : ViewValue) (scale : PictureScale) (m : MapFields) (chosen : List ℕ) →
+abbrev pub PaintListIsOfClassified : Type 0
+PaintListIsOfClassified = (view : ViewValue) (scale : PictureScale) (m : MapFields) (chosen : List ℕ) →
     paint_list view scale m chosen ≡ flat_map (classified_shapes view m.symbols) (classified_list scale m chosen)

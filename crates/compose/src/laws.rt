@@ -4,7 +4,7 @@ ghost use Rattle.compose.specs.Anchor.{AnchorsAreNear};
 ghost use Rattle.compose.specs.Labels.{FoundLabelAll};
 ghost use Rattle.compose.specs.Near.{CandidatesPaintAll, PaintsNear};
 ghost use Rattle.compose.specs.Picture.{HasOnePicture, LastMentionsPaintAll};
-ghost use Rattle.compose.specs.Walk.{PaintListIsOfTheMet};
+ghost use Rattle.compose.specs.Walk.{PaintListIsOfClassified};
 
 /// A feature that paints a pixel of the picture has its box in the window of its layer's margin. So what is
 /// painted doesn't depend on how features are found.
@@ -18,8 +18,8 @@ pub fn candidates_paint_all()
 {}
 
 /// The paint list is what is painted of the classified features, which give the candidates for labels, too.
-pub fn paint_list_is_of_the_met()
-    ensures { PaintListIsOfTheMet }
+pub fn paint_list_is_of_classified()
+    ensures { PaintListIsOfClassified }
 {}
 
 /// A feature whose anchor lies in the picture has its box in the window of every margin, 0 included.

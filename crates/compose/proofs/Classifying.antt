@@ -31,8 +31,3 @@ pub drawn-next : {X : Type 0} (scene : SceneValue) (f : X → List ClassifiedFea
 drawn-next scene f xs i x a b c h e p q =
     let here : get_or xs i x ∷ [] ≡ x ∷ [] = ap (λ y. y ∷ []) (sym e) in
     rw (take_more xs i x h, here, flat_map-append f (take i xs) (x ∷ []), append-nil (f x)) (drawn-append scene a b c (flat_map f (take i xs)) (f x) p q)
-
--- a loop over all elements has drawn their classified features
-pub drawn-end : {X : Type 0} (scene : SceneValue) (f : X → List ClassifiedFeatureValue) (xs : List X) (i : ℕ) (a b : DrawingValue) → i ≡ length xs →
-    IsDrawn scene a b (flat_map f (take i xs)) → IsDrawn scene a b (flat_map f xs)
-drawn-end scene f xs i a b e p = rw (take_all i xs (omega arith)) at p
