@@ -10,8 +10,6 @@
 //!
 //! Terms: the *state* is the map and a *sequence*, which counts published batches. An *event* is what
 //! comes in, a *reply* what goes out. The reply to a query is an *answer*: a mime type and a body.
-//!
-//! The crate exports the streams of `streams`, too, for callers that read events and write replies.
 #![tactic(auto)]
 
 pub mod laws;
@@ -22,4 +20,3 @@ pub use batches::{BatchError, BatchFault, BatchKind, Bytes, MAX_BATCH};
 pub use machine::Machine;
 pub use operations::Mime;
 pub use reply::{Answer, Event, Reply};
-pub use streams::{Flagged, PutFailed, Sink, Source, TakeFailed, WriteFault, put_all, put_pieces};
