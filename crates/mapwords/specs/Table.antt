@@ -137,6 +137,22 @@ symbol_role keyword.AnchorPoint = Some (Takes (expected.Unused 1))
 symbol_role keyword.End = Some Closes
 symbol_role _ = None
 
+-- the keywords of LAYER that are read without effect
+abbrev pub unused_layer_role : Keyword → Option Role
+unused_layer_role keyword.Debug = Some (Takes (expected.Unused 0))
+unused_layer_role keyword.Dump = Some (Takes (expected.Unused 0))
+unused_layer_role keyword.Footer = Some (Takes (expected.Unused 0))
+unused_layer_role keyword.Group = Some (Takes (expected.Unused 0))
+unused_layer_role keyword.Header = Some (Takes (expected.Unused 0))
+unused_layer_role keyword.LabelMaxScaleDenom = Some (Takes (expected.Unused 0))
+unused_layer_role keyword.LabelMinScaleDenom = Some (Takes (expected.Unused 0))
+unused_layer_role keyword.Status = Some (Takes (expected.Unused 0))
+unused_layer_role keyword.Units = Some (Takes (expected.Unused 0))
+unused_layer_role keyword.Extent = Some (Takes (expected.Unused 3))
+unused_layer_role keyword.LabelCache = Some (Takes (expected.Only only.On))
+unused_layer_role keyword.ToleranceUnits = Some (Takes (expected.Only only.Pixels))
+unused_layer_role _ = None
+
 -- the keywords of LAYER
 abbrev pub layer_role : Keyword → Option Role
 layer_role keyword.Name = Some (Takes (expected.Text text.Name))
@@ -152,22 +168,10 @@ layer_role keyword.Processing = Some (Takes expected.Setting)
 layer_role keyword.Metadata = Some (Opens block.LayerMetadata)
 layer_role keyword.Class = Some (Opens block.Class)
 layer_role keyword.Feature = Some (Opens block.Feature)
-layer_role keyword.Debug = Some (Takes (expected.Unused 0))
-layer_role keyword.Dump = Some (Takes (expected.Unused 0))
-layer_role keyword.Footer = Some (Takes (expected.Unused 0))
-layer_role keyword.Group = Some (Takes (expected.Unused 0))
-layer_role keyword.Header = Some (Takes (expected.Unused 0))
-layer_role keyword.LabelMaxScaleDenom = Some (Takes (expected.Unused 0))
-layer_role keyword.LabelMinScaleDenom = Some (Takes (expected.Unused 0))
-layer_role keyword.Status = Some (Takes (expected.Unused 0))
-layer_role keyword.Units = Some (Takes (expected.Unused 0))
-layer_role keyword.Extent = Some (Takes (expected.Unused 3))
-layer_role keyword.LabelCache = Some (Takes (expected.Only only.On))
-layer_role keyword.ToleranceUnits = Some (Takes (expected.Only only.Pixels))
 layer_role keyword.Projection = Some (Opens block.Projection)
 layer_role keyword.Validation = Some (Opens block.Validation)
 layer_role keyword.End = Some Closes
-layer_role _ = None
+layer_role keyword = unused_layer_role keyword
 
 -- the keywords of CLASS
 abbrev pub class_role : Keyword → Option Role

@@ -68,6 +68,14 @@ abbrev pub colour_step : ColourKeyword → Option Rgb → Option Component → O
 colour_step keyword (Some colour) red = Some (Whole (value.Colour keyword (Some colour)))
 colour_step keyword None red = option_map (λ r. More (expected.Green keyword r)) red
 
+-- the green of a colour is followed by its blue
+abbrev pub green_step : ColourKeyword → Component → Option Component → Option ValueStep
+green_step keyword red green = option_map (λ g. More (expected.Blue keyword red g)) green
+
+-- with its blue a colour is whole
+abbrev pub blue_step : ColourKeyword → Component → Component → Option Component → Option ValueStep
+blue_step keyword red green blue = option_map (λ b. Whole (value.Colour keyword (rgb_of red green b))) blue
+
 -- the word that is the only value of a keyword
 abbrev pub only_text : OnlyWord → List ℕ
 only_text Pixels = codes "PIXELS"
@@ -81,6 +89,14 @@ only_step word text = if str_eq_ignore_ascii_case text (only_text word) then Som
 abbrev pub unused_step : ℕ → ValueStep
 unused_step zero = Whole value.Nothing
 unused_step (suc fewer) = More (expected.Unused fewer)
+
+-- the west of an extent is followed by its south
+abbrev pub west_step : Option ℤ → Option ValueStep
+west_step west = option_map (λ minx. More (expected.South minx)) west
+
+-- the south of an extent is followed by its east
+abbrev pub south_step : ℤ → Option ℤ → Option ValueStep
+south_step minx south = option_map (λ miny. More (expected.East minx miny)) south
 
 -- the east of an extent lies to the east of its west
 abbrev pub east_step : ℤ → ℤ → Option ℤ → Option ValueStep
@@ -105,10 +121,10 @@ plain_step expected.Position t = option_map (λ p. Whole (value.Position p)) (po
 plain_step (expected.Flag keyword) t = option_map (λ flag. Whole (value.Flag keyword flag)) (flag_of t.text)
 plain_step (expected.Scale keyword) t = option_map (λ scale. Whole (value.Scale keyword scale)) (number_in t.text)
 plain_step (expected.Colour keyword) t = colour_step keyword (hex_at t) (component_of t.text)
-plain_step (expected.Green keyword r) t = option_map (λ g. More (expected.Blue keyword r g)) (component_of t.text)
-plain_step (expected.Blue keyword r g) t = option_map (λ b. Whole (value.Colour keyword (rgb_of r g b))) (component_of t.text)
-plain_step expected.West t = option_map (λ x. More (expected.South x)) (coordinate_of t.text)
-plain_step (expected.South x) t = option_map (λ y. More (expected.East x y)) (coordinate_of t.text)
+plain_step (expected.Green keyword r) t = green_step keyword r (component_of t.text)
+plain_step (expected.Blue keyword r g) t = blue_step keyword r g (component_of t.text)
+plain_step expected.West t = west_step (coordinate_of t.text)
+plain_step (expected.South x) t = south_step x (coordinate_of t.text)
 plain_step (expected.East x y) t = east_step x y (coordinate_of t.text)
 plain_step (expected.North x y east) t = north_step x y east (coordinate_of t.text)
 plain_step (expected.Only word) t = only_step word t.text

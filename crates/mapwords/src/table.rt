@@ -1,5 +1,5 @@
 ghost use Rattle.std.specs.Prelude.{◌≡◌, ◌≤◌};
-ghost use Rattle.mapwords.specs.Table.{least_of, most_of, text_number, count_number, flag_number, scale_number, colour_number, map_role, web_role, symbol_role, layer_role, class_role, style_role, label_role, feature_role, skipped_role, skipped_label_role, end_role, role_of};
+ghost use Rattle.mapwords.specs.Table.{least_of, most_of, text_number, count_number, flag_number, scale_number, colour_number, map_role, web_role, symbol_role, unused_layer_role, layer_role, class_role, style_role, label_role, feature_role, skipped_role, skipped_label_role, end_role, role_of};
 
 use crate::keyword::Keyword;
 use crate::role::{Block, Expected, Role};
@@ -219,6 +219,27 @@ fn symbol_role(keyword: Keyword) -> Option<Role>
     }
 }
 
+// The keywords of LAYER that are read without effect.
+fn unused_layer_role(keyword: Keyword) -> Option<Role>
+    ensures { result ≡ unused_layer_role keyword }
+{
+    match keyword {
+        Keyword::Debug
+        | Keyword::Dump
+        | Keyword::Footer
+        | Keyword::Group
+        | Keyword::Header
+        | Keyword::LabelMaxScaleDenom
+        | Keyword::LabelMinScaleDenom
+        | Keyword::Status
+        | Keyword::Units => Some(Role::Takes(Expected::Unused(0))),
+        Keyword::Extent => Some(Role::Takes(Expected::Unused(3))),
+        Keyword::LabelCache => Some(Role::Takes(Expected::Only(OnlyWord::On))),
+        Keyword::ToleranceUnits => Some(Role::Takes(Expected::Only(OnlyWord::Pixels))),
+        _ => None,
+    }
+}
+
 // The keywords of LAYER.
 fn layer_role(keyword: Keyword) -> Option<Role>
     ensures { result ≡ layer_role keyword }
@@ -237,22 +258,10 @@ fn layer_role(keyword: Keyword) -> Option<Role>
         Keyword::Metadata => Some(Role::Opens(Block::LayerMetadata)),
         Keyword::Class => Some(Role::Opens(Block::Class)),
         Keyword::Feature => Some(Role::Opens(Block::Feature)),
-        Keyword::Debug
-        | Keyword::Dump
-        | Keyword::Footer
-        | Keyword::Group
-        | Keyword::Header
-        | Keyword::LabelMaxScaleDenom
-        | Keyword::LabelMinScaleDenom
-        | Keyword::Status
-        | Keyword::Units => Some(Role::Takes(Expected::Unused(0))),
-        Keyword::Extent => Some(Role::Takes(Expected::Unused(3))),
-        Keyword::LabelCache => Some(Role::Takes(Expected::Only(OnlyWord::On))),
-        Keyword::ToleranceUnits => Some(Role::Takes(Expected::Only(OnlyWord::Pixels))),
         Keyword::Projection => Some(Role::Opens(Block::Projection)),
         Keyword::Validation => Some(Role::Opens(Block::Validation)),
         Keyword::End => Some(Role::Closes),
-        _ => None,
+        _ => unused_layer_role(keyword),
     }
 }
 

@@ -3,7 +3,7 @@ ghost use Rattle.mapwords.specs.declared.value.ValueStep.TheVariants.{Whole, Mor
 ghost use Rattle.mapwords.specs.Fault.{IsErrorOf};
 ghost use Rattle.mapwords.specs.declared.value.Value.TheVariants as ValueTree;
 ghost use Rattle.mapwords.specs.Colour.{component_of};
-ghost use Rattle.mapwords.specs.Value.{geometry_of, pixmap_step, is_value, hex_at, colour_step, only_text, only_step, unused_step, east_step, north_step, config_step, is_table_name, table_step, rule_step, plain_step, step_in, may_take, value_step, coordinate_in};
+ghost use Rattle.mapwords.specs.Value.{geometry_of, pixmap_step, is_value, hex_at, colour_step, green_step, blue_step, only_text, only_step, unused_step, west_step, south_step, east_step, north_step, config_step, is_table_name, table_step, rule_step, plain_step, step_in, may_take, value_step, coordinate_in};
 
 use crate::capped::Capped;
 use crate::colour::{Component, hex_colour, rgb_of};
@@ -108,6 +108,26 @@ fn colour_step(keyword: ColourKeyword, token: &Token) -> Option<ValueStep>
     Some(ValueStep::More(Expected::Green(keyword, red)))
 }
 
+// Reads the green of a colour, which its blue follows.
+fn green_step(keyword: ColourKeyword, red: Component, green: Option<Component>) -> Option<ValueStep>
+    ensures { result ≡ green_step keyword red green }
+{
+    Some(ValueStep::More(Expected::Blue(keyword, red, green?)))
+}
+
+// Reads the blue of a colour, which is whole with it.
+fn blue_step(
+    keyword: ColourKeyword,
+    red: Component,
+    green: Component,
+    blue: Option<Component>,
+) -> Option<ValueStep>
+    ensures { result ≡ blue_step keyword red green blue }
+{
+    let colour = rgb_of(red, green, blue?);
+    Some(ValueStep::Whole(Value::Colour(keyword, colour)))
+}
+
 // The word that is the only value of a keyword.
 fn only_text(word: OnlyWord) -> &'static str
     ensures { result.now ≡ only_text word }
@@ -144,6 +164,22 @@ fn unused_step(more: u8) -> ValueStep
         Some(fewer) => ValueStep::More(Expected::Unused(fewer)),
         None => ValueStep::Whole(Value::Nothing),
     }
+}
+
+// Reads the west of an extent, which its south follows.
+fn west_step(west: Option<Coordinate>) -> Option<ValueStep>
+    ensures { result ≡ west_step west }
+{
+    let minx = west?.get().millionths();
+    Some(ValueStep::More(Expected::South(minx)))
+}
+
+// Reads the south of an extent, which its east follows.
+fn south_step(minx: i64, south: Option<Coordinate>) -> Option<ValueStep>
+    ensures { result ≡ south_step minx south }
+{
+    let miny = south?.get().millionths();
+    Some(ValueStep::More(Expected::East(minx, miny)))
 }
 
 // Reads the east of an extent, which lies to the east of its west.
@@ -203,19 +239,15 @@ fn plain_step(expected: Expected, token: &Token) -> Option<ValueStep>
             keyword, scale,
         ))),
         Expected::Colour(keyword) => colour_step(keyword, token),
-        Expected::Green(keyword, red) => Component::read(text).map(|green| ValueStep::More(
-            Expected::Blue(keyword, red, green),
-        )),
-        Expected::Blue(keyword, red, green) => Component::read(text).map(|blue| {
-            ValueStep::Whole(Value::Colour(keyword, rgb_of(red, green, blue)))
-        }),
-        Expected::West => Coordinate::read(text).map(|x| ValueStep::More(Expected::South(
-            x.get().millionths(),
-        ))),
-        Expected::South(x) => Coordinate::read(text).map(|y| ValueStep::More(Expected::East(
-            x,
-            y.get().millionths(),
-        ))),
+        Expected::Green(keyword, red) => green_step(keyword, red, Component::read(text)),
+        Expected::Blue(keyword, red, green) => blue_step(
+            keyword,
+            red,
+            green,
+            Component::read(text),
+        ),
+        Expected::West => west_step(Coordinate::read(text)),
+        Expected::South(x) => south_step(x, Coordinate::read(text)),
         Expected::East(x, y) => east_step(x, y, Coordinate::read(text)),
         Expected::North(x, y, east) => north_step(x, y, east, Coordinate::read(text)),
         Expected::Only(word) => only_step(word, text),
