@@ -114,23 +114,31 @@ abbrev pub named_items : Option (List (List ℕ)) → Option TableFields → Lis
 named_items given None = unwrap_or given []
 named_items given (Some table) = table.columns
 
--- A layer is switched on. It has its `wms_title` as its title, else its `ows_title`, else its name. It has the rows of
--- its table after the features that it is given, and with a TEMPLATE it can be queried.
-abbrev pub layer_of : List Symbol → LayerTree × Option TableFields → LayerFields
-layer_of symbols (layer, table) = record {
-  name = layer.name.text;
-  title = unwrap_or (either_text WmsTitle OwsTitle layer.body.values) layer.name.text;
-  kind = layer.geometry;
+-- A layer of a name and a geometry, without items, classes and features. It is switched on, and with a TEMPLATE it can
+-- be queried. It has its `wms_title` as its title, else its `ows_title`, else its name.
+abbrev pub empty_layer : List ℕ → Geometry → List Value → LayerFields
+empty_layer name geometry given = record {
+  name = name;
+  title = unwrap_or (either_text WmsTitle OwsTitle given) name;
+  kind = geometry;
   on = true;
-  classitem = last (words_in ClassItem) layer.body.values;
-  labelitem = last (words_in LabelItem) layer.body.values;
+  classitem = last (words_in ClassItem) given;
+  labelitem = last (words_in LabelItem) given;
+  items = [];
+  csv_x = column_x given;
+  csv_y = column_y given;
+  queryable = is_some (last (text_in Template) given);
+  tolerance = unwrap_or (last (count_in Tolerance) given) (tolerance_of geometry);
+  min = last (scale_in Min) given;
+  max = last (scale_in Max) given;
+  classes = [];
+  features = [];
+}
+
+-- it has its items and its classes, and after the features that it is given the rows of its table
+abbrev pub layer_of : List Symbol → LayerTree × Option TableFields → LayerFields
+layer_of symbols (layer, table) = record (empty_layer layer.name.text layer.geometry layer.body.values) {
   items = named_items (last items_in layer.body.values) table;
-  csv_x = column_x layer;
-  csv_y = column_y layer;
-  queryable = is_some (last (text_in Template) layer.body.values);
-  tolerance = unwrap_or (last (count_in Tolerance) layer.body.values) (tolerance_of layer.geometry);
-  min = last (scale_in Min) layer.body.values;
-  max = last (scale_in Max) layer.body.values;
   classes = map (class_of symbols) layer.body.classes;
   features = map (feature_of (length (named_items (last items_in layer.body.values) table))) layer.body.features ++ rows_of table;
 }

@@ -12,17 +12,18 @@ use Rattle.mapwords.specs.Fault.{and_then}
 use Rattle.maptree.specs.declared.tree.LayerTree.{LayerTree}
 use Rattle.mapwords.specs.declared.named.Named.{Named}
 use Rattle.mapwords.specs.declared.table.TextKeyword.TheVariants.{CsvX, CsvY}
+use Rattle.mapwords.specs.declared.value.Value.{Value}
 use Rattle.maptree.specs.Values.{last, words_in}
 use Rattle.mapparse.specs.declared.files.FileBytes.{FileBytes}
 use Rattle.mapparse.specs.Files.{bytes_in, read_from}
 
 -- the column of longitudes in a layer's tables is x by default
-abbrev pub column_x : LayerTree → List ℕ
-column_x layer = unwrap_or (last (words_in CsvX) layer.body.values) (codes "x")
+abbrev pub column_x : List Value → List ℕ
+column_x given = unwrap_or (last (words_in CsvX) given) (codes "x")
 
 -- the column of latitudes is y by default
-abbrev pub column_y : LayerTree → List ℕ
-column_y layer = unwrap_or (last (words_in CsvY) layer.body.values) (codes "y")
+abbrev pub column_y : List Value → List ℕ
+column_y given = unwrap_or (last (words_in CsvY) given) (codes "y")
 
 -- how many rows a layer has room for, after the features that the mapfile gives it
 abbrev pub room_in : LayerTree → ℕ
@@ -30,7 +31,7 @@ room_in layer = MAX_FEATURES - length layer.body.features
 
 -- the table that the bytes of a file are for a layer
 abbrev pub table_for : LayerTree → List ℕ → Result TableFields CsvFault
-table_for layer bytes = table_of (column_x layer) (column_y layer) (room_in layer) (records_of bytes)
+table_for layer bytes = table_of (column_x layer.body.values) (column_y layer.body.values) (room_in layer) (records_of bytes)
 
 -- the table in a file
 abbrev pub table_in : List FileBytes → LayerTree → Named → Result TableFields Fault

@@ -14,7 +14,7 @@ ghost use Rattle.mapparse.specs.Tables.{tables_of, HasRoom, HaveRoom};
 use crate::features::with_items;
 use crate::files::Files;
 use crate::font::font_given;
-use crate::settings::{count_or, service_title, service_url, settings_of, text_or};
+use crate::settings::{count_or, empty_layer, service_title, service_url, text_or};
 use crate::symbol::{symbol_index, symbols_of};
 use crate::table::tables_of;
 use crate::uses::{files_fault, font_file};
@@ -170,7 +170,7 @@ fn layer_of(
 {
     let LayerTree {
         name: Named { text: name, .. },
-        geometry: kind,
+        geometry,
         body,
         ..
     } = tree;
@@ -179,25 +179,14 @@ fn layer_of(
         classes,
         features,
     } = body;
-    let settings = settings_of(&values, name.as_str(), kind, alloc)?;
+    let layer = empty_layer(&values, name, geometry, alloc)?;
     let classes = classes_of(classes, symbols, alloc)?;
     let (items, features) = with_items(values.into_items(), features, table, alloc)?;
     Ok(Layer::new(LayerFields {
-        name,
-        title: settings.title,
-        kind,
-        on: true,
-        classitem: settings.classitem,
-        labelitem: settings.labelitem,
         items,
-        csv_x: settings.csv_x,
-        csv_y: settings.csv_y,
-        queryable: settings.queryable,
-        tolerance: settings.tolerance,
-        min: settings.min,
-        max: settings.max,
         classes,
         features,
+        ..layer
     }))
 }
 

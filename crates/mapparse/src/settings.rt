@@ -1,15 +1,12 @@
-ghost use Rattle.std.specs.Prelude.{◌≡◌, ◌≤◌, codes, is_some, option_map, unwrap_or, IfOk};
+ghost use Rattle.std.specs.Prelude.{◌≡◌, ◌≤◌, option_map, unwrap_or, IfOk};
 ghost use Rattle.mapdefs.specs.declared.limits.TheConstants.{MAX_TOLERANCE};
 ghost use Rattle.mapwords.specs.Table.{least_of, most_of};
-ghost use Rattle.mapwords.specs.declared.table.CountKeyword.TheVariants.{Tolerance};
-ghost use Rattle.mapwords.specs.declared.table.ScaleKeyword.TheVariants.{Max, Min};
-ghost use Rattle.mapwords.specs.declared.table.TextKeyword.TheVariants.{ClassItem, CsvX, CsvY, LabelItem, OwsOnlineResource, OwsTitle, Template, WmsOnlineResource, WmsTitle};
-ghost use Rattle.maptree.specs.Values.{count_in, last, scale_in, text_in, words_in};
-ghost use Rattle.mapparse.specs.Mapping.{either_text, service_title, tolerance_of};
+ghost use Rattle.mapwords.specs.declared.table.TextKeyword.TheVariants.{OwsOnlineResource, WmsOnlineResource};
+ghost use Rattle.maptree.specs.Values.{count_in, last, words_in};
+ghost use Rattle.mapparse.specs.Mapping.{either_text, empty_layer, service_title, tolerance_of};
 
 use crate::table::{LATITUDES, LONGITUDES};
-use geom::Micro;
-use mapdefs::{Duplicate, Geometry, Text};
+use mapdefs::{Duplicate, Geometry, Items, LayerFields, SharedItems, Text};
 use maptree::Values;
 use mapwords::{CountKeyword, ScaleKeyword, TextKeyword};
 use std::alloc::{AllocError, Global};
@@ -90,48 +87,33 @@ pub fn service_url(values: &Values) -> Option<&Text>
     )
 }
 
-/// What a layer is given by its keywords, with defaults.
-#[derive(Drop)]
-pub struct LayerSettings {
-    pub title: Text,
-    pub classitem: Option<Text>,
-    pub labelitem: Option<Text>,
-    pub csv_x: Text,
-    pub csv_y: Text,
-    pub queryable: bool,
-    pub tolerance: u8,
-    pub min: Option<Micro>,
-    pub max: Option<Micro>,
-}
-
-/// The settings of a layer of a name and a geometry.
-pub fn settings_of(
+/// A layer of a name and a geometry with what its keywords give it, and defaults. It has neither items nor classes
+/// nor features.
+pub fn empty_layer(
     values: &Values,
-    name: &str,
+    name: Text,
     geometry: Geometry,
     alloc: Global,
-) -> Result<LayerSettings, AllocError>
-    ensures title { IfOk result (λ made. made.title ≡ unwrap_or (either_text WmsTitle OwsTitle values.now) name.now) }
-    ensures classitem { IfOk result (λ made. made.classitem ≡ last (words_in ClassItem) values.now) }
-    ensures labelitem { IfOk result (λ made. made.labelitem ≡ last (words_in LabelItem) values.now) }
-    ensures csv_x { IfOk result (λ made. made.csv_x ≡ unwrap_or (last (words_in CsvX) values.now) (codes "x")) }
-    ensures csv_y { IfOk result (λ made. made.csv_y ≡ unwrap_or (last (words_in CsvY) values.now) (codes "y")) }
-    ensures queryable { IfOk result (λ made. made.queryable ≡ is_some (last (text_in Template) values.now)) }
-    ensures tolerance { IfOk result (λ made. made.tolerance ≡ unwrap_or (last (count_in Tolerance) values.now) (tolerance_of geometry)) }
+) -> Result<LayerFields, AllocError>
+    ensures value { IfOk result (λ made. made ≡ empty_layer name geometry values.now) }
     ensures limit { IfOk result (λ made. made.tolerance ≤ MAX_TOLERANCE) }
-    ensures min { IfOk result (λ made. made.min ≡ last (scale_in Min) values.now) }
-    ensures max { IfOk result (λ made. made.max ≡ last (scale_in Max) values.now) }
 {
     let title = either_text(values, TextKeyword::WmsTitle, TextKeyword::OwsTitle);
-    Ok(LayerSettings {
-        title: text_or(title, name, alloc)?,
+    Ok(LayerFields {
+        title: text_or(title, name.as_str(), alloc)?,
+        name,
+        kind: geometry,
+        on: true,
         classitem: text_of(values, TextKeyword::ClassItem, alloc)?,
         labelitem: text_of(values, TextKeyword::LabelItem, alloc)?,
+        items: Items::new(alloc),
         csv_x: text_or(values.plain_text(TextKeyword::CsvX), LONGITUDES, alloc)?,
         csv_y: text_or(values.plain_text(TextKeyword::CsvY), LATITUDES, alloc)?,
         queryable: values.text(TextKeyword::Template).is_some(),
         tolerance: count_or(values, CountKeyword::Tolerance, tolerance_of(geometry)) as u8,
         min: values.scale(ScaleKeyword::Min),
         max: values.scale(ScaleKeyword::Max),
+        classes: SharedItems::empty(),
+        features: SharedItems::empty(),
     })
 }
