@@ -4,7 +4,7 @@ ghost use Rattle.mapfaults.specs.Explained.{begun, stepped, IsStop, IsWalked, Is
 
 use crate::openings::{Opening, go_on};
 use maplex::{Tail, Token, Tokens};
-use maptree::{Context, Drafts, Stack, missing_part, next_token, read_token};
+use maptree::{Context, Drafts, Stack, next_token};
 use mapwords::{
     Block, Expected, Fault, Keyword, ParseFault, ParseKind, TextKeyword, fault_of, is_end, missing,
 };
@@ -84,7 +84,7 @@ impl<'a> Walker<'a> {
                 self.hints.name = token.text;
             }
             Context::Keywords(block) if is_end(token) => {
-                self.hints.missing = missing_part(block, &self.drafts);
+                self.hints.missing = self.drafts.missing_part(block);
             }
             Context::Keywords(_) | Context::Values(..) | Context::Latitude(_) => {}
         }
@@ -101,7 +101,7 @@ impl<'a> Walker<'a> {
             (λ _. stepped (standing (inner.entry ∷ self.old.openings) self.old.drafts) token.now ≡ Ok (standing self.new.openings self.new.drafts))
             (IsStop (standing (inner.entry ∷ self.old.openings) self.old.drafts) token.now self.new.openings) }
     {
-        match read_token(alloc, &inner.context, &mut self.drafts, token) {
+        match self.drafts.read_token(alloc, &inner.context, token) {
             Ok(next) => match go_on(&mut self.openings, inner, next, token) {
                 Ok(()) => Ok(()),
                 Err(_) => Err(ParseFault::NoMemory),

@@ -95,20 +95,6 @@ fn add_table(
     }
 }
 
-// Ends a LAYER: the map gets it, and uses the file of its table.
-fn end_layer(drafts: &mut Drafts, end: &Token, alloc: Global) -> Result<(), ParseFault>
-    requires { length drafts.old.map.layers < MAX_LAYERS }
-    ensures { MatchResult result
-        (λ _. layer_end drafts.old end.now ≡ Ok drafts.new)
-        (IsErrorOf (layer_end drafts.old end.now)) }
-{
-    let body = mem::replace(&mut drafts.layer, LayerBody::new(alloc));
-    let layer = finished_layer(body, drafts.map.layers.as_slice(), end, alloc)?;
-    add_table(&mut drafts.map.files, &layer.table, alloc)?;
-    drafts.map.layers.push(layer)?;
-    Ok(())
-}
-
 // The symbol with its values at its END.
 fn finished_symbol(values: &Values, end: &Token, alloc: Global) -> Result<SymbolTree, ParseFault>
     ensures { MatchResult result
@@ -126,136 +112,147 @@ fn finished_symbol(values: &Values, end: &Token, alloc: Global) -> Result<Symbol
     }
 }
 
-// Ends a SYMBOL: the map gets it, and uses the file of its image.
-fn end_symbol(drafts: &mut Drafts, end: &Token, alloc: Global) -> Result<(), ParseFault>
-    requires { length drafts.old.map.symbols < MAX_SYMBOLS }
-    ensures { MatchResult result
-        (λ _. symbol_end drafts.old end.now ≡ Ok drafts.new)
-        (IsErrorOf (symbol_end drafts.old end.now)) }
-{
-    let values = mem::replace(&mut drafts.symbol, Values::new(alloc));
-    let symbol = finished_symbol(&values, end, alloc)?;
-    drafts.map.files.push(symbol.image.duplicate(alloc)?)?;
-    drafts.map.symbols.push(symbol)?;
-    Ok(())
-}
-
-// Ends MAP: each symbol that a style names has to be there.
-fn end_map(drafts: &Drafts) -> Result<(), Fault>
-    ensures { MatchResult result
-        (λ _. map_end drafts.now ≡ Ok drafts.now)
-        (λ fault. map_end drafts.now ≡ Err fault) }
-{
-    match map_fault(drafts.map.symbols.as_slice(), drafts.map.layers.as_slice()) {
-        None => Ok(()),
-        Some(fault) => Err(fault),
+impl Drafts {
+    // Ends a LAYER: the map gets it, and uses the file of its table.
+    fn end_layer(&mut self, end: &Token, alloc: Global) -> Result<(), ParseFault>
+        requires { length self.old.map.layers < MAX_LAYERS }
+        ensures { MatchResult result
+            (λ _. layer_end self.old end.now ≡ Ok self.new)
+            (IsErrorOf (layer_end self.old end.now)) }
+    {
+        let body = mem::replace(&mut self.layer, LayerBody::new(alloc));
+        let layer = finished_layer(body, self.map.layers.as_slice(), end, alloc)?;
+        add_table(&mut self.map.files, &layer.table, alloc)?;
+        self.map.layers.push(layer)?;
+        Ok(())
     }
-}
 
-// Ends a CLASS: the layer gets it.
-fn end_class(drafts: &mut Drafts, alloc: Global) -> Result<(), AllocError>
-    requires { length drafts.old.layer.classes < MAX_CLASSES }
-    ensures { OnOk result (drafts.new ≡ class_end drafts.old) }
-{
-    let class = mem::replace(&mut drafts.class, ClassTree::new(alloc));
-    drafts.layer.classes.push(class)
-}
-
-// Ends a STYLE: the class gets it.
-fn end_style(drafts: &mut Drafts, alloc: Global) -> Result<(), AllocError>
-    requires { length drafts.old.class.styles < MAX_STYLES }
-    ensures { OnOk result (drafts.new ≡ style_end drafts.old) }
-{
-    let style = mem::replace(&mut drafts.style, Values::new(alloc));
-    drafts.class.styles.push(style)
-}
-
-// Ends a LABEL: the class gets it.
-fn end_label(drafts: &mut Drafts, alloc: Global)
-    ensures { drafts.new ≡ label_end drafts.old }
-{
-    let label = mem::replace(&mut drafts.label, Values::new(alloc));
-    drafts.class.label = Some(label);
-}
-
-// Ends a FEATURE: the layer gets it.
-fn end_feature(drafts: &mut Drafts, end: &Token, alloc: Global) -> Result<(), ParseFault>
-    requires { length drafts.old.layer.features < MAX_FEATURES }
-    ensures { MatchResult result
-        (λ _. feature_end drafts.old end.now ≡ Ok drafts.new)
-        (IsErrorOf (feature_end drafts.old end.now)) }
-{
-    if drafts.feature.parts.is_empty() {
-        return Err(fault_of(ParseKind::MissingValue, end).into());
+    // Ends a SYMBOL: the map gets it, and uses the file of its image.
+    fn end_symbol(&mut self, end: &Token, alloc: Global) -> Result<(), ParseFault>
+        requires { length self.old.map.symbols < MAX_SYMBOLS }
+        ensures { MatchResult result
+            (λ _. symbol_end self.old end.now ≡ Ok self.new)
+            (IsErrorOf (symbol_end self.old end.now)) }
+    {
+        let values = mem::replace(&mut self.symbol, Values::new(alloc));
+        let symbol = finished_symbol(&values, end, alloc)?;
+        self.map.files.push(symbol.image.duplicate(alloc)?)?;
+        self.map.symbols.push(symbol)?;
+        Ok(())
     }
-    let feature = mem::replace(&mut drafts.feature, FeatureDraft::new(alloc));
-    let FeatureDraft { parts, text, items } = feature;
-    drafts.layer.features.push(FeatureTree {
-        parts: parts.into_parts(),
-        text,
-        items,
-    })?;
-    Ok(())
-}
 
-// Ends POINTS: the feature gets them as a part.
-fn end_points(drafts: &mut Drafts, end: &Token, alloc: Global) -> Result<(), ParseFault>
-    ensures { MatchResult result
-        (λ _. points_end drafts.old end.now ≡ Ok drafts.new)
-        (IsErrorOf (points_end drafts.old end.now)) }
-{
-    if drafts.feature.parts.is_next_empty() {
-        return Err(fault_of(ParseKind::MissingValue, end).into());
+    // Ends MAP: each symbol that a style names has to be there.
+    fn end_map(&self) -> Result<(), Fault>
+        ensures { MatchResult result
+            (λ _. map_end self.now ≡ Ok self.now)
+            (λ fault. map_end self.now ≡ Err fault) }
+    {
+        match map_fault(self.map.symbols.as_slice(), self.map.layers.as_slice()) {
+            None => Ok(()),
+            Some(fault) => Err(fault),
+        }
     }
-    drafts.feature.parts.finish_part(alloc)?;
-    Ok(())
-}
 
-/// Ends a block: its parent gets it, and the next block of the kind begins anew.
-pub fn close(
-    block: Block,
-    drafts: &mut Drafts,
-    end: &Token,
-    alloc: Global,
-) -> Result<(), ParseFault>
-    requires { is_full block drafts.old ≡ false }
-    ensures { MatchResult result
-        (λ _. ends block drafts.old end.now ≡ Ok drafts.new)
-        (IsErrorOf (ends block drafts.old end.now)) }
-{
-    match block {
-        Block::Map => end_map(drafts)?,
-        Block::Symbol => end_symbol(drafts, end, alloc)?,
-        Block::Layer => end_layer(drafts, end, alloc)?,
-        Block::Class => end_class(drafts, alloc)?,
-        Block::Style => end_style(drafts, alloc)?,
-        Block::Label => end_label(drafts, alloc),
-        Block::Feature => end_feature(drafts, end, alloc)?,
-        Block::Points => end_points(drafts, end, alloc)?,
-        // There is nothing to check, and nothing to keep.
-        Block::Web
-        | Block::WebMetadata
-        | Block::LayerMetadata
-        | Block::Validation
-        | Block::Projection
-        | Block::Skipped
-        | Block::SkippedLabel => {}
+    // Ends a CLASS: the layer gets it.
+    fn end_class(&mut self, alloc: Global) -> Result<(), AllocError>
+        requires { length self.old.layer.classes < MAX_CLASSES }
+        ensures { OnOk result (self.new ≡ class_end self.old) }
+    {
+        let class = mem::replace(&mut self.class, ClassTree::new(alloc));
+        self.layer.classes.push(class)
     }
-    Ok(())
-}
 
-/// The first part that the open block lacks of those that its END requires, as its keyword or in a word. It is
-/// `None` where it lacks nothing.
-pub fn missing_part(block: Block, drafts: &Drafts) -> Option<&'static str> {
-    let layer = &drafts.layer.values;
-    match block {
-        Block::Symbol if drafts.symbol.text(TextKeyword::Name).is_none() => Some("NAME"),
-        Block::Symbol if !drafts.symbol.has_pixmap() => Some("TYPE"),
-        Block::Symbol if drafts.symbol.text(TextKeyword::Image).is_none() => Some("IMAGE"),
-        Block::Layer if layer.text(TextKeyword::Name).is_none() => Some("NAME"),
-        Block::Layer if layer.geometry().is_none() => Some("TYPE"),
-        Block::Feature if drafts.feature.parts.is_empty() => Some("POINTS"),
-        Block::Points if drafts.feature.parts.is_next_empty() => Some("vertex"),
-        _ => None,
+    // Ends a STYLE: the class gets it.
+    fn end_style(&mut self, alloc: Global) -> Result<(), AllocError>
+        requires { length self.old.class.styles < MAX_STYLES }
+        ensures { OnOk result (self.new ≡ style_end self.old) }
+    {
+        let style = mem::replace(&mut self.style, Values::new(alloc));
+        self.class.styles.push(style)
+    }
+
+    // Ends a LABEL: the class gets it.
+    fn end_label(&mut self, alloc: Global)
+        ensures { self.new ≡ label_end self.old }
+    {
+        let label = mem::replace(&mut self.label, Values::new(alloc));
+        self.class.label = Some(label);
+    }
+
+    // Ends a FEATURE: the layer gets it.
+    fn end_feature(&mut self, end: &Token, alloc: Global) -> Result<(), ParseFault>
+        requires { length self.old.layer.features < MAX_FEATURES }
+        ensures { MatchResult result
+            (λ _. feature_end self.old end.now ≡ Ok self.new)
+            (IsErrorOf (feature_end self.old end.now)) }
+    {
+        if self.feature.parts.is_empty() {
+            return Err(fault_of(ParseKind::MissingValue, end).into());
+        }
+        let feature = mem::replace(&mut self.feature, FeatureDraft::new(alloc));
+        let FeatureDraft { parts, text, items } = feature;
+        self.layer.features.push(FeatureTree {
+            parts: parts.into_parts(),
+            text,
+            items,
+        })?;
+        Ok(())
+    }
+
+    // Ends POINTS: the feature gets them as a part.
+    fn end_points(&mut self, end: &Token, alloc: Global) -> Result<(), ParseFault>
+        ensures { MatchResult result
+            (λ _. points_end self.old end.now ≡ Ok self.new)
+            (IsErrorOf (points_end self.old end.now)) }
+    {
+        if self.feature.parts.is_next_empty() {
+            return Err(fault_of(ParseKind::MissingValue, end).into());
+        }
+        self.feature.parts.finish_part(alloc)?;
+        Ok(())
+    }
+
+    /// Ends a block: its parent gets it, and the next block of the kind begins anew.
+    pub fn close(&mut self, block: Block, end: &Token, alloc: Global) -> Result<(), ParseFault>
+        requires { is_full block self.old ≡ false }
+        ensures { MatchResult result
+            (λ _. ends block self.old end.now ≡ Ok self.new)
+            (IsErrorOf (ends block self.old end.now)) }
+    {
+        match block {
+            Block::Map => self.end_map()?,
+            Block::Symbol => self.end_symbol(end, alloc)?,
+            Block::Layer => self.end_layer(end, alloc)?,
+            Block::Class => self.end_class(alloc)?,
+            Block::Style => self.end_style(alloc)?,
+            Block::Label => self.end_label(alloc),
+            Block::Feature => self.end_feature(end, alloc)?,
+            Block::Points => self.end_points(end, alloc)?,
+            // There is nothing to check, and nothing to keep.
+            Block::Web
+            | Block::WebMetadata
+            | Block::LayerMetadata
+            | Block::Validation
+            | Block::Projection
+            | Block::Skipped
+            | Block::SkippedLabel => {}
+        }
+        Ok(())
+    }
+
+    /// The first part that the open block lacks of those that its END requires, as its keyword or in a word. It is
+    /// `None` where it lacks nothing.
+    pub fn missing_part(&self, block: Block) -> Option<&'static str> {
+        let layer = &self.layer.values;
+        match block {
+            Block::Symbol if self.symbol.text(TextKeyword::Name).is_none() => Some("NAME"),
+            Block::Symbol if !self.symbol.has_pixmap() => Some("TYPE"),
+            Block::Symbol if self.symbol.text(TextKeyword::Image).is_none() => Some("IMAGE"),
+            Block::Layer if layer.text(TextKeyword::Name).is_none() => Some("NAME"),
+            Block::Layer if layer.geometry().is_none() => Some("TYPE"),
+            Block::Feature if self.feature.parts.is_empty() => Some("POINTS"),
+            Block::Points if self.feature.parts.is_next_empty() => Some("vertex"),
+            _ => None,
+        }
     }
 }

@@ -10,7 +10,7 @@
 //! reader goes over the tokens once, with a draft for each kind of block; that this gives what the blocks
 //! say is a theorem (`proofs/OnePass`).
 //!
-//! `read_token` is the step of that reader, for those that read up to a fault and look at what is open.
+//! `Drafts::read_token` is the step of that reader, for those that read up to a fault and look at what is open.
 //!
 //! What takes no memory fails with a `Fault` alone.
 //!
@@ -34,12 +34,10 @@ mod values;
 
 pub use context::{Context, Move};
 pub use draft::Drafts;
-pub use end::missing_part;
 pub use mapfile::{next_token, read};
 pub use mapwords::{Capped, ClassRule, Extent, Named, ParseFault, ParseKind};
 pub use parts::Parts;
 pub use stack::Stack;
-pub use step::read_token;
 pub use symbol::symbol_of;
 pub use tree::{ClassTree, FeatureTree, LayerBody, LayerTree, MapTree, SymbolTree};
 pub use values::Values;

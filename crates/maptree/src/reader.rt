@@ -6,7 +6,6 @@ ghost use Rattle.maptree.specs.Pass.{map_body};
 use crate::context::{Context, go_on};
 use crate::draft::Drafts;
 use crate::stack::Stack;
-use crate::step::read_token;
 use crate::tree::MapTree;
 use maplex::{Tail, Token};
 use mapwords::{Block, Fault, ParseFault, ParseKind, fault_of, missing};
@@ -46,7 +45,7 @@ impl Reader {
         let Some(context) = self.contexts.pop() else {
             return Err(fault_of(ParseKind::UnknownWord, token).into());
         };
-        let next = read_token(alloc, &context, &mut self.drafts, token)?;
+        let next = self.drafts.read_token(alloc, &context, token)?;
         go_on(&mut self.contexts, context, next)?;
         Ok(())
     }

@@ -9,7 +9,7 @@ use Rattle.mapwords.specs.declared.fault.Fault.{Fault}
 use Rattle.mapwords.specs.Keyword.{keyword_at}
 use Rattle.maptree.specs.Step.{skip, read_token}
 use Rattle.mapwords.specs.Table.{role_of}
-use Rattle.maptree.proofs.step.read_token.Goals as goal
+use Rattle.maptree.proofs.draft.Drafts.read_token.Goals as goal
 
 -- a block that is skipped
 skip-read : (b : Block) (d : Drafts) (t : TokenValue) (r : Result (Move × Drafts) Fault) → (b ≡ block.Projection) ⊎ ((b ≡ block.Skipped) ⊎ (b ≡ block.SkippedLabel)) → skip b (option_and_then (role_of b) (keyword_at t)) d ≡ r → read_token (Keywords b) d t ≡ r
@@ -20,4 +20,4 @@ skip-read b d t r (inr (inr p)) h = rw p (subst (λ v. skip v (option_and_then (
 pub returns-in-Projection : goal.returns-in-Projection
 returns-in-Projection c =
     rw c.in-Keywords.is
-    (skip-read c.in-Keywords.block c.args.drafts.now c.args.token.now _ c.in-Projection.is (c.skip.ensures c.args.drafts.now))
+    (skip-read c.in-Keywords.block c.args.self.now c.args.token.now _ c.in-Projection.is (c.skip.ensures c.args.self.now))
