@@ -33,6 +33,7 @@ use Rattle.mapwords.specs.declared.role.Expected.{Expected}
 use Rattle.mapwords.specs.declared.role.Expected.TheVariants as expected
 use Rattle.mapwords.specs.declared.keyword.Keyword.TheVariants.{End}
 use Rattle.mapwords.specs.declared.table.CountKeyword.{CountKeyword}
+use Rattle.mapwords.specs.declared.table.CountKeyword.TheVariants as counts
 use Rattle.mapwords.specs.declared.table.ColourKeyword.{ColourKeyword}
 use Rattle.mapwords.specs.declared.table.TextKeyword.{TextKeyword}
 use Rattle.mapdefs.specs.declared.colour.Rgb.{Rgb}
@@ -47,15 +48,12 @@ use Rattle.mapwords.specs.Keyword.{spelling, is_spelt}
 use Rattle.mapwords.specs.Given.{value_in}
 use Rattle.maptree.specs.Meaning.{block_in, alone}
 use Rattle.maptree.specs.Says.{Takes, closing_fault, is_full, says}
-use Rattle.maptree.specs.Written.{bare, quoted, block_text, position_text, flag_text, HasNoComma, IsKeyword, IsKey, IsCount, map_name, map_extent, symbol_name, symbol_type, symbol_image, layer_name, layer_type, layer_data, class_item, label_item, template, layer_tolerance, layer_min, layer_max, class_rule, class_min, class_max, style_colour, style_outline, style_width, style_size, style_symbol, label_colour, label_outline, label_priority, label_position, label_buffer, label_distance, label_partials, label_force, feature_text, feature_items, service_wms_title, service_ows_title, service_wms_address, service_ows_address, layer_wms_title, layer_ows_title, is_width, is_size, is_tolerance, is_priority, is_buffer, is_distance, IsWritten, text, table, font, metadata, csv_x, csv_y, items, flag, scale, no_colour, some_colour, geometry, pixmap, position, equals, one_of, extent, IsBlockIn, symbol, layer, class, feature, style, points, label, web, web_metadata, layer_metadata, IsWrittenOut, nothing, said, vertex, inside, WrittenIsRead}
+use Rattle.maptree.specs.Written.{bare, quoted, block_text, position_text, flag_text, HasNoComma, IsKeyword, IsKey, IsCount, least_count, most_count, map_name, style_colour, style_outline, label_colour, label_outline, service_wms_title, IsWritten, text, table, font, metadata, csv_x, csv_y, items, flag, scale, no_colour, some_colour, geometry, pixmap, position, equals, one_of, extent, IsBlockIn, symbol, layer, class, feature, style, points, label, web, web_metadata, layer_metadata, IsWrittenOut, nothing, said, vertex, inside, WrittenIsRead}
 use Rattle.maptree.specs.Written as written_as
 use Rattle.maptree.proofs.Blocks.{block-enough}
 use Rattle.mapwords.proofs.Colours.{counts_of}
 
 -- the first letter of END is no digit
-abbrev is_other : ℕ → Bool
-is_other d = not (is_ascii_digit d) || not (is_spelt (d ∷ []) End)
-
 starts-other : (d : ℕ) (ds : List ℕ) → is_ascii_digit d ≡ true → is_spelt (d ∷ ds) End ≡ false
 unfolding spelling
 starts-other d ds digit = grind arith
@@ -77,13 +75,24 @@ record IsBounded (keyword : CountKeyword) (n : ℕ) : Type 0 where
   most : n ≤ most_of keyword
   small : n ≤ 65535
 
+same-least : (keyword : CountKeyword) → least_of keyword ≡ least_count keyword
+same-least counts.Width = refl
+same-least _ = refl
+
+same-most : (keyword : CountKeyword) → most_of keyword ≡ most_count keyword
+same-most counts.Width = refl
+same-most _ = refl
+
+most-small : (keyword : CountKeyword) → most_count keyword ≤ 65535
+most-small counts.Width = omega arith
+most-small _ = omega arith
+
 count-bounded : (keyword : CountKeyword) (n : ℕ) → IsCount keyword n → IsBounded keyword n
-count-bounded keyword n (is_width m least most) = record { least = least; most = most; small = omega arith }
-count-bounded keyword n (is_size m least most) = record { least = least; most = most; small = omega arith }
-count-bounded keyword n (is_tolerance m most) = record { least = omega arith; most = most; small = omega arith }
-count-bounded keyword n (is_priority m least most) = record { least = least; most = most; small = omega arith }
-count-bounded keyword n (is_buffer m most) = record { least = omega arith; most = most; small = omega arith }
-count-bounded keyword n (is_distance m most) = record { least = omega arith; most = most; small = omega arith }
+count-bounded keyword n is = record {
+  least = rw (same-least keyword) is.least;
+  most = rw (same-most keyword) is.most;
+  small = omega (arith, is.most, most-small keyword);
+}
 
 -- a count that is written out is read as that count
 count-read : (keyword : CountKeyword) (n : ℕ) → IsBounded keyword n → read_count keyword (decimal n) ≡ Some (record { keyword = keyword; number = n })
@@ -169,46 +178,12 @@ csv_y-cut given = rw (lt-ltb 5 (length (codes "CSV_Y" ++ (61 ∷ given))) (omega
 keyword-says : (b : Block) (word : List ℕ) (e : Expected) (line : ℕ) (above own : Entries) → IsKeyword b word e → says b above own (bare line word) ≡ Ok (Takes e)
 unfolding spelling
 keyword-says b word e line above own map_name = refl
-keyword-says b word e line above own map_extent = refl
-keyword-says b word e line above own symbol_name = refl
-keyword-says b word e line above own symbol_type = refl
-keyword-says b word e line above own symbol_image = refl
-keyword-says b word e line above own layer_name = refl
-keyword-says b word e line above own layer_type = refl
-keyword-says b word e line above own layer_data = refl
-keyword-says b word e line above own class_item = refl
-keyword-says b word e line above own label_item = refl
-keyword-says b word e line above own template = refl
-keyword-says b word e line above own layer_tolerance = refl
-keyword-says b word e line above own layer_min = refl
-keyword-says b word e line above own layer_max = refl
-keyword-says b word e line above own class_rule = refl
-keyword-says b word e line above own class_min = refl
-keyword-says b word e line above own class_max = refl
-keyword-says b word e line above own style_colour = refl
-keyword-says b word e line above own style_outline = refl
-keyword-says b word e line above own style_width = refl
-keyword-says b word e line above own style_size = refl
-keyword-says b word e line above own style_symbol = refl
-keyword-says b word e line above own label_colour = refl
-keyword-says b word e line above own label_outline = refl
-keyword-says b word e line above own label_priority = refl
-keyword-says b word e line above own label_position = refl
-keyword-says b word e line above own label_buffer = refl
-keyword-says b word e line above own label_distance = refl
-keyword-says b word e line above own label_partials = refl
-keyword-says b word e line above own label_force = refl
-keyword-says b word e line above own feature_text = refl
-keyword-says b word e line above own feature_items = refl
+keyword-says b word e line above own _ = refl
 
 -- and so does a key of METADATA
 key-says : (b : Block) (key : List ℕ) (keyword : TextKeyword) (line : ℕ) (above own : Entries) → IsKey b key keyword → says b above own (quoted line key) ≡ Ok (Takes (expected.Text keyword))
 key-says b key keyword line above own service_wms_title = refl
-key-says b key keyword line above own service_ows_title = refl
-key-says b key keyword line above own service_wms_address = refl
-key-says b key keyword line above own service_ows_address = refl
-key-says b key keyword line above own layer_wms_title = refl
-key-says b key keyword line above own layer_ows_title = refl
+key-says b key keyword line above own _ = refl
 
 -- each colour of a keyword that a block has has an effect
 colour-noted : (b : Block) (word : List ℕ) (keyword : ColourKeyword) (colour : Option Rgb) (before : Entries) → IsKeyword b word (expected.Colour keyword) →

@@ -154,14 +154,28 @@ pub data IsKey : Block → List ℕ → TextKeyword → Type 0 where
   layer_wms_title : IsKey block.LayerMetadata (codes "wms_title") texts.WmsTitle
   layer_ows_title : IsKey block.LayerMetadata (codes "ows_title") texts.OwsTitle
 
--- the counts that each keyword takes
-pub data IsCount : CountKeyword → ℕ → Type 0 where
-  is_width : (n : ℕ) → 1 ≤ n → n ≤ MAX_LINE_WIDTH → IsCount counts.Width n
-  is_size : (n : ℕ) → 1 ≤ n → n ≤ MAX_SQUARE → IsCount counts.Size n
-  is_tolerance : (n : ℕ) → n ≤ MAX_TOLERANCE → IsCount counts.Tolerance n
-  is_priority : (n : ℕ) → 1 ≤ n → n ≤ MAX_PRIORITY → IsCount counts.Priority n
-  is_buffer : (n : ℕ) → n ≤ MAX_BUFFER → IsCount counts.Buffer n
-  is_distance : (n : ℕ) → n ≤ MAX_DISTANCE → IsCount counts.MinDistance n
+-- the least count that each keyword takes
+abbrev pub least_count : CountKeyword → ℕ
+least_count counts.Width = 1
+least_count counts.Size = 1
+least_count counts.Tolerance = 0
+least_count counts.Priority = 1
+least_count counts.Buffer = 0
+least_count counts.MinDistance = 0
+
+-- and the greatest
+abbrev pub most_count : CountKeyword → ℕ
+most_count counts.Width = MAX_LINE_WIDTH
+most_count counts.Size = MAX_SQUARE
+most_count counts.Tolerance = MAX_TOLERANCE
+most_count counts.Priority = MAX_PRIORITY
+most_count counts.Buffer = MAX_BUFFER
+most_count counts.MinDistance = MAX_DISTANCE
+
+-- a count that a keyword takes
+pub record IsCount (keyword : CountKeyword) (n : ℕ) : Type 0 where
+  pub least : least_count keyword ≤ n
+  pub most : n ≤ most_count keyword
 
 -- the tokens that give a block a value; the expressions of classes have a grammar and a law of their own
 pub data IsWritten : Block → Value → List TokenValue → Type 0 where
