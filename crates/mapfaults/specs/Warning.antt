@@ -68,14 +68,17 @@ abbrev pub layers_warnings : Bool → ℕ → List LayerFields → List Warning
 layers_warnings has_font number [] = []
 layers_warnings has_font number (layer ∷ layers) = layer_warnings has_font number layer ++ layers_warnings has_font (number + 1) layers
 
--- all: those on the service, and then those on the layers in the order of the mapfile
-abbrev pub warnings : MapFields → List Warning
-warnings map =
+-- those on the service: its address, its title and its extent
+abbrev pub service_warnings : MapFields → List Warning
+service_warnings map =
     warned (is_default_address map.url) (on_service concern.NoAddress)
     ++ (warned (has_forbidden map.title) (on_service concern.ForbiddenInTitle)
     ++ (warned (has_forbidden map.url) (on_service concern.ForbiddenInAddress)
-    ++ (warned (is_beyond_degrees map.extent) (on_service concern.BeyondDegrees)
-    ++ layers_warnings (is_some map.font) 1 map.layers)))
+    ++ warned (is_beyond_degrees map.extent) (on_service concern.BeyondDegrees)))
+
+-- all: those on the service, and then those on the layers in the order of the mapfile
+abbrev pub warnings : MapFields → List Warning
+warnings map = service_warnings map ++ layers_warnings (is_some map.font) 1 map.layers
 
 -- what a warning is about
 unfoldable pub subject_of : Option ℕ → List ℕ
@@ -92,7 +95,7 @@ message_of concern.ForbiddenInAddress = codes " has an address with a character 
 message_of concern.BeyondDegrees = codes " has an EXTENT beyond 180 degrees of longitude or 90 of latitude"
 message_of concern.UnknownLabelItem = codes " has a LABELITEM that is none of its items"
 message_of concern.UnknownClassItem = codes " has a CLASSITEM that is none of its items"
-message_of concern.UnknownItem = codes " has an EXPRESSION that looks at none of its items"
+message_of concern.UnknownItem = codes " has an EXPRESSION on an item that is none of its items"
 message_of concern.NoFont = codes " has a LABEL, and the map has no LABELFONT"
 message_of concern.NoClass = codes " has features and no CLASS"
 message_of concern.BareClass = codes " has a CLASS without STYLE and LABEL"

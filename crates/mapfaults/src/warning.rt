@@ -1,12 +1,12 @@
 ghost use Rattle.std.specs.Prelude.{◌≡◌, ◌++◌, IfOk, OnOk};
 ghost use Rattle.std.specs.List.{flat_map, list_any};
 ghost use Rattle.mapfaults.specs.Unused.{is_bare, lacks_of_rule};
-ghost use Rattle.mapfaults.specs.Warning.{drawing_warnings, is_beyond_degrees, is_comma, is_default_address, item_warnings, layer_warnings, layers_warnings, marked, subject_of, text_warnings, warned, warning_line, warning_lines, warnings, message_of};
+ghost use Rattle.mapfaults.specs.Warning.{drawing_warnings, is_beyond_degrees, is_comma, is_default_address, item_warnings, layer_warnings, layers_warnings, marked, service_warnings, subject_of, text_warnings, warned, warning_line, warning_lines, warnings, message_of};
 
 use crate::unused::{has_label, is_bare, is_unclassed, lacks_named, lacks_of_rule};
 use geom::{Micro, WorldBox};
 use itoa::Buffer;
-use mapdefs::{Class, Items, Layer, LayerFields, Map, Text};
+use mapdefs::{Class, Items, Layer, LayerFields, Map, MapFields, Text};
 use std::alloc::{AllocError, Global};
 use xmltext::has_forbidden;
 
@@ -67,7 +67,7 @@ impl Concern {
             }
             Concern::UnknownLabelItem => " has a LABELITEM that is none of its items",
             Concern::UnknownClassItem => " has a CLASSITEM that is none of its items",
-            Concern::UnknownItem => " has an EXPRESSION that looks at none of its items",
+            Concern::UnknownItem => " has an EXPRESSION on an item that is none of its items",
             Concern::NoFont => " has a LABEL, and the map has no LABELFONT",
             Concern::NoClass => " has features and no CLASS",
             Concern::BareClass => " has a CLASS without STYLE and LABEL",
@@ -208,6 +208,23 @@ fn add_layers(out: &mut Vec<Warning>, has_font: bool, layers: &[Layer]) -> Resul
     Ok(())
 }
 
+// Adds the warnings on the service.
+fn add_service(out: &mut Vec<Warning>, map: &MapFields) -> Result<(), AllocError>
+    ensures { OnOk result (out.new.items ≡ out.old.items ++ service_warnings map.now) }
+{
+    let (title, url) = (map.title.as_str(), map.url.as_str());
+    let layer = None;
+    let concern = Concern::NoAddress;
+    add(out, is_default_address(url), Warning { layer, concern })?;
+    let concern = Concern::ForbiddenInTitle;
+    add(out, has_forbidden(title), Warning { layer, concern })?;
+    let concern = Concern::ForbiddenInAddress;
+    add(out, has_forbidden(url), Warning { layer, concern })?;
+    let concern = Concern::BeyondDegrees;
+    let beyond = is_beyond_degrees(map.extent);
+    add(out, beyond, Warning { layer, concern })
+}
+
 /// The warnings on a map, those on the service first, and then those on its layers in their order. The error is that
 /// memory was refused.
 pub fn warnings(alloc: Global, map: &Map) -> Result<Vec<Warning>, AllocError>
@@ -215,31 +232,7 @@ pub fn warnings(alloc: Global, map: &Map) -> Result<Vec<Warning>, AllocError>
 {
     let map = map.get();
     let mut out = Vec::new(alloc);
-    let layer = None;
-    let concern = Concern::NoAddress;
-    add(
-        &mut out,
-        is_default_address(map.url.as_str()),
-        Warning { layer, concern },
-    )?;
-    let concern = Concern::ForbiddenInTitle;
-    add(
-        &mut out,
-        has_forbidden(map.title.as_str()),
-        Warning { layer, concern },
-    )?;
-    let concern = Concern::ForbiddenInAddress;
-    add(
-        &mut out,
-        has_forbidden(map.url.as_str()),
-        Warning { layer, concern },
-    )?;
-    let concern = Concern::BeyondDegrees;
-    add(
-        &mut out,
-        is_beyond_degrees(map.extent),
-        Warning { layer, concern },
-    )?;
+    add_service(&mut out, map)?;
     add_layers(&mut out, map.font.is_some(), map.layers.as_slice())?;
     Ok(out)
 }

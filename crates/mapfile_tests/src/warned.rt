@@ -47,7 +47,7 @@ a.map: warning: LAYER 1 has a NAME with a character that XML forbids~|MAP WEB ME
 # items that a layer hasn't, and others
 a.map: warning: LAYER 1 has a LABELITEM that is none of its items~|MAP WEB METADATA wms_onlineresource b END END LAYER NAME a TYPE LINE PROCESSING ITEMS=c,d LABELITEM e CLASSITEM D END END
 a.map: warning: LAYER 2 has a CLASSITEM that is none of its items~|MAP WEB METADATA wms_onlineresource b END END LAYER NAME a TYPE LINE PROCESSING ITEMS=c,d LABELITEM C END LAYER NAME b TYPE LINE CLASSITEM c END END
-a.map: warning: LAYER 1 has an EXPRESSION that looks at none of its items~|MAP WEB METADATA wms_onlineresource b END END LAYER NAME a TYPE LINE PROCESSING ITEMS=c CLASS EXPRESSION ([C] > 1) STYLE END END CLASS EXPRESSION (1 = 2 OR NOT ('[c]' = 'x' AND 'y' IN '[d]')) STYLE END END END END
+a.map: warning: LAYER 1 has an EXPRESSION on an item that is none of its items~|MAP WEB METADATA wms_onlineresource b END END LAYER NAME a TYPE LINE PROCESSING ITEMS=c CLASS EXPRESSION ([C] > 1) STYLE END END CLASS EXPRESSION (1 = 2 OR NOT ('[c]' = 'x' AND 'y' IN '[d]')) STYLE END END END END
 |MAP WEB METADATA wms_onlineresource b END END LAYER NAME a TYPE LINE PROCESSING ITEMS=c CLASS EXPRESSION {c,d} STYLE END END CLASS EXPRESSION '[d]' STYLE END END END END
 # what is never drawn
 a.map: warning: LAYER 1 has features and no CLASS~|MAP WEB METADATA wms_onlineresource b END END LAYER NAME a TYPE POINT FEATURE POINTS 1 2 END END END LAYER NAME b TYPE POINT END END
