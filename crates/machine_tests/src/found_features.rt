@@ -3,9 +3,10 @@ ghost use Rattle.std.specs.Prelude.{◌≡◌, length};
 use crate::maps::map_of;
 use featureinfo::{LayerHits, PixelQuery, hits, text};
 use geom::{Micro, PictureSide, WorldBox};
-use mapdefs::{AllFeatures, Items, Map, Near, Shared};
+use mapdefs::{Items, Map, Shared};
 use scaledenom::Scale;
 use std::alloc::{AllocError, Global};
+use test_maps::InWindow;
 use test_tables::{TableFault, check_rows};
 use viewport::{MAX_MARGIN, View};
 
@@ -24,30 +25,6 @@ MAP
   END
 END
 ";
-
-// Whether two boxes are the same.
-fn is_same(a: WorldBox, b: WorldBox) -> bool {
-    a.minx() == b.minx() && a.miny() == b.miny() && a.maxx() == b.maxx() && a.maxy() == b.maxy()
-}
-
-// Finds all features of a map for one window, and is out of memory for any other.
-#[derive(Drop)]
-struct InWindow<'a> {
-    alloc: Global,
-    map: &'a Map,
-    window: WorldBox,
-}
-
-impl<'a> Near for InWindow<'a> {
-    ghost map_of = { λ n. n.map.now };
-
-    fn candidates(&self, layer: usize, window: WorldBox) -> Result<Vec<u32>, AllocError> {
-        if !is_same(window, self.window) {
-            return Err(AllocError);
-        }
-        AllFeatures::of(self.alloc, self.map).candidates(layer, window)
-    }
-}
 
 // The indices of features.
 fn indices(alloc: Global, features: &[u32]) -> Result<String, AllocError> {
@@ -72,7 +49,7 @@ fn hits_in_window(alloc: Global, map: &Map, margin: u16, count: u32) -> Result<S
         side,
     );
     let window = view.window(margin.min(MAX_MARGIN));
-    let near = InWindow { alloc, map, window };
+    let near = InWindow::new(alloc, map, window);
     let scale = Scale::of(4_000_000, side);
     let query = PixelQuery {
         column: 1,

@@ -1,6 +1,6 @@
-use crate::results::{fault_text, written};
-use mapdefs::{Font, Items, Map, Text};
-use mapparse::{Files, parse, wanted};
+use crate::results::{add_file, fault_text, with_used_files, written};
+use mapdefs::{Font, Map};
+use mapparse::{Files, parse};
 use std::alloc::{AllocError, Global};
 use test_tables::{TableFault, check_rows};
 
@@ -11,21 +11,15 @@ fn font_of(alloc: Global, code: u8, sides: &str) -> Result<String, AllocError> {
     )
 }
 
-fn add(files: &mut Files, alloc: Global, name: &str, bytes: &[u8]) -> Result<(), AllocError> {
-    let mut copy = Vec::new(alloc);
-    copy.extend_from_slice(bytes)?;
-    files.add(Text::from_str(alloc, name)?, Items::of(copy))
-}
-
 // Two fonts, a pixmap, a table, and a font whose second glyph is missing.
 fn some_files(alloc: Global) -> Result<Files, AllocError> {
     let mut files = Files::new(alloc);
     let (first, second) = (font_of(alloc, 65, "5 7")?, font_of(alloc, 66, "4 9")?);
-    add(&mut files, alloc, "a.bdf", first.as_bytes())?;
-    add(&mut files, alloc, "b.bdf", second.as_bytes())?;
-    add(&mut files, alloc, "p.ppm", b"P6 1 2 255\nabcdef")?;
-    add(&mut files, alloc, "p.csv", b"x,y\n1,2\n")?;
-    add(
+    add_file(&mut files, alloc, "a.bdf", first.as_bytes())?;
+    add_file(&mut files, alloc, "b.bdf", second.as_bytes())?;
+    add_file(&mut files, alloc, "p.ppm", b"P6 1 2 255\nabcdef")?;
+    add_file(&mut files, alloc, "p.csv", b"x,y\n1,2\n")?;
+    add_file(
         &mut files,
         alloc,
         "bad.bdf",
@@ -63,19 +57,6 @@ fn made(alloc: Global, source: &str) -> Result<String, AllocError> {
     }
 }
 
-// The names of the files that a source uses.
-fn used(alloc: Global, source: &str) -> Result<String, AllocError> {
-    let names = match wanted(alloc, source.as_bytes()) {
-        Ok(names) => names,
-        Err(fault) => return fault_text(alloc, fault),
-    };
-    let mut text = String::new(alloc);
-    for name in names.as_slice() {
-        write!(text, "{},", name.as_str())?;
-    }
-    Ok(text)
-}
-
 // The font that a source gives, the files that it uses, and the source: each row has the form `MADE:USED~SOURCE`, in
 // which `|` stands for the end of a line.
 const ROWS: &str = "\
@@ -101,8 +82,7 @@ none:~MAP CONFIG labelfont a.bdf END
 fn made_and_used(alloc: Global, row: &str) -> Result<String, AllocError> {
     let source = written(alloc, row)?;
     let made = made(alloc, source.as_str())?;
-    let used = used(alloc, source.as_str())?;
-    format!(in alloc; "{made}:{used}")
+    with_used_files(alloc, made.as_str(), source.as_str())
 }
 
 #[test]

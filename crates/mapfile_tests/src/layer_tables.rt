@@ -1,34 +1,28 @@
-use crate::results::{fault_text, written};
-use mapdefs::{FeatureFields, Items, Layer, Map, Text};
-use mapparse::{Files, parse, wanted};
+use crate::results::{add_file, fault_text, with_used_files, written};
+use mapdefs::{FeatureFields, Layer, Map};
+use mapparse::{Files, parse};
 use std::alloc::{AllocError, Global};
 use test_tables::{TableFault, check_rows};
-
-fn add(files: &mut Files, alloc: Global, name: &str, bytes: &[u8]) -> Result<(), AllocError> {
-    let mut copy = Vec::new(alloc);
-    copy.extend_from_slice(bytes)?;
-    files.add(Text::from_str(alloc, name)?, Items::of(copy))
-}
 
 // Tables of points, files that are none, and a pixmap.
 fn some_files(alloc: Global) -> Result<Files, AllocError> {
     let mut files = Files::new(alloc);
-    add(&mut files, alloc, "p.csv", b"x,y,n\n1,2,a\n")?;
-    add(
+    add_file(&mut files, alloc, "p.csv", b"x,y,n\n1,2,a\n")?;
+    add_file(
         &mut files,
         alloc,
         "q.csv",
         b"lon,n,x,lat\n5,b,7,6\n-8,c,9,10.5\n",
     )?;
-    add(
+    add_file(
         &mut files,
         alloc,
         "r.csv",
         b"\xef\xbb\xbfx,y,n\r\n\r\n 1 ,2,\"a, \"\"b\"\"\nc\"\r\n",
     )?;
-    add(&mut files, alloc, "none.csv", b"x,y,n\n")?;
-    add(&mut files, alloc, "bad.csv", b"x,y\n1,2\n3,z\n")?;
-    add(&mut files, alloc, "pix.csv", b"P6 1 2 255\nabcdef")?;
+    add_file(&mut files, alloc, "none.csv", b"x,y,n\n")?;
+    add_file(&mut files, alloc, "bad.csv", b"x,y\n1,2\n3,z\n")?;
+    add_file(&mut files, alloc, "pix.csv", b"P6 1 2 255\nabcdef")?;
     Ok(files)
 }
 
@@ -78,19 +72,6 @@ fn made(alloc: Global, source: &str) -> Result<String, AllocError> {
     }
 }
 
-// The names of the files that a source uses.
-fn used(alloc: Global, source: &str) -> Result<String, AllocError> {
-    let names = match wanted(alloc, source.as_bytes()) {
-        Ok(names) => names,
-        Err(fault) => return fault_text(alloc, fault),
-    };
-    let mut text = String::new(alloc);
-    for name in names.as_slice() {
-        write!(text, "{},", name.as_str())?;
-    }
-    Ok(text)
-}
-
 // The layers that a source gives, the files that it uses, and the source: each row has the form `MADE:USED~SOURCE`, in
 // which `|` stands for the end of a line.
 const ROWS: &str = "\
@@ -137,8 +118,7 @@ const ROWS: &str = "\
 fn made_and_used(alloc: Global, row: &str) -> Result<String, AllocError> {
     let source = written(alloc, row)?;
     let made = made(alloc, source.as_str())?;
-    let used = used(alloc, source.as_str())?;
-    format!(in alloc; "{made}:{used}")
+    with_used_files(alloc, made.as_str(), source.as_str())
 }
 
 #[test]
@@ -179,7 +159,7 @@ fn count_of_row(alloc: Global, row: &str) -> Result<String, AllocError> {
     };
     let table = table_of(alloc, rows)?;
     let mut files = Files::new(alloc);
-    add(&mut files, alloc, "b.csv", table.as_bytes())?;
+    add_file(&mut files, alloc, "b.csv", table.as_bytes())?;
     let source = written(alloc, source)?;
     match parse(alloc, source.as_bytes(), &files) {
         Ok(map) => count_of(alloc, &map),

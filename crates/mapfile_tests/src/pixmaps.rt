@@ -1,21 +1,15 @@
-use crate::results::{fault_text, written};
-use mapdefs::{Items, Layer, Map, Text};
-use mapparse::{Files, parse, wanted};
+use crate::results::{add_file, fault_text, used_files, with_used_files, written};
+use mapdefs::{Layer, Map};
+use mapparse::{Files, parse};
 use std::alloc::{AllocError, Global};
 use test_tables::{TableFault, check_rows};
-
-fn add(files: &mut Files, alloc: Global, name: &str, bytes: &[u8]) -> Result<(), AllocError> {
-    let mut copy = Vec::new(alloc);
-    copy.extend_from_slice(bytes)?;
-    files.add(Text::from_str(alloc, name)?, Items::of(copy))
-}
 
 // A pixmap of one column and two rows, one of two columns and one row, and a file that is no pixmap.
 fn some_files(alloc: Global) -> Result<Files, AllocError> {
     let mut files = Files::new(alloc);
-    add(&mut files, alloc, "a.ppm", b"P6 1 2 255\nabcdef")?;
-    add(&mut files, alloc, "b.ppm", b"P6 2 1 255\nghijkl")?;
-    add(&mut files, alloc, "bad.ppm", b"P5")?;
+    add_file(&mut files, alloc, "a.ppm", b"P6 1 2 255\nabcdef")?;
+    add_file(&mut files, alloc, "b.ppm", b"P6 2 1 255\nghijkl")?;
+    add_file(&mut files, alloc, "bad.ppm", b"P5")?;
     Ok(files)
 }
 
@@ -50,22 +44,6 @@ fn made(alloc: Global, source: &str) -> Result<String, AllocError> {
     let files = some_files(alloc)?;
     match parse(alloc, source.as_bytes(), &files) {
         Ok(map) => symbols_of(alloc, &map),
-        Err(fault) => fault_text(alloc, fault),
-    }
-}
-
-fn list_of(alloc: Global, names: &[Text]) -> Result<String, AllocError> {
-    let mut text = String::new(alloc);
-    for name in names {
-        write!(text, "{},", name.as_str())?;
-    }
-    Ok(text)
-}
-
-// The names of the files that a source uses.
-fn used(alloc: Global, source: &str) -> Result<String, AllocError> {
-    match wanted(alloc, source.as_bytes()) {
-        Ok(names) => list_of(alloc, names.as_slice()),
         Err(fault) => fault_text(alloc, fault),
     }
 }
@@ -110,8 +88,7 @@ p 1 by 2,:a.ppm,~MAP SYMBOL TRANSPARENT 3 ANCHORPOINT 0.5 1 NAME p TYPE PIXMAP I
 fn made_and_used(alloc: Global, row: &str) -> Result<String, AllocError> {
     let source = written(alloc, row)?;
     let made = made(alloc, source.as_str())?;
-    let used = used(alloc, source.as_str())?;
-    format!(in alloc; "{made}:{used}")
+    with_used_files(alloc, made.as_str(), source.as_str())
 }
 
 #[test]
@@ -126,7 +103,7 @@ a.ppm,~MAP|{64*SYMBOL NAME p TYPE PIXMAP IMAGE a.ppm END|}END
 
 fn used_of_row(alloc: Global, row: &str) -> Result<String, AllocError> {
     let source = written(alloc, row)?;
-    used(alloc, source.as_str())
+    used_files(alloc, source.as_str())
 }
 
 #[test]
@@ -159,8 +136,8 @@ fn letters_of(alloc: Global, bytes: Option<&[u8]>) -> Result<String, AllocError>
 
 fn file_of(alloc: Global, name: &str) -> Result<String, AllocError> {
     let mut files = some_files(alloc)?;
-    add(&mut files, alloc, "b.ppm", b"new")?;
-    add(&mut files, alloc, "c.ppm", b"other")?;
+    add_file(&mut files, alloc, "b.ppm", b"new")?;
+    add_file(&mut files, alloc, "c.ppm", b"other")?;
     letters_of(alloc, files.bytes(name))
 }
 

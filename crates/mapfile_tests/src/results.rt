@@ -1,5 +1,5 @@
-use mapdefs::{Layer, Map};
-use mapparse::{Files, ParseFault, parse};
+use mapdefs::{Items, Layer, Map, Text};
+use mapparse::{Files, ParseFault, parse, wanted};
 use std::alloc::{AllocError, Global};
 
 // How many of each a map has in all.
@@ -47,12 +47,43 @@ fn totals_of(alloc: Global, map: &Map) -> Result<String, AllocError> {
     )
 }
 
+/// Adds a file of that name with a copy of the bytes.
+pub fn add_file(
+    files: &mut Files,
+    alloc: Global,
+    name: &str,
+    bytes: &[u8],
+) -> Result<(), AllocError> {
+    let mut copy = Vec::new(alloc);
+    copy.extend_from_slice(bytes)?;
+    files.add(Text::from_str(alloc, name)?, Items::of(copy))
+}
+
 /// The line and the kind of a fault.
 pub fn fault_text(alloc: Global, fault: ParseFault) -> Result<String, AllocError> {
     match fault {
         ParseFault::At { line, kind } => format!(in alloc; "{line} {kind:?}"),
         ParseFault::NoMemory => Err(AllocError),
     }
+}
+
+/// The names of the files that a source uses, each with a comma after it, or its fault.
+pub fn used_files(alloc: Global, source: &str) -> Result<String, AllocError> {
+    let names = match wanted(alloc, source.as_bytes()) {
+        Ok(names) => names,
+        Err(fault) => return fault_text(alloc, fault),
+    };
+    let mut text = String::new(alloc);
+    for name in names.as_slice() {
+        write!(text, "{},", name.as_str())?;
+    }
+    Ok(text)
+}
+
+/// What was made of a source, a colon, and the files that the source uses.
+pub fn with_used_files(alloc: Global, made: &str, source: &str) -> Result<String, AllocError> {
+    let used = used_files(alloc, source)?;
+    format!(in alloc; "{made}:{used}")
 }
 
 /// The line and the kind of a source's fault, or how many of each its map has.

@@ -3,35 +3,12 @@ ghost use Rattle.std.specs.Prelude.{◌≡◌, length};
 use crate::painted_maps::{letters_of, map_of_two};
 use compose::picture;
 use geom::{Micro, PictureSide, WorldBox};
-use mapdefs::{AllFeatures, Map, Near};
+use mapdefs::Map;
 use scaledenom::Scale;
 use std::alloc::{AllocError, Global};
+use test_maps::InWindow;
 use test_tables::{TableFault, check_rows};
 use viewport::{MAX_MARGIN, View};
-
-// Whether two boxes are the same.
-fn is_same(a: WorldBox, b: WorldBox) -> bool {
-    a.minx() == b.minx() && a.miny() == b.miny() && a.maxx() == b.maxx() && a.maxy() == b.maxy()
-}
-
-// Finds all features of a map for one window, and is out of memory for any other.
-#[derive(Drop)]
-struct InWindow<'a> {
-    alloc: Global,
-    map: &'a Map,
-    window: WorldBox,
-}
-
-impl<'a> Near for InWindow<'a> {
-    ghost map_of = { λ n. n.map.now };
-
-    fn candidates(&self, layer: usize, window: WorldBox) -> Result<Vec<u32>, AllocError> {
-        if !is_same(window, self.window) {
-            return Err(AllocError);
-        }
-        AllFeatures::of(self.alloc, self.map).candidates(layer, window)
-    }
-}
 
 // The picture of the first layer of a map, four degrees by four in four pixels by four, where features are found in the
 // window of that margin alone.
@@ -46,7 +23,7 @@ fn drawn_in_window(alloc: Global, map: &Map, margin: u16) -> Result<String, Allo
         side,
     );
     let window = view.window(margin.min(MAX_MARGIN));
-    let near = InWindow { alloc, map, window };
+    let near = InWindow::new(alloc, map, window);
     let scale = Scale::of(280_000, PictureSide::new(1).unwrap());
     match picture(alloc, map, &near, view, scale, &[0], None) {
         Ok(picture) => letters_of(alloc, &picture),

@@ -208,7 +208,7 @@ fn sessions_end_as_they_should(rt: HostRuntime) -> Result<(), TableFault> {
 // The statuses of failures, and the messages of faults.
 const FAILURES: &str = "\
 SocketFailed 3, OutputFailed 3, FileFailed 1=some
-MapfileFault 1, FileFailed 1, WordsRefused 2=refusals
+MapfileFault 1, FileFailed 1, ArgumentsRefused 2=refusals
 JournalFault 1, JournalFailed 3, WatchFailed 3=journals
 InputFailed 3, OutputFailed 3, NoMemory 4=failures
 the reader failed, out of memory=messages";
@@ -240,7 +240,7 @@ fn result_of_row(alloc: Global, row: &str) -> Result<String, AllocError> {
             [
                 Failure::MapfileFault,
                 Failure::FileFailed,
-                Failure::WordsRefused,
+                Failure::ArgumentsRefused,
             ],
         ),
         "journals" => statuses(

@@ -83,13 +83,14 @@ fn result_of_counts(alloc: Global, counts: &Counts) -> Result<String, AllocError
     )
 }
 
-// How the program ends on a host whose ports have those letters.
-fn ended<R: Runtime>(
+/// How the program ends on a host whose ports have those letters, what the host counted, and the output and the errors
+/// with `|` between them. The input is a mapfile without layers.
+pub(crate) fn run_program<R: Runtime>(
     rt: &R,
     system: &HostRuntime,
     arguments: Result<Vec<String>, ArgumentsUnread>,
     letters: &str,
-) -> Result<String, AllocError> {
+) -> Result<(String, Arc<Counts>, String), AllocError> {
     let alloc = rt.alloc();
     let counts = no_counts(alloc)?;
     let (clients, administration) = letters.split_once(' ').unwrap_or((letters, ""));
@@ -111,13 +112,25 @@ fn ended<R: Runtime>(
     };
     let ending = program.answer(arguments, &mut console);
     let end = end_of(alloc, ending.outcome())?;
-    let counts = result_of_counts(alloc, &counts)?;
     let (output, errors) = (console.output.into_inner(), console.errors.into_inner());
-    format!(in alloc;
-        "{end} {counts}|{}|{}",
+    let written = format!(in alloc;
+        "{}|{}",
         str::from_utf8(&output.held).unwrap_or("?"),
         str::from_utf8(&errors.held).unwrap_or("?")
-    )
+    )?;
+    Ok((end, counts, written))
+}
+
+// The same as one text.
+fn ended<R: Runtime>(
+    rt: &R,
+    system: &HostRuntime,
+    arguments: Result<Vec<String>, ArgumentsUnread>,
+    letters: &str,
+) -> Result<String, AllocError> {
+    let (end, counts, written) = run_program(rt, system, arguments, letters)?;
+    let counts = result_of_counts(rt.alloc(), &counts)?;
+    format!(in rt.alloc(); "{end} {counts}|{written}")
 }
 
 // Whether the program ends as a row says.

@@ -1,16 +1,9 @@
 //! The program with a journal.
 
-use crate::endings::end_of;
-use crate::hosts::arguments_of;
-use crate::memory::stream_of;
-use crate::shelf::{Shelf, no_counts};
+use crate::hosts::{arguments_of, run_program};
 use crate::texts::{columns, spelt};
-use console::Console;
-use program::Program;
 use service::Runtime;
 use std::alloc::AllocError;
-use std::str;
-use std::sync::Arc;
 use std::sync::atomic::Ordering;
 use test_tables::{TableFault, check_all};
 
@@ -46,35 +39,13 @@ fn ended<R: Runtime>(
     arguments: &str,
     letters: &str,
 ) -> Result<String, AllocError> {
-    let alloc = rt.alloc();
-    let counts = no_counts(alloc)?;
-    let (clients, administration) = letters.split_once(' ').unwrap_or((letters, ""));
-    let host = Shelf {
-        rt: *system,
-        alloc,
-        clients,
-        administration,
-        counts: Arc::try_clone(&counts)?,
-    };
-    let program = Program {
-        rt: *rt,
-        host: &host,
-    };
-    let mut console = Console {
-        input: stream_of(alloc, "", 7, None),
-        output: stream_of(alloc, "", 7, None),
-        errors: stream_of(alloc, "", 7, None),
-    };
-    let ending = program.answer(Ok(arguments_of(alloc, arguments)?), &mut console);
-    let end = end_of(alloc, ending.outcome())?;
-    let (output, errors) = (console.output.into_inner(), console.errors.into_inner());
-    format!(in alloc;
-        "{end} {} {} {}|{}|{}",
+    let arguments = arguments_of(rt.alloc(), arguments)?;
+    let (end, counts, written) = run_program(rt, system, Ok(arguments), letters)?;
+    format!(in rt.alloc();
+        "{end} {} {} {}|{written}",
         counts.published.load(Ordering::SeqCst),
         counts.failed.load(Ordering::SeqCst),
-        counts.kept.load(Ordering::SeqCst),
-        str::from_utf8(&output.held).unwrap_or("?"),
-        str::from_utf8(&errors.held).unwrap_or("?")
+        counts.kept.load(Ordering::SeqCst)
     )
 }
 

@@ -1,11 +1,14 @@
 //! Maps of tests: places, and the fields of a layer and of a map, which hold nothing but the arguments. A
-//! test changes the fields that it is about.
+//! test changes the fields that it is about. `InWindow` shows for which window features are asked.
 #![tactic(auto)]
+
+mod in_window;
 
 ghost use Rattle.std.specs.Prelude.{◌≡◌, [], ◌∷◌, None, true, false, pos, IfOk};
 ghost use Rattle.mapdefs.specs.declared.layer.Geometry.TheVariants as kind;
 
-use geom::{Coordinate, Micro, World, WorldBox};
+use geom::{Coordinate, GREATEST_COORDINATE, LEAST_COORDINATE, Micro, World, WorldBox};
+pub use in_window::InWindow;
 use mapdefs::{Feature, Geometry, Items, Layer, LayerFields, MapFields, Shared, SharedItems, Text};
 use std::alloc::{AllocError, Global};
 
@@ -92,8 +95,7 @@ pub fn map_fields(alloc: Global, layers: Items<Layer>) -> MapFields
 
 /// The place of these millionths of a degree. That of a row is within the limits.
 pub fn place([x, y]: [i64; 2]) -> World {
-    let limit = 1_000_000_000;
-    let x = Coordinate::new(Micro::new(x.clamp(-limit, limit)));
-    let y = Coordinate::new(Micro::new(y.clamp(-limit, limit)));
+    let x = Coordinate::new(Micro::new(x.clamp(LEAST_COORDINATE, GREATEST_COORDINATE)));
+    let y = Coordinate::new(Micro::new(y.clamp(LEAST_COORDINATE, GREATEST_COORDINATE)));
     World::new(x, y)
 }
