@@ -4,7 +4,7 @@ use Rattle.std.specs.Io.KnownBytes.{Appends, Keeps}
 use Rattle.std.proofs.KnownBytes.{Appends-kept}
 use Rattle.streams.specs.Sent.{IsSent}
 use Rattle.console.specs.Console.{WriterState, Outcome, GetsLine, IsWritten, HasFlushed, is_done, is_output_failed}
-use Rattle.console.specs.declared.failure.Failure.TheVariants.{MapfileFault, FileFailed, WordsRefused, InputFailed, OutputFailed, ListenFailed, SocketFailed, WatchFailed, JournalFault, JournalFailed, NoMemory}
+use Rattle.console.specs.declared.failure.Failure.TheVariants.{MapfileFault, FileFailed, ArgumentsRefused, InputFailed, OutputFailed, ListenFailed, SocketFailed, WatchFailed, JournalFault, JournalFailed, NoMemory}
 
 -- a flush leaves it
 pub whole-line : {S : Type 0} (held : S → Option (List ℕ)) (taken : S → ℕ) (a b : S) (c : Option (List ℕ)) (line : List ℕ) → IsSent held taken a line b → Keeps (held b) c → Appends (held a) c line
@@ -26,7 +26,7 @@ gets-whole (Ok done) a c line bytes only = bytes
 gets-whole (Err OutputFailed) a c line bytes only = (length line, whole-front a.held c.held line bytes)
 gets-whole (Err MapfileFault) a c line bytes only = cc
 gets-whole (Err FileFailed) a c line bytes only = cc
-gets-whole (Err WordsRefused) a c line bytes only = cc
+gets-whole (Err ArgumentsRefused) a c line bytes only = cc
 gets-whole (Err InputFailed) a c line bytes only = cc
 gets-whole (Err SocketFailed) a c line bytes only = cc
 gets-whole (Err WatchFailed) a c line bytes only = cc

@@ -2,7 +2,7 @@
 use Rattle.std.specs.Prelude.{◌≡◌, ◌||◌, ℕ, ◌≤◌, Bool, true, false, List, length, take, Option, Result, Ok, Err}
 use Rattle.std.specs.Io.KnownBytes.{Appends, Keeps}
 use Rattle.console.specs.declared.failure.Failure.{Failure}
-use Rattle.console.specs.declared.failure.Failure.TheVariants.{MapfileFault, FileFailed, WordsRefused, InputFailed, OutputFailed, ListenFailed, SocketFailed, WatchFailed, JournalFault, JournalFailed, NoMemory}
+use Rattle.console.specs.declared.failure.Failure.TheVariants.{MapfileFault, FileFailed, ArgumentsRefused, InputFailed, OutputFailed, ListenFailed, SocketFailed, WatchFailed, JournalFault, JournalFailed, NoMemory}
 
 -- how the program ends: the command was done, or why not
 abbrev pub Outcome : Type 0
@@ -13,7 +13,7 @@ abbrev pub status_of : Outcome → ℕ
 status_of (Ok done) = 0
 status_of (Err MapfileFault) = 1
 status_of (Err FileFailed) = 1
-status_of (Err WordsRefused) = 2
+status_of (Err ArgumentsRefused) = 2
 status_of (Err InputFailed) = 3
 status_of (Err OutputFailed) = 3
 status_of (Err (ListenFailed port cause)) = 3

@@ -20,7 +20,7 @@ pub enum Failure {
     /// A mapfile or a script could not be read, and was reported by its name.
     FileFailed,
     /// The arguments are no command, or request help, and the message was written.
-    WordsRefused,
+    ArgumentsRefused,
     /// The reader of the session failed.
     InputFailed,
     /// The writer of the transcript, or of the map's line, failed.
@@ -53,7 +53,7 @@ impl Failure {
     {
         match self {
             Failure::MapfileFault | Failure::FileFailed | Failure::JournalFault => 1,
-            Failure::WordsRefused => 2,
+            Failure::ArgumentsRefused => 2,
             Failure::InputFailed
             | Failure::OutputFailed
             | Failure::ListenFailed { .. }

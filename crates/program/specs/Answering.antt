@@ -5,7 +5,7 @@ use Rattle.clap.specs.Words.{subcommand_of, takes}
 use Rattle.commandline.specs.Arguments.{app, IsCommand}
 use Rattle.commandline.specs.declared.subcommand.Command.{Command}
 use Rattle.console.specs.Console.{ConsoleState, IsReported}
-use Rattle.console.specs.declared.failure.Failure.TheVariants.{WordsRefused, NoMemory}
+use Rattle.console.specs.declared.failure.Failure.TheVariants.{ArgumentsRefused, NoMemory}
 use Rattle.program.specs.Endings.{EndingValue}
 use Rattle.program.specs.Explaining.{ExplainsEnd, explains_end}
 use Rattle.program.specs.Performing.{HostView, Performs}
@@ -25,7 +25,7 @@ pub record IsWithoutMemory {P L : Type 0} (ending : EndingValue P L) (old new : 
 
 -- the arguments were refused, and the command line doesn't take them; a message on that was reported
 pub record IsRefused {P L : Type 0} (arguments : List (List ℕ)) (ending : EndingValue P L) (old new : ConsoleState) : Type 0 where
-  pub ends : ending ≡ record { outcome = Err WordsRefused; served = None }
+  pub ends : ending ≡ record { outcome = Err ArgumentsRefused; served = None }
   pub refused : takes app arguments ≡ false
   pub untouched : IsUntouched old new
   pub text : List ℕ
@@ -43,9 +43,9 @@ pub record IsPerformed {P L : Type 0} (host : HostView P L) (arguments : List (L
 
 -- an argument isn't text, which was reported
 pub record IsNoText {P L : Type 0} (ending : EndingValue P L) (old new : ConsoleState) : Type 0 where
-  pub ends : ending ≡ record { outcome = Err WordsRefused; served = None }
+  pub ends : ending ≡ record { outcome = Err ArgumentsRefused; served = None }
   pub untouched : IsUntouched old new
-  pub reported : IsReported old.errors new.errors (codes "error: a word is not UTF-8\n")
+  pub reported : IsReported old.errors new.errors (codes "error: an argument is not UTF-8\n")
 
 -- the result for these arguments, or for arguments that can't be read
 abbrev pub Answers : {P L : Type 0} → HostView P L → Result (List (List ℕ)) ArgumentsUnread → EndingValue P L → ConsoleState → ConsoleState → Type 0

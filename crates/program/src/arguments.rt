@@ -18,7 +18,7 @@ use thiserror::Error;
 #[derive(Clone, Copy, Debug, Error)]
 pub enum ArgumentsUnread {
     /// One of them isn't UTF-8.
-    #[error("a word is not UTF-8")]
+    #[error("an argument is not UTF-8")]
     NoText,
     /// Memory was refused.
     #[error("out of memory")]
@@ -54,7 +54,7 @@ impl<R: Runtime, H: Host> Program<'_, R, H> {
             }
             Err(WordsFault::Refused { text }) => {
                 report(&mut console.errors, &[text.as_bytes()]);
-                Ending::after(Err(Failure::WordsRefused))
+                Ending::after(Err(Failure::ArgumentsRefused))
             }
             Err(WordsFault::NoMemory) => Ending::after(Err(Failure::NoMemory)),
         }
@@ -87,8 +87,8 @@ impl<R: Runtime, H: Host> Program<'_, R, H> {
         match arguments {
             Ok(arguments) => self.answer_strings(&arguments, console),
             Err(ArgumentsUnread::NoText) => {
-                report(&mut console.errors, &[b"error: a word is not UTF-8\n"]);
-                Ending::after(Err(Failure::WordsRefused))
+                report(&mut console.errors, &[b"error: an argument is not UTF-8\n"]);
+                Ending::after(Err(Failure::ArgumentsRefused))
             }
             Err(ArgumentsUnread::NoMemory) => Ending::after(Err(Failure::NoMemory)),
         }

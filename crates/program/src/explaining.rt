@@ -60,7 +60,7 @@ fn report_failure<E: Sink>(failure: Failure, errors: &mut E)
         | Failure::JournalFault
         | Failure::JournalFailed
         | Failure::FileFailed
-        | Failure::WordsRefused
+        | Failure::ArgumentsRefused
         | Failure::InputFailed => {}
     }
 }

@@ -169,7 +169,7 @@ fn result_of_row<R: Runtime>(
 }
 
 const UNREAD: &str = "\
-a word is not UTF-8: 2 WordsRefused 0 0 0 0||error: a word is not UTF-8~=text
+an argument is not UTF-8: 2 ArgumentsRefused 0 0 0 0||error: an argument is not UTF-8~=text
 out of memory: 4 NoMemory 0 0 0 0||=memory";
 
 #[test]

@@ -4,7 +4,7 @@ use Rattle.std.specs.Io.KnownBytes.{Keeps}
 use Rattle.std.proofs.KnownBytes.{Keeps-refl}
 use Rattle.console.specs.Console.{Outcome, ConsoleState, WriterState}
 use Rattle.console.specs.declared.failure.Failure.{Failure}
-use Rattle.console.specs.declared.failure.Failure.TheVariants.{MapfileFault, FileFailed, WordsRefused, InputFailed, OutputFailed, ListenFailed, SocketFailed, WatchFailed, JournalFault, JournalFailed, NoMemory}
+use Rattle.console.specs.declared.failure.Failure.TheVariants.{MapfileFault, FileFailed, ArgumentsRefused, InputFailed, OutputFailed, ListenFailed, SocketFailed, WatchFailed, JournalFault, JournalFailed, NoMemory}
 use Rattle.mapdefs.specs.declared.map.MapFields.{MapFields}
 use Rattle.batches.specs.Batch.{State}
 use Rattle.subcommands.specs.Folder.{Giving, ComesTo}
@@ -24,7 +24,7 @@ served gives (Err JournalFault) old new mapfile script map read is_map ends kept
 served gives (Err JournalFailed) old new mapfile script map read is_map ends kept = absurd ends.1
 served gives (Err (ListenFailed port cause)) old new mapfile script map read is_map ends kept = absurd ends.1
 served gives (Err FileFailed) old new mapfile script map read is_map ends kept = absurd ends.1
-served gives (Err WordsRefused) old new mapfile script map read is_map ends kept = absurd ends.1
+served gives (Err ArgumentsRefused) old new mapfile script map read is_map ends kept = absurd ends.1
 served gives (Err MapfileFault) old new mapfile script map read is_map ends kept = absurd ends.1
 served gives (Err InputFailed) old new mapfile script map read is_map ends kept = absurd ends.1
 served gives (Err OutputFailed) old new mapfile script map read is_map ends kept =
@@ -50,7 +50,7 @@ ran gives explains (Err JournalFailed) mapfile script files old new map bytes re
 ran gives explains (Err (ListenFailed port cause)) mapfile script files old new map bytes read read_script ends warnings = absurd ends.1
 ran gives explains (Err MapfileFault) mapfile script files old new map bytes read read_script ends warnings = absurd ends.1
 ran gives explains (Err FileFailed) mapfile script files old new map bytes read read_script ends warnings = absurd ends.1
-ran gives explains (Err WordsRefused) mapfile script files old new map bytes read read_script ends warnings = absurd ends.1
+ran gives explains (Err ArgumentsRefused) mapfile script files old new map bytes read read_script ends warnings = absurd ends.1
 ran gives explains (Err InputFailed) mapfile script files old new map bytes read read_script ends warnings = absurd ends.1
 ran gives explains (Err NoMemory) mapfile script files old new map bytes read read_script ends warnings =
     (ends, inr (record { map = map; read = read; warned = record { errors = new.errors; warnings = warnings }; unread = Keeps-refl new.errors.held }))
@@ -69,7 +69,7 @@ unscripted gives explains JournalFault mapfile script files old new map read war
 unscripted gives explains JournalFailed mapfile script files old new map read warned unread kept = absurd unread
 unscripted gives explains (ListenFailed port cause) mapfile script files old new map read warned unread kept = absurd unread
 unscripted gives explains MapfileFault mapfile script files old new map read warned unread kept = absurd unread
-unscripted gives explains WordsRefused mapfile script files old new map read warned unread kept = absurd unread
+unscripted gives explains ArgumentsRefused mapfile script files old new map read warned unread kept = absurd unread
 unscripted gives explains InputFailed mapfile script files old new map read warned unread kept = absurd unread
 unscripted gives explains OutputFailed mapfile script files old new map read warned unread kept = absurd unread
 
@@ -84,7 +84,7 @@ unsummed gives explains OutputFailed file before after old new map read sums kep
     record { map = map; read = read; sums = sums; warnings = unwarned file.name map old.errors new.errors kept }
 unsummed gives explains MapfileFault file before after old new map read sums kept = absurd sums
 unsummed gives explains FileFailed file before after old new map read sums kept = absurd sums
-unsummed gives explains WordsRefused file before after old new map read sums kept = absurd sums
+unsummed gives explains ArgumentsRefused file before after old new map read sums kept = absurd sums
 unsummed gives explains InputFailed file before after old new map read sums kept = absurd sums
 unsummed gives explains SocketFailed file before after old new map read sums kept = absurd sums
 unsummed gives explains WatchFailed file before after old new map read sums kept = absurd sums
@@ -108,7 +108,7 @@ ends-on map (Ok done) script state before after ends = (state, ends)
 ends-on map (Err OutputFailed) script state before after ends = (state, ends)
 ends-on map (Err MapfileFault) script state before after ends = absurd ends
 ends-on map (Err FileFailed) script state before after ends = absurd ends
-ends-on map (Err WordsRefused) script state before after ends = absurd ends
+ends-on map (Err ArgumentsRefused) script state before after ends = absurd ends
 ends-on map (Err InputFailed) script state before after ends = absurd ends
 ends-on map (Err SocketFailed) script state before after ends = absurd ends
 ends-on map (Err WatchFailed) script state before after ends = absurd ends
