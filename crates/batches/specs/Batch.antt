@@ -28,24 +28,24 @@ abbrev pub and_then : {A B E : Type 0} → Result A E → (A → Result B E) →
 and_then (Ok a) next = next a
 and_then (Err e) next = Err e
 
--- a refusal of a change, as a kind of fault
-abbrev pub refused : {A : Type 0} → Result A Refusal → Result A BatchKind
-refused (Ok a) = Ok a
-refused (Err refusal) = Err (kind.Refused refusal)
+-- a change, whose refusal is a kind of fault of a batch
+abbrev pub refusal_fault : {A : Type 0} → Result A Refusal → Result A BatchKind
+refusal_fault (Ok a) = Ok a
+refusal_fault (Err refusal) = Err (kind.Refused refusal)
 
--- a fault of a table
-abbrev pub read : Result TableFields CsvFault → Result TableFields BatchKind
-read (Ok table) = Ok table
-read (Err fault) = Err (kind.Csv fault)
+-- a table, whose fault is one, too
+abbrev pub csv_fault : Result TableFields CsvFault → Result TableFields BatchKind
+csv_fault (Ok table) = Ok table
+csv_fault (Err fault) = Err (kind.Csv fault)
 
 -- how one command changes a map, or why it fails: a table is read by the columns that its layer names
 abbrev pub applied : Command → MapFields → Result MapFields BatchKind
-applied (On name) m = refused (switch name true m)
-applied (Off name) m = refused (switch name false m)
-applied (Clear name) m = refused (clear name m)
+applied (On name) m = refusal_fault (switch name true m)
+applied (Off name) m = refusal_fault (switch name false m)
+applied (Clear name) m = refusal_fault (clear name m)
 applied (Append name bytes) m =
-    and_then (refused (found_points name m)) (λ f.
-    and_then (read (table_of f.1.csv_x f.1.csv_y MAX_FEATURES (records_of bytes))) (λ table. refused (append_at f.0 table m)))
+    and_then (refusal_fault (found_points name m)) (λ f.
+    and_then (csv_fault (table_of f.1.csv_x f.1.csv_y MAX_FEATURES (records_of bytes))) (λ table. refusal_fault (append_at f.0 table m)))
 
 -- what is wrong with the command at an index
 abbrev pub at_command : {A : Type 0} → ℕ → Result A BatchKind → Result A BatchFault
@@ -103,8 +103,8 @@ IsBatchErrorOf r batch_error.NoMemory = Unit {0}
 abbrev pub IsTableAt : MapFields → ℕ → List ℕ → Result TableFields CommandError → Type 0
 IsTableAt m index bytes result = IfSome (slice_get m.layers index) (λ (layer : LayerFields).
     MatchResult result
-    (λ table. read (table_of layer.csv_x layer.csv_y MAX_FEATURES (records_of bytes)) ≡ Ok table)
-    (IsErrorOf (read (table_of layer.csv_x layer.csv_y MAX_FEATURES (records_of bytes)))))
+    (λ table. csv_fault (table_of layer.csv_x layer.csv_y MAX_FEATURES (records_of bytes)) ≡ Ok table)
+    (IsErrorOf (csv_fault (table_of layer.csv_x layer.csv_y MAX_FEATURES (records_of bytes)))))
 
 -- the fault of the batch where the command at an index has an error
 abbrev pub at_index : ℕ → CommandError → BatchError
