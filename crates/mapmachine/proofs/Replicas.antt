@@ -140,8 +140,8 @@ one-to picture hits state query (Ok request.Capabilities) a b meant e f = e ∙ 
 one-to picture hits state query (Ok (request.Map r)) a b meant (p, is, e) (q, are, f) =
     e ∙ ap (written_picture r.format) (picture state.map (view_of r) (scale_of (view_of r)) r.chosen r.background p q is are) ∙ sym f
 one-to picture hits state query (Ok (request.Information r)) a b meant (found, mine, e) (others, theirs, f) =
-    let layers : HasLayers state.map r.asked = queried-layers state.map (layer_names (texts_of (pairs_of query))) (names_of (given (texts_of (pairs_of query)) parameter.QueryLayers)) r.asked meant.1.1.asked in
-    e ∙ ap (λ (h : List LayerHits). record { mime = mime.Plain; body = featureinfo.answer state.map h }) (one-found hits state.map r r.asked found others layers mine theirs) ∙ sym f
+    let layers : HasLayers state.map r.layers = queried-layers state.map (layer_names (texts_of (pairs_of query))) (names_of (given (texts_of (pairs_of query)) parameter.QueryLayers)) r.layers meant.1.1.layers in
+    e ∙ ap (λ (h : List LayerHits). record { mime = mime.Plain; body = featureinfo.answer state.map h }) (one-found hits state.map r r.layers found others layers mine theirs) ∙ sym f
 
 -- there is one answer to a query in a state
 one-answer : MeaningIsOne → HasOnePicture → HasOneHitList → (state : State) (query : List ℕ) (a b : Answer) → IsAnswer state query a → IsAnswer state query b → a ≡ b

@@ -62,7 +62,7 @@ AreAskedHits map request index hits =
 abbrev pub IsInformationAnswer : MapFields → InformationRequest → Answer → Type 0
 IsInformationAnswer map request answer =
     (found : List LayerHits)
-    × AllZip (AreAskedHits map request) request.asked found
+    × AllZip (AreAskedHits map request) request.layers found
     × (answer ≡ record { mime = mime.Plain; body = featureinfo.answer map found })
 
 -- the answer to what a query means: the capabilities document, a picture, feature information, or the document of a fault

@@ -203,10 +203,10 @@ impl Machine {
     // times is searched once, and its hits are shared.
     fn found(&self, request: &InformationRequest) -> Result<Items<LayerHits>, AllocError>
         requires within { IsInformationWithin (length self.now.map.layers) request.now }
-        ensures { IfOk result (λ found. AllZip (AreAskedHits self.now.map request.now) request.now.asked found) }
+        ensures { IfOk result (λ found. AllZip (AreAskedHits self.now.map request.now) request.now.layers found) }
     {
         let mut found = Items::new(self.alloc);
-        for layer in request.asked.as_slice() {
+        for layer in request.layers.as_slice() {
             let hits = self.next_hits(request, found.as_slice(), *layer)?;
             found.push(hits)?;
         }

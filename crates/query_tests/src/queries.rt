@@ -223,7 +223,7 @@ fn picture(alloc: Global, request: &MapRequest) -> Result<String, AllocError> {
 // A request for features, as a row writes it.
 fn information(alloc: Global, request: &InformationRequest) -> Result<String, AllocError> {
     let picture = picture(alloc, &request.map)?;
-    let queried = listed(alloc, request.asked.as_slice())?;
+    let queried = listed(alloc, request.layers.as_slice())?;
     let (count, column, row) = (request.count, request.column, request.row);
     format!(in alloc; "{picture}; {queried} {count} {column} {row}")
 }

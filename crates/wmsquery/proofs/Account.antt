@@ -206,7 +206,7 @@ module _ (map : MapFields) (sequence : ℕ) (t : Texts) where
       let s = queried-value _ _ values.width values.height queried.first queried.is in
       record {
         map = subst (λ (q : InformationRequest). HasValues map t q.map) same values;
-        asked = asked-value asked.first asked.is ∙ ap (λ (q : InformationRequest). Ok q.asked) same;
+        layers = asked-value asked.first asked.is ∙ ap (λ (q : InformationRequest). Ok q.layers) same;
         count = s.count ∙ ap (λ (q : InformationRequest). Ok q.count) same;
         column = s.column ∙ ap (λ (q : InformationRequest). Ok q.column) same;
         row = s.row ∙ ap (λ (q : InformationRequest). Ok q.row) same;

@@ -116,7 +116,7 @@ picture-texts map crs o names r more is others =
 -- and those that say which features
 feature-texts : (map : MapFields) (names queried : List (List ℕ)) (r : InformationRequest) → IsInformation map names queried r → AreTexts (feature_pairs queried r)
 feature-texts map names queried r is =
-    texts-more (tested-text _ refl) (joined-text queried (names-text map r.asked queried is.named))
+    texts-more (tested-text _ refl) (joined-text queried (names-text map r.layers queried is.named))
     (texts-more (tested-text _ refl) (tested-text _ refl)
     (texts-more (tested-text _ refl) (decimal-text r.count (omega (arith, is.count)))
     (texts-more (tested-text _ refl) (decimal-text r.column (omega (arith, is.column, is.map.width.most)))
@@ -318,13 +318,13 @@ module _ (map : MapFields) (sequence : ℕ) (crs : Crs) (names queried : List (L
   u = plain_texts (picture_pairs crs operation.Information names r.map ++ feature_pairs queried r)
 
   -- QUERY_LAYERS lists the names
-  asked-are : asked_in map u ≡ Ok r.asked
+  asked-are : asked_in map u ≡ Ok r.layers
   asked-are =
       ap (λ ns. asked_of map ns (names_of (given u parameter.QueryLayers))) (names-are map sequence crs operation.Information names r.map (feature_pairs queried r) is.map)
       ∙ ap (λ text. asked_of map names (names_of text))
-      (some-given _ (names-some queried (omega (arith, same-count map r.asked queried is.named, is.some)) (each-some map r.asked queried is.named)))
-      ∙ ap (asked_of map names) (names-split queried (omega (arith, same-count map r.asked queried is.named, is.some)) (no-commas map r.asked queried is.named))
-      ∙ asked-written map r.map.chosen names r.asked queried is.some is.most is.map.named is.named is.chosen is.queryable
+      (some-given _ (names-some queried (omega (arith, same-count map r.layers queried is.named, is.some)) (each-some map r.layers queried is.named)))
+      ∙ ap (asked_of map names) (names-split queried (omega (arith, same-count map r.layers queried is.named, is.some)) (no-commas map r.layers queried is.named))
+      ∙ asked-written map r.map.chosen names r.layers queried is.some is.most is.map.named is.named is.chosen is.queryable
 
   -- the count and the pixel
   count-is : feature_count_of (given u parameter.FeatureCount) ≡ Ok r.count
@@ -355,7 +355,7 @@ module _ (map : MapFields) (sequence : ℕ) (crs : Crs) (names queried : List (L
   information-are : HasInformation map u r
   information-are = record {
     map = values-are map sequence crs operation.Information names r.map (feature_pairs queried r) is.map;
-    asked = asked-are;
+    layers = asked-are;
     count = count-is;
     column = column-is;
     row = row-is;

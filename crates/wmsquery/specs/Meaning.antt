@@ -28,7 +28,7 @@ pub record HasValues (map : MapFields) (t : Texts) (r : MapRequest) : Type 0 whe
 -- so has the request for feature information
 pub record HasInformation (m : MapFields) (t : Texts) (r : InformationRequest) : Type 0 where
   pub map : HasValues m t r.map
-  pub asked : asked_in m t ≡ Ok r.asked
+  pub layers : asked_in m t ≡ Ok r.layers
   pub count : feature_count_of (given t parameter.FeatureCount) ≡ Ok r.count
   pub column : column_in t ≡ Ok r.column
   pub row : row_in t ≡ Ok r.row

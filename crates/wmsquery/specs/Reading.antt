@@ -90,7 +90,7 @@ information_read map t =
     and_then (map_read map operation.Information t) (λ picture.
     and_then (asked_read map t) (λ asked.
     and_then (pixel_read picture.width picture.height t) (λ queried.
-    Ok (record { map = picture; asked = asked; count = queried.count; column = queried.column; row = queried.row }))))
+    Ok (record { map = picture; layers = asked; count = queried.count; column = queried.column; row = queried.row }))))
 
 -- the request of an operation
 abbrev pub own_read : MapFields → ℕ → Texts → Operation → Result Request WmsFault

@@ -15,7 +15,7 @@ pub record IsMapWithin (layers : ℕ) (r : MapRequest) : Type 0 where
 -- so are the layers whose features are requested; their count is one that a layer may have, and the pixel is in the picture
 pub record IsInformationWithin (layers : ℕ) (r : InformationRequest) : Type 0 where
   pub map : IsMapWithin layers r.map
-  pub asked : All (λ index. index < layers) r.asked
+  pub queried : All (λ index. index < layers) r.layers
   pub some : 1 ≤ r.count
   pub most : r.count ≤ MAX_FEATURES
   pub column : r.column < r.map.width

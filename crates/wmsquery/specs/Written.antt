@@ -145,11 +145,11 @@ pub record IsPicture (map : MapFields) (names : List (List ℕ)) (request : MapR
 -- have, and a pixel of the picture
 pub record IsInformation (m : MapFields) (names queried : List (List ℕ)) (request : InformationRequest) : Type 0 where
   pub map : IsPicture m names request.map
-  pub some : 1 ≤ length request.asked
-  pub most : length request.asked ≤ MAX_NAMES
-  pub named : AreNamed m request.asked queried
-  pub chosen : All (Contains request.map.chosen) request.asked
-  pub queryable : All (λ index. is_queryable m index ≡ true) request.asked
+  pub some : 1 ≤ length request.layers
+  pub most : length request.layers ≤ MAX_NAMES
+  pub named : AreNamed m request.layers queried
+  pub chosen : All (Contains request.map.chosen) request.layers
+  pub queryable : All (λ index. is_queryable m index ≡ true) request.layers
   pub one : 1 ≤ request.count
   pub count : request.count ≤ MAX_FEATURES
   pub column : request.column < request.map.width

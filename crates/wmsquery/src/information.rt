@@ -80,11 +80,11 @@ pub fn read_information(
     ensures within { IfOk result (IsInformationWithin (length map.now.layers)) }
 {
     let picture = read_map(alloc, Operation::Information, texts, names, map)?;
-    let asked = read_asked(alloc, texts, names, map)?;
+    let layers = read_asked(alloc, texts, names, map)?;
     let queried = read_pixel(picture.width, picture.height, texts)?;
     Ok(InformationRequest {
         map: picture,
-        asked,
+        layers,
         count: queried.count,
         column: queried.column,
         row: queried.row,

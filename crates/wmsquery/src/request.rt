@@ -33,7 +33,7 @@ pub struct InformationRequest {
     /// The picture.
     pub map: MapRequest,
     /// The indices of the layers whose features are requested, in the order of the answer.
-    pub asked: Items<usize>,
+    pub layers: Items<usize>,
     /// The most features of a layer in the answer.
     pub count: u32,
     /// The column of the pixel, counted from 0.
