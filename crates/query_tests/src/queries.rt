@@ -32,6 +32,7 @@ LayerNotDefined: LAYERS|LAYERS=x&@
 LayerNotDefined: LAYERS|LAYERS=A&@
 LayerNotDefined: LAYERS|LAYERS=b&@
 LayerNotDefined: LAYERS|LAYERS=a,&@
+LayerNotDefined: LAYERS|LAYERS=%a&@
 StyleNotDefined: STYLES|STYLES=x&@
 StyleNotDefined: STYLES|STYLES=Default&@
 InvalidParameterValue: STYLES|STYLES=default,default&@
@@ -90,6 +91,7 @@ LayerNotDefined: LAYERS|#LAYERS=x&@
 0, 0 0 4000000 4000000 4 4 nothing map|TRANSPARENT=true&FORMAT=image/x-portable-arbitrarymap&BGCOLOR=0x0A141E&@
 0, 0 0 4000000 4000000 2048 1 255 255 255|WIDTH=2048&HEIGHT=0001&@&other
 0, 0 0 4000000 4000000 4 4 255 255 255|EXCEPTIONS=x&=&&TIME=x&@&request=x
+0, 0 0 4000000 4000000 4 4 255 255 255|TIME=%&%=%g1&@
 0, 0 0 4000000 4000000 4 4 255 255 255|#@&#LAYERS=x
 0, 0 0 4000000 4000000 4 4 255 255 255|UPDATESEQUENCE=x&QUERY_LAYERS=x&INFO_FORMAT=x&FEATURE_COUNT=x&I=x&J=x&@
 0,2,2,2,2,2,2,2,2,2,2,2,2,2,2,2,2,2,2,2,2,2,2,2,2,2,2,2,2,2,2,2,2,2,2,2,2,2,2,2,2,2,2,2,2,2,2,2,2,2,2,2,2,2,2,2,2,2,2,2,2,2,2,2, 0 0 4000000 4000000 4 4 255 255 255|LAYERS=a*&@
@@ -263,7 +265,7 @@ fn rows_of_queries(alloc: Global, row: &str) -> Result<String, AllocError> {
 
 #[test]
 fn queries_have_worked_results(rt: HostRuntime) -> Result<(), TableFault> {
-    check_rows(rt.alloc(), QUERIES, '|', 70, rows_of_queries)
+    check_rows(rt.alloc(), QUERIES, '|', 72, rows_of_queries)
 }
 
 #[test]
