@@ -73,7 +73,7 @@ fn replay<'a>(
     Ok((count, rest))
 }
 
-// Opens a journal. Its clauses don't state yet that a file that stands for accepted batches is opened.
+// Opens a journal. That a file which stands for accepted batches is opened is a clause of `recover`.
 fn open_log<L: Log>(
     alloc: Global,
     fingerprint: &[u8; 32],

@@ -232,7 +232,8 @@ impl<T: Transport + Drop> ConnectionTable<T> {
         Some(Closed { slot, connection })
     }
 
-    /// Where all slots are taken, the connection leaves that has been between requests for longest, if there is one.
+    /// Where all slots are taken, of the connections that were just opened or are between requests the one leaves that
+    /// has been so for longest, if there is one.
     pub fn close_for_slot(&mut self) -> Option<Closed<T>>
         ensures full { IfSome result (λ _. (slot : ℕ) → slot < length (connections self.old) → is_some (at_slot (connections self.old) slot) ≡ true) }
         ensures first { IfSome result (λ closed. IsFirst Slot (connections self.old) closed.slot) }
@@ -248,8 +249,8 @@ impl<T: Transport + Drop> ConnectionTable<T> {
         self.give_way(Pressure::Slot)
     }
 
-    /// Where no descriptor is free for a further connection, that one leaves that has been between requests for longest, if
-    /// there is one.
+    /// Where no descriptor is free for a further connection, of those that were just opened or are between requests the
+    /// one leaves that has been so for longest, if there is one.
     pub fn close_for_descriptor(&mut self) -> Option<Closed<T>>
         ensures first { IfSome result (λ closed. IsFirst Slot (connections self.old) closed.slot) }
         ensures closed { IfSome result (λ closed. (at_slot (connections self.old) closed.slot ≡ Some closed.connection) × (at_slot (connections self.new) closed.slot ≡ None)) }
