@@ -7,8 +7,8 @@ use Rattle.httpedge.specs.Meaning.{Meaning, Nothing, Refused, Asks, head_meaning
 use Rattle.httpedge.specs.Response.{refusal_text, busy_text, answer_text}
 use Rattle.httpedge.specs.Verdict.{Decides}
 use Rattle.httpedge.specs.Turn.{Turn, Last, Further, IsTurn}
-use Rattle.mapmachine.specs.declared.reply.Answer.{Answer}
-use Rattle.httpedge.specs.declared.asks.Busy.{Busy}
+use Rattle.answers.specs.declared.answer.Answer.{Answer}
+use Rattle.answers.specs.declared.asks.Busy.{Busy}
 use Rattle.httpedge.specs.declared.conn.TheConstants.{REQUESTS}
 
 -- the outcome of a query: an answer, or that the server is busy

@@ -1,7 +1,7 @@
 -- The bytes of responses (RFC 9112; docs/WMS.md, "HTTP").
 use Rattle.std.specs.Prelude.{ℕ, List, ◌++◌, length, codes, Bool, true, false}
 use Rattle.std.specs.Fmt.{decimal}
-use Rattle.mapmachine.specs.declared.reply.Answer.{Answer}
+use Rattle.answers.specs.declared.answer.Answer.{Answer}
 use Rattle.operations.specs.Mime.{mime_text}
 use Rattle.httpedge.specs.declared.refusal.Refusal.{Refusal}
 use Rattle.httpedge.specs.declared.refusal.Refusal.TheVariants.{BadRequest, NotFound, MethodNotAllowed}

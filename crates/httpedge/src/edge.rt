@@ -1,7 +1,7 @@
 ghost use Rattle.std.specs.Prelude.{◌≡◌, ◌||◌, ◌+◌, ◌<◌, ◌≤◌, ◌++◌, ℕ, List, [], Bool, Some, not, if◌then◌else◌, length, OnOk, OnErr, IfOk, IfErr, IfSome, MatchResult, Result, true};
 ghost use Rattle.std.specs.Io.KnownBytes.{Consumes};
 ghost use Rattle.streams.specs.Sent.{IsSent, IsCutSomewhere};
-ghost use Rattle.mapmachine.specs.declared.reply.Answer.{Answer};
+ghost use Rattle.answers.specs.declared.answer.Answer.{Answer};
 ghost use Rattle.httpedge.specs.Connection.{Open, step_of, query_of, is_closing, goes_on, forgotten};
 ghost use Rattle.httpedge.specs.Exchange.{IsReply, IsExchange, IsBegun, said_text};
 ghost use Rattle.httpedge.specs.Meaning.{decision_meaning};
@@ -9,7 +9,7 @@ ghost use Rattle.httpedge.specs.Reads.{ReadsToPiece, ReadsToFault};
 ghost use Rattle.httpedge.specs.Response.{response};
 ghost use Rattle.httpedge.specs.Serving.{IsReading, Serves, requests_left, came_of, missing};
 ghost use Rattle.httpedge.specs.Stopped.{HasExchanged, HasStopped, HasKeptUp, is_read, written_of};
-ghost use Rattle.httpedge.specs.declared.asks.Busy.{Busy};
+ghost use Rattle.answers.specs.declared.asks.Busy.{Busy};
 
 use crate::session::reply;
 use crate::{Asks, Busy, Conn, Decision, Outcome};

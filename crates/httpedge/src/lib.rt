@@ -17,7 +17,6 @@
 //! the server is busy.
 #![tactic(auto)]
 
-mod asks;
 mod conn;
 mod decision;
 mod edge;
@@ -32,7 +31,7 @@ mod session;
 mod stage;
 mod verdict;
 
-pub use asks::{Asks, Busy};
+pub use answers::{Answer, Asks, Busy};
 pub use conn::{Conn, Fed};
 pub use decision::Decision;
 pub use edge::{EdgeFault, exchange};

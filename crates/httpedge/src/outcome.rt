@@ -1,5 +1,5 @@
 use crate::Refusal;
-use mapmachine::Answer;
+use answers::Answer;
 
 /// What is written to a client.
 #[derive(Drop)]

@@ -5,9 +5,10 @@ ghost use Rattle.httpedge.specs.Outgoing.{answer_head, body_of};
 
 use crate::response::{busy_lines, head_end, refusal_lines};
 use crate::{Outcome, Refusal};
+use answers::Answer;
 use itoa::Buffer;
 use mapdefs::Items;
-use mapmachine::{Answer, Mime};
+use operations::Mime;
 use std::marker::Model;
 
 // How many bytes the head of a response has, at most.
@@ -110,6 +111,7 @@ fn mime_bytes<'a>(mime: Mime) -> &'a [u8]
     ensures short { length result.now ≤ 64 }
 {
     match mime {
+        Mime::Png => b"image/png",
         Mime::Pixmap => b"image/x-portable-pixmap",
         Mime::ArbitraryMap => b"image/x-portable-arbitrarymap",
         Mime::Xml => b"text/xml",

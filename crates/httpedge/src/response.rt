@@ -3,8 +3,8 @@ ghost use Rattle.streams.specs.Sent.{IsSent, IsCut, IsCutSomewhere};
 ghost use Rattle.httpedge.specs.Response.{head_end, refusal_lines, busy_lines, body_text, answer_text, response};
 
 use crate::{Outcome, Refusal};
+use answers::Answer;
 use itoa::Buffer;
-use mapmachine::Answer;
 use streams::{PutFailed, Sink, WriteFault, put_pieces};
 
 /// The end of a head.

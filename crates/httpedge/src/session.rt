@@ -90,6 +90,7 @@ impl Session {
         ensures count { result ≤ length piece.now }
         ensures all { wants self.new ≡ true → wants self.old ≡ true → result ≡ length piece.now }
         ensures none { wants self.old ≡ false → (result ≡ 0) × (self.new ≡ self.old) × (asks.new ≡ asks.old) }
+        ensures quiet { wants self.new ≡ true → asks.new ≡ asks.old }
         ensures goes_on { self.new.stage ≡ Ended → self.old.stage ≡ Ended }
         ensures responded { (read written : List ℕ) (first : A) → HasResponded A.answers read first written self.old asks.old
             → HasResponded A.answers (read ++ take result piece.now) first written self.new asks.new }

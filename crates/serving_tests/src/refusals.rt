@@ -15,7 +15,7 @@ struct Closed {
 
 impl Asks for Closed {
     ghost use Rattle.std.specs.Prelude.{◌≡◌, Err};
-    ghost use Rattle.httpedge.specs.declared.asks.Busy.{Busy};
+    ghost use Rattle.answers.specs.declared.asks.Busy.{Busy};
 
     ghost answers = { λ old query said new. said ≡ Err (record {}) };
 

@@ -1,8 +1,8 @@
 use crate::connection::Connection;
 use crate::gate::Gate;
 use crate::queue::Queue;
+use answers::Answer;
 use httpedge::{Asks, Busy};
-use mapmachine::Answer;
 use std::alloc::Global;
 use std::sync::{Arc, Wait};
 

@@ -98,6 +98,24 @@ returns-else-not-goes_on-clause-all g c =
     } in
     λ more. absurd (replied-some g.A.Asks.answers c.args.piece.now c.feed-fed.result.taken c.self.inside.conn c.feed-fed.new.self c.reply-outgoing.new.conn c.args.asks.now c.reply-outgoing.new.asks c.reply-outgoing.result.0 c.reply-outgoing.result.1 r c.self.inside.stage more)
 
+pub returns-else-not-goes_on-clause-quiet : goal.returns-else-not-goes_on-clause-quiet
+returns-else-not-goes_on-clause-quiet g c =
+    let wanted : wants c.args.self.now ≡ true = sym c.wants_more.ensures ∙ c.if-not-wants_more.false in
+    let w : (is_reading c.self.inside.stage && (length c.self.inside.outgoing == 0)) ≡ true = ap wants c.self.view_is ∙ wanted in
+    let (reads, quiet) = wants-reads c.self.inside.stage c.self.inside.outgoing w in
+    let reading : IsReading c.self.inside.conn = subst (λ (t : Stage). ReadsOn t c.self.inside.conn) reads c.self.invariant in
+    let r : HasReplied g.A.Asks.answers c.args.piece.now c.feed-fed.result.taken c.self.inside.conn c.feed-fed.new.self c.reply-outgoing.new.conn c.args.asks.now c.reply-outgoing.result.0 c.reply-outgoing.new.asks c.reply-outgoing.result.1 = record {
+      decision = c.in-Some.decision;
+      reading = reading;
+      feeds = c.feed-fed.ensures.feeds;
+      done = c.feed-fed.ensures.done;
+      step = sym c.feed-fed.ensures.step ∙ c.in-Some.is;
+      replies = c.reply-outgoing.ensures.replies;
+      goes = c.reply-outgoing.ensures.next;
+      next = c.reply-outgoing.ensures.forgets;
+    } in
+    λ more. absurd (replied-some g.A.Asks.answers c.args.piece.now c.feed-fed.result.taken c.self.inside.conn c.feed-fed.new.self c.reply-outgoing.new.conn c.args.asks.now c.reply-outgoing.new.asks c.reply-outgoing.result.0 c.reply-outgoing.result.1 r c.self.inside.stage more)
+
 pub returns-else-not-goes_on-clause-responded : goal.returns-else-not-goes_on-clause-responded
 returns-else-not-goes_on-clause-responded g c =
     let wanted : wants c.args.self.now ≡ true = sym c.wants_more.ensures ∙ c.if-not-wants_more.false in
