@@ -4,7 +4,7 @@ use Rattle.std.specs.List.{flat_map}
 use Rattle.std.specs.Fmt.{decimal}
 use Rattle.accesslog.specs.declared.line.AnswerNote.{AnswerNote}
 use Rattle.accesslog.specs.declared.line.Cause.{Cause}
-use Rattle.accesslog.specs.declared.line.Cause.TheVariants.{Idle, Head, Answer, Rate, Fault, GaveWay}
+use Rattle.accesslog.specs.declared.line.Cause.TheVariants.{Idle, Head, Answer, Rate, Fault, GaveWay, Busy, Stopped}
 
 -- a byte is shown by its two hexadecimal digits: those outside 33 to 126, a quotation mark and a backslash
 abbrev pub is_escaped : ℕ → Bool
@@ -36,6 +36,8 @@ cause_word Answer = codes "answer"
 cause_word Rate = codes "rate"
 cause_word Fault = codes "fault"
 cause_word GaveWay = codes "place"
+cause_word Busy = codes "busy"
+cause_word Stopped = codes "stopped"
 
 -- the line on a connection that ended before its client had all of its answers
 abbrev pub end_line : ℕ → Cause → List ℕ

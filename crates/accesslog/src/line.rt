@@ -38,6 +38,10 @@ pub enum Cause {
     Fault,
     /// It gave way to others.
     GaveWay,
+    /// It came where it couldn't be served, and was sent that the server is busy.
+    Busy,
+    /// The service stopped, and it wasn't being answered.
+    Stopped,
 }
 
 // Whether a byte is shown by its digits.
@@ -114,6 +118,8 @@ fn cause_word(cause: Cause) -> &'static [u8]
         Cause::Rate => b"rate",
         Cause::Fault => b"fault",
         Cause::GaveWay => b"place",
+        Cause::Busy => b"busy",
+        Cause::Stopped => b"stopped",
     }
 }
 

@@ -1,5 +1,7 @@
 //! The notes on a connection.
 
+ghost use Rattle.std.specs.Prelude.{◌≡◌};
+
 use crate::line::{AnswerNote, answer_line};
 use std::alloc::Global;
 
@@ -25,7 +27,11 @@ pub struct Record {
     alloc: Global,
     connection: u64,
     came: Vec<u8>,
+    // When the first of these bytes came, and when the last read was.
     since: u64,
+    read_at: u64,
+    // Bytes weren't noted, as memory was refused: no further target is known.
+    is_lost: bool,
     sending: Option<Sending>,
 }
 
@@ -90,12 +96,16 @@ fn status_of(head: &[u8]) -> u16 {
 
 impl Record {
     /// Nothing is noted yet of the connection of this number.
-    pub fn new(alloc: Global, connection: u64) -> Self {
+    pub fn new(alloc: Global, connection: u64) -> Self
+        ensures { result.connection ≡ connection }
+    {
         Record {
             alloc,
             connection,
             came: Vec::new(alloc),
             since: 0,
+            read_at: 0,
+            is_lost: false,
             sending: None,
         }
     }
@@ -105,33 +115,59 @@ impl Record {
         self.connection
     }
 
-    /// Bytes came, at this millisecond. Where memory is refused for them they aren't noted.
+    // No further target is known.
+    fn lose(&mut self) {
+        self.is_lost = true;
+        self.came = Vec::new(self.alloc);
+    }
+
+    /// Bytes came, at this millisecond. Where memory is refused for them, no target of the connection is known from then on.
     pub fn came(&mut self, bytes: &[u8], now: u64) {
+        self.read_at = now;
         if self.came.is_empty() {
             self.since = now;
         }
         let room = NOTED_BYTES.saturating_sub(self.came.len());
         let noted = bytes.get(..room).unwrap_or(bytes);
-        let _ = self.came.extend_from_slice(noted);
+        if !self.is_lost && self.came.extend_from_slice(noted).is_err() {
+            self.lose();
+        }
     }
 
-    // An answer begins, to the request whose head came first.
-    fn begin(&mut self, head: &[u8], bytes: u64) {
+    // The target of the request whose head came first, and the bytes after that head. There are none where memory is refused.
+    fn split(&self) -> Option<(Vec<u8>, Vec<u8>)> {
         let len = head_len(&self.came);
-        let (head_of_request, rest) = self.came.split_at(len.min(self.came.len()));
-        let mut target = Vec::new(self.alloc);
-        let _ = target.extend_from_slice(target_of(head_of_request));
-        let mut left = Vec::new(self.alloc);
-        let _ = left.extend_from_slice(rest);
-        let sending = Sending {
+        let (head, rest) = self.came.split_at(len.min(self.came.len()));
+        match (
+            Vec::from_slice(self.alloc, target_of(head)),
+            Vec::from_slice(self.alloc, rest),
+        ) {
+            (Ok(target), Ok(rest)) => Some((target, rest)),
+            _ => None,
+        }
+    }
+
+    // An answer begins, to the request whose head came first. The bytes after that head came with the last read: no read is made
+    // while a whole head stands unanswered.
+    fn begin(&mut self, head: &[u8], bytes: u64) {
+        let target = match self.split() {
+            Some((target, rest)) => {
+                self.came = rest;
+                target
+            }
+            None => {
+                self.lose();
+                Vec::new(self.alloc)
+            }
+        };
+        self.sending = Some(Sending {
             target,
             status: status_of(head),
             bytes,
             left: bytes,
             since: self.since,
-        };
-        self.sending = Some(sending);
-        self.came = left;
+        });
+        self.since = self.read_at;
     }
 
     /// Bytes were sent, so many of those of an answer that were to be sent in two parts. Returns whether all of it was sent: then its

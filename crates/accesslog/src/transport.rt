@@ -1,6 +1,6 @@
 //! A transport whose answers are logged.
 
-ghost use Rattle.std.specs.Prelude.{◌≡◌, ◌++◌, []};
+ghost use Rattle.std.specs.Prelude.{◌≡◌, ◌++◌, [], None, IfSome, MatchOption};
 ghost use Rattle.std.specs.Io.KnownBytes.{Appends};
 ghost use Rattle.turns.specs.Transport.{HasRead, HasWritten};
 
@@ -37,7 +37,8 @@ pub struct LoggedTransport<T, R> {
 impl<T, R> LoggedTransport<T, R> {
     /// The transport of the connection of a number, with the queue of the log, if there is one.
     pub fn new(alloc: Global, inner: T, connection: u64, queue: Option<LogQueue<R>>) -> Self
-        ensures { result.inner ≡ inner }
+        ensures inner { result.inner ≡ inner }
+        ensures numbered { MatchOption queue (result.noted ≡ None) (λ _. IfSome result.noted (λ noted. noted.«record».connection ≡ connection)) }
     {
         let noted = match queue {
             Some(queue) => Some(AnswerLog {

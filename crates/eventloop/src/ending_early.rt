@@ -13,7 +13,7 @@ pub(crate) fn early_end<T>(
     match connection.phase {
         Phase::Opened { .. } | Phase::Idle { .. } => Some(Cause::Idle),
         Phase::Head { .. } => Some(Cause::Head),
-        Phase::Answer { moved, .. } if moved.saturating_add(timeouts.timeout) <= now => {
+        Phase::Answer { moved, sent, .. } if timeouts.still_until(moved, sent) <= now => {
             Some(Cause::Answer)
         }
         Phase::Answer { .. } => Some(Cause::Rate),

@@ -1,10 +1,14 @@
+use crate::orders::Orders;
 use crate::poller::Wakes;
 use std::alloc::{AllocError, Global};
 use std::collections::VecDeque;
-use std::sync::{Condvar, Mutex, Wait};
+use std::sync::{Mutex, Wait};
 
-/// How many connections wait for one worker at most. While so many wait, no further one is accepted.
-pub const WAITING: usize = 16;
+/// How many connections wait for their workers at most, in all. While so many wait, no further one is accepted.
+pub const WAITING: usize = 1_024;
+
+// For how many connections a handover has memory from the start.
+const FIRST: usize = 16;
 
 /// Whether a worker ends, and how.
 #[derive(Clone, Copy, Debug, PartialEq, Eq)]
@@ -32,7 +36,6 @@ struct HandedOver<T> {
 #[derive(Drop)]
 pub struct Handover<T: Drop, W> {
     state: Mutex<HandedOver<T>>,
-    taken: Condvar,
     waker: W,
 }
 
@@ -44,21 +47,18 @@ impl<T: Drop, W: Wakes> Handover<T, W> {
     {
         Ok(Handover {
             state: Mutex::new(HandedOver {
-                transports: VecDeque::with_capacity(alloc, WAITING)?,
+                transports: VecDeque::with_capacity(alloc, FIRST)?,
                 ending: Ending::GoesOn,
                 is_pressed: false,
                 is_serving: false,
             }),
-            taken: Condvar::new(),
             waker,
         })
     }
 
-    /// Hands over a connection, once fewer than `WAITING` wait. It is returned where memory is refused.
+    /// Hands over a connection, behind those that wait, without a wait. It is returned where memory is refused.
     pub fn put<R: Wait>(&self, rt: &R, transport: T) -> Result<(), T> {
-        let mut state = self.taken.wait_while(rt, self.state.lock(rt), |state| {
-            state.transports.len() >= WAITING && state.ending == Ending::GoesOn
-        });
+        let mut state = self.state.lock(rt);
         match state.transports.push_back(transport) {
             Ok(()) => {
                 state.is_serving = true;
@@ -71,10 +71,12 @@ impl<T: Drop, W: Wakes> Handover<T, W> {
 
     /// The next connection, if one waits.
     pub fn take<R: Wait>(&self, rt: &R) -> Option<T> {
-        let mut state = self.state.lock(rt);
-        let transport = state.transports.pop_front()?;
-        self.taken.notify_one();
-        Some(transport)
+        self.state.lock(rt).transports.pop_front()
+    }
+
+    /// How many connections wait.
+    pub fn waiting<R: Wait>(&self, rt: &R) -> usize {
+        self.state.lock(rt).transports.len()
     }
 
     /// Whether a connection waits.
@@ -88,28 +90,21 @@ impl<T: Drop, W: Wakes> Handover<T, W> {
         if state.ending != Ending::Stops {
             state.ending = ending;
         }
-        self.taken.notify_all();
         self.waker.wake();
     }
 
-    /// Whether the worker ends, and how.
-    pub fn ending<R: Wait>(&self, rt: &R) -> Ending {
-        self.state.lock(rt).ending
-    }
-
-    /// A further connection needs a descriptor: the connection that has been between requests for longest gives way, if
-    /// there is one.
+    /// A further connection needs a descriptor: the connection gives way that comes first, if one may.
     pub fn press<R: Wait>(&self, rt: &R) {
         self.state.lock(rt).is_pressed = true;
         self.waker.wake();
     }
 
-    /// Whether a further connection needs a descriptor. The call resets the need.
-    pub fn take_press<R: Wait>(&self, rt: &R) -> bool {
+    /// What the worker is to do now. The call resets the need for a descriptor.
+    pub fn orders<R: Wait>(&self, rt: &R) -> Orders {
         let mut state = self.state.lock(rt);
         let is_pressed = state.is_pressed;
         state.is_pressed = false;
-        is_pressed
+        Orders::new(state.ending, is_pressed)
     }
 
     /// Whether the worker has connections, or some wait for it.

@@ -2,10 +2,12 @@
 //!
 //! A connection comes to its worker by a `Handover`. The worker waits at its `Poller`, gives each connection that is ready its
 //! turn, and closes one whose time is over. The loop calls `ConnectionTable` of `turns`, whose contracts state what a turn
-//! does and which connection has the next one. No proof covers the events for which the loop waits.
+//! does and which connection has the next one.
 //!
-//! Proved: a connection comes to a free slot, as `ConnectionTable::open` requires, and each call is safe and ends, but `run`
-//! and those that wait.
+//! Proved: a loop goes by the steps of `turns` alone (`run`), from a table without connections to the worker that its thread gives
+//! back (`HasServed`, `WorkerThreads::end`). Between two looks at the poller at most one query is asked (`serve_some`), what the
+//! poller reports has a turn (`wait`, `laws::events_serve`), and a connection that has to give way does (`Orders`, `make_room`). No proof covers that the
+//! system reports each event, nor that threads run. Each call ends but `run` and those that wait.
 //!
 //! Terms: a worker *finishes* where no further connection comes to it: those that it has are served to their end. It *stops*
 //! where those that aren't being answered are closed.
@@ -13,13 +15,16 @@
 
 mod ending_early;
 mod handover;
+pub mod laws;
+mod orders;
 mod poller;
 mod turning_away;
 mod worker;
 mod worker_threads;
 
 pub use handover::{Ending, Handover, WAITING};
+pub use orders::Orders;
 pub use poller::{Poller, Wakes};
 pub use turning_away::turn_away;
 pub use worker::{EVENTS, ROOM, Worker, run};
-pub use worker_threads::{WorkerStartError, WorkerThreads, start_worker};
+pub use worker_threads::{HasServed, WorkerStartError, WorkerThreads, start_worker};

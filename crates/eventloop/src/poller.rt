@@ -1,4 +1,4 @@
-ghost use Rattle.std.specs.Prelude.{◌≤◌, length};
+ghost use Rattle.std.specs.Prelude.{◌≡◌, ◌≤◌, ℕ, List, length, take};
 
 use std::time::Duration;
 
@@ -13,6 +13,9 @@ pub trait Poller<T> {
     /// The waker of its wait.
     type Waker: Wakes + Send + Sync + Drop + 'static;
 
+    /// A wait reported these slots.
+    ghost reported: { Self → List ℕ → Self → Type 0 };
+
     /// The waker of its wait, if there is one.
     fn waker(&self) -> Option<Self::Waker>;
 
@@ -23,5 +26,6 @@ pub trait Poller<T> {
     /// `room`, and the call returns their number; other slots may be among them. A slot is reported once for each change, so
     /// none may be lost because room is missing: `room` has `EVENTS` slots.
     fn wait(&mut self, at_most: Duration, room: &mut [usize]) -> usize
-        ensures count { result ≤ length room.new };
+        ensures count { result ≤ length room.new }
+        ensures reported { reported self.old (take result room.new) self.new };
 }

@@ -1,7 +1,8 @@
+use accesslog::{Cause, EndsEarly};
 use httpedge::{Outcome, respond};
 use std::io::{self, ErrorKind, Write};
 use streams::Flagged;
-use turns::{Transport, WriteOutcome};
+use turns::{DRAINED_BYTES, READ_BYTES, ReadOutcome, Transport, WriteOutcome};
 
 // A transport that is written to as long as it takes bytes at once.
 #[derive(Drop)]
@@ -23,10 +24,23 @@ impl<T: Transport> Write for AtOnce<'_, T> {
     }
 }
 
-/// Answers a client that the server is busy, as far as its connection takes that without a wait.
-pub fn turn_away<T: Transport>(transport: &mut T) {
+// Reads and drops what a client has sent, as far as it is there: with unread bytes the system would drop the answer.
+fn drop_sent<T: Transport>(transport: &mut T) {
+    let mut room = [0; READ_BYTES];
+    for _ in 0..DRAINED_BYTES / READ_BYTES {
+        if !matches!(transport.read(&mut room), ReadOutcome::Bytes(_)) {
+            return;
+        }
+    }
+}
+
+/// Answers a client that the server is busy, as far as its connection takes that without a wait, and drops what it has sent. That is
+/// logged.
+pub fn turn_away<T: Transport + EndsEarly>(transport: &mut T) {
     let mut writer = Flagged::new(AtOnce { transport });
     if respond(&Outcome::Busy, true, &mut writer).is_ok() {
         transport.shut_down();
+        drop_sent(transport);
     }
+    transport.note_end(Cause::Busy);
 }

@@ -1,9 +1,16 @@
-ghost use Rattle.std.specs.Prelude.{◌≡◌, ◌<◌, length, None};
-ghost use Rattle.turns.specs.Slots.{at_slot};
-ghost use Rattle.turns.specs.Table.{connections};
+ghost use Rattle.std.specs.Prelude.{◌≡◌, ◌<◌, ℕ, List, length, [], None, false, IfOk, IfSome, MatchBool, MatchOption};
+ghost use Rattle.eventloop.specs.Working.{HasGivenWay, HasMadeRoom, HasOpened, HasLooked, HaveTurns, HasTurned, HasServedSome};
+ghost use Rattle.httpedge.specs.Session.{HasAsked, QueryOutcome};
+ghost use Rattle.turns.specs.Runs.{Goes, HasRun};
+ghost use Rattle.turns.specs.Queue.{joins};
+ghost use Rattle.turns.specs.Slots.{at_slot, OthersStay};
+ghost use Rattle.turns.specs.Table.{connections, ready_slots, timeouts_of, room_of, KeepsWaiting};
+ghost use Rattle.turns.specs.Times.{deadline};
+ghost use Rattle.turns.specs.declared.pressure.Pressure.TheVariants.{Slot};
 
 use crate::ending_early::early_end;
 use crate::handover::{Ending, Handover};
+use crate::orders::Orders;
 use crate::poller::{Poller, Wakes};
 use crate::turning_away::turn_away;
 use accesslog::{Cause, EndsEarly};
@@ -12,15 +19,16 @@ use std::alloc::{AllocError, Global};
 use std::rt::Clock;
 use std::sync::Wait;
 use std::time::{Duration, Instant};
-use turns::{Closed, ConnectionTable, Next, OpenConnection, Timeouts, Transport};
+use turns::{Closed, ConnectionTable, Next, OpenConnection, Served, Timeouts, Transport};
 
 /// While so many bytes of answers are to be sent, a worker makes no further answer.
 pub const ROOM: usize = 67_108_864;
 
-/// How many slots one wait gives, at most.
-pub const EVENTS: usize = 256;
+/// How many slots one wait gives, at most: each that a worker has, and its waker. So a connection without a turn has nothing to
+/// do, and may give way.
+pub const EVENTS: usize = 1_025;
 
-// How many turns are made until the worker looks for events again, at most.
+// How many turns without a query are made until the worker looks for events again, at most.
 const TURNS: u32 = 64;
 
 // How many milliseconds pass between two looks for connections whose time is over.
@@ -37,6 +45,8 @@ pub struct Worker<A, T: Drop, P> {
     // The milliseconds of its clock, and when it last looked for connections whose time is over.
     now: u64,
     looked: u64,
+    // Whether a connection just gave way for room: others may have to.
+    has_made_room: bool,
 }
 
 impl<A: Asks, T: Transport + EndsEarly + Drop, P: Poller<T>> Worker<A, T, P> {
@@ -50,6 +60,12 @@ impl<A: Asks, T: Transport + EndsEarly + Drop, P: Poller<T>> Worker<A, T, P> {
     where
         A: Drop,
         P: Drop,
+        ensures len { IfOk result (λ worker. length (connections worker.table) ≡ places.0) }
+        ensures free { IfOk result (λ worker. (slot : ℕ) → at_slot (connections worker.table) slot ≡ None) }
+        ensures ready { IfOk result (λ worker. ready_slots worker.table ≡ []) }
+        ensures timeouts { IfOk result (λ worker. (timeouts_of worker.table ≡ places.1) × (worker.timeouts ≡ places.1)) }
+        ensures room { IfOk result (λ worker. room_of worker.table ≡ 67108864) }
+        ensures parts { IfOk result (λ worker. (worker.asks ≡ asks) × (worker.poller ≡ poller)) }
     {
         let (slots, timeouts) = places;
         Ok(Worker {
@@ -60,6 +76,7 @@ impl<A: Asks, T: Transport + EndsEarly + Drop, P: Poller<T>> Worker<A, T, P> {
             timeouts,
             now: 0,
             looked: 0,
+            has_made_room: false,
         })
     }
 
@@ -68,13 +85,17 @@ impl<A: Asks, T: Transport + EndsEarly + Drop, P: Poller<T>> Worker<A, T, P> {
         self.poller.waker()
     }
 
-    // A connection comes to a free slot. Where memory for it is refused, its client gets the answer that the server is
-    // busy.
+    // A connection comes to a free slot. Where it can't be watched, or memory for it is refused, its client gets the answer that the
+    // server is busy.
     fn open(&mut self, slot: usize, mut transport: T)
         requires known { slot < length (connections self.old.table) }
         requires free { at_slot (connections self.old.table) slot ≡ None }
+        ensures run { HasRun A.answers T.delivered T.accepted T.reads T.writes T.shuts self.old.table self.old.asks self.new.table self.new.asks }
+        ensures opened { HasOpened self.old.now slot self.old.table self.new.table }
+        ensures now { self.new.now ≡ self.old.now }
     {
         if !self.poller.register(&mut transport, slot) {
+            turn_away(&mut transport);
             return;
         }
         match OpenConnection::new(self.alloc, transport, self.now) {
@@ -83,13 +104,16 @@ impl<A: Asks, T: Transport + EndsEarly + Drop, P: Poller<T>> Worker<A, T, P> {
         }
     }
 
-    // Takes over the next connection that waits. Where no slot is free, one that is between requests gives way, or none is
-    // taken over. Returns whether one was.
-    fn take_over<R: Wait, W: Wakes>(&mut self, rt: &R, handover: &Handover<T, W>) -> bool {
+    // Takes over the next connection that waits. Where no slot is free, one that isn't being answered gives way, or none is taken
+    // over. Returns whether one was.
+    fn take_over<R: Wait, W: Wakes>(&mut self, rt: &R, handover: &Handover<T, W>) -> bool
+        ensures run { HasRun A.answers T.delivered T.accepted T.reads T.writes T.shuts self.old.table self.old.asks self.new.table self.new.asks }
+        ensures now { self.new.now ≡ self.old.now }
+    {
         if !handover.has_waiting(rt) {
             return false;
         }
-        if let Some(closed) = self.table.close_for_slot() {
+        if let Some(closed) = self.table.close_for_slot(self.now) {
             give_way(closed);
         }
         let Some(slot) = self.table.free_slot() else {
@@ -103,7 +127,10 @@ impl<A: Asks, T: Transport + EndsEarly + Drop, P: Poller<T>> Worker<A, T, P> {
     }
 
     // Takes over those that wait, as many as there are slots for.
-    fn take_over_all<R: Wait, W: Wakes>(&mut self, rt: &R, handover: &Handover<T, W>) {
+    fn take_over_all<R: Wait, W: Wakes>(&mut self, rt: &R, handover: &Handover<T, W>)
+        ensures run { HasRun A.answers T.delivered T.accepted T.reads T.writes T.shuts self.old.table self.old.asks self.new.table self.new.asks }
+        ensures now { self.new.now ≡ self.old.now }
+    {
         for _ in 0..self.table.len() {
             if !self.take_over(rt, handover) {
                 return;
@@ -111,21 +138,62 @@ impl<A: Asks, T: Transport + EndsEarly + Drop, P: Poller<T>> Worker<A, T, P> {
         }
     }
 
-    // Makes some turns. A connection that is over leaves.
-    fn serve_some(&mut self) {
+    // A connection that had a turn leaves, if it is over.
+    fn leave(&mut self, served: Served)
+        ensures run { HasRun A.answers T.delivered T.accepted T.reads T.writes T.shuts self.old.table self.old.asks self.new.table self.new.asks }
+        ensures asks { self.new.asks ≡ self.old.asks }
+        ensures now { self.new.now ≡ self.old.now }
+    {
+        if matches!(served.next, Some(Next::Done) | Some(Next::Failed)) {
+            self.close_overdue(served.slot);
+        }
+    }
+
+    // Makes a turn, if a slot has one. A connection that is over leaves. Returns whether a query may have been asked in it.
+    fn serve_one(&mut self) -> Option<bool>
+        ensures turn { MatchOption result
+            ((ready_slots self.old.table ≡ []) × HasRun A.answers T.delivered T.accepted T.reads T.writes T.shuts self.old.table self.old.asks self.new.table self.new.asks)
+            (λ _. HasTurned A.answers T.delivered T.accepted T.reads T.writes T.shuts 1 self.old.table self.old.asks self.new.table self.new.asks) }
+        ensures once { (queries : List QueryOutcome) × HasAsked A.answers self.old.asks queries self.new.asks }
+        ensures unasked { MatchOption result (self.new.asks ≡ self.old.asks) (λ asked. asked ≡ false → self.new.asks ≡ self.old.asks) }
+        ensures now { self.new.now ≡ self.old.now }
+    {
+        let served = self.table.serve_next(&mut self.asks, self.now)?;
+        self.leave(served);
+        Some(served.asked)
+    }
+
+    // Makes turns up to the first in which a query may have been asked, or some, or all that there are. Returns whether one may have
+    // been asked.
+    fn serve_some(&mut self) -> bool
+        ensures turns { MatchBool result
+            (HasTurned A.answers T.delivered T.accepted T.reads T.writes T.shuts 1 self.old.table self.old.asks self.new.table self.new.asks)
+            (HasServedSome A.answers T.delivered T.accepted T.reads T.writes T.shuts 64 self.old.table self.old.asks self.new.table self.new.asks) }
+        ensures once { (queries : List QueryOutcome) × HasAsked A.answers self.old.asks queries self.new.asks }
+        ensures run { HasRun A.answers T.delivered T.accepted T.reads T.writes T.shuts self.old.table self.old.asks self.new.table self.new.asks }
+        ensures now { self.new.now ≡ self.old.now }
+    {
         for _ in 0..TURNS {
-            let Some(served) = self.table.serve_next(&mut self.asks, self.now) else {
-                return;
-            };
-            if matches!(served.next, Some(Next::Done) | Some(Next::Failed)) {
-                self.close_overdue(served.slot);
+            match self.serve_one() {
+                None => return false,
+                Some(true) => return true,
+                Some(false) => {}
             }
         }
+        false
     }
 
     // Closes the connection at a slot where its time is over. The cause is noted, unless its client had all of its
     // answers.
-    fn close_overdue(&mut self, slot: usize) {
+    fn close_overdue(&mut self, slot: usize)
+        ensures run { HasRun A.answers T.delivered T.accepted T.reads T.writes T.shuts self.old.table self.old.asks self.new.table self.new.asks }
+        ensures in_time { IfSome (at_slot (connections self.new.table) slot) (λ connection. self.old.now < deadline (timeouts_of self.old.table) connection.phase) }
+        ensures others { OthersStay slot (connections self.old.table) (connections self.new.table) }
+        ensures joins { (slots : List ℕ) × (ready_slots self.new.table ≡ joins (ready_slots self.old.table) slots) }
+        ensures keeps { KeepsWaiting self.old.table self.new.table }
+        ensures asks { self.new.asks ≡ self.old.asks }
+        ensures now { self.new.now ≡ self.old.now }
+    {
         if let Some(mut connection) = self.table.close_overdue(slot, self.now)
             && let Some(cause) = early_end(&connection, &self.timeouts, self.now)
         {
@@ -133,18 +201,34 @@ impl<A: Asks, T: Transport + EndsEarly + Drop, P: Poller<T>> Worker<A, T, P> {
         }
     }
 
-    // Closes those whose time is over, and where an answer waits for room, the slowest reader.
-    fn look(&mut self) {
+    // Closes those whose time is over.
+    fn look(&mut self)
+        ensures run { HasRun A.answers T.delivered T.accepted T.reads T.writes T.shuts self.old.table self.old.asks self.new.table self.new.asks }
+        ensures looked { HasLooked self.old.now self.old.table self.new.table }
+        ensures now { self.new.now ≡ self.old.now }
+    {
         for slot in 0..self.table.len() {
             self.close_overdue(slot);
         }
-        if let Some(closed) = self.table.close_for_room(self.now) {
+    }
+
+    // Where an answer waits for room, the slowest reader gives way, if one may. The next wait is short then, as others may have to.
+    fn make_room(&mut self)
+        ensures run { HasRun A.answers T.delivered T.accepted T.reads T.writes T.shuts self.old.table self.old.asks self.new.table self.new.asks }
+        ensures room { HasMadeRoom self.old.now self.old.table self.new.table }
+        ensures now { self.new.now ≡ self.old.now }
+    {
+        let closed = self.table.close_for_room(self.now);
+        self.has_made_room = closed.is_some();
+        if let Some(closed) = closed {
             give_way(closed);
         }
     }
 
     // Looks, where the last look is long enough ago.
-    fn tick<R: Wait, W: Wakes>(&mut self, rt: &R, handover: &Handover<T, W>) {
+    fn tick<R: Wait, W: Wakes>(&mut self, rt: &R, handover: &Handover<T, W>)
+        ensures run { HasRun A.answers T.delivered T.accepted T.reads T.writes T.shuts self.old.table self.old.asks self.new.table self.new.asks }
+    {
         if self.now.saturating_sub(self.looked) < TICK {
             return;
         }
@@ -154,29 +238,94 @@ impl<A: Asks, T: Transport + EndsEarly + Drop, P: Poller<T>> Worker<A, T, P> {
     }
 
     // Waits for events, and notes which connections may go on. It doesn't wait while a connection has a turn.
-    fn wait(&mut self, room: &mut [usize]) {
-        let at_most = if self.table.is_ready() { 0 } else { TICK };
+    fn wait(&mut self, room: &mut [usize])
+        ensures run { HasRun A.answers T.delivered T.accepted T.reads T.writes T.shuts self.old.table self.old.asks self.new.table self.new.asks }
+        ensures woken { (slots : List ℕ) × P.reported self.old.poller slots self.new.poller × HaveTurns slots self.old.table self.new.table }
+    {
+        let at_most = if self.table.is_ready() || self.has_made_room {
+            0
+        } else {
+            TICK
+        };
         let count = self.poller.wait(Duration::from_millis(at_most), room);
-        for slot in &room[..count] {
-            self.table.wake(*slot);
-        }
+        wake_all(&mut self.table, &room[..count]);
     }
 
     // Closes the connections that aren't being answered.
-    fn close_unanswered(&mut self) {
+    fn close_unanswered(&mut self)
+        ensures run { HasRun A.answers T.delivered T.accepted T.reads T.writes T.shuts self.old.table self.old.asks self.new.table self.new.asks }
+    {
         for slot in 0..self.table.len() {
-            self.table.close_unanswered(slot);
+            if let Some(mut connection) = self.table.close_unanswered(slot) {
+                connection.transport.note_end(Cause::Stopped);
+            }
         }
     }
 
+    // Obeys what it is to do now. Returns whether it ends, and how.
+    fn obey(&mut self, orders: Orders) -> Ending
+        ensures run { HasRun A.answers T.delivered T.accepted T.reads T.writes T.shuts self.old.table self.old.asks self.new.table self.new.asks }
+        ensures pressed { MatchBool orders.is_pressed (HasGivenWay (Slot self.old.now) self.old.table self.new.table) (self.new.table ≡ self.old.table) }
+        ensures ending { result ≡ orders.ending }
+    {
+        let (ending, closed) = orders.obey(&mut self.table, self.now);
+        if let Some(closed) = closed {
+            give_way(closed);
+        }
+        ending
+    }
+
     // Whether it has ended, in this way.
-    fn has_ended(&mut self, ending: Ending) -> bool {
+    fn has_ended(&mut self, ending: Ending) -> bool
+        ensures run { HasRun A.answers T.delivered T.accepted T.reads T.writes T.shuts self.old.table self.old.asks self.new.table self.new.asks }
+    {
         match ending {
             Ending::GoesOn => return false,
             Ending::Finishes => {}
             Ending::Stops => self.close_unanswered(),
         }
         self.table.is_empty()
+    }
+
+    // Notes how much time has passed.
+    fn note_time(&mut self, passed: Option<Duration>)
+        ensures same { (self.new.table ≡ self.old.table) × (self.new.asks ≡ self.old.asks) }
+    {
+        if let Some(passed) = passed {
+            self.now = u64::try_from(passed.as_millis()).unwrap_or(u64::MAX);
+        }
+    }
+
+    // Waits once, and does what is to be done then. Returns whether it has ended.
+    fn round<R: Clock + Wait, W: Wakes>(
+        &mut self,
+        rt: &R,
+        handover: &Handover<T, W>,
+        start: Instant,
+        room: &mut [usize],
+    ) -> bool
+        ensures run { HasRun A.answers T.delivered T.accepted T.reads T.writes T.shuts self.old.table self.old.asks self.new.table self.new.asks }
+    {
+        self.wait(room);
+        self.note_time(start.elapsed(rt).ok());
+        // (no connection is handed over any more where a worker ends)
+        let ending = self.obey(handover.orders(rt));
+        self.take_over_all(rt, handover);
+        self.serve_some();
+        self.make_room();
+        self.tick(rt, handover);
+        self.has_ended(ending) && !handover.has_waiting(rt)
+    }
+}
+
+// Each of these slots has a turn.
+fn wake_all<T: Transport + Drop>(table: &mut ConnectionTable<T>, slots: &[usize])
+    ensures turns { HaveTurns slots.now table.old table.new }
+    ensures connections { connections table.new ≡ connections table.old }
+    ensures goes { Goes table.old table.new }
+{
+    for slot in slots {
+        table.wake(*slot);
     }
 }
 
@@ -187,35 +336,26 @@ fn give_way<T: EndsEarly + Drop>(closed: Closed<T>) {
 }
 
 /// Serves connections in turns as they become ready, until its worker may end. Without a clock it ends at once.
-pub fn run<R, A, T, P, W>(rt: &R, mut worker: Worker<A, T, P>, handover: &Handover<T, W>)
+pub fn run<R, A, T, P, W>(
+    rt: &R,
+    mut worker: Worker<A, T, P>,
+    handover: &Handover<T, W>,
+) -> Worker<A, T, P>
 where
     R: Clock + Wait,
     A: Asks + Drop,
     T: Transport + EndsEarly + Drop,
     P: Poller<T> + Drop,
     W: Wakes,
+    ensures run { HasRun A.answers T.delivered T.accepted T.reads T.writes T.shuts worker.table worker.asks result.table result.asks }
 {
     let Ok(start) = Instant::now(rt) else {
-        return;
+        return worker;
     };
     let mut room = [0; EVENTS];
     for _ in rt.forever() {
-        worker.wait(&mut room);
-        if let Ok(passed) = start.elapsed(rt) {
-            worker.now = u64::try_from(passed.as_millis()).unwrap_or(u64::MAX);
-        }
-        if handover.take_press(rt)
-            && let Some(closed) = worker.table.close_for_descriptor()
-        {
-            give_way(closed);
-        }
-        // (no connection is handed over any more where a worker ends)
-        let ending = handover.ending(rt);
-        worker.take_over_all(rt, handover);
-        worker.serve_some();
-        worker.tick(rt, handover);
-        if worker.has_ended(ending) && !handover.has_waiting(rt) {
-            return;
+        if worker.round(rt, handover, start, &mut room) {
+            return worker;
         }
     }
     unreachable!()

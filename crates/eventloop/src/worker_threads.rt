@@ -1,4 +1,10 @@
-use crate::handover::{Ending, Handover};
+ghost use Rattle.std.specs.Prelude.{◌≡◌, ℕ, None, IfSome};
+ghost use Rattle.std.specs.List.{All};
+ghost use Rattle.eventloop.specs.Working.{HasBeen};
+ghost use Rattle.turns.specs.Slots.{at_slot};
+ghost use Rattle.turns.specs.Table.{connections};
+
+use crate::handover::{Ending, Handover, WAITING};
 use crate::poller::{Poller, Wakes};
 use crate::turning_away::turn_away;
 use crate::worker::{Worker, run};
@@ -7,7 +13,7 @@ use httpedge::Asks;
 use std::alloc::{AllocError, Global};
 use std::rt::Clock;
 use std::sync::{Arc, Wait};
-use std::thread::{self, JoinHandle, Threads};
+use std::thread::{self, Promise, PromisedHandle, Threads, join_promised};
 use thiserror::Error;
 use turns::Transport;
 
@@ -16,18 +22,31 @@ use turns::Transport;
 #[error("a worker can't be started")]
 pub struct WorkerStartError;
 
+/// The promise of a worker's thread: the worker that it gives back has answered its connections, from none on.
+#[derive(Clone, Copy)]
+pub struct HasServed;
+
+impl<A: Asks, T: Transport + Drop, P> Promise<Worker<A, T, P>> for HasServed {
+    ghost kept_by = { λ promise left. HasBeen A.answers T.delivered T.accepted T.reads T.writes T.shuts left.table left.asks };
+}
+
 /// Workers that were started, to which connections are handed over in turn.
 #[derive(Drop)]
-pub struct WorkerThreads<T: Drop, W: Drop> {
+pub struct WorkerThreads<A: Asks, T: Transport + Drop, P, W: Drop> {
     handovers: Vec<Arc<Handover<T, W>, Global>>,
-    threads: Vec<JoinHandle<()>>,
+    threads: Vec<PromisedHandle<Worker<A, T, P>, HasServed>>,
     // How many connections were handed over.
     count: u64,
     // How often a connection needed a descriptor.
     pressed: u64,
 }
 
-impl<T: Transport + Drop, W: Wakes + Drop> WorkerThreads<T, W> {
+impl<A: Asks + Drop, T: Transport + EndsEarly + Drop, P: Drop, W: Wakes + Drop> WorkerThreads<
+    A,
+    T,
+    P,
+    W,
+> {
     /// No workers yet, with room for so many. Its error is that memory was refused.
     pub fn new(alloc: Global, count: usize) -> Result<Self, AllocError> {
         Ok(WorkerThreads {
@@ -47,8 +66,8 @@ impl<T: Transport + Drop, W: Wakes + Drop> WorkerThreads<T, W> {
         }
     }
 
-    /// Hands over the next connection: connection c to worker c mod N, of N, counted from 1. It waits while many wait there.
-    /// Where memory is refused its client gets the answer that the server is busy.
+    /// Hands over the next connection, without a wait: connection c to worker c mod N, of N, counted from 1. Where memory is
+    /// refused its client gets the answer that the server is busy.
     pub fn hand_over<R: Wait>(&mut self, rt: &R, transport: T) {
         self.count = self.count.saturating_add(1);
         let Some(worker) = self.worker(self.count) else {
@@ -59,13 +78,21 @@ impl<T: Transport + Drop, W: Wakes + Drop> WorkerThreads<T, W> {
         }
     }
 
-    /// A further connection needs a descriptor: one worker, the next each time, closes a connection that is between
-    /// requests, if it has one.
+    /// A further connection needs a descriptor: of one worker, the next each time, a connection gives way, if one may.
     pub fn press<R: Wait>(&mut self, rt: &R) {
         self.pressed = self.pressed.saturating_add(1);
         if let Some(worker) = self.worker(self.pressed) {
             worker.press(rt);
         }
+    }
+
+    /// Whether a further connection may be accepted: fewer than `WAITING` wait for their workers.
+    pub fn has_place<R: Wait>(&self, rt: &R) -> bool {
+        let mut waiting = 0_usize;
+        for handover in &self.handovers {
+            waiting = waiting.saturating_add(handover.waiting(rt));
+        }
+        waiting < WAITING
     }
 
     /// Whether a worker has connections.
@@ -78,8 +105,10 @@ impl<T: Transport + Drop, W: Wakes + Drop> WorkerThreads<T, W> {
         false
     }
 
-    /// Has each worker end, in one way or the other, and waits until it has.
-    pub fn end<R: Wait + Threads>(self, rt: &R, ending: Ending) {
+    /// Has each worker end, in one way or the other, waits until it has, and gives all back, if there is memory for them.
+    pub fn end<R: Wait + Threads>(self, rt: &R, ending: Ending) -> Option<Vec<Worker<A, T, P>>>
+        ensures served { IfSome result (λ workers. All (λ worker. HasBeen A.answers T.delivered T.accepted T.reads T.writes T.shuts worker.table worker.asks) workers.items) }
+    {
         let WorkerThreads {
             handovers,
             threads,
@@ -88,17 +117,48 @@ impl<T: Transport + Drop, W: Wakes + Drop> WorkerThreads<T, W> {
         for handover in &handovers {
             handover.end(rt, ending);
         }
-        for thread in threads {
-            thread.join(rt);
+        match join_promised(rt, threads) {
+            Ok(workers) => Some(workers),
+            Err(failed) => {
+                for thread in failed.value {
+                    thread.join(rt);
+                }
+                None
+            }
         }
     }
+}
+
+// A worker that has no connection.
+#[derive(Drop)]
+struct Fresh<A, T: Drop, P> {
+    worker: Worker<A, T, P>,
+    ghost free: { (slot : ℕ) → at_slot (connections worker.table) slot ≡ None },
+}
+
+// Runs a worker that has no connection, until it ends.
+fn run_whole<R, A, T, P, W>(
+    rt: &R,
+    fresh: Fresh<A, T, P>,
+    handover: &Handover<T, W>,
+) -> Worker<A, T, P>
+where
+    R: Clock + Wait,
+    A: Asks + Drop,
+    T: Transport + EndsEarly + Drop,
+    P: Poller<T> + Drop,
+    W: Wakes,
+    ensures { HasBeen A.answers T.delivered T.accepted T.reads T.writes T.shuts result.table result.asks }
+{
+    let Fresh { worker } = fresh;
+    run(rt, worker, handover)
 }
 
 /// Starts one more worker, in a thread of its own.
 pub fn start_worker<R, A, T, P>(
     rt: &R,
     alloc: Global,
-    workers: &mut WorkerThreads<T, P::Waker>,
+    workers: &mut WorkerThreads<A, T, P, P::Waker>,
     worker: Worker<A, T, P>,
 ) -> Result<(), WorkerStartError>
 where
@@ -106,6 +166,7 @@ where
     A: Asks + Send + Drop + 'static,
     T: Transport + EndsEarly + Send + Drop + 'static,
     P: Poller<T> + Send + Drop + 'static,
+    requires free { (slot : ℕ) → at_slot (connections worker.table) slot ≡ None }
 {
     let Some(waker) = worker.waker() else {
         return Err(WorkerStartError);
@@ -117,7 +178,8 @@ where
         return Err(WorkerStartError);
     }
     let handle = *rt;
-    match thread::spawn(rt, move || run(&handle, worker, &theirs)) {
+    let fresh = Fresh { worker };
+    match thread::spawn_with(rt, HasServed, move || run_whole(&handle, fresh, &theirs)) {
         Ok(thread) => match workers.threads.push(thread) {
             Ok(()) => Ok(()),
             Err(_) => Err(WorkerStartError),

@@ -11,5 +11,5 @@
 mod prefix;
 mod rule;
 
-pub use prefix::{Blank, History, MAX_HISTORY, Prefix};
+pub use prefix::{Blank, History, MAX_HISTORY, Prefix, Shown};
 pub use rule::Naming;

@@ -28,6 +28,15 @@ impl Blank {
         }
     }
 
+    /// Its prefix that has no batch, without a name.
+    pub fn shown(&self) -> Shown
+        ensures { result ≡ [] }
+    {
+        Shown {
+            seen: self.seen.again(),
+        }
+    }
+
     /// The history under a name, and the prefix that has no batch.
     pub fn named<J: Naming>(self) -> (History<J>, Prefix<J>)
         requires book { self.seen.book ≡ J.book }
@@ -45,6 +54,20 @@ impl Blank {
         };
         (history, prefix)
     }
+}
+
+/// A prefix of a history, without the history's name. Contracts see it as its batches.
+#[derive(Drop)]
+pub struct Shown {
+    seen: Seen<[u8; 0], u64, Law>,
+}
+
+impl Model for Shown {
+    ghost use Rattle.std.specs.Prelude.{ℕ, List};
+
+    ghost Value = { List (List ℕ) };
+
+    ghost view = { λ s. s.seen.log };
 }
 
 /// A history. A thread that has it may add to it.
@@ -89,6 +112,15 @@ impl<J: Naming> Prefix<J> {
             length: self.length,
             seen: self.seen.again(),
             of: PhantomData,
+        }
+    }
+
+    /// The same prefix, without the history's name.
+    pub fn shown(&self) -> Shown
+        ensures { result ≡ self.now }
+    {
+        Shown {
+            seen: self.seen.again(),
         }
     }
 

@@ -164,6 +164,7 @@ pub const TIMEOUTS: Timeouts = Timeouts {
     grace: 5_000,
     rate: 16,
     drain: 2_000,
+    ahead: 0,
 };
 
 /// A client comes to the first free slot, if there is one.

@@ -1,7 +1,9 @@
 //! Workers that serve connections in memory.
 
 use crate::clients::{Client, NoWaker, TIMEOUTS};
-use eventloop::{Ending, Poller, Worker, WorkerThreads, start_worker, turn_away};
+use eventloop::{
+    EVENTS, Ending, Poller, ROOM, WAITING, Worker, WorkerThreads, start_worker, turn_away,
+};
 use httpedge::{Asks, Busy};
 use mapdefs::Items;
 use mapmachine::{Answer, Mime};
@@ -47,6 +49,8 @@ struct Idle {
 }
 
 impl Poller<Client> for Idle {
+    ghost reported = { λ _ _ _. Unit {0} };
+
     type Waker = NoWaker;
 
     fn waker(&self) -> Option<NoWaker> {
@@ -69,7 +73,13 @@ impl Poller<Client> for Idle {
 fn three_workers<R: AllocGlobal + Clock + Wait + Threads + Send + Copy + Drop + 'static>(
     rt: &R,
     system: &HostRuntime,
-) -> Result<(WorkerThreads<Client, NoWaker>, Vec<Queries>), Fail> {
+) -> Result<
+    (
+        WorkerThreads<Noting<R>, Client, Idle, NoWaker>,
+        Vec<Queries>,
+    ),
+    Fail,
+> {
     let alloc = rt.alloc();
     let mut workers = WorkerThreads::new(alloc, 3)?;
     let mut all = Vec::new(alloc);
@@ -136,5 +146,14 @@ fn a_client_is_turned_away_as_far_as_it_takes_that_at_once(rt: HostRuntime) -> R
     let mut slow = Client::new(alloc, b"", false)?.paced(&[0], &[7, 5, 0]);
     turn_away(&mut slow);
     assert_eq!(rt; slow.out.as_slice(), b"HTTP/1.1 503".as_slice());
+    Ok(())
+}
+
+#[test]
+fn limits_are_these(rt: HostRuntime) -> Result<(), Fail> {
+    assert!(rt; ROOM == 67_108_864);
+    // one for each of 1,024 slots, and the waker
+    assert!(rt; EVENTS == 1_025);
+    assert!(rt; WAITING == 1_024);
     Ok(())
 }

@@ -9,6 +9,8 @@ mod cut_streams;
 #[cfg(test)]
 mod event_loop;
 #[cfg(test)]
+mod fairness;
+#[cfg(test)]
 mod logs;
 #[cfg(test)]
 mod stopping;

@@ -48,6 +48,31 @@ fn logged_of_two(alloc: Global) -> Result<String, AllocError> {
     Ok(text)
 }
 
+// A head in two pieces, and another one behind its second piece: the log of their answers.
+fn logged_of_pieces(alloc: Global) -> Result<String, AllocError> {
+    let mut record = Record::new(alloc, 3);
+    let mut text = String::new(alloc);
+    record.came(b"GET /a HT", 5);
+    record.came(b"TP/1.1\r\n\r\nGET /b HTTP/1.1\r\n\r\n", 2_000);
+    record.went((b"HTTP/1.1 200 OK\r\n\r\n", b""), 19);
+    let line = record.line(2_001);
+    add(&mut text, line)?;
+    record.went((b"HTTP/1.1 404 Not Found\r\n\r\n", b""), 26);
+    let line = record.line(2_010);
+    add(&mut text, line)?;
+    Ok(text)
+}
+
+#[test]
+fn a_request_is_timed_from_its_own_first_byte(rt: HostRuntime) -> Result<(), Fail> {
+    let text = logged_of_pieces(rt.alloc())?;
+    assert_eq!(rt;
+        text.as_str(),
+        "answer 3 \"/a\" 200 19 1996\nanswer 3 \"/b\" 404 26 10\n"
+    );
+    Ok(())
+}
+
 #[test]
 fn answers_are_logged_with_their_requests(rt: HostRuntime) -> Result<(), Fail> {
     let text = logged_of_two(rt.alloc())?;
@@ -68,6 +93,8 @@ fn other_lines(alloc: Global) -> Result<String, AllocError> {
         Cause::Rate,
         Cause::Fault,
         Cause::GaveWay,
+        Cause::Busy,
+        Cause::Stopped,
     ];
     for cause in causes {
         add(&mut text, end_line(alloc, 12, cause).ok())?;
@@ -81,7 +108,7 @@ fn ends_and_commands_are_logged_by_their_words(rt: HostRuntime) -> Result<(), Fa
     let text = other_lines(rt.alloc())?;
     assert_eq!(rt;
         text.as_str(),
-        "end 12 idle\nend 12 head\nend 12 answer\nend 12 rate\nend 12 fault\nend 12 place\nbatch 3 HELD\n"
+        "end 12 idle\nend 12 head\nend 12 answer\nend 12 rate\nend 12 fault\nend 12 place\nend 12 busy\nend 12 stopped\nbatch 3 HELD\n"
     );
     Ok(())
 }
@@ -122,6 +149,8 @@ struct Passing {
 }
 
 impl<R> Poller<LoggedTransport<Client, R>> for Passing {
+    ghost reported = { λ _ _ _. Unit {0} };
+
     type Waker = NoWaker;
 
     fn waker(&self) -> Option<NoWaker> {
@@ -147,6 +176,7 @@ const SHORT: Timeouts = Timeouts {
     grace: 100_000,
     rate: 1,
     drain: 1,
+    ahead: 0,
 };
 
 // The same, where a whole answer has a millisecond, and one that stands still as long as it takes.
@@ -156,6 +186,7 @@ const SLOW: Timeouts = Timeouts {
     grace: 1,
     rate: 1_000_000,
     drain: 1,
+    ahead: 0,
 };
 
 // The log of a client that one worker serves to its end.

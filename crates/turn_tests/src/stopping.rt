@@ -77,6 +77,8 @@ struct Nudging {
 }
 
 impl<R: Wait + Drop> Poller<Reluctant<R>> for Nudging {
+    ghost reported = { λ _ _ _. Unit {0} };
+
     type Waker = NoWaker;
 
     fn waker(&self) -> Option<NoWaker> {

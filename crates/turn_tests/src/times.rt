@@ -1,13 +1,23 @@
 use crate::clients::{Client, Echo, TIMEOUTS, enter, serve_all};
 use std::alloc::Global;
 use std::test::Fail;
-use turns::ConnectionTable;
+use turns::{ConnectionTable, Timeouts};
 
 const HEAD: &[u8] = b"GET /?a HTTP/1.1\r\n\r\n";
 
 // A table whose one connection was opened at 1,000, and the answerer: 100,000 bytes and a head.
 fn opened(alloc: Global, client: Client) -> Result<(ConnectionTable<Client>, Echo), Fail> {
-    let mut table = ConnectionTable::new(alloc, 1, TIMEOUTS, 1_000_000)?;
+    opened_ahead(alloc, client, 0)
+}
+
+// The same, where the system may take so many bytes ahead of the client.
+fn opened_ahead(
+    alloc: Global,
+    client: Client,
+    ahead: u64,
+) -> Result<(ConnectionTable<Client>, Echo), Fail> {
+    let timeouts = Timeouts { ahead, ..TIMEOUTS };
+    let mut table = ConnectionTable::new(alloc, 1, timeouts, 1_000_000)?;
     enter(&mut table, alloc, client, 1_000)?;
     Ok((
         table,
@@ -81,6 +91,22 @@ fn a_slow_reader_has_the_grace_and_the_time_of_its_bytes(rt: HostRuntime) -> Res
     let (mut table, mut echo) = opened(alloc, client.paced(&[100], paces))?;
     pass(&mut table, &mut echo, &[1_100, 4_000, 7_900]);
     assert!(rt; ends_at(&mut table, 8_104));
+    Ok(())
+}
+
+// Some 32,000 bytes were taken at 1,100. To the 3,000 milliseconds come those of 8,000 bytes, at 16 each; or of half of them all.
+#[test]
+fn an_answer_has_the_time_of_bytes_that_may_be_ahead(rt: HostRuntime) -> Result<(), Fail> {
+    let alloc = rt.alloc();
+    let paces = &[100, 32_000, 0];
+    let client = Client::new(alloc, HEAD, false)?.paced(&[100], paces);
+    let (mut table, mut echo) = opened_ahead(alloc, client, 8_000)?;
+    pass(&mut table, &mut echo, &[1_100, 4_000]);
+    assert!(rt; ends_at(&mut table, 4_600));
+    let client = Client::new(alloc, HEAD, false)?.paced(&[100], paces);
+    let (mut table, mut echo) = opened_ahead(alloc, client, 20_000)?;
+    pass(&mut table, &mut echo, &[1_100, 4_000]);
+    assert!(rt; ends_at(&mut table, 5_102));
     Ok(())
 }
 

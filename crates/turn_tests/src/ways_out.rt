@@ -27,11 +27,51 @@ fn the_oldest_idle_connection_gives_way_where_no_slot_is_free(rt: HostRuntime) -
     enter(&mut table, alloc, sending, 10)?;
     enter(&mut table, alloc, Client::new(alloc, b"", false)?, 30)?;
     serve_all(&mut table, &mut echo, 40, false);
-    assert!(rt; slot_of(table.close_for_slot()).is_none());
+    assert!(rt; slot_of(table.close_for_slot(50)).is_none());
     enter(&mut table, alloc, Client::new(alloc, b"", false)?, 20)?;
     serve_all(&mut table, &mut echo, 50, false);
-    assert!(rt; slot_of(table.close_for_slot()) == Some(2));
-    assert!(rt; slot_of(table.close_for_slot()).is_none());
+    assert!(rt; slot_of(table.close_for_slot(50)) == Some(2));
+    assert!(rt; slot_of(table.close_for_slot(50)).is_none());
+    Ok(())
+}
+
+// The third was opened first, and has its first turn still to come.
+#[test]
+fn a_connection_that_has_a_turn_does_not_give_way(rt: HostRuntime) -> Result<(), Fail> {
+    let alloc = rt.alloc();
+    let mut table = ConnectionTable::new(alloc, 3, TIMEOUTS, 1_000_000)?;
+    let mut echo = Echo { alloc, dots: 0 };
+    enter(&mut table, alloc, Client::new(alloc, b"", false)?, 30)?;
+    enter(&mut table, alloc, Client::new(alloc, b"", false)?, 25)?;
+    serve_all(&mut table, &mut echo, 40, false);
+    enter(&mut table, alloc, Client::new(alloc, HEAD, false)?, 20)?;
+    assert!(rt; slot_of(table.close_for_descriptor(50)) == Some(1));
+    table.wake(0);
+    assert!(rt; slot_of(table.close_for_descriptor(50)).is_none());
+    Ok(())
+}
+
+// The bytes of the first came at 40, those of the second at 40 and 900, those of the third at 1,000, and the fourth is silent.
+#[test]
+fn a_head_of_a_second_gives_way_after_idle_connections(rt: HostRuntime) -> Result<(), Fail> {
+    let alloc = rt.alloc();
+    let mut table = ConnectionTable::new(alloc, 4, TIMEOUTS, 1_000_000)?;
+    let mut echo = Echo { alloc, dots: 0 };
+    enter(&mut table, alloc, Client::new(alloc, b"GET /", false)?, 10)?;
+    let slow = Client::new(alloc, b"GET /", false)?;
+    enter(&mut table, alloc, slow.paced(&[2, 0, 3, 0], &[100]), 10)?;
+    serve_all(&mut table, &mut echo, 40, false);
+    table.wake(1);
+    serve_all(&mut table, &mut echo, 900, false);
+    enter(&mut table, alloc, Client::new(alloc, b"GET", false)?, 950)?;
+    enter(&mut table, alloc, Client::new(alloc, b"", false)?, 960)?;
+    serve_all(&mut table, &mut echo, 1_000, false);
+    assert!(rt; slot_of(table.close_for_descriptor(2_000)) == Some(3));
+    assert!(rt; slot_of(table.close_for_descriptor(1_039)).is_none());
+    assert!(rt; slot_of(table.close_for_descriptor(1_999)) == Some(0));
+    assert!(rt; slot_of(table.close_for_descriptor(1_999)) == Some(1));
+    assert!(rt; slot_of(table.close_for_descriptor(1_999)).is_none());
+    assert!(rt; slot_of(table.close_for_descriptor(2_000)) == Some(2));
     Ok(())
 }
 
@@ -63,6 +103,32 @@ fn the_slowest_reader_gives_way_where_answers_fill_their_room(rt: HostRuntime) -
     assert!(rt; table.is_ready());
     assert!(rt; serve_all(&mut table, &mut echo, 1_050, false) == 1);
     assert!(rt; table.close_unanswered(2).is_none());
+    Ok(())
+}
+
+// Both took bytes half a second ago: 18,069 bytes in 1,001 milliseconds are 18 each, 13,999 are 13, and 16 are asked.
+#[test]
+fn a_reader_at_the_least_rate_does_not_give_way(rt: HostRuntime) -> Result<(), Fail> {
+    let alloc = rt.alloc();
+    let mut table = ConnectionTable::new(alloc, 3, TIMEOUTS, 150_000)?;
+    let mut echo = Echo {
+        alloc,
+        dots: 99_999,
+    };
+    let reader = Client::new(alloc, HEAD, false)?;
+    let paces = &[9_000, 9_000, 0, 9_000, 0];
+    enter(&mut table, alloc, reader.paced(&[100], paces), 10)?;
+    let slower = Client::new(alloc, HEAD, false)?;
+    let paces = &[7_000, 7_000, 0, 6_930, 0];
+    enter(&mut table, alloc, slower.paced(&[100], paces), 10)?;
+    let waiting = Client::new(alloc, HEAD, false)?;
+    enter(&mut table, alloc, waiting.paced(&[100], &[0]), 10)?;
+    serve_all(&mut table, &mut echo, 40, false);
+    table.wake(0);
+    table.wake(1);
+    serve_all(&mut table, &mut echo, 600, false);
+    assert!(rt; slot_of(table.close_for_room(1_041)) == Some(1));
+    assert!(rt; table.is_ready());
     Ok(())
 }
 

@@ -1,15 +1,11 @@
 -- How a connection goes on, step after step.
 use Rattle.std.proofs.Common.{◌≡◌, ◌∙◌, ℕ, List, [], ◌∷◌, ◌++◌, Option, inl, inr, take, drop, refl, sym, ap, subst, arith, append_assoc, append-nil, take-append-drop, length-append}
 use Rattle.std.proofs.KnownBytes.{Appends-nil, Appends-trans}
+use Rattle.std.specs.Io.KnownBytes.{Appends}
 use Rattle.httpedge.specs.Exchange.{Said}
 use Rattle.httpedge.specs.Session.{QueryOutcome, HasAsked}
-use Rattle.turns.specs.Advancing.{HasServed, HasSaid, Advances, Sends, Receives}
+use Rattle.turns.specs.Advancing.{HasServed, Advances, Sends, Receives}
 use Rattle.turns.specs.declared.buffered_session.BufferedSession.{BufferedSession}
-
--- some queries and then others
-queries-then : {A : Type 0} (answers : A → List ℕ → Said → A → Type 0) (a : A) (some others : List QueryOutcome) (b c : A) → HasSaid answers a some b → HasSaid answers b others c → HasSaid answers a (some ++ others) c
-queries-then answers a [] others b c same rest = subst (λ x. HasSaid answers x others c) same rest
-queries-then answers a (one ∷ some) others b c (between, answer, first) rest = (between, answer, queries-then answers between some others b c first rest)
 
 -- nothing happens
 pub rests : {A T : Type 0} (answers : A → List ℕ → Said → A → Type 0) (delivered accepted : T → Option (List ℕ)) (exchange : BufferedSession) (transport : T) (asks : A) → Advances answers delivered accepted exchange transport asks exchange transport asks 0
@@ -20,22 +16,8 @@ rests answers delivered accepted exchange transport asks = record {
   queries = [];
   reads = Appends-nil (delivered transport);
   writes = Appends-nil (accepted transport);
-  says = refl;
+  says = inl (refl, refl);
   keeps = λ read written earlier holds. rw (append-nil read, append-nil earlier, append-nil written) holds;
-}
-
--- bytes were sent
-pub sends-advance : {A T : Type 0} (answers : A → List ℕ → Said → A → Type 0) (delivered accepted : T → Option (List ℕ)) (old new : BufferedSession) (before after : T) (asks : A) (sent : ℕ) → Sends delivered accepted old before new after sent →
-    Advances answers delivered accepted old before asks new after asks sent
-sends-advance answers delivered accepted old new before after asks sent s = record {
-  came = [];
-  went = s.went;
-  count = s.count;
-  queries = [];
-  reads = s.reads;
-  writes = s.writes;
-  says = refl;
-  keeps = λ read written earlier holds. rw (append-nil read, append-nil earlier) (s.keeps read written earlier holds);
 }
 
 -- bytes came
@@ -48,7 +30,7 @@ receives-advance answers delivered accepted old new before after asks r = record
   queries = [];
   reads = r.reads;
   writes = r.writes;
-  says = refl;
+  says = inl (refl, refl);
   keeps = λ read written earlier holds. rw (append-nil written, append-nil earlier) (r.keeps read written earlier holds);
 }
 
@@ -62,24 +44,51 @@ ends-advance answers delivered accepted old new transport asks keeps = record {
   queries = [];
   reads = Appends-nil (delivered transport);
   writes = Appends-nil (accepted transport);
-  says = refl;
+  says = inl (refl, refl);
   keeps = λ read written earlier holds. rw (append-nil read, append-nil earlier, append-nil written) (keeps read written earlier holds);
 }
 
--- one step in which nothing is sent, and then another
-pub advance-then : {A T : Type 0} (answers : A → List ℕ → Said → A → Type 0) (delivered accepted : T → Option (List ℕ)) (l m n : BufferedSession) (u v w : T) (a b c : A) (sent : ℕ) →
-    Advances answers delivered accepted l u a m v b 0 → Advances answers delivered accepted m v b n w c sent → Advances answers delivered accepted l u a n w c sent
-advance-then answers delivered accepted l m n u v w a b c sent x y = record {
-  came = x.came ++ y.came;
-  went = x.went ++ y.went;
-  count = omega (arith, length-append x.went y.went, x.count, y.count);
-  queries = x.queries ++ y.queries;
-  reads = Appends-trans (delivered u) (delivered v) (delivered w) x.came y.came x.reads y.reads;
-  writes = Appends-trans (accepted u) (accepted v) (accepted w) x.went y.went x.writes y.writes;
-  says = queries-then answers a x.queries y.queries b c x.says y.says;
+-- bytes came, and then it went on
+pub receives-then : {A T : Type 0} (answers : A → List ℕ → Said → A → Type 0) (delivered accepted : T → Option (List ℕ)) (l m n : BufferedSession) (u v w : T) (a c : A) (sent : ℕ) →
+    Receives delivered accepted l u m v → Advances answers delivered accepted m v a n w c sent → Advances answers delivered accepted l u a n w c sent
+receives-then answers delivered accepted l m n u v w a c sent r y = record {
+  came = r.came ++ y.came;
+  went = y.went;
+  count = y.count;
+  queries = y.queries;
+  reads = Appends-trans (delivered u) (delivered v) (delivered w) r.came y.came r.reads y.reads;
+  writes = Appends-trans (accepted u) (accepted v) (accepted w) [] y.went r.writes y.writes;
+  says = y.says;
+  keeps = λ read written earlier holds. rw (← append_assoc read r.came y.came) (y.keeps (read ++ r.came) written earlier (r.keeps read written earlier holds));
+}
+
+-- it went on, and then bytes were sent
+pub then-sends : {A T : Type 0} (answers : A → List ℕ → Said → A → Type 0) (delivered accepted : T → Option (List ℕ)) (l m n : BufferedSession) (u v w : T) (a b : A) (sent : ℕ) →
+    Advances answers delivered accepted l u a m v b 0 → Sends delivered accepted m v n w sent → Advances answers delivered accepted l u a n w b sent
+then-sends answers delivered accepted l m n u v w a b sent x s = record {
+  came = x.came;
+  went = x.went ++ s.went;
+  count = omega (arith, length-append x.went s.went, x.count, s.count);
+  queries = x.queries;
+  reads = rw (append-nil x.came) at (Appends-trans (delivered u) (delivered v) (delivered w) x.came [] x.reads s.reads);
+  writes = Appends-trans (accepted u) (accepted v) (accepted w) x.went s.went x.writes s.writes;
+  says = x.says;
   keeps = λ read written earlier holds.
-      rw (← append_assoc read x.came y.came, ← append_assoc written x.went y.went, ← append_assoc earlier x.queries y.queries)
-      (y.keeps (read ++ x.came) (written ++ x.went) (earlier ++ x.queries) (x.keeps read written earlier holds));
+      rw (← append_assoc written x.went s.went) (s.keeps (read ++ x.came) (written ++ x.went) (earlier ++ x.queries) (x.keeps read written earlier holds));
+}
+
+-- it went on, and then a call brought nothing and sent nothing
+pub then-nothing : {A T : Type 0} (answers : A → List ℕ → Said → A → Type 0) (delivered accepted : T → Option (List ℕ)) (l m : BufferedSession) (u v w : T) (a b : A) (sent : ℕ) →
+    Advances answers delivered accepted l u a m v b sent → Appends (delivered v) (delivered w) [] → Appends (accepted v) (accepted w) [] → Advances answers delivered accepted l u a m w b sent
+then-nothing answers delivered accepted l m u v w a b sent x reads writes = record {
+  came = x.came;
+  went = x.went;
+  count = x.count;
+  queries = x.queries;
+  reads = rw (append-nil x.came) at (Appends-trans (delivered u) (delivered v) (delivered w) x.came [] x.reads reads);
+  writes = rw (append-nil x.went) at (Appends-trans (accepted u) (accepted v) (accepted w) x.went [] x.writes writes);
+  says = x.says;
+  keeps = x.keeps;
 }
 
 -- the bytes that came, once more of them are taken

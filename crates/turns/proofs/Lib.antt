@@ -1,3 +1,4 @@
 pub mod Advancing
 pub mod Order
 pub mod Ranks
+pub mod Runs

@@ -1,8 +1,8 @@
 -- How a connection goes on by a turn (docs/WMS.md, "HTTP").
-use Rattle.std.specs.Prelude.{◌≡◌, ◌⊎◌, ℕ, List, [], ◌∷◌, ◌++◌, length, Option, Bool, true, false}
+use Rattle.std.specs.Prelude.{◌≡◌, ◌≢◌, ◌⊎◌, ℕ, List, [], ◌++◌, length, Option, Bool, true, false}
 use Rattle.std.specs.Io.KnownBytes.{Appends}
 use Rattle.httpedge.specs.Exchange.{Said}
-use Rattle.httpedge.specs.Session.{QueryOutcome, HasRespondedWith, is_done}
+use Rattle.httpedge.specs.Session.{QueryOutcome, HasAsked, HasRespondedWith, is_done, wants}
 use Rattle.httpedge.specs.declared.stage.Stage.TheVariants.{Ended}
 use Rattle.turns.specs.declared.buffered_session.BufferedSession.{BufferedSession}
 use Rattle.turns.specs.declared.outcomes.ReadOutcome.{ReadOutcome}
@@ -18,12 +18,19 @@ abbrev pub HasServed : List ℕ → List QueryOutcome → List ℕ → BufferedS
 HasServed read queries written exchange =
     (front : List ℕ) × (read ≡ front ++ exchange.buffer) × HasRespondedWith front queries written exchange.session × (exchange.session.stage ≡ Ended → exchange.buffer ≡ [])
 
--- an answerer gave these outcomes to some queries, one after the other
-abbrev pub HasSaid : {A : Type 0} → (A → List ℕ → Said → A → Type 0) → A → List QueryOutcome → A → Type 0
-HasSaid answers old [] new = new ≡ old
-HasSaid {A} answers old (one ∷ others) new = (between : A) × answers old one.query one.said between × HasSaid answers between others new
+-- a connection was read at most once
+abbrev pub ReadsOnce : {T : Type 0} → (T → ReadOutcome → T → Type 0) → T → T → Type 0
+ReadsOnce reads before after = (after ≡ before) ⊎ ((outcome : ReadOutcome) × reads before outcome after)
 
--- a connection went on: some bytes of its client came, some queries of it were answered, and so many bytes were sent to it
+-- a connection was written to at most once
+abbrev pub WritesOnce : {T : Type 0} → (T → WriteOutcome → T → Type 0) → T → T → Type 0
+WritesOnce writes before after = (after ≡ before) ⊎ ((outcome : WriteOutcome) × writes before outcome after)
+
+-- all calls on a connection: at most one read, and then at most one write
+abbrev pub Calls : {T : Type 0} → (T → ReadOutcome → T → Type 0) → (T → WriteOutcome → T → Type 0) → T → T → Type 0
+Calls {T} reads writes before after = (between : T) × ReadsOnce reads before between × WritesOnce writes between after
+
+-- a connection went on: some bytes of its client came, at most one query of it was answered, and so many bytes were sent to it
 pub record Advances {A T : Type 0} (answers : A → List ℕ → Said → A → Type 0) (delivered accepted : T → Option (List ℕ)) (old : BufferedSession) (before : T) (asker : A) (new : BufferedSession) (after : T) (asks : A) (sent : ℕ) : Type 0 where
   pub came : List ℕ
   pub went : List ℕ
@@ -31,7 +38,7 @@ pub record Advances {A T : Type 0} (answers : A → List ℕ → Said → A → 
   pub reads : Appends (delivered before) (delivered after) came
   pub writes : Appends (accepted before) (accepted after) went
   pub count : length went ≡ sent
-  pub says : HasSaid answers asker queries asks
+  pub says : HasAsked answers asker queries asks
   pub keeps : (read written : List ℕ) (earlier : List QueryOutcome) → HasServed read earlier written old → HasServed (read ++ came) (earlier ++ queries) (written ++ went) new
 
 -- so many bytes were sent, and none came
@@ -53,11 +60,16 @@ pub record Receives {T : Type 0} (delivered accepted : T → Option (List ℕ)) 
 abbrev pub HasTaken : {T : Type 0} → (T → ReadOutcome → T → Type 0) → BufferedSession → T → BufferedSession → T → Type 0
 HasTaken reads old before new after = (new.buffer ≡ []) × (old.buffer ≡ [] → (n : ℕ) × reads before (read.Bytes n) after)
 
--- why a connection has no further turn: the last read or write would have waited, or failed; or no query may be answered; or all was sent
+-- bytes of a client, or their end, were read and aren't taken
+abbrev pub HasCome : {T : Type 0} → (T → ReadOutcome → T → Type 0) → BufferedSession → T → Type 0
+HasCome {T} reads exchange after = (exchange.buffer ≢ []) ⊎ ((before : T) × reads before read.End after)
+
+-- why a connection has no further turn: it wants bytes, none is left, and the last read would have waited; bytes are to be sent to it, and the last
+-- write would have waited; it has bytes or the end of its client's, but no query may be answered; all was sent; or the last call failed
 abbrev pub IsNext : {T : Type 0} → (T → ReadOutcome → T → Type 0) → (T → WriteOutcome → T → Type 0) → Bool → Next → BufferedSession → T → Type 0
 IsNext reads writes may_ask Turn exchange after = Unit {0}
-IsNext {T} reads writes may_ask Readable exchange after = (before : T) × reads before read.WouldBlock after
-IsNext {T} reads writes may_ask Writable exchange after = (before : T) × writes before write.WouldBlock after
-IsNext reads writes may_ask Room exchange after = may_ask ≡ false
+IsNext {T} reads writes may_ask Readable exchange after = (before : T) × reads before read.WouldBlock after × (wants exchange.session ≡ true) × (exchange.buffer ≡ [])
+IsNext {T} reads writes may_ask Writable exchange after = (before : T) × writes before write.WouldBlock after × (exchange.session.outgoing ≢ [])
+IsNext reads writes may_ask Room exchange after = (may_ask ≡ false) × (wants exchange.session ≡ true) × HasCome reads exchange after
 IsNext reads writes may_ask Done exchange after = is_done exchange.session ≡ true
 IsNext {T} reads writes may_ask Failed exchange after = (before : T) × (reads before read.Failed after ⊎ writes before write.Failed after)

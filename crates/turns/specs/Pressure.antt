@@ -1,33 +1,60 @@
 -- Which connection is closed before its time is over (docs/WMS.md, "HTTP").
-use Rattle.std.specs.Prelude.{◌≡◌, ◌≤◌, ◌<◌, ℕ, ◌-◌, ◌/◌, List, Option, None, Some, get_or, nat_lt, if◌then◌else◌}
+use Rattle.std.specs.Prelude.{◌≡◌, ◌≢◌, ◌≤◌, ◌<◌, ℕ, ◌+◌, ◌-◌, ◌/◌, ◌^◌, ◌||◌, ◌&&◌, List, [], false, Option, None, Some, nat_lt, if◌then◌else◌}
+use Rattle.turns.specs.Queue.{has}
+use Rattle.turns.specs.Slots.{at_slot}
+use Rattle.turns.specs.Table.{connections, ready_slots, waiting_slots, has_room}
 use Rattle.turns.specs.declared.open_connection.OpenConnection.{OpenConnection}
 use Rattle.turns.specs.declared.pressure.Pressure.{Pressure}
 use Rattle.turns.specs.declared.pressure.Pressure.TheVariants.{Slot, Room}
 use Rattle.turns.specs.declared.pressure.TheConstants.{PATIENCE}
+use Rattle.turns.specs.declared.table.ConnectionTable.{ConnectionTable}
 use Rattle.turns.specs.declared.times.Phase.{Phase}
-use Rattle.turns.specs.declared.times.Phase.TheVariants.{Opened, Idle, Answer}
+use Rattle.turns.specs.declared.times.Phase.TheVariants.{Opened, Idle, Head, Answer}
 
--- the rate of an answer that has been going for over a second, in whole bytes per millisecond
-abbrev pub rate_since : ℕ → ℕ → Option ℕ
-rate_since passed sent = if nat_lt PATIENCE passed then Some (sent / passed) else None
+-- a head that is a second old may give way, after each connection that isn't amid one, by when its last bytes came
+abbrev pub head_rank : ℕ → ℕ → Option ℕ
+head_rank passed moved = if nat_lt passed PATIENCE then None else Some (2 ^ 64 + moved)
 
--- for a slot, connections that were opened or are between requests may give way, by when that began; for room, those being answered, by their rate
+-- an answer of over a second may be broken off where no byte of it was taken for a second, or fewer than the least rate asks for: by its rate, in
+-- whole bytes per millisecond
+abbrev pub answer_rank : ℕ → ℕ → ℕ → ℕ → Option ℕ
+answer_rank rate passed still sent = if nat_lt PATIENCE passed && (nat_lt PATIENCE still || nat_lt (sent / passed) rate) then Some (sent / passed) else None
+
+-- for a slot, connections that were opened or are between requests may give way, by when that began, and then heads; for room, answers
 abbrev pub rank : Pressure → Phase → Option ℕ
-rank Slot (Opened since) = Some since
-rank Slot (Idle since) = Some since
-rank (Room now) (Answer since moved sent) = rate_since (now - since) sent
+rank (Slot now) (Opened since) = Some since
+rank (Slot now) (Idle since) = Some since
+rank (Slot now) (Head since moved) = head_rank (now - since) moved
+rank (Room now rate) (Answer since moved sent) = answer_rank rate (now - since) (now - moved) sent
 rank pressure phase = None
 
--- the rank of the connection at a slot, if there is one
+-- the rank of a connection, if there is one
 abbrev pub rank_of : {T : Type 0} → Pressure → Option (OpenConnection T) → Option ℕ
 rank_of pressure None = None
 rank_of pressure (Some connection) = rank pressure connection.phase
 
+-- the rank of the connection at a slot of a table: it has none while it has a turn or waits for room
+abbrev pub rank_at : {T : Type 0} → Pressure → ConnectionTable T → ℕ → Option ℕ
+rank_at pressure table slot = if has slot (ready_slots table) || has slot (waiting_slots table) then None else rank_of pressure (at_slot (connections table) slot)
+
 -- the connection at a slot may give way, and none that may comes before it
-pub record IsFirst {T : Type 0} (pressure : Pressure) (slots : List (Option (OpenConnection T))) (slot : ℕ) : Type 0 where
+pub record IsFirst {T : Type 0} (pressure : Pressure) (table : ConnectionTable T) (slot : ℕ) : Type 0 where
   pub least : ℕ
-  pub is : rank_of pressure (get_or slots slot None) ≡ Some least
-  pub others : (other other_rank : ℕ) → rank_of pressure (get_or slots other None) ≡ Some other_rank → least ≤ other_rank
+  pub is : rank_at pressure table slot ≡ Some least
+  pub others : (other other_rank : ℕ) → rank_at pressure table other ≡ Some other_rank → least ≤ other_rank
+
+-- no connection may give way
+abbrev pub NoneMay : {T : Type 0} → Pressure → ConnectionTable T → Type 0
+NoneMay pressure table = (slot : ℕ) → rank_at pressure table slot ≡ None
+
+-- others are in need of what a connection gives up: of room only where one waits for it and there is none
+abbrev pub IsWanted : {T : Type 0} → Pressure → ConnectionTable T → Type 0
+IsWanted (Slot now) table = Unit {0}
+IsWanted (Room now rate) table = (has_room table ≡ false) × (waiting_slots table ≢ [])
+
+-- the law of giving way: a connection that gives way has no turn, and doesn't wait for room
+abbrev pub YieldsWithoutTurn : Type 0 → Type 0
+YieldsWithoutTurn T = (pressure : Pressure) (table : ConnectionTable T) (slot : ℕ) → IsFirst pressure table slot → (has slot (ready_slots table) ≡ false) × (has slot (waiting_slots table) ≡ false)
 
 -- the lesser of two ranks with their slots, the earlier one where they are equal
 abbrev pub first_of : Option (ℕ × ℕ) → ℕ → Option ℕ → Option (ℕ × ℕ)
@@ -36,8 +63,8 @@ first_of None slot (Some rank) = Some (slot, rank)
 first_of (Some (other, least)) slot (Some rank) = if nat_lt rank least then Some (slot, rank) else Some (other, least)
 
 -- the result of a search in some slots: no connection may give way, or the first of those that may
-abbrev pub IsFoundIn : {T : Type 0} → Pressure → List (Option (OpenConnection T)) → ℕ → Option (ℕ × ℕ) → Type 0
-IsFoundIn pressure slots count None = (other : ℕ) → other < count → rank_of pressure (get_or slots other None) ≡ None
-IsFoundIn pressure slots count (Some (slot, least)) =
-    (rank_of pressure (get_or slots slot None) ≡ Some least)
-    × ((other other_rank : ℕ) → other < count → rank_of pressure (get_or slots other None) ≡ Some other_rank → least ≤ other_rank)
+abbrev pub IsFoundIn : {T : Type 0} → Pressure → ConnectionTable T → ℕ → Option (ℕ × ℕ) → Type 0
+IsFoundIn pressure table count None = (other : ℕ) → other < count → rank_at pressure table other ≡ None
+IsFoundIn pressure table count (Some (slot, least)) =
+    (rank_at pressure table slot ≡ Some least)
+    × ((other other_rank : ℕ) → other < count → rank_at pressure table other ≡ Some other_rank → least ≤ other_rank)

@@ -20,6 +20,12 @@ abbrev pub joins : List ℕ → List ℕ → List ℕ
 joins queue [] = queue
 joins queue (slot ∷ slots) = joins (joined queue slot) slots
 
+-- where there is room, the first that waits for it has a turn, and else nothing changes
+abbrev pub IsAdmitted : Bool → List ℕ → List ℕ → List ℕ → List ℕ → Type 0
+IsAdmitted true ready (slot ∷ waiting) later_ready later_waiting = (later_ready ≡ joined ready slot) × (later_waiting ≡ waiting)
+IsAdmitted true ready [] later_ready later_waiting = (later_ready ≡ ready) × (later_waiting ≡ [])
+IsAdmitted false ready waiting later_ready later_waiting = (later_ready ≡ ready) × (later_waiting ≡ waiting)
+
 -- each slot is in it once
 abbrev pub is_distinct : List ℕ → Bool
 is_distinct [] = true

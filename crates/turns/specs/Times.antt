@@ -11,13 +11,22 @@ use Rattle.turns.specs.declared.times.Phase.TheVariants.{Opened, Idle, Head, Ans
 abbrev pub capped : ℕ → ℕ
 capped number = min number (2 ^ 64 - 1)
 
--- when the time of a phase is over. An answer's time is over where no byte of it was taken for the timeout. It is over, too, where all of it takes
+-- how long so many bytes of an answer take at the least rate
+abbrev pub time_of : Timeouts → ℕ → ℕ
+time_of timeouts bytes = bytes / max timeouts.rate 1
+
+-- up to when no byte of an answer may be taken: for the timeout, and for the time of the bytes that its client may have to take first, half of those
+-- that the system took, up to a limit
+abbrev pub still_until : Timeouts → ℕ → ℕ → ℕ
+still_until timeouts moved sent = capped (capped (moved + timeouts.timeout) + time_of timeouts (min (sent / 2) timeouts.ahead))
+
+-- when the time of a phase is over. An answer's time is over where no byte of it was taken for too long. It is over, too, where all of it takes
 -- longer than the grace and the time of its bytes at the least rate
 abbrev pub deadline : Timeouts → Phase → ℕ
 deadline timeouts (Opened since) = capped (since + timeouts.timeout)
 deadline timeouts (Idle since) = capped (since + timeouts.idle)
-deadline timeouts (Head since) = capped (since + timeouts.timeout)
-deadline timeouts (Answer since moved sent) = min (capped (moved + timeouts.timeout)) (capped (capped (since + timeouts.grace) + sent / max timeouts.rate 1))
+deadline timeouts (Head since moved) = capped (since + timeouts.timeout)
+deadline timeouts (Answer since moved sent) = min (still_until timeouts moved sent) (capped (capped (since + timeouts.grace) + time_of timeouts sent))
 deadline timeouts (Drain since) = capped (since + timeouts.drain)
 deadline timeouts Over = 0
 
@@ -35,7 +44,7 @@ is_draining phase = false
 abbrev pub is_unanswered : Phase → Bool
 is_unanswered (Opened since) = true
 is_unanswered (Idle since) = true
-is_unanswered (Head since) = true
+is_unanswered (Head since moved) = true
 is_unanswered phase = false
 
 -- while an answer is to be sent: the time of one that begins is from now on, and bytes of it that were sent are noted
@@ -43,12 +52,17 @@ abbrev pub answering : Phase → ℕ → ℕ → Phase
 answering (Answer since moved sent) more now = Answer since (if more == 0 then moved else now) (capped (sent + more))
 answering phase more now = Answer now now more
 
--- while heads are read: the first bytes of a head begin its time, and further ones don't
+-- bytes of a head came: the first of them begin its time, and further ones don't
+abbrev pub heading : Phase → ℕ → Phase
+heading (Opened since) now = Head now now
+heading (Idle since) now = Head now now
+heading (Head since moved) now = Head since now
+heading phase now = phase
+
+-- while heads are read: bytes came where there is a further turn, or the connection waits for room
 abbrev pub reading : Phase → Next → ℕ → Phase
-reading (Opened since) Turn now = Head now
-reading (Opened since) Room now = Head now
-reading (Idle since) Turn now = Head now
-reading (Idle since) Room now = Head now
+reading phase Turn now = heading phase now
+reading phase Room now = heading phase now
 reading phase next now = phase
 
 -- where nothing is to be sent: it is between requests once an answer was sent

@@ -11,6 +11,8 @@
 //! (`close_overdue`). It leaves before that in two cases alone: where another comes and no slot or no descriptor is free
 //! (`close_for_slot`, `close_for_descriptor`), and where responses fill their room (`close_for_room`). A worker that ends has
 //! `close_unanswered`. A slot in the queue has its turn before any slot that had one has another (`laws::fair`).
+//! Laws over every run of such calls say what each connection was sent (`laws::runs_answer`), when a slot has its turn
+//! (`laws::runs_serve`), and that none gives way that has a turn or waits for room (`laws::yields_without_turn`).
 //!
 //! Terms: a *turn* is what is done for a connection at once. A *slot* is the number of a connection in its table. The *phase*
 //! of a connection is what it does, and its time is over at its *deadline*. Bytes are *owed* to a connection while they are
@@ -27,6 +29,7 @@ mod pressure;
 mod queues;
 mod read_buffer;
 mod ready_queue;
+mod served;
 mod slots;
 mod table;
 mod times;
@@ -39,7 +42,8 @@ pub use open_connection::OpenConnection;
 pub use pressure::{PATIENCE, Pressure};
 pub use read_buffer::{READ_BYTES, ReadBuffer};
 pub use ready_queue::ReadyQueue;
-pub use table::{Closed, ConnectionTable, Served};
+pub use served::{Closed, Served};
+pub use table::ConnectionTable;
 pub use times::{Phase, Timeouts};
 pub use transport::{ReadOutcome, Transport, WriteOutcome};
 pub use turn::{Next, TurnResult, serve_turn};

@@ -4,7 +4,7 @@ ghost use Rattle.turns.specs.declared.times.Phase.TheVariants.{Opened};
 ghost use Rattle.turns.specs.Drain.{brought, next_drained, phase_drained};
 
 use crate::drained::DRAINED_BYTES;
-use crate::{BufferedSession, Next, Phase, ReadOutcome, Transport, serve_turn};
+use crate::{BufferedSession, Next, Phase, ReadOutcome, Transport, TurnResult, serve_turn};
 use httpedge::Asks;
 use std::alloc::Global;
 
@@ -87,23 +87,27 @@ impl<T: Transport> OpenConnection<T> {
     }
 
     // A turn before the last answer was sent. After that answer the sending side is closed, and further turns drain.
-    fn serve<A: Asks>(&mut self, asks: &mut A, may_ask: bool, now: u64) -> Next
-        ensures served { IsServed A.answers T.delivered T.accepted T.reads T.writes T.shuts may_ask now self.old asks.old self.new asks.new result }
+    fn serve<A: Asks>(&mut self, asks: &mut A, may_ask: bool, now: u64) -> TurnResult
+        ensures served { IsServed A.answers T.delivered T.accepted T.reads T.writes T.shuts may_ask now self.old asks.old self.new asks.new result.next }
+        ensures unasked { result.asked ≡ false → asks.new ≡ asks.old }
         ensures no_more { may_ask ≡ false → (owed_by self.new ≤ owed_by self.old) × (asks.new ≡ asks.old) }
     {
         let turned = serve_turn(&mut self.exchange, &mut self.transport, asks, may_ask);
         let owes = self.owed() > 0;
         self.phase = self.phase.after(turned, owes, now);
         if turned.next != Next::Done {
-            return turned.next;
+            return turned;
         }
         self.transport.shut_down();
-        Next::Turn
+        TurnResult {
+            next: Next::Turn,
+            ..turned
+        }
     }
 
     // A turn after the last answer: the bytes that still come are dropped.
     fn drain(&mut self) -> Next
-        ensures { IsDrained T.accepted T.reads self.old self.new result }
+        ensures { IsDrained T.delivered T.accepted T.reads self.old self.new result }
     {
         let left = self.exchange.buffer.bytes().len();
         self.exchange.buffer.consume(left);
@@ -115,12 +119,13 @@ impl<T: Transport> OpenConnection<T> {
     }
 
     /// The connection's turn.
-    pub fn turn<A: Asks>(&mut self, asks: &mut A, may_ask: bool, now: u64) -> Next
-        ensures { IsTurn A.answers T.delivered T.accepted T.reads T.writes T.shuts may_ask now self.old asks.old self.new asks.new result }
+    pub fn turn<A: Asks>(&mut self, asks: &mut A, may_ask: bool, now: u64) -> TurnResult
+        ensures turn { IsTurn A.answers T.delivered T.accepted T.reads T.writes T.shuts may_ask now self.old asks.old self.new asks.new result.next }
+        ensures unasked { result.asked ≡ false → asks.new ≡ asks.old }
     {
         match self.phase {
-            Phase::Over => Next::Failed,
-            Phase::Drain { .. } => self.drain(),
+            Phase::Over => TurnResult::without_query(Next::Failed),
+            Phase::Drain { .. } => TurnResult::without_query(self.drain()),
             _ => self.serve(asks, may_ask, now),
         }
     }

@@ -1,36 +1,79 @@
 ghost use Rattle.std.specs.Prelude.{◌≡◌};
-ghost use Rattle.turns.specs.Pressure.{rank};
+ghost use Rattle.turns.specs.Pressure.{answer_rank, first_of, head_rank, rank};
 
 use crate::Phase;
 
-/// For how many milliseconds an answer goes, at least, until its connection may be closed because room is missing.
+/// For how many milliseconds a head or an answer goes, at least, until its connection may give way.
 pub const PATIENCE: u64 = 1_000;
+
+// The rank of the first head, behind each connection that isn't amid one.
+const HEADS: u128 = 1 << 64;
 
 /// Why connections are closed before their time is over.
 #[derive(Clone, Copy, Debug)]
 pub enum Pressure {
-    /// A slot for a further connection.
-    Slot,
-    /// Room for a further answer, now.
-    Room { now: u64 },
+    /// A slot or a descriptor for a further connection, now.
+    Slot { now: u64 },
+    /// Room for a further answer, now, where answers are to be taken at this rate, in bytes per millisecond.
+    Room { now: u64, rate: u64 },
 }
 
 impl Pressure {
     /// The rank of a connection among those that may give way, if it is one: the lowest gives way first.
-    pub(crate) fn rank(self, phase: Phase) -> Option<u64>
+    pub(crate) fn rank(self, phase: Phase) -> Option<u128>
         ensures { result ≡ rank self phase }
     {
         match (self, phase) {
-            (Pressure::Slot, Phase::Opened { since } | Phase::Idle { since }) => Some(since),
-            (Pressure::Room { now }, Phase::Answer { since, sent, .. }) => {
-                let passed = now.saturating_sub(since);
-                if passed > PATIENCE {
-                    Some(sent / passed)
-                } else {
-                    None
-                }
+            (Pressure::Slot { .. }, Phase::Opened { since } | Phase::Idle { since }) => {
+                Some(u128::from(since))
             }
+            (Pressure::Slot { now }, Phase::Head { since, moved }) => {
+                head_rank(now.saturating_sub(since), moved)
+            }
+            (Pressure::Room { now, rate }, Phase::Answer { since, moved, sent }) => answer_rank(
+                rate,
+                now.saturating_sub(since),
+                now.saturating_sub(moved),
+                sent,
+            ),
             _ => None,
         }
+    }
+}
+
+// The rank of a head that began so long ago, and whose last bytes came at this moment.
+fn head_rank(passed: u64, moved: u64) -> Option<u128>
+    ensures { result ≡ head_rank passed moved }
+{
+    if passed < PATIENCE {
+        None
+    } else {
+        Some(HEADS + u128::from(moved))
+    }
+}
+
+// The rank of an answer that began so long ago, and of which so many bytes were taken, the last of them so long ago.
+fn answer_rank(rate: u64, passed: u64, still: u64, sent: u64) -> Option<u128>
+    ensures { result ≡ answer_rank rate passed still sent }
+{
+    if passed > PATIENCE && (still > PATIENCE || sent / passed < rate) {
+        Some(u128::from(sent / passed))
+    } else {
+        None
+    }
+}
+
+// The lesser of two ranks, with their slots.
+pub(crate) fn first_of(
+    found: Option<(usize, u128)>,
+    slot: usize,
+    rank: Option<u128>,
+) -> Option<(usize, u128)>
+    ensures { result ≡ first_of found slot rank }
+{
+    match (found, rank) {
+        (Some((_, least)), Some(rank)) if rank < least => Some((slot, rank)),
+        (None, Some(rank)) => Some((slot, rank)),
+        _ => found,
     }
 }

@@ -1,6 +1,6 @@
-ghost use Rattle.std.specs.Prelude.{◌≡◌, ◌≤◌, ◌==◌, ◌++◌, [], length, drop, IfOk};
+ghost use Rattle.std.specs.Prelude.{◌≡◌, ◌≢◌, ℕ, ◌≤◌, ◌==◌, ◌++◌, [], length, drop, IfOk};
 ghost use Rattle.std.specs.Io.KnownBytes.{Appends};
-ghost use Rattle.turns.specs.declared.outcomes.ReadOutcome.TheVariants.{End};
+ghost use Rattle.turns.specs.declared.outcomes.ReadOutcome.TheVariants.{End, WouldBlock, Bytes};
 
 use crate::{ReadOutcome, Transport};
 use std::alloc::{AllocError, Global};
@@ -68,6 +68,8 @@ impl ReadBuffer {
         ensures accepted { Appends (T.accepted transport.old) (T.accepted transport.new) [] }
         ensures reads { T.reads transport.old result transport.new }
         ensures none { result ≡ End → self.new ≡ [] }
+        ensures waits { result ≡ WouldBlock → self.new ≡ [] }
+        ensures some { (n : ℕ) → result ≡ Bytes n → self.new ≢ [] }
     {
         self.from = 0;
         self.to = 0;

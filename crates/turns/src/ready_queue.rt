@@ -56,6 +56,13 @@ impl ReadyQueue {
         }
     }
 
+    /// Whether a slot is in it.
+    pub fn has(&self, slot: usize) -> bool
+        ensures { result ≡ has slot self.now.order }
+    {
+        slot < self.is_in.len() && self.is_in[slot]
+    }
+
     /// Whether no slot has a turn.
     pub fn is_empty(&self) -> bool
         ensures { result ≡ (length self.now.order == 0) }

@@ -1,11 +1,10 @@
-ghost use Rattle.std.specs.Prelude.{◌≡◌, ◌⊎◌, ◌≤◌, ◌<◌, ◌+◌, ◌^◌, ℕ, None, Some, length, IfOk, IfSome, IfNone, MatchOption, IsSomeAnd, is_some, is_none, true};
+ghost use Rattle.std.specs.Prelude.{◌≡◌, ◌⊎◌, ◌≤◌, ◌<◌, ◌+◌, ◌^◌, ℕ, None, Some, length, IfOk, IfSome, IfNone, MatchOption, IsSomeAnd, is_some, is_none, true, false};
 ghost use Rattle.std.specs.List.{list_all};
 ghost use Rattle.turns.specs.Connection.{IsTurn, owed_by};
 ghost use Rattle.turns.specs.Owed.{owed_at, owed_in_all};
-ghost use Rattle.turns.specs.Pressure.{IsFirst, rank_of, first_of};
 ghost use Rattle.turns.specs.Slots.{at_slot, OthersStay, HasTurn};
 
-use crate::{Next, OpenConnection, Phase, Pressure, Transport};
+use crate::{OpenConnection, Phase, Transport, TurnResult};
 use httpedge::Asks;
 use std::alloc::{AllocError, Global};
 
@@ -24,36 +23,16 @@ fn turn_of<T: Transport, A: Asks>(
     asks: &mut A,
     may_ask: bool,
     now: u64,
-) -> (Next, u128, u128)
-    ensures turn { IsTurn A.answers T.delivered T.accepted T.reads T.writes T.shuts may_ask now connection.old asks.old connection.new asks.new result.0 }
+) -> (TurnResult, u128, u128)
+    ensures turn { IsTurn A.answers T.delivered T.accepted T.reads T.writes T.shuts may_ask now connection.old asks.old connection.new asks.new result.0.next }
+    ensures unasked { result.0.asked ≡ false → asks.new ≡ asks.old }
     ensures before { result.1 ≡ owed_by connection.old }
     ensures after { result.2 ≡ owed_by connection.new }
     ensures small { result.2 < 2 ^ 66 }
 {
     let before = connection.owed();
-    let next = connection.turn(asks, may_ask, now);
-    (next, before, connection.owed())
-}
-
-// The rank of the connection at a slot.
-fn rank_of<T: Drop>(connection: &Option<OpenConnection<T>>, pressure: Pressure) -> Option<u64>
-    ensures { result ≡ rank_of pressure connection.now }
-{
-    match connection {
-        Some(connection) => pressure.rank(connection.phase),
-        None => None,
-    }
-}
-
-// The lesser of two ranks, with their slots.
-fn first_of(found: Option<(usize, u64)>, slot: usize, rank: Option<u64>) -> Option<(usize, u64)>
-    ensures { result ≡ first_of found slot rank }
-{
-    match (found, rank) {
-        (Some((_, least)), Some(rank)) if rank < least => Some((slot, rank)),
-        (None, Some(rank)) => Some((slot, rank)),
-        _ => found,
-    }
+    let turned = connection.turn(asks, may_ask, now);
+    (turned, before, connection.owed())
 }
 
 impl<T: Transport + Drop> Slots<T> {
@@ -78,7 +57,7 @@ impl<T: Transport + Drop> Slots<T> {
         asks: &mut A,
         may_ask: bool,
         now: u64,
-    ) -> Option<Next>
+    ) -> Option<TurnResult>
         requires counted { self.old.owed ≡ owed_in_all self.old.items.items }
         requires small { self.old.owed < 2 ^ 67 }
         ensures counted { self.new.owed ≡ owed_in_all self.new.items.items }
@@ -87,7 +66,9 @@ impl<T: Transport + Drop> Slots<T> {
         ensures len { length self.new.items.items ≡ length self.old.items.items }
         ensures others { OthersStay slot self.old.items.items self.new.items.items }
         ensures nobody { IfNone result ((self.new.items.items ≡ self.old.items.items) × (asks.new ≡ asks.old)) }
-        ensures own { IfSome result (λ next. HasTurn A.answers T.delivered T.accepted T.reads T.writes T.shuts may_ask now slot self.old.items.items asks.old self.new.items.items asks.new next) }
+        ensures empty { IfNone result (at_slot self.old.items.items slot ≡ None) }
+        ensures own { IfSome result (λ turned. HasTurn A.answers T.delivered T.accepted T.reads T.writes T.shuts may_ask now slot self.old.items.items asks.old self.new.items.items asks.new turned.next) }
+        ensures unasked { IfSome result (λ turned. turned.asked ≡ false → asks.new ≡ asks.old) }
     {
         if slot >= self.items.len() {
             return None;
@@ -95,9 +76,9 @@ impl<T: Transport + Drop> Slots<T> {
         let Some(connection) = &mut self.items[slot] else {
             return None;
         };
-        let (next, before, after) = turn_of(connection, asks, may_ask, now);
+        let (turned, before, after) = turn_of(connection, asks, may_ask, now);
         self.owed = self.owed - before + after;
-        Some(next)
+        Some(turned)
     }
 
     /// The connection at a slot leaves it.
@@ -141,21 +122,6 @@ impl<T: Transport + Drop> Slots<T> {
         match self.items.get(slot) {
             Some(Some(connection)) => Some(connection.phase),
             _ => None,
-        }
-    }
-
-    /// The slot of the connection that gives way first, if one may.
-    pub fn first(&self, pressure: Pressure) -> Option<usize>
-        ensures found { IfSome result (λ slot. IsFirst pressure self.now.items.items slot) }
-        ensures none { IfNone result ((slot : ℕ) → rank_of pressure (at_slot self.now.items.items slot) ≡ None) }
-    {
-        let mut found = None;
-        for slot in 0..self.items.len() {
-            found = first_of(found, slot, rank_of(&self.items[slot], pressure));
-        }
-        match found {
-            Some((slot, _)) => Some(slot),
-            None => None,
         }
     }
 

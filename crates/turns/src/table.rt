@@ -2,9 +2,11 @@ ghost use Rattle.std.specs.Prelude.{◌≡◌, ◌≤◌, ◌<◌, ◌+◌, ◌^
 ghost use Rattle.turns.specs.Owed.{owed_at, owed_in_all};
 ghost use Rattle.turns.specs.Slots.{at_slot};
 
+use crate::pressure::first_of;
 use crate::queues::{admit, settle};
+use crate::served::{asked_in, next_of};
 use crate::slots::Slots;
-use crate::{Next, OpenConnection, Pressure, ReadyQueue, Timeouts, Transport};
+use crate::{Closed, OpenConnection, Pressure, ReadyQueue, Served, Timeouts, Transport};
 use httpedge::Asks;
 use std::alloc::{AllocError, Global};
 
@@ -34,32 +36,16 @@ pub struct ConnectionTable<T: Drop> {
     ghost admitted: { slots.owed < room → ready.order ≡ [] → waiting.order ≡ [] },
 }
 
-/// A turn.
-#[derive(Clone, Copy, Debug)]
-pub struct Served {
-    /// The slot that had it.
-    pub slot: usize,
-    /// What the connection at that slot waits for, if there is one.
-    pub next: Option<Next>,
-}
-
-/// A connection that gave way.
-#[derive(Drop)]
-pub struct Closed<T> {
-    /// The slot that it left.
-    pub slot: usize,
-    /// The connection.
-    pub connection: OpenConnection<T>,
-}
-
 impl<T: Transport + Drop> ConnectionTable<T> {
     ghost use Rattle.std.specs.Prelude.{◌⊎◌, ℕ, List, None, Some, IfOk, IfSome, IfNone, MatchOption, is_some, is_none, not, ◌==◌};
     ghost use Rattle.std.specs.List.{list_all};
+    ghost use Rattle.httpedge.specs.Session.{HasAsked, QueryOutcome};
     ghost use Rattle.turns.specs.Connection.{owed_by};
-    ghost use Rattle.turns.specs.Pressure.{IsFirst, rank_of};
-    ghost use Rattle.turns.specs.declared.pressure.Pressure.TheVariants.{Slot};
+    ghost use Rattle.turns.specs.Pressure.{IsFirst, NoneMay, rank_at};
     ghost use Rattle.turns.specs.declared.pressure.Pressure.TheVariants as pressure;
-    ghost use Rattle.turns.specs.Queue.{has, joins};
+    ghost use Rattle.turns.specs.Queue.{has, joins, IsAdmitted};
+    ghost use Rattle.turns.specs.Runs.{HasRun, IsTurnOf};
+    ghost use Rattle.turns.specs.Settling.{IsSettled};
     ghost use Rattle.turns.specs.Slots.{OthersStay, HasTurn};
     ghost use Rattle.turns.specs.Table.{connections, ready_slots, waiting_slots, timeouts_of, room_of, has_room, KeepsReady, KeepsWaiting};
     ghost use Rattle.turns.specs.Times.{deadline, is_unanswered};
@@ -119,6 +105,7 @@ impl<T: Transport + Drop> ConnectionTable<T> {
         ensures here { at_slot (connections self.new) slot ≡ Some connection }
         ensures others { OthersStay slot (connections self.old) (connections self.new) }
         ensures ready { has slot (ready_slots self.new) ≡ true }
+        ensures joins { (slots : List ℕ) × (ready_slots self.new ≡ joins (ready_slots self.old) slots) }
         ensures keeps { KeepsWaiting self.old self.new }
         ensures keeps_ready { KeepsReady self.old self.new }
     {
@@ -149,22 +136,33 @@ impl<T: Transport + Drop> ConnectionTable<T> {
         ensures first { MatchOption result (ready_slots self.old ≡ []) (λ served. (rest : List ℕ) × (slots : List ℕ) × (ready_slots self.old ≡ served.slot ∷ rest) × (ready_slots self.new ≡ joins rest slots)) }
         ensures none { IfNone result ((connections self.new ≡ connections self.old) × (asks.new ≡ asks.old)) }
         ensures nobody { IfSome result (λ served. IfNone served.next ((connections self.new ≡ connections self.old) × (asks.new ≡ asks.old))) }
+        ensures empty { IfSome result (λ served. IfNone served.next (at_slot (connections self.old) served.slot ≡ None)) }
         ensures own { IfSome result (λ served. IfSome served.next (λ next. HasTurn A.answers T.delivered T.accepted T.reads T.writes T.shuts (has_room self.old) now served.slot (connections self.old) asks.old (connections self.new) asks.new next)) }
         ensures others { IfSome result (λ served. OthersStay served.slot (connections self.old) (connections self.new)) }
+        ensures run { HasRun A.answers T.delivered T.accepted T.reads T.writes T.shuts self.old asks.old self.new asks.new }
+        ensures step { IfSome result (λ served. IsTurnOf A.answers T.delivered T.accepted T.reads T.writes T.shuts self.old asks.old served.slot served.next now self.new asks.new) }
+        ensures once { IfSome result (λ _. (queries : List QueryOutcome) × HasAsked A.answers asks.old queries asks.new) }
+        ensures unasked { IfSome result (λ served. served.asked ≡ false → asks.new ≡ asks.old) }
         ensures turns { IfSome result (λ served. served.next ≡ Some Turn → has served.slot (ready_slots self.new) ≡ true) }
         ensures waits { IfSome result (λ served. served.next ≡ Some Room → (has served.slot (ready_slots self.new) ≡ true) ⊎ (has served.slot (waiting_slots self.new) ≡ true)) }
         ensures keeps { KeepsWaiting self.old self.new }
+        ensures line { IfSome result (λ served. (settled : List ℕ) × (rest : List ℕ) × IsSettled served.slot served.next (waiting_slots self.old) settled × IsAdmitted (has_room self.new) rest settled (ready_slots self.new) (waiting_slots self.new)) }
     {
         let slot = self.ready.next()?;
         let may_ask = self.slots.owed < self.room as u128;
-        let next = self.slots.turn(slot, asks, may_ask, now);
+        let turned = self.slots.turn(slot, asks, may_ask, now);
+        let next = next_of(turned);
         if may_ask && next.is_some() {
             self.last_asked = slot;
         }
         let has_room = self.slots.owed < self.room as u128;
         settle(&mut self.ready, &mut self.waiting, slot, next);
         admit(&mut self.ready, &mut self.waiting, has_room);
-        Some(Served { slot, next })
+        Some(Served {
+            slot,
+            next,
+            asked: asked_in(turned),
+        })
     }
 
     // The connection at a slot leaves it.
@@ -173,6 +171,7 @@ impl<T: Transport + Drop> ConnectionTable<T> {
         ensures left { at_slot (connections self.new) slot ≡ None }
         ensures others { OthersStay slot (connections self.old) (connections self.new) }
         ensures nobody { IfNone result (connections self.new ≡ connections self.old) }
+        ensures joins { (slots : List ℕ) × (ready_slots self.new ≡ joins (ready_slots self.old) slots) }
         ensures keeps { KeepsWaiting self.old self.new }
         ensures keeps_ready { KeepsReady self.old self.new }
     {
@@ -190,6 +189,7 @@ impl<T: Transport + Drop> ConnectionTable<T> {
         ensures stays { IfNone result (connections self.new ≡ connections self.old) }
         ensures in_time { IfNone result (IfSome (at_slot (connections self.old) slot) (λ connection. now < deadline (timeouts_of self.old) connection.phase)) }
         ensures others { OthersStay slot (connections self.old) (connections self.new) }
+        ensures joins { (slots : List ℕ) × (ready_slots self.new ≡ joins (ready_slots self.old) slots) }
         ensures keeps { KeepsWaiting self.old self.new }
         ensures keeps_ready { KeepsReady self.old self.new }
     {
@@ -207,6 +207,7 @@ impl<T: Transport + Drop> ConnectionTable<T> {
         ensures stays { IfNone result (connections self.new ≡ connections self.old) }
         ensures answered { IfNone result (IfSome (at_slot (connections self.old) slot) (λ connection. is_unanswered connection.phase ≡ false)) }
         ensures others { OthersStay slot (connections self.old) (connections self.new) }
+        ensures joins { (slots : List ℕ) × (ready_slots self.new ≡ joins (ready_slots self.old) slots) }
         ensures keeps { KeepsWaiting self.old self.new }
         ensures keeps_ready { KeepsReady self.old self.new }
     {
@@ -217,67 +218,101 @@ impl<T: Transport + Drop> ConnectionTable<T> {
         self.close(slot)
     }
 
+    // The rank of the connection at a slot. It has none while it has a turn or waits for room.
+    fn rank_at(&self, slot: usize, pressure: Pressure) -> Option<u128>
+        ensures { result ≡ rank_at pressure self.now slot }
+    {
+        if self.ready.has(slot) || self.waiting.has(slot) {
+            return None;
+        }
+        match self.slots.phase(slot) {
+            Some(phase) => pressure.rank(phase),
+            None => None,
+        }
+    }
+
+    // The slot of the connection that gives way first, if one may.
+    fn first(&self, pressure: Pressure) -> Option<usize>
+        ensures found { IfSome result (λ slot. IsFirst pressure self.now slot) }
+        ensures none { IfNone result (NoneMay pressure self.now) }
+    {
+        let mut found = None;
+        for slot in 0..self.slots.items.len() {
+            found = first_of(found, slot, self.rank_at(slot, pressure));
+        }
+        match found {
+            Some((slot, _)) => Some(slot),
+            None => None,
+        }
+    }
+
     // The connection that gives way first leaves, if one may.
     fn give_way(&mut self, pressure: Pressure) -> Option<Closed<T>>
-        ensures first { IfSome result (λ closed. IsFirst pressure (connections self.old) closed.slot) }
+        ensures first { IfSome result (λ closed. IsFirst pressure self.old closed.slot) }
         ensures closed { IfSome result (λ closed. (at_slot (connections self.old) closed.slot ≡ Some closed.connection) × (at_slot (connections self.new) closed.slot ≡ None)) }
         ensures others { IfSome result (λ closed. OthersStay closed.slot (connections self.old) (connections self.new)) }
         ensures stays { IfNone result (connections self.new ≡ connections self.old) }
-        ensures none { IfNone result ((slot : ℕ) → rank_of pressure (at_slot (connections self.old) slot) ≡ None) }
+        ensures none { IfNone result (NoneMay pressure self.old) }
+        ensures joins { (slots : List ℕ) × (ready_slots self.new ≡ joins (ready_slots self.old) slots) }
         ensures keeps { KeepsWaiting self.old self.new }
         ensures keeps_ready { KeepsReady self.old self.new }
     {
-        let slot = self.slots.first(pressure)?;
+        let slot = self.first(pressure)?;
         let connection = self.close(slot)?;
         Some(Closed { slot, connection })
     }
 
-    /// Where all slots are taken, of the connections that were just opened or are between requests the one leaves that
-    /// has been so for longest, if there is one.
-    pub fn close_for_slot(&mut self) -> Option<Closed<T>>
+    /// Where all slots are taken, of the connections without a turn that were just opened or are between requests the one leaves
+    /// that has been so for longest. Where there is none, of those that are amid a head of over a second the one leaves whose last
+    /// bytes came longest ago, if there is one.
+    pub fn close_for_slot(&mut self, now: u64) -> Option<Closed<T>>
         ensures full { IfSome result (λ _. (slot : ℕ) → slot < length (connections self.old) → is_some (at_slot (connections self.old) slot) ≡ true) }
-        ensures first { IfSome result (λ closed. IsFirst Slot (connections self.old) closed.slot) }
+        ensures first { IfSome result (λ closed. IsFirst (pressure.Slot now) self.old closed.slot) }
         ensures closed { IfSome result (λ closed. (at_slot (connections self.old) closed.slot ≡ Some closed.connection) × (at_slot (connections self.new) closed.slot ≡ None)) }
         ensures others { IfSome result (λ closed. OthersStay closed.slot (connections self.old) (connections self.new)) }
         ensures stays { IfNone result (connections self.new ≡ connections self.old) }
+        ensures joins { (slots : List ℕ) × (ready_slots self.new ≡ joins (ready_slots self.old) slots) }
         ensures keeps { KeepsWaiting self.old self.new }
         ensures keeps_ready { KeepsReady self.old self.new }
     {
         if self.free_slot().is_some() {
             return None;
         }
-        self.give_way(Pressure::Slot)
+        self.give_way(Pressure::Slot { now })
     }
 
-    /// Where no descriptor is free for a further connection, of those that were just opened or are between requests the
-    /// one leaves that has been so for longest, if there is one.
-    pub fn close_for_descriptor(&mut self) -> Option<Closed<T>>
-        ensures first { IfSome result (λ closed. IsFirst Slot (connections self.old) closed.slot) }
+    /// Where no descriptor is free for a further connection, the one leaves that would leave for a slot, if there is one.
+    pub fn close_for_descriptor(&mut self, now: u64) -> Option<Closed<T>>
+        ensures first { IfSome result (λ closed. IsFirst (pressure.Slot now) self.old closed.slot) }
         ensures closed { IfSome result (λ closed. (at_slot (connections self.old) closed.slot ≡ Some closed.connection) × (at_slot (connections self.new) closed.slot ≡ None)) }
         ensures others { IfSome result (λ closed. OthersStay closed.slot (connections self.old) (connections self.new)) }
         ensures stays { IfNone result (connections self.new ≡ connections self.old) }
-        ensures none { IfNone result ((slot : ℕ) → rank_of Slot (at_slot (connections self.old) slot) ≡ None) }
+        ensures none { IfNone result (NoneMay (pressure.Slot now) self.old) }
+        ensures joins { (slots : List ℕ) × (ready_slots self.new ≡ joins (ready_slots self.old) slots) }
         ensures keeps { KeepsWaiting self.old self.new }
         ensures keeps_ready { KeepsReady self.old self.new }
     {
-        self.give_way(Pressure::Slot)
+        self.give_way(Pressure::Slot { now })
     }
 
-    /// Where a connection waits for room, the slowest of those connections leaves whose answers have been going for over a
-    /// second, if there is one.
+    /// Where a connection waits for room, of those without a turn whose answers have been going for over a second the slowest one
+    /// leaves that took no byte for a second, or fewer than the least rate asks for, if there is one.
     pub fn close_for_room(&mut self, now: u64) -> Option<Closed<T>>
         ensures no_room { IfSome result (λ _. has_room self.old ≡ false) }
         ensures wanted { IfSome result (λ _. waiting_slots self.old ≡ [] → ⊥) }
-        ensures first { IfSome result (λ closed. IsFirst (pressure.Room now) (connections self.old) closed.slot) }
+        ensures none { IfNone result ((waiting_slots self.old ≡ []) ⊎ ((has_room self.old ≡ true) ⊎ NoneMay (pressure.Room now (timeouts_of self.old).rate) self.old)) }
+        ensures first { IfSome result (λ closed. IsFirst (pressure.Room now (timeouts_of self.old).rate) self.old closed.slot) }
         ensures closed { IfSome result (λ closed. (at_slot (connections self.old) closed.slot ≡ Some closed.connection) × (at_slot (connections self.new) closed.slot ≡ None)) }
         ensures others { IfSome result (λ closed. OthersStay closed.slot (connections self.old) (connections self.new)) }
         ensures stays { IfNone result (connections self.new ≡ connections self.old) }
+        ensures joins { (slots : List ℕ) × (ready_slots self.new ≡ joins (ready_slots self.old) slots) }
         ensures keeps { KeepsWaiting self.old self.new }
         ensures keeps_ready { KeepsReady self.old self.new }
     {
         if self.waiting.is_empty() || self.slots.owed < self.room as u128 {
             return None;
         }
-        self.give_way(Pressure::Room { now })
+        let rate = self.timeouts.rate;
+        self.give_way(Pressure::Room { now, rate })
     }
 }

@@ -1,5 +1,5 @@
 ghost use Rattle.std.specs.Prelude.{◌≡◌};
-ghost use Rattle.turns.specs.Times.{deadline, phase_after, is_over, is_unanswered};
+ghost use Rattle.turns.specs.Times.{deadline, phase_after, is_over, is_unanswered, still_until, time_of};
 
 use crate::{Next, TurnResult};
 
@@ -16,6 +16,9 @@ pub struct Timeouts {
     pub rate: u64,
     /// After the last answer, up to the end of what the client sends.
     pub drain: u64,
+    /// How many bytes of an answer its client may have to take, at most, before the system takes a further one: it takes many ahead,
+    /// and goes on once some part of them is taken, half at most.
+    pub ahead: u64,
 }
 
 /// The phase of a connection: what it does, and since when, in milliseconds of its worker's clock.
@@ -25,14 +28,32 @@ pub enum Phase {
     Opened { since: u64 },
     /// It is between requests: no byte of a further head was taken.
     Idle { since: u64 },
-    /// Bytes of a head came.
-    Head { since: u64 },
+    /// Bytes of a head came: since when, and when the last of them came.
+    Head { since: u64, moved: u64 },
     /// An answer is to be sent: since when, when its last bytes were sent, and how many were.
     Answer { since: u64, moved: u64, sent: u64 },
     /// Its last answer was sent, and what its client still sends is dropped.
     Drain { since: u64 },
     /// It has failed, or its client has sent all.
     Over,
+}
+
+impl Timeouts {
+    // How long so many bytes of an answer take at the least rate.
+    fn time_of(&self, bytes: u64) -> u64
+        ensures { result ≡ time_of self.now bytes }
+    {
+        bytes / self.rate.max(1)
+    }
+
+    /// Up to when no byte of an answer may be taken, after the last ones were, when so many had been in all.
+    pub fn still_until(&self, moved: u64, sent: u64) -> u64
+        ensures { result ≡ still_until self.now moved sent }
+    {
+        moved
+            .saturating_add(self.timeout)
+            .saturating_add(self.time_of((sent / 2).min(self.ahead)))
+    }
 }
 
 impl Phase {
@@ -42,15 +63,14 @@ impl Phase {
     {
         match *self {
             Phase::Idle { since } => since.saturating_add(timeouts.idle),
-            Phase::Opened { since } | Phase::Head { since } => {
+            Phase::Opened { since } | Phase::Head { since, .. } => {
                 since.saturating_add(timeouts.timeout)
             }
             Phase::Answer { since, moved, sent } => {
-                let still = moved.saturating_add(timeouts.timeout);
                 let whole = since
                     .saturating_add(timeouts.grace)
-                    .saturating_add(sent / timeouts.rate.max(1));
-                still.min(whole)
+                    .saturating_add(timeouts.time_of(sent));
+                timeouts.still_until(moved, sent).min(whole)
             }
             Phase::Drain { since } => since.saturating_add(timeouts.drain),
             Phase::Over => 0,
@@ -100,11 +120,15 @@ impl Phase {
         if turned.sent > 0 {
             return Phase::Idle { since: now };
         }
+        if turned.next != Next::Turn && turned.next != Next::Room {
+            return self;
+        }
         match self {
-            Phase::Opened { .. } | Phase::Idle { .. }
-                if turned.next == Next::Turn || turned.next == Next::Room => {
-                Phase::Head { since: now }
-            }
+            Phase::Opened { .. } | Phase::Idle { .. } => Phase::Head {
+                since: now,
+                moved: now,
+            },
+            Phase::Head { since, .. } => Phase::Head { since, moved: now },
             other => other,
         }
     }

@@ -1,9 +1,11 @@
-ghost use Rattle.std.specs.Prelude.{◌≡◌, ◌++◌, ◌≤◌, ◌<◌, ◌⊎◌, ℕ, List, [], Bool, None, Some, length, true, false, IfSome};
+ghost use Rattle.std.specs.Prelude.{◌≡◌, ◌≢◌, ◌++◌, ◌≤◌, ◌<◌, ◌⊎◌, ℕ, List, [], Bool, None, Some, length, true, false, IfSome};
 ghost use Rattle.httpedge.specs.Session.{wants, HasAsked, QueryOutcome};
-ghost use Rattle.turns.specs.Advancing.{HasServed, HasTaken, Advances, Sends, Receives, IsNext};
+ghost use Rattle.turns.specs.Advancing.{HasServed, HasTaken, HasCome, ReadsOnce, WritesOnce, Calls, Advances, Sends, Receives, IsNext};
 ghost use Rattle.turns.specs.Transport.{count_of};
 ghost use Rattle.turns.specs.declared.outcomes.ReadOutcome.TheVariants.{End, WouldBlock, Failed};
 ghost use Rattle.turns.specs.declared.outcomes.WriteOutcome.TheVariants.{Bytes};
+ghost use Rattle.turns.specs.declared.outcomes.WriteOutcome.TheVariants as write;
+ghost use Rattle.turns.specs.declared.outcomes.ReadOutcome.TheVariants as read;
 ghost use Rattle.turns.specs.declared.turn.Next.TheVariants.{Turn};
 
 use crate::{BufferedSession, ReadOutcome, Transport, WriteOutcome};
@@ -33,6 +35,21 @@ pub struct TurnResult {
     pub next: Next,
     /// How many bytes were sent.
     pub sent: usize,
+    /// Whether a query may have been asked: a head was answered, or the end of the client's bytes.
+    pub asked: bool,
+}
+
+impl TurnResult {
+    /// That of a turn in which nothing was sent and no query was asked.
+    pub(crate) fn without_query(next: Next) -> Self
+        ensures { result ≡ record { next = next; sent = 0; asked = false } }
+    {
+        TurnResult {
+            next,
+            sent: 0,
+            asked: false,
+        }
+    }
 }
 
 // Sends the bytes that are to be sent, as many as are taken at once.
@@ -40,6 +57,7 @@ fn send<T: Transport>(exchange: &mut BufferedSession, transport: &mut T) -> Writ
     ensures sends { Sends T.delivered T.accepted exchange.old transport.old exchange.new transport.new (count_of result) }
     ensures writes { T.writes transport.old result transport.new }
     ensures some { result ≡ Bytes 0 → ⊥ }
+    ensures waits { result ≡ write.WouldBlock → exchange.new ≡ exchange.old }
     ensures less { length exchange.new.session.outgoing ≤ length exchange.old.session.outgoing }
 {
     let (first, second) = exchange.session.outgoing();
@@ -52,20 +70,16 @@ fn send<T: Transport>(exchange: &mut BufferedSession, transport: &mut T) -> Writ
 
 // Sends the bytes that are to be sent, and returns what the connection waits for.
 fn send_on<T: Transport>(exchange: &mut BufferedSession, transport: &mut T) -> TurnResult
+    requires owes { exchange.old.session.outgoing ≢ [] }
+    ensures calls { WritesOnce T.writes transport.old transport.new }
     ensures sends { Sends T.delivered T.accepted exchange.old transport.old exchange.new transport.new result.sent }
     ensures next { (may_ask : Bool) → IsNext T.reads T.writes may_ask result.next exchange.new transport.new }
     ensures sent { result.next ≡ Turn → 0 < result.sent }
     ensures less { length exchange.new.session.outgoing ≤ length exchange.old.session.outgoing }
 {
     match send(exchange, transport) {
-        WriteOutcome::WouldBlock => TurnResult {
-            next: Next::Writable,
-            sent: 0,
-        },
-        WriteOutcome::Failed => TurnResult {
-            next: Next::Failed,
-            sent: 0,
-        },
+        WriteOutcome::WouldBlock => TurnResult::without_query(Next::Writable),
+        WriteOutcome::Failed => TurnResult::without_query(Next::Failed),
         WriteOutcome::Bytes(sent) => TurnResult {
             next: if exchange.session.is_done() {
                 Next::Done
@@ -73,6 +87,7 @@ fn send_on<T: Transport>(exchange: &mut BufferedSession, transport: &mut T) -> T
                 Next::Turn
             },
             sent,
+            asked: false,
         },
     }
 }
@@ -81,6 +96,10 @@ fn send_on<T: Transport>(exchange: &mut BufferedSession, transport: &mut T) -> T
 fn receive<T: Transport>(exchange: &mut BufferedSession, transport: &mut T) -> ReadOutcome
     requires wanted { wants exchange.old.session ≡ true }
     ensures receives { Receives T.delivered T.accepted exchange.old transport.old exchange.new transport.new }
+    ensures calls { ReadsOnce T.reads transport.old transport.new }
+    ensures comes { (n : ℕ) → result ≡ read.Bytes n → exchange.new.buffer ≢ [] }
+    ensures none { result ≡ WouldBlock → exchange.new.buffer ≡ [] }
+    ensures at_end { result ≡ End → T.reads transport.old End transport.new }
     ensures session { exchange.new.session ≡ exchange.old.session }
     ensures ends { result ≡ End → exchange.new.buffer ≡ [] }
     ensures waits { result ≡ WouldBlock → T.reads transport.old WouldBlock transport.new }
@@ -97,6 +116,7 @@ fn receive<T: Transport>(exchange: &mut BufferedSession, transport: &mut T) -> R
 // Feeds bytes of the buffer into the session: up to the end of a head, whose query is answered.
 fn take_bytes<A: Asks>(exchange: &mut BufferedSession, asks: &mut A)
     ensures all { wants exchange.old.session ≡ true → wants exchange.new.session ≡ true → exchange.new.buffer ≡ [] }
+    ensures quiet { wants exchange.new.session ≡ true → asks.new ≡ asks.old }
     ensures said { (queries : List QueryOutcome) × HasAsked A.answers asks.old queries asks.new
         × ((read written : List ℕ) (earlier : List QueryOutcome) → HasServed read earlier written exchange.old → HasServed read (earlier ++ queries) written exchange.new) }
 {
@@ -126,8 +146,10 @@ fn take<T: Transport, A: Asks>(
     ensures next { IfSome result (λ next. IsNext T.reads T.writes may_ask next exchange.new transport.new) }
     ensures taken { result ≡ None → wants exchange.new.session ≡ true → HasTaken T.reads exchange.old transport.old exchange.new transport.new }
     ensures turns { result ≡ Some Turn → ⊥ }
+    ensures calls { ReadsOnce T.reads transport.old transport.new }
     ensures unasked { may_ask ≡ false → exchange.new.session ≡ exchange.old.session }
     ensures silent { may_ask ≡ false → asks.new ≡ asks.old }
+    ensures quiet { wants exchange.new.session ≡ true → asks.new ≡ asks.old }
 {
     match receive(exchange, transport) {
         ReadOutcome::WouldBlock => Some(Next::Readable),
@@ -157,8 +179,14 @@ fn take_on<T: Transport, A: Asks>(
     ensures unasked { may_ask ≡ false → exchange.new.session ≡ exchange.old.session }
     ensures silent { may_ask ≡ false → asks.new ≡ asks.old }
     ensures answering { wants exchange.old.session ≡ false → asks.new ≡ asks.old }
+    ensures quiet { wants exchange.new.session ≡ true → asks.new ≡ asks.old }
     ensures taken { result ≡ Some Turn → HasTaken T.reads exchange.old transport.old exchange.new transport.new }
+    ensures calls { ReadsOnce T.reads transport.old transport.new }
+    ensures owes { result ≡ None → exchange.new.session.outgoing ≢ [] }
 {
+    if exchange.session.is_done() {
+        return Some(Next::Done);
+    }
     if !exchange.session.wants_more() {
         return None;
     }
@@ -188,13 +216,25 @@ pub fn serve_turn<T: Transport, A: Asks>(
 ) -> TurnResult
     ensures advances { Advances A.answers T.delivered T.accepted exchange.old transport.old asks.old exchange.new transport.new asks.new result.sent }
     ensures next { IsNext T.reads T.writes may_ask result.next exchange.new transport.new }
+    ensures calls { Calls T.reads T.writes transport.old transport.new }
     ensures moves { result.next ≡ Turn → (0 < result.sent) ⊎ HasTaken T.reads exchange.old transport.old exchange.new transport.new }
     ensures no_more { may_ask ≡ false → length exchange.new.session.outgoing ≤ length exchange.old.session.outgoing }
     ensures silent { may_ask ≡ false → asks.new ≡ asks.old }
     ensures answering { wants exchange.old.session ≡ false → asks.new ≡ asks.old }
+    ensures unasked { result.asked ≡ false → asks.new ≡ asks.old }
 {
-    match take_on(exchange, transport, asks, may_ask) {
-        Some(next) => TurnResult { next, sent: 0 },
-        None => send_on(exchange, transport),
+    let wanted = exchange.session.wants_more();
+    let found = take_on(exchange, transport, asks, may_ask);
+    let asked = wanted && !exchange.session.wants_more();
+    match found {
+        Some(next) => TurnResult {
+            next,
+            sent: 0,
+            asked,
+        },
+        None => TurnResult {
+            asked,
+            ..send_on(exchange, transport)
+        },
     }
 }

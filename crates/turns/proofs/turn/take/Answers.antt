@@ -1,4 +1,4 @@
-use Rattle.turns.proofs.Advancing.{receives-advance, ends-advance, advance-then}
+use Rattle.turns.proofs.Advancing.{receives-advance, ends-advance, receives-then}
 use Rattle.turns.proofs.turn.take.Goals as goal
 
 pub returns-in_default-clause-advances : goal.returns-in_default-clause-advances
@@ -6,8 +6,7 @@ returns-in_default-clause-advances g c = receives-advance g.A.Asks.answers g.T.T
 
 pub returns-in-End-clause-advances : goal.returns-in-End-clause-advances
 returns-in-End-clause-advances g c =
-    advance-then g.A.Asks.answers g.T.Transport.delivered g.T.Transport.accepted _ _ _ _ _ _ _ _ _ _
-    (receives-advance g.A.Asks.answers g.T.Transport.delivered g.T.Transport.accepted _ _ _ _ _ c.receive.ensures.receives)
+    receives-then g.A.Asks.answers g.T.Transport.delivered g.T.Transport.accepted _ _ _ _ _ _ _ _ _ c.receive.ensures.receives
     (ends-advance g.A.Asks.answers g.T.Transport.delivered g.T.Transport.accepted _ _ _ _ c.take_end.ensures.said)
 
 pub returns-in-Failed-clause-advances : goal.returns-in-Failed-clause-advances

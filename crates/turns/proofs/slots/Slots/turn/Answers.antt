@@ -8,8 +8,8 @@ returns-clause-own g c =
     let fits : c.args.slot < length c.args.self.now.items.items = omega (arith, below, c.len.ensures) in
     record {
       before = c.in-Some.connection;
-      after = c.turn_of-next.new.connection;
+      after = c.turn_of-before.new.connection;
       was = sym (get_or_read c.args.self.now.items.items c.args.slot c.index_mut.result.now fits c.index_mut.ensures.value None) ∙ c.in-Some.is;
-      is = get_or-set_same c.args.self.now.items.items c.args.slot (Some c.turn_of-next.new.connection) None fits;
-      turn = c.turn_of-next.ensures.turn;
+      is = get_or-set_same c.args.self.now.items.items c.args.slot (Some c.turn_of-before.new.connection) None fits;
+      turn = c.turn_of-before.ensures.turn;
     }
