@@ -1,3 +1,4 @@
+pub mod Answerer
 pub mod Unopened
 pub mod Admin
 pub mod Replica

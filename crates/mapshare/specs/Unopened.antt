@@ -1,5 +1,5 @@
 -- The name of a sharing that nobody has opened.
-use Rattle.std.specs.Prelude.{pos, [], None}
+use Rattle.std.specs.Prelude.{false, pos, [], None}
 use Rattle.batches.specs.Batch.{State}
 
 -- the state of an empty map, which names a sharing that nobody has opened
@@ -9,6 +9,8 @@ no_state = record {
     title = [];
     url = [];
     extent = record { minx = pos 0; miny = pos 0; maxx = pos 1; maxy = pos 1 };
+    png = false;
+    mercator = false;
     font = None;
     symbols = [];
     layers = [];

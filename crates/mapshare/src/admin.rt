@@ -9,7 +9,7 @@ use crate::receipt::Receipt;
 use crate::replica::{Replica, ReplicaValue};
 use crate::rule::{MapWriter, Moves, Ruled, Sharing, View};
 use crossbeam_utils::rule::Protocol;
-use history::{History, MAX_HISTORY, Prefix};
+use history::{History, MAX_HISTORY, Prefix, Shown};
 use journalfile::{KeepFault, Keeps, Nowhere};
 use left_right::Absorb;
 use mapmachine::{BatchError, BatchFault, Machine};
@@ -165,6 +165,14 @@ impl<S: Sharing> Admin<S> {
         }
     }
 
+    /// All batches that were accepted, those that are pending too, in order.
+    pub fn all(&self) -> Shown
+        ensures all { result ≡ all_of self.now }
+        ensures accepted { IsSome (after accepted S.opening result) }
+    {
+        self.last.shown()
+    }
+
     // Whether nothing is pending.
     fn is_idle(&self) -> bool
         ensures { IsTrue result ↔ (self.now.pending ≡ []) }
@@ -195,6 +203,36 @@ impl<S: Sharing> Admin<S> {
         }
     }
 
+    // Keeps a batch, and returns the machine after all accepted batches and this one, twice. All memory is taken before.
+    fn keep<K: Keeps>(
+        &self,
+        keeper: &mut K,
+        batch: &Vec<u8>,
+    ) -> Result<(Machine, Machine), AcceptFault>
+        requires ready { (batches : List (List ℕ)) × K.keeps keeper.old batches }
+        ensures accepted { IfOk result (λ both. (after accepted S.opening (all_of (with_batch batch.now.items self.now)) ≡ Some both.0) × (both.1 ≡ both.0)) }
+        ensures refused { IfErr result (IsAcceptFault S.opening self.now batch.now.items) }
+        ensures kept { OnOk result ((batches : List (List ℕ)) → K.keeps keeper.old batches → K.keeps keeper.new (batches ++ batch.now.items ∷ [])) }
+        ensures unkept { IfErr result (λ fault. IsUnkept fault keeper.old keeper.new) }
+        ensures any_moment { (batches : List (List ℕ)) → K.keeps keeper.old batches → (file : List ℕ) → K.may_leave keeper.old keeper.new file
+            → K.stands keeper.old file batches
+            ⊎ (IsAccepted S.opening (with_batch batch.now.items self.now) × K.stands keeper.old file (batches ++ batch.now.items ∷ [])) }
+    {
+        let checked = match self.after_batch(batch) {
+            Ok(checked) => checked,
+            Err(BatchError::Fault(fault)) => return Err(AcceptFault::Fault(fault)),
+            Err(BatchError::NoMemory) => return Err(AcceptFault::NoMemory),
+        };
+        let Ok(machine) = checked.copy() else {
+            return Err(AcceptFault::NoMemory);
+        };
+        match keeper.keep(batch.as_slice()) {
+            Ok(()) => Ok((checked, machine)),
+            Err(KeepFault::NoMemory) => Err(AcceptFault::NoMemory),
+            Err(KeepFault::Failed) => Err(AcceptFault::Failed),
+        }
+    }
+
     // Accepts a batch: it is kept, and the last that is pending then.
     fn accept<K: Keeps>(&mut self, keeper: &mut K, batch: Vec<u8>) -> Result<(), AcceptFault>
         requires ready { (batches : List (List ℕ)) × K.keeps keeper.old batches }
@@ -210,20 +248,10 @@ impl<S: Sharing> Admin<S> {
         if self.last.len() >= MAX_HISTORY || self.queue.reserve(1).is_err() {
             return Err(AcceptFault::NoMemory);
         }
-        let checked = match self.after_batch(&batch) {
-            Ok(checked) => checked,
-            Err(BatchError::Fault(fault)) => return Err(AcceptFault::Fault(fault)),
-            Err(BatchError::NoMemory) => return Err(AcceptFault::NoMemory),
+        let (checked, machine) = match self.keep(keeper, &batch) {
+            Ok(both) => both,
+            Err(fault) => return Err(fault),
         };
-        // All memory is taken before the batch is kept.
-        let Ok(machine) = checked.copy() else {
-            return Err(AcceptFault::NoMemory);
-        };
-        match keeper.keep(batch.as_slice()) {
-            Ok(()) => {}
-            Err(KeepFault::NoMemory) => return Err(AcceptFault::NoMemory),
-            Err(KeepFault::Failed) => return Err(AcceptFault::Failed),
-        }
         let mut prefix = self.last.copy();
         if !prefix.add(&self.history, &batch) {
             return Err(AcceptFault::Failed);

@@ -7,7 +7,8 @@
 //! it (`submitted`). `Admin::retry` reports that nothing is pending exactly where that is so (`idle`, `retried`).
 //! `Reader::learn` takes the longer of two lists of which one begins the other (`one`, `kept`, `learned`). The entry of
 //! `Reader::enter` begins with all that the reader knew (`known`), and the reader then knows it (`knows`).
-//! `Entered::answer` is an answer of the machine after just the batches that the entry shows. No clause joins the calls
+//! `Entered::answer` is an answer of the machine after just the batches that the entry shows. A reader is an answerer
+//! (`reader_answers`). No clause joins the calls
 //! of two threads; the law is about lists of events.
 //!
 //! Neither `enter` nor `answer` can wait: they have no handle. `open`, `submit`, `retry` and `close` may wait
@@ -23,6 +24,7 @@
 #![tactic(auto)]
 
 mod admin;
+mod answerer;
 pub mod laws;
 mod opening;
 mod reader;

@@ -9,8 +9,8 @@ ghost use Rattle.mapshare.specs.contracts.reader.Reader.{the_row as reader_row};
 
 use crate::receipt::Receipt;
 use crate::rule::{MapReader, MapReading, Sees, Sharing};
+use answers::Answer;
 use history::Prefix;
-use mapmachine::Answer;
 use std::alloc::AllocError;
 use std::marker::Model;
 

@@ -13,14 +13,14 @@ invariant_of-self-3 g c =
     let opening = g.S.Sharing.opening in
     let b = c.args.batch.items in
     let waiting = drop a.writer.behind a.writer.log.items ++ a.queue.items in
-    let replica : Replica g.row.S.Denot = record { machine = c.in-Ok-copy.machine; prefix = c.copy-2.result } in
+    let replica : Replica g.row.S.Denot = record { machine = c.in-Ok.both.1; prefix = c.copy.result } in
     let added : c.add.new.self ≡ a.last ++ b ∷ [] = on_true c.add.result _ _ c.if-not-add.false c.add.ensures.adds ∙ ap (λ z. z ++ b ∷ []) c.copy-prefix.ensures in
-    let all : after accepted opening c.add.new.self ≡ Some c.in-Ok.checked =
-    ap (after accepted opening) (added ∙ last_all opening a.published waiting a.last b c.self.invariant.1) ∙ c.in-Ok.ensures.accepted in
-    let made = ap (after accepted opening) c.copy-2.ensures ∙ all ∙ ap Some (sym c.in-Ok-copy.ensures) in (
+    let all : after accepted opening c.add.new.self ≡ Some c.in-Ok.both.0 =
+    ap (after accepted opening) (added ∙ last_all opening a.published waiting a.last b c.self.invariant.1) ∙ c.in-Ok.ensures.accepted.0 in
+    let made = ap (after accepted opening) c.copy.ensures ∙ all ∙ ap Some (sym c.in-Ok.ensures.accepted.1) in (
       c.self.invariant.0,
       chain_push opening a.published (drop a.writer.behind a.writer.log.items) a.queue.items c.push_back_reserved.new.self.items a.last c.add.new.self replica
-          c.self.invariant.1 (c.push_back_reserved.ensures.items ∙ ap (λ z. z ++ replica ∷ []) c.reserve.ensures.items) (subst (IsNext a.last) (sym (c.copy-2.ensures ∙ added)) (next_one a.last b)) made c.copy-2.ensures,
+          c.self.invariant.1 (c.push_back_reserved.ensures.items ∙ ap (λ z. z ++ replica ∷ []) c.reserve.ensures.items) (subst (IsNext a.last) (sym (c.copy.ensures ∙ added)) (next_one a.last b)) made c.copy.ensures,
       all,
     )
 
@@ -36,5 +36,5 @@ returns-clause-accepted g c =
     let old : Batches = record { published = a.published; pending = drop (length a.published) a.last } in
     let new : Batches = record { published = a.published; pending = drop (length a.published) c.add.new.self } in
     let is : new ≡ with_batch b old = ap (λ (p : List (List ℕ)). record { published = a.published; pending = p }) more in
-    let state : after accepted opening (all_of (with_batch b old)) ≡ Some c.in-Ok.checked = c.in-Ok.ensures.accepted in
+    let state : after accepted opening (all_of (with_batch b old)) ≡ Some c.in-Ok.both.0 = c.in-Ok.ensures.accepted.0 in
     (subst (IsAccepted opening) (sym is) (subst IsSome (sym state) refl), rw (← c.self.view_is) is)
