@@ -28,6 +28,11 @@ pub record JournalView (L : Type 0) : Type 1 where
   pub content : L → List ℕ
   pub may_leave : L → List ℕ → Type 0
 
+-- a journal has these batches, where its log is reliable; without a journal nothing is required
+abbrev pub KeepsAll : {L : Type 0} → JournalView L → Option (Journal L) → List (List ℕ) → Type 0
+KeepsAll view None batches = Unit {0}
+KeepsAll view (Some journal) batches = view.reliable → IsSettled view.content view.may_leave journal batches
+
 -- the part of a digest for a file that a mapfile uses: its name and its bytes
 abbrev pub given_message : FileBytes → List ℕ
 given_message file = sized file.name ++ content_message (Some file.bytes)

@@ -1,16 +1,18 @@
 -- The effects of the program for a command on a host (docs/SERVICE.md, "The program").
-use Rattle.std.specs.Prelude.{◌≡◌, ◌⊎◌, ℕ, Bool, List, [], Option, None, Some, option_map, Err}
+use Rattle.std.specs.Prelude.{◌≡◌, ◌⊎◌, ◌++◌, ℕ, Bool, List, [], Option, None, Some, IsSome, option_map, Err}
 use Rattle.std.specs.Io.KnownBytes.{Keeps}
 use Rattle.commandline.specs.declared.subcommand.Command.{Command}
 use Rattle.commandline.specs.declared.subcommand.Service.{Service}
 use Rattle.commandline.specs.declared.subcommand.Command.TheVariants.{Session, Check, Run, Serve}
 use Rattle.console.specs.Console.{ConsoleState, WriterState, IsReported}
 use Rattle.console.specs.declared.failure.Failure.{Failure}
-use Rattle.batches.specs.Batch.{State}
+use Rattle.console.specs.declared.failure.Failure.TheVariants.{JournalFailed}
+use Rattle.batches.specs.Batch.{State, accepted as accepted_by}
 use Rattle.journalfile.specs.declared.writing.Journal.{Journal}
+use Rattle.sharing.specs.Sharing.{after}
 use Rattle.mapdefs.specs.declared.map.MapFields.{MapFields}
 use Rattle.mapparse.specs.declared.files.FileBytes.{FileBytes}
-use Rattle.program.specs.Journals.{JournalView, IsOpened, IsUnopened, ReportsEnd, failure_of, journal_fault, map_fingerprint}
+use Rattle.program.specs.Journals.{JournalView, KeepsAll, IsOpened, IsUnopened, ReportsEnd, failure_of, journal_fault, map_fingerprint}
 use Rattle.program.specs.declared.keeping.JournalFault.{JournalFault}
 use Rattle.service.specs.Serving.{HasAnnounced, IsUnserved}
 use Rattle.subcommands.specs.Folder.{Giving, IsParent}
@@ -28,13 +30,18 @@ pub record HostView (P L : Type 0) : Type 1 where
   pub journal : JournalView L
 
 -- a machine was served as it begins, at the two ports that were listened on, and this keeper kept its batches; the program ended as the service did.
--- The addresses of the ports were written once, that of clients first
+-- The addresses of the ports were written once, that of clients first. The machine accepts all batches that were accepted, published or held, one after
+-- the other. Unless it ended because the keeper failed, the keeper at the end has the batches of that keeper, and then those, in order
 pub record IsServed {P L : Type 0} (host : HostView P L) (machine : State) (keeper : Option (Journal L)) (service : Service) (ending : EndingValue P L) (old new : WriterState) : Type 0 where
   pub clients : P
   pub administration : P
+  pub last : Option (Journal L)
+  pub accepted : List (List ℕ)
   pub listens : host.listens service.port clients
   pub listens_too : host.listens service.admin_port administration
-  pub served : ending.served ≡ Some (record { machine = machine; keeper = keeper; clients = clients; administration = administration; service = service; outcome = ending.outcome })
+  pub served : ending.served ≡ Some (record { machine = machine; keeper = keeper; clients = clients; administration = administration; service = service; outcome = ending.outcome; last = last; accepted = accepted })
+  pub took : IsSome (after accepted_by machine accepted)
+  pub kept : (ending.outcome ≡ Err JournalFailed → ⊥) → (batches : List (List ℕ)) → KeepsAll host.journal keeper batches → KeepsAll host.journal last (batches ++ accepted)
   pub announced : HasAnnounced (host.address clients) (host.address administration) ending.outcome old new
 
 -- nothing was served

@@ -6,7 +6,8 @@ use crate::journal_file::JournalFile;
 use console::ListenCause;
 use service::{Network, SocketConnection, SocketPoller, SocketPort, SocketTransport, SocketWaker};
 use std::fs::{self, File};
-use std::net::{Ipv4Addr, TcpListener};
+use std::net::{Ipv4Addr, SocketAddr, TcpListener};
+use std::os::fd::OwnedFd;
 use std::{env, io};
 
 /// The machine that the program runs on: its files, and the ports of 127.0.0.1.
@@ -54,7 +55,7 @@ impl Host for SystemHost {
     ghost listens = { λ _ _ _. Unit {0} };
 
     fn listen(&self, number: u16) -> Result<SocketPort, ListenFailed> {
-        match TcpListener::bind(&self.rt, (Ipv4Addr::LOCALHOST, number)) {
+        match listener_on(&self.rt, number) {
             Ok(listener) => match SocketPort::new(&self.rt, listener) {
                 Ok(port) => Ok(port),
                 Err(_) => Err(ListenFailed {
@@ -83,6 +84,15 @@ impl Host for SystemHost {
     fn input(&self) -> io::Result<File> {
         fs::open(&self.rt, "/dev/stdin")
     }
+}
+
+// Listens on a port of 127.0.0.1, with the longest queue of connections that the system allows.
+fn listener_on(rt: &HostRuntime, number: u16) -> io::Result<TcpListener> {
+    let address = SocketAddr::from((Ipv4Addr::LOCALHOST, number));
+    let listener = TcpListener::from(OwnedFd::from(mio::net::TcpListener::bind(rt, address)?));
+    // its calls wait
+    listener.set_nonblocking(false)?;
+    Ok(listener)
 }
 
 // Why a port can't be listened on, by the error of the system.

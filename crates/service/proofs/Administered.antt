@@ -1,13 +1,16 @@
 -- The bytes that an administrator's client got through a sink in front of its own.
 use Rattle.std.proofs.Common.{◌≡◌, ◌⊎◌, inl, inr, ℕ, ◌+◌, ◌-◌, Bool, List, ◌++◌, Option, None, Some, Result, Ok, Err, refl}
-use Rattle.std.specs.Prelude.{OnOk, IsErrOf, MatchResult, true}
+use Rattle.std.specs.Prelude.{OnOk, IsErr, IsErrOf, MatchResult, true}
 use Rattle.administration.specs.Commands.{Command}
 use Rattle.administration.specs.Keeping.{IsFailed, IsReported}
 use Rattle.administration.specs.Serving.{HasDoneAll, IsServed, IsStopped}
 use Rattle.administration.specs.declared.keeping.AdministerFault.{AdministerFault}
 use Rattle.administration.specs.declared.keeping.AdministerFault.TheVariants.{PutFailed, KeepFailed}
 use Rattle.batches.specs.Batch.{State}
+use Rattle.console.specs.Console.{Outcome}
+use Rattle.console.specs.declared.failure.Failure.TheVariants.{JournalFailed}
 use Rattle.mapshare.specs.Admin.{Batches}
+use Rattle.mapshare.specs.declared.admin.KeepFailed as keep
 use Rattle.streams.specs.Sent.{IsSent, IsCut, IsCutSomewhere}
 use Rattle.workers.specs.Connections.{Attended}
 use Rattle.service.specs.Administering.{Administers, fault_of, has_kept}
@@ -80,3 +83,8 @@ pub kept-of : (served : Result (Unit {0}) AdministerFault) (P : Type 0) → Matc
 kept-of (Ok done) P is e = is
 kept-of (Err PutFailed) P is e = is refl
 kept-of (Err KeepFailed) P is e = absurd (cc e)
+
+-- the batches that were accepted are kept, unless the service ended with the failure of their keeper
+pub unless-failed : (kept : Result (Unit {0}) keep.KeepFailed) (outcome : Outcome) (P : Type 0) → (IsErr kept → outcome ≡ Err JournalFailed) → OnOk kept P → (outcome ≡ Err JournalFailed → ⊥) → P
+unless-failed (Ok done) outcome P fails is other = is
+unless-failed (Err why) outcome P fails is other = absurd (other (fails refl))

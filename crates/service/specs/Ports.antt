@@ -1,5 +1,5 @@
 -- The connections of a port, one after the other (docs/SERVICE.md, "The program").
-use Rattle.std.specs.Prelude.{◌≡◌, ◌≢◌, ◌⊎◌, ℕ, zero, suc, ◌-◌, ◌<◌, Bool, true, List, [], ◌∷◌, ◌++◌, replicate, Option, None, Some, option_map, ⊤}
+use Rattle.std.specs.Prelude.{◌≡◌, ◌≢◌, Result, Ok, Err, ℕ, zero, suc, ◌-◌, List, [], ◌∷◌, ◌++◌, Option, None, Some, option_map, ⊤}
 
 -- an event of a port: a call for a connection fails, or one is opened
 pub data PortEvent : Type 0 where
@@ -17,16 +17,20 @@ abbrev pub requested : ℕ → Option ℕ
 requested zero = None
 requested (suc n) = Some (suc n)
 
--- some calls failed, fewer than 100, and then a connection was opened: one fewer remains, where there is an end
-pub record HasOpened (remaining : Option ℕ) (before after : Option (List PortEvent)) (left : Option ℕ) : Type 0 where
-  pub more : remaining ≢ Some 0
-  pub failures : ℕ
-  pub few : failures < 100
-  pub noted : Notes before after (replicate failures Failed ++ Opened ∷ [])
-  pub one_less : left ≡ option_map (λ n. n - 1) remaining
+-- how many of these events opened a connection
+abbrev pub count_opened : List PortEvent → ℕ
+count_opened [] = 0
+count_opened (Failed ∷ events) = count_opened events
+count_opened (Opened ∷ events) = suc (count_opened events)
 
--- none was opened: no more remain, and nothing was done; or 100 calls failed one after the other, and the port was given up
-abbrev pub HasEnded : Option ℕ → Option (List PortEvent) → Option (List PortEvent) → Option ℕ → Bool → Type 0
-HasEnded remaining before after left given_up =
-    (left ≡ remaining) × (((remaining ≡ Some 0) × (after ≡ before))
-    ⊎ ((remaining ≢ Some 0) × Notes before after (replicate 100 Failed) × (given_up ≡ true)))
+-- some calls were made: these events of the port, and of a number of connections that remain, if there is an end, so many fewer
+pub record HasAccepted (before after : Option (List PortEvent)) (remaining left : Option ℕ) (events : List PortEvent) : Type 0 where
+  pub noted : Notes before after events
+  pub fewer : left ≡ option_map (λ n. n - count_opened events) remaining
+
+-- a call for a connection of a port, of which so many remain, if there is an end: none was made, since none remain; one was opened, and one fewer
+-- remains; or the call failed
+abbrev pub HasCalled : {C F : Type 0} → Option (List PortEvent) → Option (List PortEvent) → Option ℕ → Option ℕ → Result (Option C) F → Type 0
+HasCalled before after remaining left (Ok None) = (after ≡ before) × (left ≡ remaining) × (remaining ≡ Some 0)
+HasCalled before after remaining left (Ok (Some connection)) = Notes before after (Opened ∷ []) × (remaining ≢ Some 0) × (left ≡ option_map (λ n. n - 1) remaining)
+HasCalled before after remaining left (Err failed) = Notes before after (Failed ∷ []) × (left ≡ remaining)

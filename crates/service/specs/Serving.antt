@@ -7,7 +7,7 @@ use Rattle.console.specs.declared.failure.Failure.{Failure}
 use Rattle.console.specs.declared.failure.Failure.TheVariants.{ListenFailed, SocketFailed, WatchFailed, JournalFailed, NoMemory}
 
 -- a service: the machine whose map it served and the keeper of its batches, as they began, the ports of clients and of administration, its options,
--- and how it ended
+-- how it ended, and then the keeper of batches, and all batches that were accepted, published or held, in order
 pub record ServedValue (P K : Type 0) : Type 0 where
   pub machine : State
   pub keeper : K
@@ -15,6 +15,8 @@ pub record ServedValue (P K : Type 0) : Type 0 where
   pub administration : P
   pub service : Service
   pub outcome : Outcome
+  pub last : K
+  pub accepted : List (List ℕ)
 
 -- why there is no service, or it ended early: a port, a thread, the input with whose end it ends, or the keeper of batches failed, or memory was
 -- refused
@@ -47,11 +49,6 @@ HasWrittenAddresses outcome clients administration old new =
 -- nothing was written, because a port's address, a port, a thread or memory is missing
 abbrev pub IsUnserved : Outcome → WriterState → WriterState → Type 0
 IsUnserved outcome old new = (fails_service outcome ≡ true) × (new ≡ old)
-
--- writing the addresses of two ports had this outcome
-abbrev pub WritesAddresses : Outcome → Option (List ℕ) → Option (List ℕ) → WriterState → WriterState → Type 0
-WritesAddresses outcome clients administration old new =
-    HasWrittenAddresses outcome clients administration old new ⊎ IsUnserved outcome old new
 
 -- how it ended after the addresses were written: well, or because a port, a thread or memory is missing; never because of the mapfile or an argument.
 -- Where writing the addresses failed, it ended with that failure

@@ -6,6 +6,7 @@ ghost use Rattle.service.specs.Administering.{Administers, fault_of, has_kept};
 ghost use Rattle.workers.specs.Connections.{IsServedOne};
 
 use crate::accepting::Accepting;
+use crate::acceptor::{Acceptor, Plan};
 use crate::clients::queue_of;
 use crate::port::Port;
 use crate::serving::{Administrators, PortFor, Runtime};
@@ -90,21 +91,62 @@ fn administer_one<S: Sharing, K: Keeps, R: Runtime, C: Opens>(
     (admin, Some(attempt))
 }
 
-/// The port of administrators, whether the signal to stop was given, and the log of their commands, if there is one.
+/// The port of administrators, what tells of clients, and the log of commands, if there is one.
 #[derive(Drop)]
 pub(crate) struct Administering<P, R> {
     pub port: Accepting<PortFor<Administrators, P>>,
+    /// The service ends.
     pub is_given: Arc<AtomicBool, Global>,
+    /// The port of clients isn't served any more.
+    pub is_left: Arc<AtomicBool, Global>,
     pub log: Option<LogQueue<R>>,
 }
 
+// What follows on a call for a connection of an administrator.
+#[derive(Drop)]
+enum Came<C> {
+    // A further call.
+    Nothing,
+    // No call: the service ends, no further connection is requested, or the port is given up.
+    End,
+    // A connection, of this number.
+    Connection { connection: C, number: u64 },
+}
+
+impl<P, R> Administering<P, R> {
+    // The next connection, by one call. The port isn't given up while clients are served.
+    fn next<C>(&mut self, acceptor: &mut Acceptor) -> Came<C>
+    where
+        P: Port<C>,
+        C: Drop,
+    {
+        let accepted = self.port.accept();
+        if self.is_given.load(Ordering::SeqCst) {
+            return Came::End;
+        }
+        match acceptor.follow(Some(accepted)) {
+            Plan::Wait => Came::Nothing,
+            Plan::End => Came::End,
+            Plan::HandOver { connection, number } => Came::Connection { connection, number },
+            Plan::Press(press) => {
+                if press.forgo() && self.is_left.load(Ordering::SeqCst) {
+                    Came::End
+                } else {
+                    Came::Nothing
+                }
+            }
+        }
+    }
+}
+
 /// Serves the connections of administrators, one after the other: up to the last, until the signal is given, or until the keeper of
-/// batches fails. Without such a failure all accepted batches are kept.
+/// batches fails. Without such a failure all accepted batches are kept. A call for a connection that fails is made again: the port is
+/// given up where 100 fail one after the other and the port of clients isn't served any more.
 pub(crate) fn administer_all<S, K, R, C, P>(
     rt: &R,
     admin: Admin<S>,
     keeper: &mut K,
-    asked: Administering<P, R>,
+    mut side: Administering<P, R>,
 ) -> (Admin<S>, Result<(), KeepFailed>)
 where
     S: Sharing,
@@ -115,25 +157,18 @@ where
     requires ready { (kept : List (List ℕ)) × K.keeps keeper.old kept }
     ensures kept { (kept : List (List ℕ)) → K.keeps keeper.old kept → OnOk result.1 (IsKeptSince K.keeps admin kept result.0 keeper.new) }
 {
-    let Administering {
-        mut port,
-        is_given,
-        log,
-    } = asked;
     let mut admin = admin;
-    let mut number = 0_u64;
+    let mut acceptor = Acceptor::new();
     for _ in rt.forever() {
-        let Some(connection) = port.accept() else {
-            return (admin, Ok(()));
+        let (connection, number) = match side.next::<C>(&mut acceptor) {
+            Came::Nothing => continue,
+            Came::End => return (admin, Ok(())),
+            Came::Connection { connection, number } => (connection, number),
         };
-        if is_given.load(Ordering::SeqCst) {
-            return (admin, Ok(()));
-        }
-        number = number.saturating_add(1);
         let numbered = Numbered {
             connection,
             number,
-            log: queue_of(&log),
+            log: queue_of(&side.log),
         };
         let (after, attempt) = administer_one(rt, admin, keeper, numbered);
         admin = after;

@@ -1,5 +1,6 @@
 ghost use Rattle.std.specs.Prelude.{◌≡◌, IfErr, IfOk, IfSome, true};
-ghost use Rattle.service.specs.Serving.{WritesAddresses, is_service_failure};
+ghost use Rattle.console.specs.Console.{IsWritten};
+ghost use Rattle.service.specs.Serving.{AreAddresses, addresses_line, is_service_failure};
 
 use crate::port::{AddressFault, Port};
 use crate::serving::Ports;
@@ -20,26 +21,42 @@ fn address_of<C, P: Port<C>>(alloc: Global, port: &P) -> Result<Text, Failure>
     }
 }
 
-/// Writes the addresses of the two ports of a service to the output, in one line, and flushes it: that of clients
-/// first.
-pub(crate) fn write_addresses<C, P: Port<C>, W, Q, I, O: Sink>(
-    alloc: Global,
-    ports: &Ports<P, W, Q, I>,
-    output: &mut O,
-) -> Result<(), Failure>
-    ensures { WritesAddresses result (P.address ports.now.clients.port) (P.address ports.now.administration.port) (⟦<O as Writes>⟧.state output.old) (⟦<O as Writes>⟧.state output.new) }
-{
-    let clients = address_of(alloc, &ports.clients)?;
-    let administration = address_of(alloc, &ports.administration)?;
-    let (clients, administration) = (clients.as_str(), administration.as_str());
-    finish(
-        output,
-        &[
-            b"listening ",
-            clients.as_bytes(),
-            b" ",
-            administration.as_bytes(),
-            b"\n",
-        ],
-    )
+/// The addresses of the two ports of a service.
+#[derive(Drop)]
+pub(crate) struct Addresses {
+    pub clients: Text,
+    pub administration: Text,
+}
+
+impl Addresses {
+    /// Those of these ports.
+    pub fn of<C, P: Port<C>, W, Q, I>(
+        alloc: Global,
+        ports: &Ports<P, W, Q, I>,
+    ) -> Result<Self, Failure>
+        ensures addresses { IfOk result (λ addresses. AreAddresses (P.address ports.now.clients.port) (P.address ports.now.administration.port) addresses.clients addresses.administration) }
+        ensures unknown { IfErr result (λ failure. is_service_failure failure ≡ true) }
+    {
+        Ok(Addresses {
+            clients: address_of(alloc, &ports.clients)?,
+            administration: address_of(alloc, &ports.administration)?,
+        })
+    }
+
+    /// Writes them to the output, in one line, and flushes it: that of clients first.
+    pub fn write<O: Sink>(&self, output: &mut O) -> Result<(), Failure>
+        ensures { IsWritten result (⟦<O as Writes>⟧.state output.old) (⟦<O as Writes>⟧.state output.new) (addresses_line self.now.clients self.now.administration) }
+    {
+        let (clients, administration) = (self.clients.as_str(), self.administration.as_str());
+        finish(
+            output,
+            &[
+                b"listening ",
+                clients.as_bytes(),
+                b" ",
+                administration.as_bytes(),
+                b"\n",
+            ],
+        )
+    }
 }

@@ -1,23 +1,32 @@
-ghost use Rattle.std.specs.Prelude.{◌≡◌, IfErr, Ok, true};
+ghost use Rattle.std.specs.List.{All};
+ghost use Rattle.std.specs.Prelude.{◌≡◌, List, IfErr, IfSome, MatchOption, Ok, true};
+ghost use Rattle.eventloop.specs.Working.{HasBeen};
+ghost use Rattle.mapshare.specs.Answerer.{reader_answers};
+ghost use Rattle.service.specs.Ports.{HasAccepted, HasCalled, PortEvent};
 ghost use Rattle.service.specs.Serving.{GoesOnAfter, is_service_failure};
 
-use crate::accepting::{Accepting, MAX_FAILURES};
-use crate::limits::{slots_of, timeouts_of};
+use crate::accepting::Accepting;
+use crate::acceptor::{Acceptor, Plan};
+use crate::limits::{FULL_MILLISECONDS, slots_of, timeouts_of};
 use crate::logging::LoggedPoller;
-use crate::port::Port;
+use crate::port::{AcceptFailed, Port};
 use crate::serving::{Clients, IntoTransport, PortFor, Runtime};
-use accesslog::{LogQueue, LoggedTransport};
+use crate::starting::Starting;
+use accesslog::{EndsEarly, LogQueue, LoggedTransport};
 use commandline::Service;
 use console::Failure;
 use eventloop::{Ending, Poller, Wakes, Worker, WorkerThreads, start_worker};
+use httpedge::Asks;
 use mapshare::{Reader, Sharing};
 use std::sync::atomic::{AtomicBool, Ordering};
+use std::thread;
+use std::time::Duration;
 use turns::Transport;
 
 // Starts a worker for a reader.
 fn start_one<S, R, T, Q>(
     rt: &R,
-    workers: &mut WorkerThreads<LoggedTransport<T, R>, Q::Waker>,
+    workers: &mut WorkerThreads<Reader<S>, LoggedTransport<T, R>, LoggedPoller<Q>, Q::Waker>,
     asked: (Reader<S>, Q),
     service: Service,
 ) -> Result<(), Failure>
@@ -43,7 +52,7 @@ where
 // Starts a worker for each reader, with a poller of its own.
 fn start_all<S, R, T, Q>(
     rt: &R,
-    workers: &mut WorkerThreads<LoggedTransport<T, R>, Q::Waker>,
+    workers: &mut WorkerThreads<Reader<S>, LoggedTransport<T, R>, LoggedPoller<Q>, Q::Waker>,
     asked: (Vec<Reader<S>>, Vec<Q>),
     service: Service,
 ) -> Result<(), Failure>
@@ -64,6 +73,13 @@ where
     Ok(())
 }
 
+// The number of a connection, counted from 1, and the queue of the log for it, if there is one.
+#[derive(Drop)]
+struct Noted<R> {
+    number: u64,
+    queue: Option<LogQueue<R>>,
+}
+
 // The queue of a log for one more connection. Where the queue has too many ends, that connection isn't logged.
 pub(crate) fn queue_of<R: Runtime>(log: &Option<LogQueue<R>>) -> Option<LogQueue<R>> {
     match log {
@@ -72,45 +88,91 @@ pub(crate) fn queue_of<R: Runtime>(log: &Option<LogQueue<R>>) -> Option<LogQueue
     }
 }
 
-// Hands over the connections of clients to their workers, up to the last that is requested, or until the thread has to stop. Where a call for one
-// fails, one that is between requests gives way to it. The port is given up where 100 calls fail one after the other and no client is served.
-fn accept_all<R, C, T, P, W>(
+// Hands a connection over to its worker, with the log of its number.
+fn hand_over<S, R, C, T, Q, W>(
     rt: &R,
-    clients: (&mut Accepting<PortFor<Clients, P>>, &AtomicBool),
-    workers: &mut WorkerThreads<LoggedTransport<T, R>, W>,
-    log: &Option<LogQueue<R>>,
+    workers: &mut WorkerThreads<Reader<S>, LoggedTransport<T, R>, LoggedPoller<Q>, W>,
+    connection: C,
+    noted: Noted<R>,
+)
+where
+    S: Sharing + Send + Sync + 'static,
+    Q: Drop,
+    R: Runtime,
+    C: IntoTransport<T>,
+    T: Transport + Drop,
+    W: Wakes + Drop,
+{
+    if let Some(transport) = connection.into_transport() {
+        let Noted { number, queue } = noted;
+        workers.hand_over(
+            rt,
+            LoggedTransport::new(rt.alloc(), transport, number, queue),
+        );
+    }
+}
+
+// The next connection of a port, by one call, unless too many wait for their workers.
+fn accept_next<A, C, T, P, Q, W, R>(
+    rt: &R,
+    port: &mut Accepting<P>,
+    workers: &WorkerThreads<A, T, Q, W>,
+) -> Option<Result<Option<C>, AcceptFailed>>
+where
+    A: Asks + Drop,
+    R: Runtime,
+    T: Transport + EndsEarly + Drop,
+    P: Port<C>,
+    Q: Drop,
+    W: Wakes + Drop,
+    ensures { MatchOption result (port.new ≡ port.old) (HasCalled (P.log port.old.port) (P.log port.new.port) port.old.remaining port.new.remaining) }
+{
+    if workers.has_place(rt) {
+        return Some(port.accept());
+    }
+    thread::sleep(rt, Duration::from_millis(FULL_MILLISECONDS));
+    None
+}
+
+// Hands over the connections of clients to their workers, up to the last that is requested, or until the thread has to stop. Where a call for one
+// fails, one that isn't being answered gives way to it. The port is given up where 100 calls fail one after the other and no client is served. While
+// many wait for their workers, none is accepted.
+fn accept_all<S, R, C, T, P, Q, W>(
+    rt: &R,
+    port: &mut Accepting<PortFor<Clients, P>>,
+    workers: &mut WorkerThreads<Reader<S>, LoggedTransport<T, R>, LoggedPoller<Q>, W>,
+    asked: (&AtomicBool, &Option<LogQueue<R>>),
 ) -> Result<(), Failure>
 where
+    S: Sharing + Send + Sync + 'static,
+    Q: Drop,
     R: Runtime,
     C: IntoTransport<T> + Send + Drop + 'static,
     T: Transport + Drop,
     P: Port<C>,
     W: Wakes + Drop,
+    ensures accepted { (events : List PortEvent) × HasAccepted (P.log port.old.port.port) (P.log port.new.port.port) port.old.remaining port.new.remaining events }
     ensures failed { IfErr result (λ failure. is_service_failure failure ≡ true) }
 {
-    let (port, is_stopped) = clients;
-    let mut failures = 0_u32;
-    let mut count = 0_u64;
+    let (is_stopped, log) = asked;
+    let mut acceptor = Acceptor::new();
     for _ in rt.forever() {
-        let accepted = port.accept_once();
+        let accepted = accept_next(rt, port, workers);
         if is_stopped.load(Ordering::SeqCst) {
             return Ok(());
         }
-        match accepted {
-            Ok(None) => return Ok(()),
-            Ok(Some(connection)) => {
-                failures = 0;
-                count = count.saturating_add(1);
-                if let Some(transport) = connection.into_transport() {
-                    let queue = queue_of(log);
-                    let logged = LoggedTransport::new(rt.alloc(), transport, count, queue);
-                    workers.hand_over(rt, logged);
-                }
+        match acceptor.follow(accepted) {
+            Plan::Wait => {}
+            Plan::End => return Ok(()),
+            Plan::HandOver { connection, number } => {
+                let noted = Noted {
+                    number,
+                    queue: queue_of(log),
+                };
+                hand_over::<S, R, C, T, Q, W>(rt, workers, connection, noted);
             }
-            Err(_) => {
-                failures = failures.saturating_add(1);
-                workers.press(rt);
-                if failures >= MAX_FAILURES && !workers.is_serving(rt) {
+            Plan::Press(press) => {
+                if press.obey(rt, workers) && !workers.is_serving(rt) {
                     return Err(Failure::SocketFailed);
                 }
             }
@@ -132,14 +194,48 @@ pub(crate) struct ClientSide<P, Q, R> {
     pub log: Option<LogQueue<R>>,
 }
 
+// Starts a worker for each reader. Where one can't be started, those that were end.
+fn start_workers<S, R, T, Q>(
+    rt: &R,
+    asked: (Vec<Reader<S>>, Vec<Q>),
+    service: Service,
+) -> Result<WorkerThreads<Reader<S>, LoggedTransport<T, R>, LoggedPoller<Q>, Q::Waker>, Failure>
+where
+    S: Sharing + Send + Sync + 'static,
+    R: Runtime,
+    T: Transport + Send + Drop + 'static,
+    Q: Poller<T> + Send + Drop + 'static,
+    ensures failed { IfErr result (λ failure. is_service_failure failure ≡ true) }
+{
+    let Ok(mut workers) = WorkerThreads::<
+        Reader<S>,
+        LoggedTransport<T, R>,
+        LoggedPoller<Q>,
+        Q::Waker,
+    >::new(rt.alloc(), asked.0.len()) else {
+        return Err(Failure::NoMemory);
+    };
+    match start_all::<S, R, T, Q>(rt, &mut workers, asked, service) {
+        Ok(()) => Ok(workers),
+        Err(failure) => {
+            let _ = workers.end(rt, Ending::Stops);
+            Err(failure)
+        }
+    }
+}
+
 /// Answers the connections of clients by a worker for each reader, up to the last. Those that came are answered to their end. Where the thread has to
-/// stop, those that are being answered get their answers, and the others are closed.
+/// stop, those that are being answered get their answers, and the others are closed. It tells whether the workers were started, and gives them back:
+/// each answered its connections, from none on, as a reader of the map that was opened.
 pub(crate) fn serve_clients<S, R, C, T, P, Q>(
     rt: &R,
     readers: Vec<Reader<S>>,
     side: ClientSide<P, Q, R>,
-    is_stopped: &AtomicBool,
-) -> Result<(), Failure>
+    signals: (&Starting, &AtomicBool),
+) -> (
+    Result<(), Failure>,
+    Option<Vec<Worker<Reader<S>, LoggedTransport<T, R>, LoggedPoller<Q>>>>,
+)
 where
     S: Sharing + Send + Sync + 'static,
     R: Runtime,
@@ -147,29 +243,29 @@ where
     T: Transport + Send + Drop + 'static,
     P: Port<C> + Drop,
     Q: Poller<T> + Send + Drop + 'static,
-    ensures ends { GoesOnAfter (Ok tt) result }
+    ensures ends { GoesOnAfter (Ok tt) result.0 }
+    ensures answered { IfSome result.1 (λ workers. All (λ worker. HasBeen (reader_answers S.opening) (λ t. T.delivered t.inner) (λ t. T.accepted t.inner)
+        (λ old outcome new. T.reads old.inner outcome new.inner) (λ old outcome new. T.writes old.inner outcome new.inner) (λ old new. T.shuts old.inner new.inner) worker.table worker.asks) workers.items) }
 {
+    let (starting, is_stopped) = signals;
     let ClientSide {
         mut port,
         pollers,
         service,
         log,
     } = side;
-    let Ok(mut workers) = WorkerThreads::<LoggedTransport<T, R>, Q::Waker>::new(
-        rt.alloc(),
-        readers.len(),
-    ) else {
-        return Err(Failure::NoMemory);
+    let started = start_workers::<S, R, T, Q>(rt, (readers, pollers), service);
+    starting.tell(rt, started.is_ok());
+    let mut workers = match started {
+        Ok(workers) => workers,
+        Err(failure) => return (Err(failure), None),
     };
-    let mut served = start_all::<S, R, T, Q>(rt, &mut workers, (readers, pollers), service);
-    if served.is_ok() {
-        served = accept_all::<R, C, T, P, Q::Waker>(
-            rt,
-            (&mut port, is_stopped),
-            &mut workers,
-            &log,
-        );
-    }
+    let served = accept_all::<S, R, C, T, P, Q, Q::Waker>(
+        rt,
+        &mut port,
+        &mut workers,
+        (is_stopped, &log),
+    );
     // from now on the system refuses further ones
     drop(port);
     let ending = if is_stopped.load(Ordering::SeqCst) {
@@ -177,6 +273,5 @@ where
     } else {
         Ending::Finishes
     };
-    workers.end(rt, ending);
-    served
+    (served, workers.end(rt, ending))
 }

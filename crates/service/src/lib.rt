@@ -1,6 +1,6 @@
 //! The service: `serve` with a map. Workers answer the connections of clients, and a second port takes the batches of administrators.
 //!
-//! Proved: `Accepting::accept` gives connections up to the last that is requested, or up to 100 calls that fail one after the other.
+//! Proved: `Accepting::accept` gives connections up to the last that is requested, and `Acceptor::follow` states what follows on each call.
 //! `hang_up` closes the sending side of a connection after its answer and reads what still comes, up to a limit. `serve_by_threads` writes
 //! the addresses of the ports once. It ends as writing them did, or because a port, a thread or memory is missing (`announced`). Its
 //! result names the map that it served, and the ports (`served`). `administer_all` keeps all batches that it accepts, unless the keeper
@@ -14,6 +14,7 @@
 #![tactic(auto)]
 
 mod accepting;
+mod acceptor;
 mod administering;
 mod announcing;
 mod clients;
@@ -23,10 +24,12 @@ mod logging;
 mod port;
 mod served;
 mod serving;
+mod shared_stream;
 mod signals;
 mod socket_poller;
 mod socket_transport;
 mod sockets;
+mod starting;
 mod threaded;
 mod timed;
 

@@ -27,8 +27,18 @@ pub const RATE: u64 = 16;
 /// How many milliseconds the service waits after a call for a connection has failed.
 pub const FAILURE_MILLISECONDS: u64 = 10;
 
+/// How many milliseconds the service waits while too many connections wait for their workers.
+pub const FULL_MILLISECONDS: u64 = 5;
+
+/// How many bytes of an answer a client may have to take before the system takes a further one: half of those that Linux keeps for a
+/// connection, by its default. At the least rate they take 131 seconds.
+pub const AHEAD: u64 = 2_097_152;
+
 /// How many seconds a command of an administrator may take.
 pub const ADMINISTRATION_SECONDS: u64 = 600;
+
+/// How many seconds the rest of a command may take while the service ends.
+pub const ENDING_SECONDS: u64 = 10;
 
 /// How many seconds an administrator may be silent while the service waits for its bytes.
 pub const SILENT_SECONDS: u64 = 30;
@@ -44,6 +54,7 @@ pub fn timeouts_of(service: Service) -> Timeouts
         grace: timeout,
         rate: RATE,
         drain: 1_000 * DRAIN_SECONDS,
+        ahead: AHEAD,
     }
 }
 

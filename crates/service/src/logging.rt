@@ -7,12 +7,18 @@ use crate::serving::Runtime;
 use accesslog::{LogQueue, LoggedTransport};
 use console::Failure;
 use eventloop::Poller;
+use std::alloc::{AllocError, Global};
 use std::str;
+use std::sync::Arc;
+use std::sync::atomic::{AtomicBool, Ordering};
 use std::thread::{self, JoinHandle};
 use std::time::Duration;
 
-// How many milliseconds the thread of the log waits for a line.
+// How many milliseconds the thread of the log waits for a line, and the end of the log for that thread.
 const PAUSE: u64 = 20;
+
+// How often the end of the log waits: two seconds in all.
+const END_TRIES: u32 = 100;
 
 /// A poller of transports that are logged.
 #[derive(Drop)]
@@ -21,6 +27,8 @@ pub(crate) struct LoggedPoller<Q> {
 }
 
 impl<T, R, Q: Poller<T>> Poller<LoggedTransport<T, R>> for LoggedPoller<Q> {
+    ghost reported = { λ old slots new. Q.reported old.inner slots new.inner };
+
     type Waker = Q::Waker;
 
     fn waker(&self) -> Option<Q::Waker> {
@@ -47,12 +55,13 @@ fn write_waiting<R: Runtime>(rt: &R, queue: &LogQueue<R>) {
     }
 }
 
-// Writes the lines of a log up to its end.
-fn write_log<R: Runtime>(rt: &R, queue: &LogQueue<R>) {
+// Writes the lines of a log up to its end, and sets the flag then.
+fn write_log<R: Runtime>(rt: &R, queue: &LogQueue<R>, is_written: &AtomicBool) {
     for _ in rt.forever() {
         let is_ended = queue.is_ended();
         write_waiting(rt, queue);
         if is_ended {
+            is_written.store(true, Ordering::SeqCst);
             return;
         }
         thread::sleep(rt, Duration::from_millis(PAUSE));
@@ -60,11 +69,22 @@ fn write_log<R: Runtime>(rt: &R, queue: &LogQueue<R>) {
     unreachable!()
 }
 
+// A flag that isn't set, for two threads.
+fn flag_of(
+    alloc: Global,
+) -> Result<(Arc<AtomicBool, Global>, Arc<AtomicBool, Global>), AllocError> {
+    let ours = Arc::new(alloc, AtomicBool::new(false))?;
+    let theirs = Arc::try_clone(&ours)?;
+    Ok((ours, theirs))
+}
+
 /// A log, and the thread that writes it.
 #[derive(Drop)]
 pub(crate) struct Log<R> {
     queue: LogQueue<R>,
     thread: JoinHandle<()>,
+    // The thread has written all lines.
+    is_written: Arc<AtomicBool, Global>,
 }
 
 impl<R: Runtime> Log<R> {
@@ -78,9 +98,16 @@ impl<R: Runtime> Log<R> {
         let Ok(theirs) = queue.share() else {
             return Err(Failure::NoMemory);
         };
+        let Ok((is_written, flag)) = flag_of(rt.alloc()) else {
+            return Err(Failure::NoMemory);
+        };
         let handle = *rt;
-        match thread::spawn(rt, move || write_log(&handle, &theirs)) {
-            Ok(thread) => Ok(Log { queue, thread }),
+        match thread::spawn(rt, move || write_log(&handle, &theirs, &flag)) {
+            Ok(thread) => Ok(Log {
+                queue,
+                thread,
+                is_written,
+            }),
             Err(_) => Err(Failure::SocketFailed),
         }
     }
@@ -95,11 +122,23 @@ impl<R: Runtime> Log<R> {
         }
     }
 
-    /// Writes the lines that wait, and ends.
+    /// Writes the lines that wait, and ends. Where they aren't written for seconds, as nobody reads them, it ends without them: the
+    /// thread ends with the program.
     pub fn end(self, rt: &R) {
-        let Log { queue, thread } = self;
+        let Log {
+            queue,
+            thread,
+            is_written,
+        } = self;
         queue.end();
-        thread.join(rt);
+        for _ in 0..END_TRIES {
+            if is_written.load(Ordering::SeqCst) {
+                thread.join(rt);
+                return;
+            }
+            thread::sleep(rt, Duration::from_millis(PAUSE));
+        }
+        drop(thread);
     }
 }
 

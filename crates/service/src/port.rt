@@ -36,6 +36,10 @@ pub trait Port<C> {
     fn address(&self, alloc: Global) -> Result<Text, AddressFault>
         ensures { IfOk result (λ text. IfSome (address self.now) (λ known. text ≡ known)) };
 
+    /// From now on the port keeps a descriptor for the connections that it opens, so that one is served where the system has none left.
+    fn keep_reserve(&mut self)
+        ensures { log self.new ≡ log self.old };
+
     /// Waits for the next connection.
     fn accept(&mut self) -> Result<C, AcceptFailed>
         ensures opened { OnOk result (Notes (log self.old) (log self.new) (Opened ∷ [])) }

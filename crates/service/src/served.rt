@@ -1,14 +1,16 @@
-ghost use Rattle.std.specs.Prelude.{◌≡◌, Ok};
+ghost use Rattle.std.specs.Prelude.{◌≡◌, Ok, Err};
+ghost use Rattle.console.specs.declared.failure.Failure.TheVariants.{NoMemory};
 
 use crate::serving::Ports;
 use commandline::Service;
 use console::Failure;
+use history::Shown;
 use mapmachine::Machine;
 use std::marker::Model;
 use std::snapshot::Snapshot;
 
-/// A service: the map of a machine that it served, its two ports, its options, the keeper of its batches as it began, and how it
-/// ended. Only `serve_by_threads` makes one, so a caller who has one knows which map, which ports and which keeper that call was
+/// A service: the map of a machine that it served, its two ports, its options, the keeper of its batches as it began, how it ended, and
+/// then the keeper, and all batches that were accepted. Only `serve_by_threads` makes one, so a caller who has one knows which map, which ports and which keeper that call was
 /// given. That it started a thread for each port is tested.
 #[derive(Drop)]
 pub struct Served<P, K> {
@@ -18,6 +20,8 @@ pub struct Served<P, K> {
     administration: Snapshot<P>,
     service: Service,
     outcome: Result<(), Failure>,
+    last: Snapshot<K>,
+    accepted: Shown,
 }
 
 impl<P, K> Model for Served<P, K> {
@@ -29,13 +33,18 @@ impl<P, K> Model for Served<P, K> {
 
     ghost coded = { Prim.hlevel (codes, expr.the_row.coded, P.code, K.code) };
 
-    ghost view = { λ s. record { machine = s.machine.value; keeper = s.keeper.value; clients = s.clients.value; administration = s.administration.value; service = s.service; outcome = s.outcome } };
+    ghost view = { λ s. record { machine = s.machine.value; keeper = s.keeper.value; clients = s.clients.value; administration = s.administration.value; service = s.service; outcome = s.outcome; last = s.last.value; accepted = s.accepted } };
 }
 
 impl<P, K> Served<P, K> {
     // A service that is about to begin, which ends well so far.
-    pub(crate) fn begin<W, Q, I>(machine: &Machine, keeper: &K, ports: &Ports<P, W, Q, I>) -> Self
-        ensures { result ≡ record { machine = machine.now; keeper = keeper.now; clients = ports.now.clients.port; administration = ports.now.administration.port; service = ports.now.service; outcome = Ok tt } }
+    pub(crate) fn begin<W, Q, I>(
+        machine: &Machine,
+        keeper: &K,
+        ports: &Ports<P, W, Q, I>,
+        accepted: Shown,
+    ) -> Self
+        ensures { result ≡ record { machine = machine.now; keeper = keeper.now; clients = ports.now.clients.port; administration = ports.now.administration.port; service = ports.now.service; outcome = Ok tt; last = keeper.now; accepted = accepted } }
     {
         Served {
             machine: Snapshot::of(machine),
@@ -44,12 +53,24 @@ impl<P, K> Served<P, K> {
             administration: Snapshot::of(ports.administration.get()),
             service: ports.service,
             outcome: Ok(()),
+            last: Snapshot::of(keeper),
+            accepted,
         }
     }
 
-    // The same, with how it ended.
-    pub(crate) fn ended(self, outcome: Result<(), Failure>) -> Self
-        ensures { result ≡ record self { outcome = outcome } }
+    // The same where memory for the shared map was refused.
+    pub(crate) fn unshared(self) -> Self
+        ensures { result ≡ record self { outcome = Err NoMemory } }
+    {
+        Served {
+            outcome: Err(Failure::NoMemory),
+            ..self
+        }
+    }
+
+    // The same, with how it ended, the keeper of batches then, and all batches that were accepted.
+    pub(crate) fn ended(self, outcome: Result<(), Failure>, last: &K, accepted: Shown) -> Self
+        ensures { result ≡ record self { outcome = outcome; last = last.now; accepted = accepted } }
     {
         let Self {
             machine,
@@ -66,6 +87,8 @@ impl<P, K> Served<P, K> {
             administration,
             service,
             outcome,
+            last: Snapshot::of(last),
+            accepted,
         }
     }
 

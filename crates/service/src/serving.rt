@@ -96,6 +96,10 @@ impl<C, K, P: Port<C>> Port<C> for PortFor<K, P> {
         self.port.address(alloc)
     }
 
+    fn keep_reserve(&mut self) {
+        self.port.keep_reserve();
+    }
+
     fn accept(&mut self) -> Result<C, AcceptFailed> {
         self.port.accept()
     }

@@ -4,6 +4,7 @@ ghost use Rattle.std.specs.Prelude.{◌≡◌, IfErr, true};
 ghost use Rattle.service.specs.Serving.{is_service_failure};
 
 use crate::serving::{Runtime, Until};
+use crate::starting::Starting;
 use console::Failure;
 use eventloop::Wakes;
 use std::alloc::{AllocError, Global};
@@ -77,6 +78,10 @@ pub(crate) struct ClientSignals<W: Wakes> {
     pub is_stopped: Arc<AtomicBool, Global>,
     /// No more clients are served.
     pub is_over: StopSignal<W>,
+    /// Their port isn't served any more.
+    pub is_left: Arc<AtomicBool, Global>,
+    /// Whether their workers were started.
+    pub starting: Arc<Starting, Global>,
 }
 
 // The flags that the end of an input sets.
@@ -164,6 +169,10 @@ pub(crate) struct Signals<W: Wakes> {
     pub clients: ClientSignals<W>,
     /// No more clients are served.
     pub is_given: Arc<AtomicBool, Global>,
+    /// The port of clients isn't served any more.
+    pub is_left: Arc<AtomicBool, Global>,
+    /// Whether the workers of clients were started.
+    pub starting: Arc<Starting, Global>,
     /// Has the thread of clients stop.
     pub stop: ClientStop<W>,
     /// The input with whose end the service ends could not be read.
@@ -181,6 +190,25 @@ pub(crate) struct Wakers<W, I> {
     pub until: Option<Until<W, I>>,
 }
 
+// What two threads share, each its end of it.
+#[derive(Drop)]
+struct Ends<T> {
+    ours: Arc<T, Global>,
+    theirs: Arc<T, Global>,
+}
+
+impl<T> Ends<T> {
+    // Both ends of a value.
+    fn of(alloc: Global, value: T) -> Result<Self, AllocError>
+    where
+        T: Drop,
+    {
+        let ours = Arc::new(alloc, value)?;
+        let theirs = Arc::try_clone(&ours)?;
+        Ok(Ends { ours, theirs })
+    }
+}
+
 /// The signals between the threads of a service.
 pub(crate) fn signals_of<R, W, I>(rt: &R, wakers: Wakers<W, I>) -> Result<Signals<W>, Failure>
 where
@@ -196,15 +224,23 @@ where
     } = wakers;
     let (is_over, is_given) = stop_signal_of(rt.alloc(), administration)?;
     let ends = input_ends_of(rt, until)?;
-    let Ok(theirs) = ends.share() else {
+    let (Ok(theirs), Ok(left), Ok(starting)) = (
+        ends.share(),
+        Ends::of(rt.alloc(), AtomicBool::new(false)),
+        Ends::of(rt.alloc(), Starting::new()),
+    ) else {
         return Err(Failure::NoMemory);
     };
     Ok(Signals {
         clients: ClientSignals {
             is_stopped: theirs.is_stopped,
             is_over,
+            is_left: left.theirs,
+            starting: starting.theirs,
         },
         is_given,
+        is_left: left.ours,
+        starting: starting.ours,
         stop: ClientStop {
             is_stopped: ends.is_stopped,
             waker: clients,

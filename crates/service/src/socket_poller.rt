@@ -39,6 +39,9 @@ impl SocketPoller {
 }
 
 impl Poller<SocketTransport> for SocketPoller {
+    // (no contract says what a socket reports)
+    ghost reported = { λ old slots new. Unit {0} };
+
     type Waker = PollWaker;
 
     fn waker(&self) -> Option<PollWaker> {

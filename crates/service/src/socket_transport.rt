@@ -1,3 +1,6 @@
+ghost use Rattle.std.specs.Prelude.{◌≡◌};
+ghost use Rattle.service.specs.Sockets.{read_outcome, write_outcome};
+
 use mio::net::TcpStream;
 use std::io::{self, ErrorKind, IoSlice, Read};
 use std::net::Shutdown;
@@ -24,13 +27,34 @@ impl SocketTransport {
     }
 }
 
-// The meaning of a call that failed: it is made again, it would wait, or the connection failed.
-fn is_interrupted(error: &io::Error) -> bool {
-    error.kind() == ErrorKind::Interrupted
+// What a read came to, by the result of the system; none where it is made again.
+fn read_outcome(called: io::Result<usize>) -> Option<ReadOutcome>
+    ensures { result ≡ read_outcome called }
+{
+    match called {
+        Ok(0) => Some(ReadOutcome::End),
+        Ok(count) => Some(ReadOutcome::Bytes(count)),
+        Err(error) => match error.kind() {
+            ErrorKind::Interrupted => None,
+            ErrorKind::WouldBlock => Some(ReadOutcome::WouldBlock),
+            _ => Some(ReadOutcome::Failed),
+        },
+    }
 }
 
-fn would_block(error: &io::Error) -> bool {
-    error.kind() == ErrorKind::WouldBlock
+// What a write came to, by the result of the system; none where it is made again.
+fn write_outcome(called: io::Result<usize>) -> Option<WriteOutcome>
+    ensures { result ≡ write_outcome called }
+{
+    match called {
+        Ok(0) => Some(WriteOutcome::Failed),
+        Ok(count) => Some(WriteOutcome::Bytes(count)),
+        Err(error) => match error.kind() {
+            ErrorKind::Interrupted => None,
+            ErrorKind::WouldBlock => Some(WriteOutcome::WouldBlock),
+            _ => Some(WriteOutcome::Failed),
+        },
+    }
 }
 
 impl Transport for SocketTransport {
@@ -48,28 +72,18 @@ impl Transport for SocketTransport {
 
     fn read(&mut self, room: &mut [u8]) -> ReadOutcome {
         for _ in 0..MAX_TRIES {
-            match self.stream.read(room) {
-                Ok(0) => return ReadOutcome::End,
-                Ok(count) => return ReadOutcome::Bytes(count),
-                Err(error) if is_interrupted(&error) => {}
-                Err(error) if would_block(&error) => return ReadOutcome::WouldBlock,
-                Err(_) => return ReadOutcome::Failed,
+            if let Some(outcome) = read_outcome(self.stream.read(room)) {
+                return outcome;
             }
         }
         ReadOutcome::Failed
     }
 
     fn write(&mut self, first: &[u8], second: &[u8]) -> WriteOutcome {
+        let parts = [IoSlice::new(first), IoSlice::new(second)];
         for _ in 0..MAX_TRIES {
-            match self
-                .stream
-                .write_vectored(&[IoSlice::new(first), IoSlice::new(second)])
-            {
-                Ok(0) => return WriteOutcome::Failed,
-                Ok(count) => return WriteOutcome::Bytes(count),
-                Err(error) if is_interrupted(&error) => {}
-                Err(error) if would_block(&error) => return WriteOutcome::WouldBlock,
-                Err(_) => return WriteOutcome::Failed,
+            if let Some(outcome) = write_outcome(self.stream.write_vectored(&parts)) {
+                return outcome;
             }
         }
         WriteOutcome::Failed

@@ -4,6 +4,7 @@ use crate::closing::hang_up;
 use crate::limits::{DRAIN_SECONDS, FAILURE_MILLISECONDS, Waits};
 use crate::port::{AcceptFailed, AddressFault, Port};
 use crate::serving::IntoTransport;
+use crate::shared_stream::SharedStream;
 use crate::socket_transport::SocketTransport;
 use crate::timed::{AnswerWritten, TimedReader, TimedWriter};
 use eventloop::Wakes;
@@ -21,9 +22,9 @@ use workers::{NothingLeft, Opens, Sides};
 // How often a waker tries to open a connection.
 const WAKE_TRIES: u32 = 6_000;
 
-type SocketReader = Flagged<TimedReader<TcpStream, HostRuntime>>;
+type SocketReader = Flagged<TimedReader<SharedStream, HostRuntime>>;
 
-type SocketWriter = Flagged<TimedWriter<TcpStream, HostRuntime>>;
+type SocketWriter = Flagged<TimedWriter<SharedStream, HostRuntime>>;
 
 /// A port of the machine that the program runs on.
 #[derive(Drop)]
@@ -32,6 +33,9 @@ pub struct SocketPort {
     listener: TcpListener,
     // Its service ends.
     is_ending: Arc<AtomicBool, Global>,
+    // It keeps a descriptor in reserve, for a connection that the system has none left for.
+    keeps_reserve: bool,
+    reserve: Option<TcpListener>,
 }
 
 impl SocketPort {
@@ -41,6 +45,8 @@ impl SocketPort {
             rt: *rt,
             listener,
             is_ending: Arc::new(rt.alloc(), AtomicBool::new(false))?,
+            keeps_reserve: false,
+            reserve: None,
         })
     }
 
@@ -53,6 +59,31 @@ impl SocketPort {
                 is_ending,
             }),
             _ => None,
+        }
+    }
+
+    // Takes a descriptor in reserve, where the port keeps one and has none.
+    fn take_reserve(&mut self) {
+        if self.keeps_reserve && self.reserve.is_none() {
+            self.reserve = self.listener.try_clone().ok();
+        }
+    }
+
+    // Waits for a stream.
+    fn accept_stream(&mut self) -> io::Result<TcpStream> {
+        let (stream, _) = self.listener.accept()?;
+        Ok(stream)
+    }
+
+    // The connection of a stream.
+    fn connection(&self, stream: TcpStream) -> Result<SocketConnection, AcceptFailed> {
+        match Arc::try_clone(&self.is_ending) {
+            Ok(is_ending) => Ok(SocketConnection {
+                rt: self.rt,
+                stream,
+                is_ending,
+            }),
+            Err(_) => Err(AcceptFailed),
         }
     }
 }
@@ -72,18 +103,25 @@ impl Port<SocketConnection> for SocketPort {
         }
     }
 
+    fn keep_reserve(&mut self) {
+        self.keeps_reserve = true;
+        self.take_reserve();
+    }
+
+    // The system takes a descriptor for the connection before it waits. Where it has none left, the reserve is given up for it.
     fn accept(&mut self) -> Result<SocketConnection, AcceptFailed> {
-        match (self.listener.accept(), Arc::try_clone(&self.is_ending)) {
-            (Ok((stream, _)), Ok(is_ending)) => Ok(SocketConnection {
-                rt: self.rt,
-                stream,
-                is_ending,
-            }),
-            _ => {
-                thread::sleep(&self.rt, Duration::from_millis(FAILURE_MILLISECONDS));
-                Err(AcceptFailed)
+        self.take_reserve();
+        if let Ok(stream) = self.accept_stream() {
+            return self.connection(stream);
+        }
+        if let Some(reserve) = self.reserve.take() {
+            drop(reserve);
+            if let Ok(stream) = self.accept_stream() {
+                return self.connection(stream);
             }
         }
+        thread::sleep(&self.rt, Duration::from_millis(FAILURE_MILLISECONDS));
+        Err(AcceptFailed)
     }
 }
 
@@ -159,10 +197,12 @@ impl Opens for SocketConnection {
         let waits = Waits::of_administration();
         stream.set_nodelay(true).ok()?;
         let (read, written) = AnswerWritten::pair(alloc).ok()?;
-        let reader = TimedReader::start(stream.try_clone().ok()?, rt, waits, read).ok()?;
+        let theirs = Arc::try_clone(&is_ending).ok()?;
+        let (stream, other) = SharedStream::pair(alloc, stream)?;
+        let reader = TimedReader::start(other, rt, waits, read).ok()?;
         Some(Sides {
             reader: Flagged::new(reader.until(is_ending)),
-            writer: Flagged::new(TimedWriter::new(stream, rt, waits, written)),
+            writer: Flagged::new(TimedWriter::new(stream, rt, waits, written).until(theirs)),
         })
     }
 

@@ -1,15 +1,19 @@
-ghost use Rattle.std.specs.Prelude.{◌≡◌, ℕ, List, IfErr, IsErr, Ok, Err, true};
+ghost use Rattle.std.specs.Prelude.{◌≡◌, ◌++◌, ℕ, List, IfErr, IsErr, IsSome, Ok, Err, true};
+ghost use Rattle.batches.specs.Batch.{accepted};
+ghost use Rattle.sharing.specs.Sharing.{after};
+ghost use Rattle.administration.specs.Keeping.{IsKeptSince};
 ghost use Rattle.service.specs.Serving.{HasAnnounced, GoesOnAfter, is_service_failure};
 
 use crate::accepting::Accepting;
 use crate::administering::{Administering, administer_all};
-use crate::announcing::write_addresses;
+use crate::announcing::Addresses;
 use crate::clients::{ClientSide, serve_clients};
 use crate::logging::{Logs, start_log};
 use crate::port::Port;
 use crate::served::Served;
 use crate::serving::{Administrators, IntoTransport, Network, PortFor, Ports, Runtime};
 use crate::signals::{ClientSignals, ClientStop, Wakers, signals_of};
+use crate::starting::Starting;
 use accesslog::LogQueue;
 use console::{Failure, Writes};
 use eventloop::{Poller, Wakes};
@@ -21,7 +25,7 @@ use std::alloc::Global;
 use std::marker::Brand;
 use std::sync::Arc;
 use std::sync::atomic::{AtomicBool, Ordering};
-use std::thread::{self, JoinHandle};
+use std::thread::{self, JoinHandle, Threads};
 use streams::Sink;
 use turns::Transport;
 
@@ -41,7 +45,9 @@ where
     Q: Poller<T> + Send + Drop + 'static,
     W: Wakes,
 {
-    let served = serve_clients::<S, R, C, T, P, Q>(rt, readers, side, &signals.is_stopped);
+    let starts = (&*signals.starting, &*signals.is_stopped);
+    let (served, _workers) = serve_clients::<S, R, C, T, P, Q>(rt, readers, side, starts);
+    signals.is_left.store(true, Ordering::SeqCst);
     if served.is_err() || signals.is_stopped.load(Ordering::SeqCst) {
         signals.is_over.give();
     }
@@ -108,15 +114,31 @@ struct Started<P, R, W: Wakes> {
     has_failed: Arc<AtomicBool, Global>,
 }
 
+impl<P, R, W: Wakes + Drop> Started<P, R, W> {
+    // Ends the service, of which nobody was told.
+    fn end<T: Threads>(self, rt: &T)
+    where
+        P: Drop,
+        R: Drop,
+    {
+        let Started { clients, stop, .. } = self;
+        stop.give();
+        let _ = clients.join(rt);
+    }
+}
+
 // The ports of a service as its sides: its wakers, the side of clients with their log, and the connections of administrators.
-fn sides_of<P, W, Q, I, R>(
+fn sides_of<C, P, W, Q, I, R>(
     ports: Ports<P, W, Q, I>,
     log: Option<LogQueue<R>>,
 ) -> (
     Wakers<W, I>,
     ClientSide<P, Q, R>,
     Accepting<PortFor<Administrators, P>>,
-) {
+)
+where
+    P: Port<C>,
+{
     let connections = ports.service.connections;
     let wakers = Wakers {
         administration: ports.waker,
@@ -129,8 +151,27 @@ fn sides_of<P, W, Q, I, R>(
         service: ports.service,
         log,
     };
-    let administration = Accepting::new(ports.administration, connections);
+    let mut administration = ports.administration;
+    administration.keep_reserve();
+    let administration = Accepting::new(administration, connections);
     (wakers, side, administration)
+}
+
+// Waits until the workers of clients are started. Where one can't be, it waits for the end of their thread.
+fn started_clients<R: Runtime>(
+    rt: &R,
+    starting: &Starting,
+    clients: JoinHandle<Result<(), Failure>>,
+) -> Result<JoinHandle<Result<(), Failure>>, Failure>
+    ensures failed { IfErr result (λ failure. is_service_failure failure ≡ true) }
+{
+    if starting.wait(rt) {
+        return Ok(clients);
+    }
+    match clients.join(rt) {
+        Err(Failure::NoMemory) => Err(Failure::NoMemory),
+        _ => Err(Failure::SocketFailed),
+    }
 }
 
 // Starts the threads of clients and of the input's end.
@@ -146,7 +187,10 @@ where
     N: Network,
     ensures failed { IfErr result (λ failure. is_service_failure failure ≡ true) }
 {
-    let (wakers, side, port) = sides_of(ports, logs.clients);
+    let (wakers, side, port) = sides_of::<N::Connection, N::Port, N::Waker, N::Poller, N::Input, R>(
+        ports,
+        logs.clients,
+    );
     let signals = signals_of(rt, wakers)?;
     let clients = start_clients::<S, R, N::Connection, N::Transport, N::Port, N::Poller, N::Waker>(
         rt,
@@ -155,10 +199,11 @@ where
         signals.clients,
     )?;
     Ok(Started {
-        clients,
+        clients: started_clients(rt, &signals.starting, clients)?,
         administering: Administering {
             port,
             is_given: signals.is_given,
+            is_left: signals.is_left,
             log: logs.administration,
         },
         stop: signals.stop,
@@ -166,30 +211,22 @@ where
     })
 }
 
-// Serves clients in other threads and administrators in this one. These two queues log the events of both, if there are logs.
-fn serve_both<S, R, N, K>(
+// Serves clients in other threads and administrators in this one.
+fn serve_started<S, R, N, K>(
     rt: &R,
-    shared: (Admin<S>, Vec<Reader<S>>),
-    ports: Ports<N::Port, N::Waker, N::Poller, N::Input>,
+    admin: Admin<S>,
     keeper: &mut K,
-    logs: Logs<R>,
-) -> Result<(), Failure>
+    started: Started<N::Port, R, N::Waker>,
+) -> (Admin<S>, Result<(), Failure>)
 where
     S: Sharing + Send + Sync + 'static,
     R: Runtime,
     N: Network,
     K: Keeps,
     requires ready { (kept : List (List ℕ)) × K.keeps keeper.old kept }
-    ensures ends { GoesOnAfter (Ok tt) result }
+    ensures ends { GoesOnAfter (Ok tt) result.1 }
+    ensures kept { (kept : List (List ℕ)) → K.keeps keeper.old kept → (result.1 ≡ Err Failure.JournalFailed → ⊥) → IsKeptSince K.keeps admin kept result.0 keeper.new }
 {
-    let (admin, readers) = shared;
-    let started = match start_sides::<S, R, N>(rt, readers, ports, logs) {
-        Ok(started) => started,
-        Err(failure) => {
-            admin.close(rt);
-            return Err(failure);
-        }
-    };
     let Started {
         clients,
         administering,
@@ -206,49 +243,25 @@ where
         stop.give();
     }
     let served = clients.join(rt);
-    admin.close(rt);
-    outcome_of(kept, has_failed.load(Ordering::SeqCst), served)
+    let outcome = outcome_of(kept, has_failed.load(Ordering::SeqCst), served);
+    (admin, outcome)
 }
 
-// Serves clients and administrators, and logs the events of both, if the service has a log.
-fn serve_logged<S, R, N, K>(
-    rt: &R,
-    shared: (Admin<S>, Vec<Reader<S>>),
-    ports: Ports<N::Port, N::Waker, N::Poller, N::Input>,
-    keeper: &mut K,
-) -> Result<(), Failure>
-where
-    S: Sharing + Send + Sync + 'static,
-    R: Runtime,
-    N: Network,
-    K: Keeps,
-    requires ready { (kept : List (List ℕ)) × K.keeps keeper.old kept }
-    ensures ends { GoesOnAfter (Ok tt) result }
-{
-    if !ports.service.logs {
-        return serve_both::<S, R, N, K>(rt, shared, ports, keeper, Logs::none());
-    }
-    let (log, logs) = match start_log(rt) {
-        Ok(started) => started,
-        Err(failure) => {
-            let (admin, _readers) = shared;
-            admin.close(rt);
-            return Err(failure);
-        }
-    };
-    let served = serve_both::<S, R, N, K>(rt, shared, ports, keeper, logs);
-    log.end(rt);
-    served
+// A map that is shared, the ports at which it is served, and the logs of that.
+struct Opened<S: Sharing, R, P, W, Q, I> {
+    admin: Admin<S>,
+    readers: Vec<Reader<S>>,
+    ports: Ports<P, W, Q, I>,
+    logs: Logs<R>,
 }
 
-// Writes the addresses of the ports, and serves the shared map.
-fn announce_and_serve<S, R, N, K, O>(
+// Starts the threads, writes the addresses of the ports, and serves.
+fn serve_both<S, R, N, K, O>(
     rt: &R,
-    shared: (Admin<S>, Vec<Reader<S>>),
-    ports: Ports<N::Port, N::Waker, N::Poller, N::Input>,
+    opened: Opened<S, R, N::Port, N::Waker, N::Poller, N::Input>,
     keeper: &mut K,
     output: &mut O,
-) -> Result<(), Failure>
+) -> (Admin<S>, Result<(), Failure>)
 where
     S: Sharing + Send + Sync + 'static,
     R: Runtime,
@@ -256,16 +269,71 @@ where
     K: Keeps,
     O: Sink,
     requires ready { (kept : List (List ℕ)) × K.keeps keeper.old kept }
-    ensures { HasAnnounced (N.Port.address ports.clients.port) (N.Port.address ports.administration.port) result (⟦<O as Writes>⟧.state output.old) (⟦<O as Writes>⟧.state output.new) }
+    ensures announced { HasAnnounced (N.Port.address opened.ports.clients.port) (N.Port.address opened.ports.administration.port) result.1 (⟦<O as Writes>⟧.state output.old) (⟦<O as Writes>⟧.state output.new) }
+    ensures kept { (kept : List (List ℕ)) → K.keeps keeper.old kept → (result.1 ≡ Err Failure.JournalFailed → ⊥) → IsKeptSince K.keeps opened.admin kept result.0 keeper.new }
 {
-    match write_addresses(rt.alloc(), &ports, output) {
-        Ok(()) => serve_logged::<S, R, N, K>(rt, shared, ports, keeper),
+    let Opened {
+        admin,
+        readers,
+        ports,
+        logs,
+    } = opened;
+    let addresses = match Addresses::of(rt.alloc(), &ports) {
+        Ok(addresses) => addresses,
+        Err(failure) => return (admin, Err(failure)),
+    };
+    let started = match start_sides::<S, R, N>(rt, readers, ports, logs) {
+        Ok(started) => started,
+        Err(failure) => return (admin, Err(failure)),
+    };
+    match addresses.write(output) {
+        Ok(()) => serve_started::<S, R, N, K>(rt, admin, keeper, started),
         Err(failure) => {
-            let (admin, _readers) = shared;
-            admin.close(rt);
-            Err(failure)
+            started.end(rt);
+            (admin, Err(failure))
         }
     }
+}
+
+// Serves a shared map, and logs the events of clients and administrators, if the service has a log.
+fn serve_logged<S, R, N, K, O>(
+    rt: &R,
+    opened: Opened<S, R, N::Port, N::Waker, N::Poller, N::Input>,
+    keeper: &mut K,
+    output: &mut O,
+) -> (Admin<S>, Result<(), Failure>)
+where
+    S: Sharing + Send + Sync + 'static,
+    R: Runtime,
+    N: Network,
+    K: Keeps,
+    O: Sink,
+    requires ready { (kept : List (List ℕ)) × K.keeps keeper.old kept }
+    ensures announced { HasAnnounced (N.Port.address opened.ports.clients.port) (N.Port.address opened.ports.administration.port) result.1 (⟦<O as Writes>⟧.state output.old) (⟦<O as Writes>⟧.state output.new) }
+    ensures kept { (kept : List (List ℕ)) → K.keeps keeper.old kept → (result.1 ≡ Err Failure.JournalFailed → ⊥) → IsKeptSince K.keeps opened.admin kept result.0 keeper.new }
+{
+    if !opened.ports.service.logs {
+        return serve_both::<S, R, N, K, O>(rt, opened, keeper, output);
+    }
+    let Opened {
+        admin,
+        readers,
+        ports,
+        logs: _,
+    } = opened;
+    let (log, logs) = match start_log(rt) {
+        Ok(started) => started,
+        Err(failure) => return (admin, Err(failure)),
+    };
+    let logged = Opened {
+        admin,
+        readers,
+        ports,
+        logs,
+    };
+    let served = serve_both::<S, R, N, K, O>(rt, logged, keeper, output);
+    log.end(rt);
+    served
 }
 
 /// The map of a machine, and the keeper of its batches, for a service.
@@ -294,36 +362,39 @@ where
     requires history { blank.seen.book ≡ S.book }
     requires opening { kept.machine ≡ S.opening }
     requires ready { (batches : List (List ℕ)) × K.keeps kept.keeper batches }
-    ensures served { result ≡ record { machine = S.opening; keeper = kept.keeper; clients = ports.clients.port; administration = ports.administration.port; service = ports.service; outcome = result.outcome } }
+    ensures served { result ≡ record { machine = S.opening; keeper = kept.keeper; clients = ports.clients.port; administration = ports.administration.port; service = ports.service; outcome = result.outcome; last = result.last; accepted = result.accepted } }
     ensures announced { HasAnnounced (N.Port.address ports.clients.port) (N.Port.address ports.administration.port) result.outcome (⟦<O as Writes>⟧.state output.old) (⟦<O as Writes>⟧.state output.new) }
+    ensures kept { (batches : List (List ℕ)) → K.keeps kept.keeper batches → (result.outcome ≡ Err Failure.JournalFailed → ⊥) → K.keeps result.last (batches ++ result.accepted) }
+    ensures accepted { IsSome (after accepted S.opening result.accepted) }
 {
     let Kept {
         machine,
         mut keeper,
     } = kept;
-    let served = Served::begin(&machine, &keeper, &ports);
+    let served = Served::begin(&machine, &keeper, &ports, blank.shown());
     let workers = usize::from(ports.service.workers);
     match open::<S, R>(rt, rt.alloc(), blank, &machine, workers) {
-        Ok(shared) => {
+        Ok((admin, readers)) => {
             // Its features would stay in memory when a batch has emptied their layer.
             drop(machine);
-            served.ended(announce_and_serve::<S, R, N, K, O>(
-                rt,
-                shared,
+            let opened = Opened {
+                admin,
+                readers,
                 ports,
-                &mut keeper,
-                output,
-            ))
+                logs: Logs::none(),
+            };
+            let (admin, outcome) = serve_logged::<S, R, N, K, O>(rt, opened, &mut keeper, output);
+            let accepted = admin.all();
+            admin.close(rt);
+            served.ended(outcome, &keeper, accepted)
         }
         // A service has 1 to 32 workers.
-        Err(ShareFault::Count) | Err(ShareFault::NoMemory) => {
-            served.ended(Err(Failure::NoMemory))
-        }
+        Err(ShareFault::Count) | Err(ShareFault::NoMemory) => { served.unshared() }
     }
 }
 
 /// Serves the map of a machine and keeps its accepted batches, by threads. One thread accepts the connections of clients, one for each worker serves
-/// its connections in turns, and the calling one serves administrators. Once the map is shared, and before the first connection, it writes the
+/// its connections in turns, and the calling one serves administrators. Once the map is shared and the threads are started, it writes the
 /// addresses of the ports to the output. So the user or script that started the program knows when to connect.
 pub fn serve_by_threads<R: Runtime, N: Network, K: Keeps + Drop, O: Sink>(
     rt: &R,
@@ -332,8 +403,10 @@ pub fn serve_by_threads<R: Runtime, N: Network, K: Keeps + Drop, O: Sink>(
     output: &mut O,
 ) -> Served<N::Port, K>
     requires ready { (batches : List (List ℕ)) × K.keeps kept.keeper batches }
-    ensures served { result ≡ record { machine = kept.machine; keeper = kept.keeper; clients = ports.clients.port; administration = ports.administration.port; service = ports.service; outcome = result.outcome } }
+    ensures served { result ≡ record { machine = kept.machine; keeper = kept.keeper; clients = ports.clients.port; administration = ports.administration.port; service = ports.service; outcome = result.outcome; last = result.last; accepted = result.accepted } }
     ensures announced { HasAnnounced (N.Port.address ports.clients.port) (N.Port.address ports.administration.port) result.outcome (⟦<O as Writes>⟧.state output.old) (⟦<O as Writes>⟧.state output.new) }
+    ensures kept { (batches : List (List ℕ)) → K.keeps kept.keeper batches → (result.outcome ≡ Err Failure.JournalFailed → ⊥) → K.keeps result.last (batches ++ result.accepted) }
+    ensures accepted { IsSome (after accepted kept.machine result.accepted) }
 {
     serve_named::<Brand, R, N, K, O>(rt, Blank::new(), kept, ports, output)
 }

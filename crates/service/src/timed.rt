@@ -1,7 +1,7 @@
 ghost use Rattle.std.specs.Prelude.{◌≡◌, true};
 
 use crate::closing::Closing;
-use crate::limits::{ANSWER_TIMES, CALL_SECONDS, TimeLimit, Waits};
+use crate::limits::{ANSWER_TIMES, CALL_SECONDS, ENDING_SECONDS, TimeLimit, Waits};
 use std::alloc::{AllocError, Global};
 use std::io::{self, ErrorKind, Read, Write};
 use std::net::{OpenStream, Shutdown};
@@ -39,8 +39,12 @@ pub struct TimedReader<S, C> {
     answered: AnswerWritten,
     limit: TimeLimit,
     is_idle: bool,
-    // Where the flag is set, the stream ends.
+    // Bytes of a command came, which isn't answered yet.
+    is_amid: bool,
+    // Where the flag is set, the stream ends with the command at hand.
     is_ending: Option<Arc<AtomicBool, Global>>,
+    // The time of the command at hand was cut, as the stream ends.
+    is_cut: bool,
 }
 
 impl<S, C: Clock> TimedReader<S, C> {
@@ -57,11 +61,14 @@ impl<S, C: Clock> TimedReader<S, C> {
             waits,
             answered,
             is_idle: false,
+            is_amid: false,
             is_ending: None,
+            is_cut: false,
         })
     }
 
-    /// The same stream, which ends where the flag is set and nothing comes for a second.
+    /// The same stream, which ends where the flag is set: after the command at hand, where nothing of it comes for a second, or when
+    /// its rest takes too long.
     pub fn until(mut self, is_ending: Arc<AtomicBool, Global>) -> Self {
         self.is_ending = Some(is_ending);
         self
@@ -79,12 +86,24 @@ impl<S, C: Clock> TimedReader<S, C> {
         }
     }
 
-    // Whether a read that got nothing is made again.
-    fn goes_on(&self) -> bool {
+    // Whether the flag is set.
+    fn is_ending(&self) -> bool {
         match &self.is_ending {
-            Some(is_ending) => !is_ending.load(Ordering::SeqCst),
+            Some(is_ending) => is_ending.load(Ordering::SeqCst),
             None => false,
         }
+    }
+
+    // Whether the stream ends before the next read. The command at hand has some time more.
+    fn has_ended(&mut self) -> io::Result<bool> {
+        if !self.is_ending() {
+            return Ok(false);
+        }
+        if self.is_amid && !self.is_cut {
+            self.limit = TimeLimit::start(&self.clock, Duration::from_secs(ENDING_SECONDS))?;
+            self.is_cut = true;
+        }
+        Ok(!self.is_amid)
     }
 
     /// Begins another time now, whatever was answered. Without a clock the time stays as it is.
@@ -101,6 +120,7 @@ impl<S, C: Clock> TimedReader<S, C> {
         if self.answered.is_set.swap(false, Ordering::SeqCst) {
             self.limit = TimeLimit::start(&self.clock, self.waits.idle)?;
             self.is_idle = true;
+            self.is_amid = false;
         }
         Ok(())
     }
@@ -111,6 +131,7 @@ impl<S, C: Clock> TimedReader<S, C> {
             self.limit = TimeLimit::start(&self.clock, self.waits.timeout)?;
             self.is_idle = false;
         }
+        self.is_amid = true;
         Ok(())
     }
 }
@@ -118,14 +139,17 @@ impl<S, C: Clock> TimedReader<S, C> {
 impl<S: Read + OpenStream, C: Clock> Read for TimedReader<S, C> {
     fn read(&mut self, room: &mut [u8]) -> io::Result<usize> {
         self.rest()?;
+        if self.has_ended()? {
+            return Ok(0);
+        }
         let silence = TimeLimit::start(&self.clock, self.waits.silence)?;
         for _ in 0..MAX_TRIES {
             let wait = self.next_wait(silence)?;
             self.stream.set_read_timeout(Some(wait))?;
             match self.stream.read(room) {
                 Err(error) if error.kind() == ErrorKind::Interrupted => {}
-                Err(error) if moved_nothing(&error) && self.goes_on() => {}
-                Err(error) if moved_nothing(&error) && self.is_ending.is_some() => return Ok(0),
+                Err(error) if moved_nothing(&error) && self.is_ending() => return Ok(0),
+                Err(error) if moved_nothing(&error) && self.is_ending.is_some() => {}
                 read => {
                     self.begin()?;
                     return read;
@@ -148,6 +172,8 @@ pub struct TimedWriter<S, C> {
     // The time since bytes were last sent.
     still: Option<TimeLimit>,
     is_shut: bool,
+    // Where the flag is set, a write that waits for a second fails.
+    is_ending: Option<Arc<AtomicBool, Global>>,
 }
 
 impl<S, C> TimedWriter<S, C> {
@@ -161,7 +187,14 @@ impl<S, C> TimedWriter<S, C> {
             limit: None,
             still: None,
             is_shut: false,
+            is_ending: None,
         }
+    }
+
+    /// The same stream, of which a write fails that waits for a second while the flag is set.
+    pub fn until(mut self, is_ending: Arc<AtomicBool, Global>) -> Self {
+        self.is_ending = Some(is_ending);
+        self
     }
 }
 
@@ -180,6 +213,14 @@ fn left_of<C: Clock>(
 }
 
 impl<S, C: Clock> TimedWriter<S, C> {
+    // Whether the flag is set.
+    fn is_ending(&self) -> bool {
+        match &self.is_ending {
+            Some(is_ending) => is_ending.load(Ordering::SeqCst),
+            None => false,
+        }
+    }
+
     // How long the next write may wait.
     fn next_wait(&mut self) -> io::Result<Duration> {
         let whole = self.waits.timeout.saturating_mul(ANSWER_TIMES);
@@ -212,6 +253,7 @@ impl<S: Write + OpenStream, C: Clock> Write for TimedWriter<S, C> {
             let wait = self.next_wait()?;
             self.stream.set_write_timeout(Some(wait))?;
             match self.stream.write(bytes) {
+                Err(error) if moved_nothing(&error) && self.is_ending() => return Err(error),
                 Err(error) if moved_nothing(&error) => {}
                 written => {
                     self.still = None;

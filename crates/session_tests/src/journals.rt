@@ -8,29 +8,29 @@ use std::sync::atomic::Ordering;
 use test_tables::{TableFault, check_all};
 
 // Arguments with spaces between them, the letters of the ports, and how the program ends. The end has the exit status with the failure,
-// the sum of the sequences that were published, and how often administrators got the line that a batch isn't kept. Then it has how many
-// bytes were added to the journal, the output, and the errors. `~` is a line feed. A record of an empty batch has 42 bytes.
+// the sum of the sequences that were published, how often administrators got the line that a batch isn't kept, and how often the wait for
+// a client was ended. Then it has how many bytes were added to the journal, the output, and the errors. `~` is a line feed. A record of an empty batch has 42 bytes.
 const JOURNALS: &str = "\
-serve a.map --port 81 --admin-port 82 --connections 1 --journal fresh.journal|c b|0 done 1 0 42|listening a port another port~|
-serve a.map --port 81 --admin-port 82 --connections 2 --journal fresh.journal|cc bb|0 done 3 0 84|listening a port another port~|
-serve a.map --port 81 --admin-port 82 --connections 1 --journal kept.journal|c b|0 done 2 0 42|listening a port another port~|
-serve a.map --port 81 --admin-port 82 --connections 1 --journal torn.journal|c b|0 done 2 0 42|listening a port another port~|
-serve a.map --port 81 --admin-port 82 --connections 1 --journal kept.journal|c r|0 done 0 0 0|listening a port another port~|
-serve a.map --port 81 --admin-port 82 --connections 1|c b|0 done 1 0 0|listening a port another port~|
+serve a.map --port 81 --admin-port 82 --connections 1 --journal fresh.journal|c b|0 done 1 0 0 42|listening a port another port~|
+serve a.map --port 81 --admin-port 82 --connections 2 --journal fresh.journal|cc bb|0 done 3 0 0 84|listening a port another port~|
+serve a.map --port 81 --admin-port 82 --connections 1 --journal kept.journal|c b|0 done 2 0 0 42|listening a port another port~|
+serve a.map --port 81 --admin-port 82 --connections 1 --journal torn.journal|c b|0 done 2 0 0 42|listening a port another port~|
+serve a.map --port 81 --admin-port 82 --connections 1 --journal kept.journal|c r|0 done 0 0 0 0|listening a port another port~|
+serve a.map --port 81 --admin-port 82 --connections 1|c b|0 done 1 0 0 0|listening a port another port~|
 # a journal that fails ends the wait for a client, and the program
-serve a.map --port 81 --admin-port 82 --journal stuck.journal|w b|3 JournalFailed 0 1 0|listening a port another port~|fault journal stuck.journal: it can't be read or written~
-serve --explain a.map --port 81 --admin-port 82 --connections 1 --journal stuck.journal|c b|3 JournalFailed 0 1 0|listening a port another port~|a.map: warning: the service has no wms_onlineresource, and http://localhost/wms? has no port~fault journal stuck.journal: it can't be read or written~
+serve a.map --port 81 --admin-port 82 --journal stuck.journal|w b|3 JournalFailed 0 1 1 0|listening a port another port~|fault journal stuck.journal: it can't be read or written~
+serve --explain a.map --port 81 --admin-port 82 --connections 1 --journal stuck.journal|c b|3 JournalFailed 0 1 1 0|listening a port another port~|a.map: warning: the service has no wms_onlineresource, and http://localhost/wms? has no port~fault journal stuck.journal: it can't be read or written~
 # none of these is listened with
-serve a.map --port 81 --admin-port 82 --journal none.journal||1 JournalFault 0 0 0||fault journal none.journal: it is no journal~
-serve a.map --port 81 --admin-port 82 --journal other.journal||1 JournalFault 0 0 0||fault journal other.journal: it is of another map~
-serve t.map --port 81 --admin-port 82 --journal kept.journal||1 JournalFault 0 0 0||fault journal kept.journal: it is of another map~
-serve a.map --port 81 --admin-port 82 --journal damaged.journal||1 JournalFault 0 0 0||fault journal damaged.journal: it is damaged behind record 0~
-serve a.map --port 81 --admin-port 82 --journal refused.journal||1 JournalFault 0 0 0||fault journal refused.journal: the map doesn't accept record 1~
-serve a.map --port 81 --admin-port 82 --journal locked.journal||3 JournalFailed 0 0 0||fault journal locked.journal: another program has it~
-serve a.map --port 81 --admin-port 82 --journal folder||3 JournalFailed 0 0 0||fault journal folder: it can't be read or written~
-serve a.map --port 81 --admin-port 82 --journal small.journal||4 NoMemory 0 0 0||fault journal small.journal: out of memory~
-serve c.map --port 81 --admin-port 82 --journal none.journal||1 FileFailed 0 0 0||fault file c.map~
-serve a.map --port 80 --journal kept.journal||3 ListenFailed { port: 80, cause: NotAllowed } 0 0 0||";
+serve a.map --port 81 --admin-port 82 --journal none.journal||1 JournalFault 0 0 0 0||fault journal none.journal: it is no journal~
+serve a.map --port 81 --admin-port 82 --journal other.journal||1 JournalFault 0 0 0 0||fault journal other.journal: it is of another map~
+serve t.map --port 81 --admin-port 82 --journal kept.journal||1 JournalFault 0 0 0 0||fault journal kept.journal: it is of another map~
+serve a.map --port 81 --admin-port 82 --journal damaged.journal||1 JournalFault 0 0 0 0||fault journal damaged.journal: it is damaged behind record 0~
+serve a.map --port 81 --admin-port 82 --journal refused.journal||1 JournalFault 0 0 0 0||fault journal refused.journal: the map doesn't accept record 1~
+serve a.map --port 81 --admin-port 82 --journal locked.journal||3 JournalFailed 0 0 0 0||fault journal locked.journal: another program has it~
+serve a.map --port 81 --admin-port 82 --journal folder||3 JournalFailed 0 0 0 0||fault journal folder: it can't be read or written~
+serve a.map --port 81 --admin-port 82 --journal small.journal||4 NoMemory 0 0 0 0||fault journal small.journal: out of memory~
+serve c.map --port 81 --admin-port 82 --journal none.journal||1 FileFailed 0 0 0 0||fault file c.map~
+serve a.map --port 80 --journal kept.journal||3 ListenFailed { port: 80, cause: NotAllowed } 0 0 0 0||";
 
 // How the program ends on a host whose ports have those letters.
 fn ended<R: Runtime>(
@@ -42,9 +42,10 @@ fn ended<R: Runtime>(
     let arguments = arguments_of(rt.alloc(), arguments)?;
     let (end, counts, written) = run_program(rt, system, Ok(arguments), letters)?;
     format!(in rt.alloc();
-        "{end} {} {} {}|{written}",
+        "{end} {} {} {} {}|{written}",
         counts.published.load(Ordering::SeqCst),
         counts.failed.load(Ordering::SeqCst),
+        counts.stopped.load(Ordering::SeqCst),
         counts.kept.load(Ordering::SeqCst)
     )
 }

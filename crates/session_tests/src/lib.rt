@@ -4,8 +4,6 @@
 #![tactic(auto)]
 
 #[cfg(test)]
-mod answers;
-#[cfg(test)]
 mod batches_over_a_port;
 #[cfg(test)]
 mod command_lines;
@@ -37,3 +35,5 @@ mod stops;
 mod texts;
 #[cfg(test)]
 mod timed_streams;
+#[cfg(test)]
+mod transcripts;

@@ -1,7 +1,7 @@
-use crate::answers::is_answered;
 use crate::cuts::opened;
 use crate::endings::{ended, is_played};
 use crate::texts::{QUERY, SQUARE, SQUARE_MAP, SQUARE_TEXT, columns, spelt};
+use crate::transcripts::is_answered;
 use mapdefs::Items;
 use mapmachine::{Bytes, Event, Mime, Reply};
 use std::alloc::{AllocError, Global};

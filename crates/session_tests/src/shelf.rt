@@ -205,6 +205,8 @@ impl Wakes for NoWaker {
 }
 
 impl Poller<Client> for Idle {
+    ghost reported = { λ _ _ _. Unit {0} };
+
     type Waker = NoWaker;
 
     fn waker(&self) -> Option<NoWaker> {
@@ -294,6 +296,8 @@ impl Port<Call> for Letters {
             Err(_) => Err(AddressFault::NoMemory),
         }
     }
+
+    fn keep_reserve(&mut self) {}
 
     fn accept(&mut self) -> Result<Call, AcceptFailed> {
         let letter = self.letters.get(self.at).copied();

@@ -11,11 +11,11 @@ loop-init g c = record {
   keeps = λ kept was. same_kept g.K.Keeps.keeps c.args.admin c.args.admin kept c.args.keeper.now refl was;
 }
 
-pub loop-preserved-in_default-attempt : goal.loop-preserved-in_default-attempt
-loop-preserved-in_default-attempt g c =
+pub loop-preserved-in_default : goal.loop-preserved-in_default
+loop-preserved-in_default g c =
     let keeps = g.K.Keeps.keeps in
     let after = c.administer_one-after in
-    let (opened, same, still) = known-none after.result.1 _ _ c.in_default-attempt.not-Some after.ensures.served in
+    let (opened, same, still) = known-none after.result.1 _ _ c.in_default.not-Some after.ensures.served in
     let moved = λ (kept : List (List ℕ)) (is : keeps c.loop.keeper kept). subst (λ k. keeps k kept) (sym still) is in
     let step = λ (kept : List (List ℕ)) (is : keeps c.loop.keeper kept). same_kept keeps c.loop.admin after.result.0 kept after.new.keeper (ap all_of same) (moved kept is) in
     record {

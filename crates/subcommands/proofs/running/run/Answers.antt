@@ -1,3 +1,4 @@
+use Rattle.std.proofs.Common.{refl}
 use Rattle.std.proofs.KnownBytes.{Keeps-refl}
 use Rattle.std.proofs.lemmas.Result.{err_from_is_err_and}
 use Rattle.subcommands.proofs.Serving.{ran, script-reported, unscripted}
@@ -22,3 +23,22 @@ returns-in_err-commands-clause-unread g c =
     rw (p.1, p.2)
     (λ e. script-reported _ c.args.job.now.explains _ _ _ _ _ _ _ _ _ c.in_ok-read.read.map (record { errors = _; warnings = c.in_ok-read.ensures.warnings })
     c.in_err-commands.ensures.unread c.in_ok-read.ensures.leaves c.in_err-commands.ensures.leaves e)
+
+pub returns-in_err-commands-clause-untouched : goal.returns-in_err-commands-clause-untouched
+returns-in_err-commands-clause-untouched g c =
+    let p = err_from_is_err_and c.from_residual-in_err-commands.result c.from_residual-in_err-commands.ensures.1 in
+    rw (p.1, p.2) (λ e. absurd (rw e at c.in_err-commands.ensures.unread))
+
+pub returns-in_err-commands-clause-files : goal.returns-in_err-commands-clause-files
+returns-in_err-commands-clause-files g c =
+    let p = err_from_is_err_and c.from_residual-in_err-commands.result c.from_residual-in_err-commands.ensures.1 in
+    rw (p.1, p.2) (λ e. record { mapfile = c.in_ok-read.ensures.leaves; script = rw e at c.in_err-commands.ensures.leaves })
+
+pub returns-in_err-commands-clause-leaves : goal.returns-in_err-commands-clause-leaves
+returns-in_err-commands-clause-leaves g c =
+    let p = err_from_is_err_and c.from_residual-in_err-commands.result c.from_residual-in_err-commands.ensures.1 in
+    rw (p.1, p.2)
+    (record {
+      input = rw c.in_err-commands.ensures.neither.input refl;
+      output = record { failed = rw c.in_err-commands.ensures.neither.output refl; flushed = λ e. absurd (cc) };
+    })

@@ -1,0 +1,6 @@
+use Rattle.std.proofs.Common.{refl}
+use Rattle.administration.proofs.KeptBatches.{same_kept}
+use Rattle.service.proofs.threaded.serve_logged.Goals as goal
+
+pub returns-in-Err-clause-kept : goal.returns-in-Err-clause-kept
+returns-in-Err-clause-kept g c kept was other = same_kept g.K.Keeps.keeps c.args.opened.admin c.args.opened.admin kept c.args.keeper.now refl was
