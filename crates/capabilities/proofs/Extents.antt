@@ -1,15 +1,16 @@
 -- A reader finds the extent of a map in the pieces that state it.
-use Rattle.std.proofs.Common.{◌≡◌, ◌++◌, ℕ, ℤ, true, false, List, [], ◌∷◌, codes, refl, ◌∙◌, ap, sym}
+use Rattle.std.proofs.Common.{◌≡◌, ◌++◌, ℕ, ℤ, Bool, true, false, if◌then◌else◌, List, [], ◌∷◌, codes, refl, ◌∙◌, ap, sym}
 use Rattle.std.proofs.lemmas.List.{append_assoc}
 use Rattle.std.proofs.lemmas.List.Folds.{list_any-append}
 use Rattle.std.specs.List.{list_any}
+use Rattle.crsaxes.specs.Metres.{metres_down, metres_up}
 use Rattle.geom.specs.World.{Area}
 use Rattle.geom.specs.Written.{written}
 use Rattle.capabilities.specs.declared.markup.Markup.TheVariants as part
 use Rattle.capabilities.specs.Boxes.{is_edge, parts_behind}
 use Rattle.capabilities.specs.Element.{opening, ending, enclosed, attribute}
 use Rattle.capabilities.specs.Markup.{markup}
-use Rattle.capabilities.specs.World.{geographic_box, corner, bounding_box, boxes}
+use Rattle.capabilities.specs.World.{geographic_box, corner, bounding_box, boxes, metre_box}
 use Rattle.capabilities.proofs.Numbers.{or-from, edge-elsewhere, written-lacks, written-plain}
 use Rattle.capabilities.proofs.Sought.{Sought, Titles, Names, West, East, South, North, Boxes, beginning, reading_of, Finds, joined, lacks, lacks-is, without, none, inside-lacks, plain-lacks, plain, before-at}
 
@@ -246,3 +247,35 @@ unfolding boxes
 boxes-found s area =
     joined s _ _ _ _ (geographic-found s area)
     (joined s _ _ _ _ (box-found s (codes "CRS:84") _ _ _ _ refl) (box-found s (codes "EPSG:4326") _ _ _ _ refl))
+
+-- the box in metres, if there is one
+abbrev pub tag3857 : Area → List ℕ
+tag3857 area = tag_of (codes "EPSG:3857") (metres_down area.minx) (metres_down area.miny) (metres_up area.maxx) (metres_up area.maxy)
+
+abbrev pub metres_of : Sought → Bool → Area → List (List ℕ)
+metres_of Titles shown area = []
+metres_of Names shown area = []
+metres_of West shown area = []
+metres_of East shown area = []
+metres_of South shown area = []
+metres_of North shown area = []
+metres_of Boxes shown area = if shown then tag3857 area ∷ [] else []
+
+metre-found : (s : Sought) (area : Area) → Finds s (metre_box area) (boxes_of s (tag3857 area))
+unfolding metre_box
+metre-found s area = box-found s (codes "EPSG:3857") _ _ _ _ refl
+
+-- nothing in what may be left out, where there is nothing in it
+shown-none : (s : Sought) (shown : Bool) (xs : List ℕ) → Finds s xs [] → Finds s (if shown then xs else []) []
+shown-none s true xs is = is
+shown-none s false xs is = record { is = λ rest. refl }
+
+pub metres-found : (s : Sought) (shown : Bool) (area : Area) → Finds s (if shown then metre_box area else []) (metres_of s shown area)
+metres-found Titles shown area = shown-none Titles shown (metre_box area) (metre-found Titles area)
+metres-found Names shown area = shown-none Names shown (metre_box area) (metre-found Names area)
+metres-found West shown area = shown-none West shown (metre_box area) (metre-found West area)
+metres-found East shown area = shown-none East shown (metre_box area) (metre-found East area)
+metres-found South shown area = shown-none South shown (metre_box area) (metre-found South area)
+metres-found North shown area = shown-none North shown (metre_box area) (metre-found North area)
+metres-found Boxes true area = metre-found Boxes area
+metres-found Boxes false area = record { is = λ rest. refl }

@@ -15,12 +15,13 @@ use Rattle.xmltext.proofs.Escaping.{markup-law}
 use Rattle.xmltext.proofs.Structures.{found-law}
 use Rattle.capabilities.specs.declared.markup.Markup.TheVariants as part
 use Rattle.capabilities.specs.Boxes.{parts_behind}
-use Rattle.capabilities.specs.Document.{preamble, service, address_line, format_lines, request, requests, outer, document}
+use Rattle.capabilities.specs.Document.{preamble, service, address_line, format_lines, request, requests, mercator_line, outer, document}
 use Rattle.capabilities.specs.Element.{opening, ending, enclosed, element, attribute, online_resource}
 use Rattle.capabilities.specs.Layer.{bound, layer_tag, layer_entry, shown_entry}
 use Rattle.capabilities.specs.Markup.{markup}
+use Rattle.capabilities.specs.World.{has_metres, square_part}
 use Rattle.capabilities.specs.Texts.{contents_of, TitlesAreRead, NamesAreRead}
-use Rattle.capabilities.proofs.Extents.{extent_of, boxes-found, tag84, tag4326}
+use Rattle.capabilities.proofs.Extents.{extent_of, boxes-found, metres_of, metres-found, tag84, tag4326}
 use Rattle.capabilities.proofs.Numbers.{decimal-plain, written-plain}
 use Rattle.capabilities.proofs.Sought.{Sought, Titles, Names, West, East, South, North, Boxes, beginning, reading_of, Finds, joined, lacks, lacks-is, without, none, plain-lacks, plain}
 
@@ -149,42 +150,60 @@ line-none s url =
     joined s _ _ [] [] (none (markup part.Get) refl s)
     (joined s _ _ [] [] (resource-none s url) (none (markup part.GetEnd) refl s))
 
-request-with : (s : Sought) (o : Operation) (url : List ℕ) → Finds s (opening (name_of o)) [] → Finds s (format_lines o) [] → Finds s (ending (name_of o)) [] → Finds s (request o url) []
+request-with : (s : Sought) (png : Bool) (o : Operation) (url : List ℕ) → Finds s (opening (name_of o)) [] → Finds s (format_lines png o) [] → Finds s (ending (name_of o)) [] → Finds s (request png o url) []
 unfolding request
-request-with s o url opens formats ends =
+request-with s png o url opens formats ends =
     joined s _ _ [] [] opens (joined s _ _ [] [] (plain s (codes "\n") refl) (joined s _ _ [] [] formats
     (joined s _ _ [] [] (line-none s url) (joined s _ _ [] [] ends (plain s (codes "\n") refl)))))
 
-request-none : (s : Sought) (o : Operation) (url : List ℕ) → Finds s (request o url) []
+-- nor in the formats of pictures
+formats-none : (s : Sought) (png : Bool) → Finds s (format_lines png operation.Map) []
+unfolding opening ending element enclosed mime_text
+formats-none s true = none (format_lines true operation.Map) refl s
+formats-none s false = none (format_lines false operation.Map) refl s
+
+request-none : (s : Sought) (png : Bool) (o : Operation) (url : List ℕ) → Finds s (request png o url) []
 unfolding opening ending element enclosed name_of mime_text
-request-none s operation.Capabilities url = request-with s operation.Capabilities url
+request-none s png operation.Capabilities url = request-with s png operation.Capabilities url
     (none (opening (name_of operation.Capabilities)) refl s)
-    (none (format_lines operation.Capabilities) refl s)
+    (none (format_lines png operation.Capabilities) refl s)
     (none (ending (name_of operation.Capabilities)) refl s)
-request-none s operation.Map url = request-with s operation.Map url
+request-none s png operation.Map url = request-with s png operation.Map url
     (none (opening (name_of operation.Map)) refl s)
-    (none (format_lines operation.Map) refl s)
+    (formats-none s png)
     (none (ending (name_of operation.Map)) refl s)
-request-none s operation.Information url = request-with s operation.Information url
+request-none s png operation.Information url = request-with s png operation.Information url
     (none (opening (name_of operation.Information)) refl s)
-    (none (format_lines operation.Information) refl s)
+    (none (format_lines png operation.Information) refl s)
     (none (ending (name_of operation.Information)) refl s)
 
-requests-none : (s : Sought) (url : List ℕ) → Finds s (requests url) []
+requests-none : (s : Sought) (png : Bool) (url : List ℕ) → Finds s (requests png url) []
 unfolding requests markup opening
-requests-none s url =
+requests-none s png url =
     joined s _ _ [] [] (none (markup part.Requests) refl s)
-    (joined s _ _ [] [] (request-none s operation.Capabilities url)
-    (joined s _ _ [] [] (request-none s operation.Map url)
-    (joined s _ _ [] [] (request-none s operation.Information url) (none (markup part.Exceptions) refl s))))
+    (joined s _ _ [] [] (request-none s png operation.Capabilities url)
+    (joined s _ _ [] [] (request-none s png operation.Map url)
+    (joined s _ _ [] [] (request-none s png operation.Information url) (none (markup part.Exceptions) refl s))))
+
+-- nothing in the line of web mercator
+mercator-none : (s : Sought) (offered : Bool) → Finds s (mercator_line offered) []
+unfolding markup opening
+mercator-none s true = none (markup part.Mercator) refl s
+mercator-none s false = record { is = λ rest. refl }
+
+-- the boxes of the map's extent
+abbrev extents_of : Sought → MapFields → List (List ℕ)
+extents_of s m = extent_of s m.extent ++ metres_of s (has_metres m.mercator m.extent) (square_part m.extent)
 
 -- the title and the extent of the outermost layer
-outer-found : (s : Sought) (m : MapFields) → Finds s (outer m) (titles_of s m.title ++ extent_of s m.extent)
+outer-found : (s : Sought) (m : MapFields) → Finds s (outer m) (titles_of s m.title ++ extents_of s m)
 unfolding outer markup opening
 outer-found s m =
     joined s _ _ [] _ (none (markup part.Layer) refl s)
     (joined s _ _ _ _ (title-found s m.title)
-    (joined s _ _ [] _ (none (markup part.Systems) refl s) (boxes-found s m.extent)))
+    (joined s _ _ [] _ (none (markup part.Systems) refl s)
+    (joined s _ _ [] _ (mercator-none s m.mercator)
+    (joined s _ _ _ _ (boxes-found s m.extent) (metres-found s (has_metres m.mercator m.extent) (square_part m.extent))))))
 
 -- nothing in a bound, whether there is one or not
 bound-none : (s : Sought) (name : List ℕ) (number : Option ℤ) → Finds s (opening name) [] → Finds s (ending name) [] → Finds s (bound name number) []
@@ -247,14 +266,14 @@ layers-found s (layer ∷ layers) = joined s _ _ _ _ (shown-found s layer layer.
 -- the whole document
 abbrev found_of : Sought → MapFields → List (List ℕ)
 found_of s m =
-    (names_of s (codes "WMS") ++ (titles_of s m.title ++ [])) ++ ((titles_of s m.title ++ extent_of s m.extent) ++ (layers_of s m.layers ++ []))
+    (names_of s (codes "WMS") ++ (titles_of s m.title ++ [])) ++ ((titles_of s m.title ++ extents_of s m) ++ (layers_of s m.layers ++ []))
 
 document-found : (s : Sought) (n : ℕ) (m : MapFields) → Finds s (document n m) (found_of s m)
 unfolding document markup
 document-found s n m =
     joined s _ _ [] _ (preamble-none s n)
     (joined s _ _ _ _ (service-found s m.title m.url)
-    (joined s _ _ [] _ (requests-none s m.url)
+    (joined s _ _ [] _ (requests-none s m.png m.url)
     (joined s _ _ _ _ (outer-found s m)
     (joined s _ _ _ [] (layers-found s m.layers) (none (markup part.End) refl s)))))
 
@@ -313,5 +332,9 @@ south-read n m = document-reads South n m ∙ rw (no-layers South (λ l. refl) m
 pub north-read : (n : ℕ) (m : MapFields) → parts_behind (codes "northBoundLatitude>") (document n m) ≡ written m.extent.maxy ∷ []
 north-read n m = document-reads North n m ∙ rw (no-layers North (λ l. refl) m.layers) refl
 
-pub tags-read : (n : ℕ) (m : MapFields) → parts_behind (codes "BoundingBox") (document n m) ≡ tag84 m.extent ∷ tag4326 m.extent ∷ []
-tags-read n m = document-reads Boxes n m ∙ rw (no-layers Boxes (λ l. refl) m.layers) refl
+pub tags-read : (n : ℕ) (m : MapFields) →
+    parts_behind (codes "BoundingBox") (document n m) ≡ tag84 m.extent ∷ tag4326 m.extent ∷ metres_of Boxes (has_metres m.mercator m.extent) (square_part m.extent)
+tags-read n m =
+    document-reads Boxes n m
+    ∙ rw (no-layers Boxes (λ l. refl) m.layers) (
+    ap (λ (tags : List (List ℕ)). tag84 m.extent ∷ tag4326 m.extent ∷ tags) (append-nil (metres_of Boxes (has_metres m.mercator m.extent) (square_part m.extent))))

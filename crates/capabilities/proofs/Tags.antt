@@ -15,12 +15,12 @@ use Rattle.xmltext.specs.Structure.{Place, Content, Tag, Quoted, place_after, st
 use Rattle.xmltext.proofs.Escaping.{markup-law}
 use Rattle.xmltext.proofs.Structures.{structure-append, place_after-append, plain-place, no-tags}
 use Rattle.capabilities.specs.declared.markup.Markup.TheVariants as part
-use Rattle.capabilities.specs.Document.{preamble, service, address_line, format_lines, request, requests, outer, document}
+use Rattle.capabilities.specs.Document.{preamble, service, address_line, format_lines, request, requests, mercator_line, outer, document}
 use Rattle.capabilities.specs.Element.{opening, ending, enclosed, element, attribute, online_resource}
 use Rattle.capabilities.specs.Layer.{bound, layer_tag, layer_entry, shown_entry}
 use Rattle.capabilities.specs.Markup.{markup}
 use Rattle.capabilities.specs.Texts.{untitled, without_texts, TextsChangeNoTags}
-use Rattle.capabilities.specs.World.{geographic_box, corner, bounding_box, boxes}
+use Rattle.capabilities.specs.World.{geographic_box, corner, bounding_box, boxes, has_metres, metre_box, square_part}
 use Rattle.capabilities.proofs.Numbers.{decimal-plain, written-plain}
 
 -- two pieces of documents that begin at one position have the same tags and lead to the same position
@@ -114,30 +114,31 @@ line-tags a b =
     (joined Content Content Content _ _ _ _ (resource-tags a b) (same Content Content (markup part.GetEnd) refl))
 
 -- a request at two addresses
-request-with : (o : Operation) (a b : List ℕ) → place_after Content (opening (name_of o)) ≡ Content → place_after Content (format_lines o) ≡ Content →
-    place_after Content (ending (name_of o)) ≡ Content → HaveSameTags Content Content (request o a) (request o b)
+request-with : (png : Bool) (o : Operation) (a b : List ℕ) → place_after Content (opening (name_of o)) ≡ Content → place_after Content (format_lines png o) ≡ Content →
+    place_after Content (ending (name_of o)) ≡ Content → HaveSameTags Content Content (request png o a) (request png o b)
 unfolding request
-request-with o a b opens formats ends =
+request-with png o a b opens formats ends =
     joined Content Content Content _ _ _ _ (same Content Content (opening (name_of o)) opens)
     (joined Content Content Content _ _ _ _ (same Content Content (codes "\n") refl)
-    (joined Content Content Content _ _ _ _ (same Content Content (format_lines o) formats)
+    (joined Content Content Content _ _ _ _ (same Content Content (format_lines png o) formats)
     (joined Content Content Content _ _ _ _ (line-tags a b)
     (joined Content Content Content _ _ _ _ (same Content Content (ending (name_of o)) ends) (same Content Content (codes "\n") refl)))))
 
-request-tags : (o : Operation) (a b : List ℕ) → HaveSameTags Content Content (request o a) (request o b)
+request-tags : (png : Bool) (o : Operation) (a b : List ℕ) → HaveSameTags Content Content (request png o a) (request png o b)
 unfolding opening ending element enclosed name_of mime_text
-request-tags operation.Capabilities a b = request-with operation.Capabilities a b refl refl refl
-request-tags operation.Map a b = request-with operation.Map a b refl refl refl
-request-tags operation.Information a b = request-with operation.Information a b refl refl refl
+request-tags png operation.Capabilities a b = request-with png operation.Capabilities a b refl refl refl
+request-tags true operation.Map a b = request-with true operation.Map a b refl refl refl
+request-tags false operation.Map a b = request-with false operation.Map a b refl refl refl
+request-tags png operation.Information a b = request-with png operation.Information a b refl refl refl
 
 -- the three requests at two addresses
-requests-tags : (a b : List ℕ) → HaveSameTags Content Content (requests a) (requests b)
+requests-tags : (png : Bool) (a b : List ℕ) → HaveSameTags Content Content (requests png a) (requests png b)
 unfolding requests markup
-requests-tags a b =
+requests-tags png a b =
     joined Content Content Content _ _ _ _ (same Content Content (markup part.Requests) refl)
-    (joined Content Content Content _ _ _ _ (request-tags operation.Capabilities a b)
-    (joined Content Content Content _ _ _ _ (request-tags operation.Map a b)
-    (joined Content Content Content _ _ _ _ (request-tags operation.Information a b) (same Content Content (markup part.Exceptions) refl))))
+    (joined Content Content Content _ _ _ _ (request-tags png operation.Capabilities a b)
+    (joined Content Content Content _ _ _ _ (request-tags png operation.Map a b)
+    (joined Content Content Content _ _ _ _ (request-tags png operation.Information a b) (same Content Content (markup part.Exceptions) refl))))
 
 -- a number between tags, and in a value
 number-tags : (p : Place) (z : ℤ) → is_for_texts p ≡ true → HaveSameTags p p (written z) (written z)
@@ -185,19 +186,33 @@ boxes-tags area =
     joined Content Content Content _ _ _ _ (geographic-tags area)
     (joined Content Content Content _ _ _ _ (box-tags (codes "CRS:84") _ _ _ _ refl) (box-tags (codes "EPSG:4326") _ _ _ _ refl))
 
+-- whichever of two texts it is
+either-tags : (b : Bool) (xs ys other elsewhere : List ℕ) → HaveSameTags Content Content xs other → HaveSameTags Content Content ys elsewhere →
+    HaveSameTags Content Content (if b then xs else ys) (if b then other else elsewhere)
+either-tags true xs ys other elsewhere h k = h
+either-tags false xs ys other elsewhere h k = k
+
+-- the box in metres
+metre-tags : (area : Area) → HaveSameTags Content Content (metre_box area) (metre_box area)
+unfolding metre_box
+metre-tags area = box-tags (codes "EPSG:3857") _ _ _ _ refl
+
+-- the line of web mercator
+mercator-tags : (offered : Bool) → HaveSameTags Content Content (mercator_line offered) (mercator_line offered)
+unfolding markup
+mercator-tags true = same Content Content (markup part.Mercator) refl
+mercator-tags false = same Content Content [] refl
+
 -- the outermost layer, with its title or without
 outer-tags : (m : MapFields) → HaveSameTags Content Content (outer m) (outer (without_texts m))
 unfolding outer markup
 outer-tags m =
     joined Content Content Content _ _ _ _ (same Content Content (markup part.Layer) refl)
     (joined Content Content Content _ _ _ _ (title-tags m.title [])
-    (joined Content Content Content _ _ _ _ (same Content Content (markup part.Systems) refl) (boxes-tags m.extent)))
-
--- whichever of two texts it is
-either-tags : (b : Bool) (xs ys other elsewhere : List ℕ) → HaveSameTags Content Content xs other → HaveSameTags Content Content ys elsewhere →
-    HaveSameTags Content Content (if b then xs else ys) (if b then other else elsewhere)
-either-tags true xs ys other elsewhere h k = h
-either-tags false xs ys other elsewhere h k = k
+    (joined Content Content Content _ _ _ _ (same Content Content (markup part.Systems) refl)
+    (joined Content Content Content _ _ _ _ (mercator-tags m.mercator)
+    (joined Content Content Content _ _ _ _ (boxes-tags m.extent)
+    (either-tags (has_metres m.mercator m.extent) _ [] _ [] (metre-tags (square_part m.extent)) (same Content Content [] refl))))))
 
 -- a bound on the scale
 bound-tags : (name : List ℕ) (number : Option ℤ) → place_after Content (opening name) ≡ Content → place_after Content (ending name) ≡ Content →
@@ -236,6 +251,6 @@ unfolding document markup
 tags-law n m =
     (joined Content Content Content _ _ _ _ (preamble-tags n)
     (joined Content Content Content _ _ _ _ (service-tags m.title m.url [] [])
-    (joined Content Content Content _ _ _ _ (requests-tags m.url [])
+    (joined Content Content Content _ _ _ _ (requests-tags m.png m.url [])
     (joined Content Content Content _ _ _ _ (outer-tags m)
     (joined Content Content Content _ _ _ _ (layers-tags m.layers) (same Content Content (markup part.End) refl)))))).tags

@@ -21,7 +21,8 @@ pub fn names_are_read()
 {}
 
 /// The boxes of a document, each read in the system that it names as a query's BBOX is, are the extent of the map. So
-/// are the four sides of its geographic box.
+/// are the four sides of its geographic box. The box in metres, where there is one, is what the square world has of the
+/// extent, its sides rounded outwards.
 pub fn extent_is_read()
     ensures { ExtentIsRead }
 {}

@@ -22,7 +22,8 @@ use Rattle.geom.proofs.Together.{odd-add}
 use Rattle.clip.specs.EdgeClass.{at_least_zero, first_row, rows_of}
 use Rattle.clip.specs.declared.rows.RowRange.{RowRange}
 use Rattle.clip.proofs.Rowed.{first_row-at_most}
-use Rattle.viewport.specs.View.{ViewValue, device_point, sixteenths}
+use Rattle.viewport.specs.View.{ViewValue, device_point, height_of, sixteenths}
+use Rattle.viewport.proofs.Rising.{rising-law}
 use Rattle.scanfill.specs.RowFlips.{is_pixel_flipped, flips_by}
 use Rattle.compose.specs.declared.run.Run.{Run}
 use Rattle.compose.specs.Flipped.{Adds, AddsEdge, IsRun, StandFor, row_of}
@@ -71,8 +72,8 @@ pub row-between : (view : ViewValue) (low high latitude : ℤ) (row : ℕ) → v
     low ≤ℤ latitude → latitude ≤ℤ high → row_of view latitude ≡ row
 row-between view low high latitude row some e f least most =
     let whole = view.area.maxy -ℤ view.area.miny in
-    let up : row_of view high ≤ row_of view latitude = first_row-rising _ _ view.height (sixteenths-rising view.height (view.area.maxy -ℤ high) (view.area.maxy -ℤ latitude) whole (omega (arith, ints)) (omega (arith, ints))) in
-    let down : row_of view latitude ≤ row_of view low = first_row-rising _ _ view.height (sixteenths-rising view.height (view.area.maxy -ℤ latitude) (view.area.maxy -ℤ low) whole (omega (arith, ints)) (omega (arith, ints))) in
+    let up : row_of view high ≤ row_of view latitude = first_row-rising _ _ view.height (sixteenths-rising view.height (view.area.maxy -ℤ height_of view.heights high) (view.area.maxy -ℤ height_of view.heights latitude) whole (omega (arith, ints)) (omega (arith, ints, rising-law view.heights latitude high most))) in
+    let down : row_of view latitude ≤ row_of view low = first_row-rising _ _ view.height (sixteenths-rising view.height (view.area.maxy -ℤ height_of view.heights latitude) (view.area.maxy -ℤ height_of view.heights low) whole (omega (arith, ints)) (omega (arith, ints, rising-law view.heights low latitude least))) in
     omega (arith, e, f, up, down)
 
 -- nothing more is the same

@@ -14,7 +14,9 @@ use Rattle.geom.specs.Device.{PixelValue, pixel_of}
 use Rattle.geom.specs.Range.{IsBelow}
 use Rattle.geom.specs.World.{Area, IsCoordinate, Place}
 use Rattle.scanfill.proofs.Words.{product-below, word}
-use Rattle.viewport.specs.View.{ViewValue, device_point, sixteenths}
+use Rattle.viewport.specs.View.{ViewValue, device_point, height_of, sixteenths, steepest}
+use Rattle.viewport.specs.declared.heights.Heights.{Heights}
+use Rattle.viewport.proofs.Rising.{rising-law, slowly-law}
 use Rattle.compose.specs.Grain.{AreGrains, AreOfPixel, IsGrain}
 use Rattle.compose.specs.Stroked.{has_place}
 use Rattle.compose.proofs.Quieting.{LiesIn, lies-in}
@@ -100,9 +102,31 @@ pub around-has : (view : ViewValue) (across down : ℤ) (place : Place) (left to
 around-has view across down place left top are = in-box (grains_around across down place left top) place (record {
   west = omega (arith, ints, product_nonneg (pos left) across (omega (arith, ints)) are.columns.least);
   east = omega (arith, ints, product_nonneg (pos (15 - left)) across (omega (arith, ints)) are.columns.least);
-  south = omega (arith, ints, product_nonneg (pos (15 - top)) down (omega (arith, ints)) are.rows.least);
-  north = omega (arith, ints, product_nonneg (pos top) down (omega (arith, ints)) are.rows.least);
+  south = omega (arith, ints, product_nonneg (pos (15 - top)) down (omega (arith, ints)) are.down_least);
+  north = omega (arith, ints, product_nonneg (pos top) down (omega (arith, ints)) are.down_least);
 })
+
+-- what makes no more than a grain is one
+pub flat-grain : (pixels : ℕ) (whole grain other : ℤ) → IsGrain pixels whole grain → pos 0 ≤ℤ other → other ≤ℤ grain → IsGrain pixels whole other
+flat-grain pixels whole grain other is least most =
+    let more : pos 0 ≤ℤ (pos (16 * pixels) *ℤ (grain -ℤ other)) = product_nonneg (pos (16 * pixels)) (grain -ℤ other) (omega (arith, ints)) (omega (arith, ints, most)) in
+    record {
+      least = least;
+      most = record { above = omega (arith, ints, is.most, least); below = omega (arith, ints, is.most, most) };
+      fits = omega (arith, ints, is.fits, more, mul-sub (pos (16 * pixels)) grain other);
+    }
+
+-- so many grains further north the height is greater by no more than they make where heights rise the most
+times-above : (h : Heights) (a b : ℤ) (n : ℕ) (down : ℤ) → pos 0 ≤ℤ down → b ≤ℤ (a +ℤ pos n *ℤ down) →
+    height_of h b ≤ℤ (height_of h a +ℤ pos n *ℤ (pos (steepest h) *ℤ down))
+times-above h a b n down least most =
+    let step = pos n *ℤ down in
+    let some : pos 0 ≤ℤ step = product_nonneg (pos n) down (omega (arith, ints)) least in
+    let up = rising-law h b (a +ℤ step) most in
+    let slow = slowly-law h a (a +ℤ step) (omega (arith, ints, some)) in
+    let same : (a +ℤ step) -ℤ a ≡ step = omega (arith, ints) in
+    let most_up : (height_of h (a +ℤ step) -ℤ height_of h a) ≤ℤ (pos (steepest h) *ℤ step) = rw same at slow in
+    omega (arith, ints, up, most_up, mul-left_comm (pos (steepest h)) (pos n) down)
 
 pub around-pixel : (view : ViewValue) (across down : ℤ) (place : Place) (left top : ℕ) → AreGrains view across down → left ≤ 15 → top ≤ 15 →
     (device_point view place).x ≡ int_div_euclid (device_point view place).x (pos 16) *ℤ pos 16 +ℤ pos left →
@@ -113,8 +137,12 @@ around-pixel view across down place left top are narrow flat x y p has =
     let in_box = lies-in (grains_around across down place left top) p has in
     let column = same-pixel-of view.width (place.x -ℤ area.minx) (p.x -ℤ area.minx) (area.maxx -ℤ area.minx) across left (omega (arith, ints, are.area.columns)) are.columns narrow x
     (omega (arith, ints, in_box.west)) (omega (arith, ints, in_box.east)) in
-    let row = same-pixel-of view.height (area.maxy -ℤ place.y) (area.maxy -ℤ p.y) (area.maxy -ℤ area.miny) down top (omega (arith, ints, are.area.rows)) are.rows flat y
-    (omega (arith, ints, in_box.north)) (omega (arith, ints, in_box.south)) in
+    let h = view.heights in
+    let times = pos (steepest h) in
+    let above = times-above h place.y p.y top down are.down_least in_box.north in
+    let below = times-above h p.y place.y (15 - top) down are.down_least (omega (arith, ints, in_box.south)) in
+    let row = same-pixel-of view.height (area.maxy -ℤ height_of h place.y) (area.maxy -ℤ height_of h p.y) (area.maxy -ℤ area.miny) (times *ℤ down) top (omega (arith, ints, are.area.rows)) are.rows flat y
+    (omega (arith, ints, above)) (omega (arith, ints, below)) in
     let here = pixel_of (device_point view p) in
     let there = pixel_of (device_point view place) in
     ap (λ (i : ℤ). the-pixel i here.j) column ∙ ap (λ (j : ℤ). the-pixel there.i j) row

@@ -25,7 +25,7 @@ use Rattle.mapdefs.specs.declared.picture.PictureFields.{PictureFields}
 use Rattle.scene.specs.Scene.{SceneValue}
 use Rattle.viewport.specs.View.{ViewValue, window}
 use Rattle.compose.specs.Anchor.{shown_anchor}
-use Rattle.compose.specs.Drawn.{DrawingValue, IsDrawn, IsDrawnTo, IsMentioned}
+use Rattle.compose.specs.Drawn.{DrawingValue, IsDrawn, IsMentioned}
 use Rattle.compose.specs.Labels.{candidate_at, candidate_list, has_label, label_text, classified_candidates}
 use Rattle.compose.specs.Paint.{PaintedShape, chosen_shapes, colour_in, covers, paint_list}
 use Rattle.compose.specs.Painted.{IsPainted, colour_of}
@@ -34,6 +34,17 @@ use Rattle.compose.specs.Walk.{ClassifiedFeatureValue, given_at, classified_chos
 use Rattle.compose.proofs.Found.{found-label-all}
 use Rattle.compose.proofs.Painting.{colour_at-append, painted-append, painted-none}
 use Rattle.compose.proofs.Walking.{of-chosen, paint-list-of-classified}
+
+-- of the chosen layers, the done ones have been mentioned, and the rest has not: what is painted are those that are kept, with which the rest
+-- gives each pixel the colour that all chosen layers give it
+pub record IsDrawnTo (scene : SceneValue) (chosen rest : List ℕ) (old new : DrawingValue) : Type 0 where
+  pub done : List ℕ
+  pub kept : List ℕ
+  pub is : chosen ≡ done ++ rest
+  pub painted : IsPainted old.canvas new.canvas (paint_list scene.view scene.scale scene.map kept)
+  pub same : (background : Option Rgb) (i j : ℕ) →
+      colour_at background (paint_list scene.view scene.scale scene.map (kept ++ rest)) i j ≡ colour_at background (paint_list scene.view scene.scale scene.map chosen) i j
+  pub labelled : new.labels ≡ old.labels ++ candidate_list scene.view scene.scale scene.map done
 
 -- shapes give a pixel the same colour over any background, or leave it as it is
 abbrev Hides : List PaintedShape → ℕ → ℕ → Type 0

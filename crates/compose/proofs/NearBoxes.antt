@@ -9,8 +9,9 @@ use lib.Signed.{◌<ℤ◌, ◌≤ℤ◌}
 use Rattle.geom.proofs.Quotients.{quotient_parts}
 use Rattle.geom.specs.Side.{IsPictureSide}
 use Rattle.geom.specs.World.{Area, Place, HasPlace, IsExtent}
-use Rattle.viewport.specs.View.{ViewValue, device_point, shown_by, sixteenths, window}
+use Rattle.viewport.specs.View.{ViewValue, device_point, height_of, shown_by, sixteenths, window}
 use Rattle.viewport.proofs.Quotients.{sixteenths-law}
+use Rattle.viewport.proofs.Rising.{north-of-south, ordered-law, south-of-north}
 use Rattle.viewport.proofs.Windows.{not-after, not-before, shown-enough}
 use Rattle.mapdefs.specs.Near.{LiesInBoxOf}
 
@@ -35,6 +36,25 @@ not-short margin pixels part (pos span) some h least =
     let long : neg_ℤ (pos margin) ≤ℤ int_div_euclid n (pos 16) = omega (arith, ints, q.1, least) in
     not-before margin pixels (shown_by margin pixels span) span part n some (shown-enough margin pixels span some) law.at_most long
 not-short margin pixels part (negsuc span) some h least = absurd (omega (arith, ints))
+
+-- so a place whose device point is not beyond the bottom of the margin lies in the window or north of it, and the other way round
+pub at-window : (view : ViewValue) (margin : ℕ) (latitude : ℤ) → IsExtent view.area → 0 < view.height →
+    sixteenths view.height (view.area.maxy -ℤ height_of view.heights latitude) (view.area.maxy -ℤ view.area.miny) <ℤ pos (16 * (view.height + margin)) →
+    (window view margin).miny ≤ℤ latitude
+at-window view margin latitude extent some most =
+    let whole = view.area.maxy -ℤ view.area.miny in
+    let shown = shown_by margin view.height (unsigned_abs whole) in
+    let part = not-past margin view.height (view.area.maxy -ℤ height_of view.heights latitude) whole some (omega (arith, ints, extent.rows)) most in
+    north-of-south view.heights (view.area.miny -ℤ pos shown) latitude (omega (arith, ints, part))
+
+pub under-window : (view : ViewValue) (margin : ℕ) (latitude : ℤ) → IsExtent view.area → 0 < view.height →
+    neg_ℤ (pos (16 * margin)) ≤ℤ sixteenths view.height (view.area.maxy -ℤ height_of view.heights latitude) (view.area.maxy -ℤ view.area.miny) →
+    latitude ≤ℤ (window view margin).maxy
+under-window view margin latitude extent some least =
+    let whole = view.area.maxy -ℤ view.area.miny in
+    let shown = shown_by margin view.height (unsigned_abs whole) in
+    let part = not-short margin view.height (view.area.maxy -ℤ height_of view.heights latitude) whole some (omega (arith, ints, extent.rows)) least in
+    south-of-north view.heights (view.area.maxy +ℤ pos shown) latitude (omega (arith, ints, part))
 
 -- a number of a range that lies between two others, if they lie on both sides of it or in it
 pick : (least most a b : ℤ) → least ≤ℤ most → a ≤ℤ most → least ≤ℤ b → (z : ℤ) × (least ≤ℤ z) × (z ≤ℤ most) × (a ≤ℤ z) × ((z ≤ℤ a) ⊎ (z ≤ℤ b))
@@ -62,14 +82,14 @@ box-in view margin points extent width height round =
     let columns : 0 < view.width = omega (arith, width.some) in
     let rows : 0 < view.height = omega (arith, height.some) in
     let across : pos 0 <ℤ (area.maxx -ℤ area.minx) = omega (arith, ints, extent.columns) in
-    let down : pos 0 <ℤ (area.maxy -ℤ area.miny) = omega (arith, ints, extent.rows) in
     let east = not-past margin view.width (a.x -ℤ area.minx) (area.maxx -ℤ area.minx) columns across pa in
     let west = not-short margin view.width (b.x -ℤ area.minx) (area.maxx -ℤ area.minx) columns across pb in
-    let south = not-past margin view.height (area.maxy -ℤ c.y) (area.maxy -ℤ area.miny) rows down pc in
-    let north = not-short margin view.height (area.maxy -ℤ d.y) (area.maxy -ℤ area.miny) rows down pd in
+    let south = at-window view margin c.y extent rows pc in
+    let north = under-window view margin d.y extent rows pd in
+    let shown = shown_by margin view.height (unsigned_abs (area.maxy -ℤ area.miny)) in
     let w : Area = window view margin in
     let x = pick w.minx w.maxx a.x b.x (omega (arith, ints, extent.columns)) (omega (arith, ints, east)) (omega (arith, ints, west)) in
-    let y = pick w.miny w.maxy d.y c.y (omega (arith, ints, extent.rows)) (omega (arith, ints, north)) (omega (arith, ints, south)) in (
+    let y = pick w.miny w.maxy d.y c.y (ordered-law view.heights (area.miny -ℤ pos shown) (area.maxy +ℤ pos shown) (omega (arith, ints, extent.rows))) north south in (
       record { x = x.0; y = y.0 },
       record { west = x.1; east = x.2; south = y.1; north = y.2 },
       record {

@@ -1,15 +1,12 @@
 -- Painting the classified features and adding their candidates, in one walk; and then the labels (docs/DRAWING.md, "Labels").
-use Rattle.std.specs.Prelude.{◌≡◌, ℕ, List, ◌++◌, Option, ◌⊎◌}
+use Rattle.std.specs.Prelude.{◌≡◌, ℕ, List, ◌++◌, ◌⊎◌}
 use Rattle.std.specs.List.{Contains, flat_map}
 use Rattle.labelcache.specs.Candidate.{CandidateValue}
 use Rattle.labelcache.specs.declared.cache.Placed.{Placed}
-use Rattle.mapdefs.specs.declared.colour.Rgb.{Rgb}
 use Rattle.mapdefs.specs.declared.picture.PictureFields.{PictureFields}
 use Rattle.scene.specs.Scene.{SceneValue}
-use Rattle.compose.specs.Labels.{ArePlaced, candidate_list, ink_list, classified_candidates}
-use Rattle.compose.specs.Paint.{paint_list}
+use Rattle.compose.specs.Labels.{ArePlaced, ink_list, classified_candidates}
 use Rattle.compose.specs.Painted.{IsPainted}
-use Rattle.compose.specs.Picture.{colour_at}
 use Rattle.compose.specs.Walk.{ClassifiedFeatureValue, classified_chosen, classified_shapes}
 
 -- a picture while it is drawn, and the candidates for its labels so far
@@ -31,17 +28,6 @@ pub record IsLabelled (scene : SceneValue) (old new : DrawingValue) (classified 
 abbrev pub IsMentioned : SceneValue → ℕ → List ℕ → DrawingValue → DrawingValue → Type 0
 IsMentioned scene index after old new =
     (Contains after index × IsLabelled scene old new (classified_chosen scene.scale scene.map index)) ⊎ IsDrawn scene old new (classified_chosen scene.scale scene.map index)
-
--- of the chosen layers, the done ones have been mentioned, and the rest has not: what is painted are those that are kept, with which the rest
--- gives each pixel the colour that all chosen layers give it
-pub record IsDrawnTo (scene : SceneValue) (chosen rest : List ℕ) (old new : DrawingValue) : Type 0 where
-  pub done : List ℕ
-  pub kept : List ℕ
-  pub is : chosen ≡ done ++ rest
-  pub painted : IsPainted old.canvas new.canvas (paint_list scene.view scene.scale scene.map kept)
-  pub same : (background : Option Rgb) (i j : ℕ) →
-      colour_at background (paint_list scene.view scene.scale scene.map (kept ++ rest)) i j ≡ colour_at background (paint_list scene.view scene.scale scene.map chosen) i j
-  pub labelled : new.labels ≡ old.labels ++ candidate_list scene.view scene.scale scene.map done
 
 -- labels of candidates are placed on the scene's picture, and painted over it
 pub record HasLabels (scene : SceneValue) (candidates : List CandidateValue) (old new : PictureFields) : Type 0 where

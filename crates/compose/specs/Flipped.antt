@@ -7,34 +7,36 @@ use Rattle.geom.specs.Laws.{is_one_of}
 use Rattle.geom.specs.World.{Place}
 use Rattle.clip.specs.EdgeClass.{first_row}
 use Rattle.scanfill.specs.RowFlips.{is_pixel_flipped}
-use Rattle.viewport.specs.View.{ViewValue, device_point, sixteenths}
+use Rattle.viewport.specs.View.{ViewValue, device_point, height_of, sixteenths}
+use Rattle.viewport.specs.declared.heights.Heights.{Heights}
 use Rattle.compose.specs.declared.latitudes.Band.{Band}
 use Rattle.compose.specs.declared.run.Corner.{Corner}
 use Rattle.compose.specs.declared.run.Run.{Run}
 
--- the first of the rows of a picture from one latitude to another whose pixel centres lie at a latitude or below it, or their number
-abbrev pub row_in : ℤ → ℤ → ℕ → ℤ → ℕ
-row_in south north height latitude = first_row (sixteenths height (north -ℤ latitude) (north -ℤ south)) height
+-- the first of the rows of a picture from one height of the world to another whose pixel centres lie at a latitude or below it, or their number
+abbrev pub row_in : Heights → ℤ → ℤ → ℕ → ℤ → ℕ
+row_in heights south north height latitude = first_row (sixteenths height (north -ℤ height_of heights latitude) (north -ℤ south)) height
 
 -- the same of a view
 abbrev pub row_of : ViewValue → ℤ → ℕ
-row_of view latitude = row_in view.area.miny view.area.maxy view.height latitude
+row_of view latitude = row_in view.heights view.area.miny view.area.maxy view.height latitude
 
--- the bands of the rows of a picture from one latitude to another
+-- the bands of the rows of a picture from one height of the world to another
 pub record BandsValue : Type 0 where
+  pub heights : Heights
   pub south : ℤ
   pub north : ℤ
   pub height : ℕ
   pub bands : List Band
 
 -- where anything lies between the two latitudes of a band, they are of a row
-pub record IsBand (south north : ℤ) (height row : ℕ) (band : Band) : Type 0 where
-  pub low : band.south ≤ℤ band.north → row_in south north height band.south ≡ row
-  pub high : band.south ≤ℤ band.north → row_in south north height band.north ≡ row
+pub record IsBand (heights : Heights) (south north : ℤ) (height row : ℕ) (band : Band) : Type 0 where
+  pub low : band.south ≤ℤ band.north → row_in heights south north height band.south ≡ row
+  pub high : band.south ≤ℤ band.north → row_in heights south north height band.north ≡ row
 
 -- each band is of the row of its index
-abbrev pub AreBands : ℤ → ℤ → ℕ → List Band → Type 0
-AreBands south north height bands = (k : ℕ) (d : Band) → k < length bands → IsBand south north height k (slice_index_or bands k d)
+abbrev pub AreBands : Heights → ℤ → ℤ → ℕ → List Band → Type 0
+AreBands heights south north height bands = (k : ℕ) (d : Band) → k < length bands → IsBand heights south north height k (slice_index_or bands k d)
 
 -- both latitudes of a run are of its row, and its last vertex lies between them
 pub record IsRun (view : ViewValue) (run : Run) : Type 0 where

@@ -11,6 +11,7 @@ use scene::Scene;
 use std::alloc::{AllocError, Global};
 use std::marker::Model;
 use std::mem;
+use viewport::Projection;
 
 /// A picture while it is painted, with a table of the latitudes of its rows.
 #[derive(Drop)]
@@ -47,13 +48,12 @@ impl Canvas {
         let projection = scene.projection();
         let (width, height) = (projection.width(), projection.height());
         let count = usize::from(width.pixels()) * usize::from(height.pixels());
-        let latitudes = RowLatitudes::new(alloc, projection)?;
         let pixels = vec![in alloc; PixelColour::new(background); count]?;
         Ok(Canvas {
             width,
             height,
             pixels,
-            latitudes,
+            latitudes: RowLatitudes::new(alloc, projection),
             flips: RowFlips::new(alloc, width, height),
         })
     }
@@ -63,7 +63,18 @@ impl Canvas {
         *self.pixels.allocator()
     }
 
-    /// The table of the latitudes of the canvas's rows.
+    /// Makes the table of the latitudes of the canvas's rows for a projection, unless there is one. So it is made once a
+    /// picture, for the first polygon.
+    pub fn make_latitudes(&mut self, projection: &Projection) -> Result<(), AllocError>
+        ensures { self.new ≡ self.old }
+    {
+        if self.latitudes.is_empty() {
+            self.latitudes = RowLatitudes::of(self.alloc(), projection)?;
+        }
+        Ok(())
+    }
+
+    /// The table of the latitudes of the canvas's rows, which may have none yet.
     pub fn latitudes(&self) -> &RowLatitudes {
         &self.latitudes
     }

@@ -3,13 +3,13 @@ ghost use Rattle.std.specs.Int.{int_div_euclid};
 ghost use Rattle.geom.specs.Device.{pixel_of};
 ghost use Rattle.geom.specs.Range.{IsBelow};
 ghost use Rattle.geom.specs.World.{IsCoordinate};
-ghost use Rattle.viewport.specs.View.{device_point};
+ghost use Rattle.viewport.specs.View.{device_point, steepest};
 ghost use Rattle.compose.specs.Grain.{AreOfPixel, IsGrain};
 ghost use Rattle.compose.specs.Stroked.{has_place};
 
 use geom::{Device, Micro, PictureSide, World, WorldBox};
 use std::marker::Model;
-use viewport::Projection;
+use viewport::{Heights, Projection};
 
 /// A projection, and its grain: how many whole millionths of a degree a sixteenth of a pixel shows, across and down.
 #[derive(Drop)]
@@ -39,7 +39,11 @@ impl<'a> Grain<'a> {
         Grain {
             projection,
             across: grain_of(projection.width(), span(area.minx(), area.maxx())),
-            down: grain_of(projection.height(), span(area.miny(), area.maxy())),
+            down: flat_grain_of(
+                projection.height(),
+                span(area.miny(), area.maxy()),
+                projection.heights(),
+            ),
         }
     }
 
@@ -84,6 +88,31 @@ fn grain_of(side: PictureSide, whole: i64) -> i64
     ensures { IsGrain side whole result }
 {
     whole.div_euclid(16 * i64::from(side.pixels()))
+}
+
+// The whole millionths of a degree of latitude that a sixteenth of a pixel shows, even where heights rise the most.
+fn flat_grain_of(side: PictureSide, whole: i64, heights: Heights) -> i64
+    requires some { pos 0 <ℤ whole }
+    requires most { IsBelow (2 ^ 31) whole }
+    ensures fits { IsGrain side whole (pos (steepest heights) *ℤ result) }
+    ensures least { pos 0 ≤ℤ result }
+    ensures most { IsBelow (2 ^ 31) result }
+{
+    flattened(grain_of(side, whole), heights)
+}
+
+// The latitudes of a grain of heights, where heights rise the most.
+fn flattened(grain: i64, heights: Heights) -> i64
+    requires least { pos 0 ≤ℤ grain }
+    requires most { IsBelow (2 ^ 31) grain }
+    ensures fits { (pos (steepest heights) *ℤ result) ≤ℤ grain }
+    ensures least { pos 0 ≤ℤ result }
+    ensures most { IsBelow (2 ^ 31) result }
+{
+    match heights {
+        Heights::Latitudes => grain,
+        Heights::Mercator => grain / 12,
+    }
 }
 
 // How many sixteenths of a pixel a number lies past the pixel's side.

@@ -146,11 +146,6 @@ pub fn paint_labels(
         return Ok(());
     };
     let projection = scene.projection();
-    let placed = labels.place(
-        canvas.alloc(),
-        projection.width(),
-        projection.height(),
-        font,
-    )?;
+    let placed = labels.place(projection.width(), projection.height(), font)?;
     paint_placed(canvas, font, labels, &placed)
 }

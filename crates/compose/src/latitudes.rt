@@ -7,7 +7,7 @@ use clip::clamped;
 use geom::{Coordinate, GREATEST_COORDINATE, LEAST_COORDINATE, Micro, PictureSide};
 use std::alloc::{AllocError, Global};
 use std::marker::Model;
-use viewport::Projection;
+use viewport::{Heights, Projection};
 
 /// Two latitudes of a row of a picture: each latitude between them is of that row. If the southern one is the greater,
 /// the band is empty, and they needn't be of the row.
@@ -17,10 +17,11 @@ pub struct Band {
     pub north: Coordinate,
 }
 
-/// The bands of the rows of a picture, from the top, and last the band of what lies below them. Each is guessed, and
-/// tested when the table is made. The table keeps the latitudes and the height of its picture.
+/// The bands of the rows of a picture, from the top, and last the band of what lies below them; or none yet. Each is
+/// guessed, and tested when the table is made. The table keeps the latitudes and the height of its picture.
 #[derive(Drop)]
 pub struct RowLatitudes {
+    heights: Heights,
     south: Micro,
     north: Micro,
     height: PictureSide,
@@ -32,18 +33,31 @@ impl Model for RowLatitudes {
 
     ghost Value = { BandsValue };
 
-    ghost view = { λ r. record { south = r.south; north = r.north; height = r.height; bands = r.bands.items } };
+    ghost view = { λ r. record { heights = r.heights; south = r.south; north = r.north; height = r.height; bands = r.bands.items } };
 
-    ghost invariant = { λ r. AreBands r.south r.north r.height r.bands.items };
+    ghost invariant = { λ r. AreBands r.heights r.south r.north r.height r.bands.items };
 }
 
 impl RowLatitudes {
-    /// The bands of a picture. It divides once for each row, so they are made once a picture.
-    pub fn new(alloc: Global, projection: &Projection) -> Result<Self, AllocError> {
+    /// No bands yet of a projection's picture. It takes no memory.
+    pub fn new(alloc: Global, projection: &Projection) -> Self {
+        let area = projection.area();
+        RowLatitudes {
+            heights: projection.heights(),
+            south: area.miny(),
+            north: area.maxy(),
+            height: projection.height(),
+            bands: Vec::new(alloc),
+        }
+    }
+
+    /// The bands of a projection's picture. It divides once for each row.
+    pub fn of(alloc: Global, projection: &Projection) -> Result<Self, AllocError> {
         let height = projection.height();
         let bands = bands_of(alloc, projection)?;
         let area = projection.area();
         Ok(RowLatitudes {
+            heights: projection.heights(),
             south: area.miny(),
             north: area.maxy(),
             height,
@@ -51,14 +65,20 @@ impl RowLatitudes {
         })
     }
 
+    /// Whether it has no bands yet.
+    pub fn is_empty(&self) -> bool {
+        self.bands.is_empty()
+    }
+
     /// The bands, or none if the projection is of another picture.
     pub fn bands(&self, projection: &Projection) -> &[Band]
-        ensures { AreBands projection.now.area.miny projection.now.area.maxy projection.now.height result.now }
+        ensures { AreBands projection.now.heights projection.now.area.miny projection.now.area.maxy projection.now.height result.now }
     {
         let area = projection.area();
         if self.height.pixels() == projection.height().pixels()
             && self.south.millionths() == area.miny().millionths()
             && self.north.millionths() == area.maxy().millionths()
+            && self.heights == projection.heights()
         {
             return self.bands.as_slice();
         }
@@ -68,7 +88,7 @@ impl RowLatitudes {
 
 // The bands of a picture's rows.
 fn bands_of(alloc: Global, projection: &Projection) -> Result<Vec<Band>, AllocError>
-    ensures { IfOk result (λ bands. AreBands projection.now.area.miny projection.now.area.maxy projection.now.height bands.items) }
+    ensures { IfOk result (λ bands. AreBands projection.now.heights projection.now.area.miny projection.now.area.maxy projection.now.height bands.items) }
 {
     let rows = projection.height().pixels();
     let mut bands = Vec::with_capacity(alloc, usize::from(rows) + 1)?;
@@ -80,7 +100,7 @@ fn bands_of(alloc: Global, projection: &Projection) -> Result<Vec<Band>, AllocEr
 
 // The band of a row: the one that is guessed if both of its latitudes are of the row, else an empty one.
 fn band_of(projection: &Projection, row: u16) -> Band
-    ensures { IsBand projection.now.area.miny projection.now.area.maxy projection.now.height row result }
+    ensures { IsBand projection.now.heights projection.now.area.miny projection.now.area.maxy projection.now.height row result }
 {
     let south = about_south(projection, row);
     let north = about_north(projection, row);

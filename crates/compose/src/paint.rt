@@ -32,10 +32,11 @@ use viewport::View;
 /// The features that may be seen are those that `near` finds in the view and so many pixels round it as the
 /// layer's styles paint from a point at most. The picture and its labels are the same whatever else it finds.
 ///
-/// It takes memory for the picture, for what `near` finds of a layer, for the flips of a polygon's rows, which is kept
-/// until the picture is done, and for one feature at a time: for the edges of a polygon whose rows have too many flips,
-/// and for a row. For labels it takes memory for the candidates, which borrow their texts, for the labels, for the
-/// indices that tests query, and for the glyphs of one text at a time. `AllocError` comes only where this is refused.
+/// It takes memory for the picture, for what `near` finds of a layer, and for one feature at a time: for the edges of a
+/// polygon whose rows have too many flips, and for a row. From the first polygon on it takes memory for a table of the
+/// rows' latitudes and for the flips of a polygon's rows, which are kept until the picture is done. For labels it takes
+/// memory for the candidates, which borrow their texts; where there is a candidate, for the labels, for the indices that
+/// tests query, and for the glyphs of one text at a time. `AllocError` comes only where this is refused.
 pub fn draw<N: Near>(
     alloc: Global,
     scene: &Scene<'_>,

@@ -71,6 +71,9 @@ fn fill_by_flips(
     ensures ok { OnOk result (IsPainted canvas.old canvas.new (Fill (map (map (device_point scene.now.view)) rings.now) colour ∷ [])) }
     ensures err { OnErr result (canvas.new ≡ canvas.old) }
 {
+    if canvas.make_latitudes(scene.projection()).is_err() {
+        return Err(FlipFault::NoMemory);
+    }
     let mut flips = canvas.lend_flips();
     let rows = RowFinder::new(scene.projection(), canvas.latitudes());
     match add_rings(&mut flips, &rows, rings) {

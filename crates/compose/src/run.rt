@@ -54,7 +54,7 @@ impl<'a> Model for RowFinder<'a> {
 
     ghost view = { λ r. r.projection.now };
 
-    ghost invariant = { λ r. AreBands r.projection.now.area.miny r.projection.now.area.maxy r.projection.now.height r.bands.now };
+    ghost invariant = { λ r. AreBands r.projection.now.heights r.projection.now.area.miny r.projection.now.area.maxy r.projection.now.height r.bands.now };
 }
 
 impl<'a> RowFinder<'a> {

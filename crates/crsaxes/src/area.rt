@@ -7,6 +7,7 @@ ghost use Rattle.crsaxes.specs.declared.fault.AxisFault.TheVariants.{NotFour};
 
 use crate::crs::{Crs, crs_of};
 use crate::fault::AxisFault;
+use crate::metres::axis_of;
 use geom::{Coordinate, WorldBox};
 
 // The parts before and after the first comma; none without a comma.
@@ -53,7 +54,7 @@ fn box_of(
     ensures extent { IfOk result IsExtent }
 {
     let (minx, miny, maxx, maxy) = match crs {
-        Crs::Crs84 => (first, second, third, fourth),
+        Crs::Crs84 | Crs::Epsg3857 => (first, second, third, fourth),
         Crs::Epsg4326 => (second, first, fourth, third),
     };
     if minx < maxx && miny < maxy {
@@ -77,10 +78,10 @@ impl Crs {
             return Err(AxisFault::NotFour);
         };
         match (
-            Coordinate::read(first),
-            Coordinate::read(second),
-            Coordinate::read(third),
-            Coordinate::read(fourth),
+            axis_of(self, first),
+            axis_of(self, second),
+            axis_of(self, third),
+            axis_of(self, fourth),
         ) {
             (Some(first), Some(second), Some(third), Some(fourth)) => {
                 box_of(self, first, second, third, fourth)
@@ -92,11 +93,11 @@ impl Crs {
 
 /// The box that a text means in the system of a name (`Crs::bbox`). `UnknownCrs`, where no known system has
 /// the name, is the first of the faults.
-pub fn bbox(crs: &str, text: &str) -> Result<WorldBox, AxisFault>
-    ensures value { result ≡ bbox crs.now text.now }
+pub fn bbox(mercator: bool, crs: &str, text: &str) -> Result<WorldBox, AxisFault>
+    ensures value { result ≡ bbox mercator crs.now text.now }
     ensures extent { IfOk result IsExtent }
 {
-    match crs_of(crs) {
+    match crs_of(mercator, crs) {
         Some(crs) => crs.bbox(text),
         None => Err(AxisFault::UnknownCrs),
     }

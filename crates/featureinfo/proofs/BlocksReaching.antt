@@ -10,7 +10,8 @@ use Rattle.geom.proofs.Products.{is_not_le, not_le_of}
 use Rattle.geom.specs.World.{Area, HasPlace, IsExtent, Place}
 use Rattle.mapdefs.proofs.BlockBoxes.{block-has}
 use Rattle.mapdefs.specs.Blocks.{AreBlockBoxes}
-use Rattle.viewport.specs.View.{ViewValue, device_point}
+use Rattle.viewport.specs.View.{ViewValue, device_point, height_of}
+use Rattle.viewport.proofs.Rising.{rising-law}
 use Rattle.compose.proofs.Flipping.{sixteenths-rising}
 use Rattle.featureinfo.specs.Reach.{box_reaches, is_within, part_reaches}
 use Rattle.featureinfo.specs.declared.side.Side.{Side}
@@ -22,8 +23,8 @@ eastward view a b extent le = sixteenths-rising view.width (a.x -ℤ view.area.m
     (omega (arith, ints, extent.columns)) (omega (arith, ints, le))
 
 southward : (view : ViewValue) (a b : Place) → IsExtent view.area → b.y ≤ℤ a.y → (device_point view a).y ≤ℤ (device_point view b).y
-southward view a b extent le = sixteenths-rising view.height (view.area.maxy -ℤ a.y) (view.area.maxy -ℤ b.y) (view.area.maxy -ℤ view.area.miny)
-    (omega (arith, ints, extent.rows)) (omega (arith, ints, le))
+southward view a b extent le = sixteenths-rising view.height (view.area.maxy -ℤ height_of view.heights a.y) (view.area.maxy -ℤ height_of view.heights b.y) (view.area.maxy -ℤ view.area.miny)
+    (omega (arith, ints, extent.rows)) (omega (arith, ints, rising-law view.heights b.y a.y le))
 
 -- where a box lies beyond a side, each place in it does
 beyond : (view : ViewValue) (box : Area) (limit : ℤ) (side : Side) (place : Place) → IsExtent view.area → HasPlace box place → box_reaches view box limit side ≡ false →

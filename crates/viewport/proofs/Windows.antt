@@ -9,8 +9,9 @@ use Rattle.std.specs.Int.RustNames.{unsigned_abs}
 use borrow.Author.Differences.{up, down}
 use lib.IntN.{ℤ, pos, negsuc, neg_ℤ, ◌+ℤ◌, ◌-ℤ◌, ◌*ℤ◌}
 use lib.Signed.{◌<ℤ◌, ◌≤ℤ◌}
-use Rattle.viewport.specs.View.{shown_by, sixteenths, MarginsAreRoundedUp, WindowHasNearPlaces}
+use Rattle.viewport.specs.View.{height_of, shown_by, sixteenths, MarginsAreRoundedUp, WindowHasNearPlaces}
 use Rattle.geom.proofs.Quotients.{quotient_parts}
+use Rattle.viewport.proofs.Rising.{bounded-law}
 use Rattle.viewport.proofs.Quotients.{sixteenths-law}
 
 -- the millionths that so many pixels show are enough for them
@@ -84,10 +85,12 @@ pub window-law : WindowHasNearPlaces
 window-law view margin place extent width height near =
     let area = view.area in
     let x = near-part margin view.width (place.x -ℤ area.minx) (area.maxx -ℤ area.minx) (omega (arith, width.some)) (omega (arith, ints, extent.columns)) near.left near.right in
-    let y = near-part margin view.height (area.maxy -ℤ place.y) (area.maxy -ℤ area.miny) (omega (arith, height.some)) (omega (arith, ints, extent.rows)) near.top near.bottom in
+    let y = near-part margin view.height (area.maxy -ℤ height_of view.heights place.y) (area.maxy -ℤ area.miny) (omega (arith, height.some)) (omega (arith, ints, extent.rows)) near.top near.bottom in
+    let shown = shown_by margin view.height (unsigned_abs (area.maxy -ℤ area.miny)) in
+    let between = bounded-law view.heights (area.miny -ℤ pos shown) (area.maxy +ℤ pos shown) place.y (omega (arith, ints, y.1)) (omega (arith, ints, y.0)) in
     record {
       west = omega (arith, ints, x.0);
       east = omega (arith, ints, x.1);
-      south = omega (arith, ints, y.1);
-      north = omega (arith, ints, y.0);
+      south = between.0;
+      north = between.1;
     }

@@ -4,9 +4,28 @@ use Rattle.std.specs.Int.{div_ceil, int_div_euclid}
 use Rattle.geom.specs.Device.{DevicePoint, PixelValue, pixel_of}
 use Rattle.geom.specs.Side.{IsPictureSide}
 use Rattle.geom.specs.World.{Place, Area, HasPlace, IsExtent}
+use Rattle.mercator.specs.Bound.{northern_bound, southern_bound}
+use Rattle.mercator.specs.Ordinate.{ordinate}
+use Rattle.viewport.specs.declared.heights.Heights.{Heights}
+use Rattle.viewport.specs.declared.heights.Heights.TheVariants as heights
 
--- a view: the part of the world that is shown, and the sides of the picture in pixels
+-- how far north a latitude lies on the picture's scale: as it is, or as its ordinate in web mercator
+unfoldable pub height_of : Heights → ℤ → ℤ
+height_of heights.Latitudes latitude = latitude
+height_of heights.Mercator latitude = ordinate latitude
+
+-- a latitude south of all that lie so far north or further, and one north of all that lie no further
+unfoldable pub south_of : Heights → ℤ → ℤ
+south_of heights.Latitudes height = height
+south_of heights.Mercator height = southern_bound height
+
+unfoldable pub north_of : Heights → ℤ → ℤ
+north_of heights.Latitudes height = height
+north_of heights.Mercator height = northern_bound height
+
+-- a view: the scale of its heights, the part of the world that is shown, its sides longitudes and heights, and the sides of the picture in pixels
 pub record ViewValue : Type 0 where
+  pub heights : Heights
   pub area : Area
   pub width : ℕ
   pub height : ℕ
@@ -28,7 +47,7 @@ SixteenthsAreRoundedDown = (pixels : ℕ) (part whole : ℤ) → pos 0 <ℤ whol
 abbrev pub device_point : ViewValue → Place → DevicePoint
 device_point view p = record {
   x = sixteenths view.width (p.x -ℤ view.area.minx) (view.area.maxx -ℤ view.area.minx);
-  y = sixteenths view.height (view.area.maxy -ℤ p.y) (view.area.maxy -ℤ view.area.miny);
+  y = sixteenths view.height (view.area.maxy -ℤ height_of view.heights p.y) (view.area.maxy -ℤ view.area.miny);
 }
 
 -- how many millionths of a degree so many pixels show, where a side of that many shows a span: rounded up
@@ -51,9 +70,9 @@ window view margin =
     let down = shown_by margin view.height (unsigned_abs (view.area.maxy -ℤ view.area.miny)) in
     record {
       minx = view.area.minx -ℤ pos across;
-      miny = view.area.miny -ℤ pos down;
+      miny = south_of view.heights (view.area.miny -ℤ pos down);
       maxx = view.area.maxx +ℤ pos across;
-      maxy = view.area.maxy +ℤ pos down;
+      maxy = north_of view.heights (view.area.maxy +ℤ pos down);
     }
 
 -- the pixel lies in the picture, or at most so many columns left or right of it and so many rows above or below
@@ -67,3 +86,25 @@ pub record IsNear (view : ViewValue) (margin : ℕ) (pixel : PixelValue) : Type 
 abbrev pub WindowHasNearPlaces : Type 0
 WindowHasNearPlaces = (view : ViewValue) (margin : ℕ) (place : Place) → IsExtent view.area → IsPictureSide view.width → IsPictureSide view.height →
     IsNear view margin (pixel_of (device_point view place)) → HasPlace (window view margin) place
+
+-- the law: what lies further north has no less a height
+abbrev pub HeightsRise : Type 0
+HeightsRise = (h : Heights) (a b : ℤ) → a ≤ℤ b → height_of h a ≤ℤ height_of h b
+
+-- how much of height a millionth of a degree of latitude makes at most
+abbrev pub steepest : Heights → ℕ
+steepest heights.Latitudes = 1
+steepest heights.Mercator = 12
+
+-- the law that it is so
+abbrev pub HeightsRiseSlowly : Type 0
+HeightsRiseSlowly = (h : Heights) (a b : ℤ) → a ≤ℤ b → (height_of h b -ℤ height_of h a) ≤ℤ (pos (steepest h) *ℤ (b -ℤ a))
+
+-- the law: the bounds of two heights are in their order
+abbrev pub BoundsAreOrdered : Type 0
+BoundsAreOrdered = (h : Heights) (low high : ℤ) → low ≤ℤ high → south_of h low ≤ℤ north_of h high
+
+-- the law: what has a height between two others lies between their latitudes
+abbrev pub HeightsAreBounded : Type 0
+HeightsAreBounded = (h : Heights) (low high latitude : ℤ) → low ≤ℤ height_of h latitude → height_of h latitude ≤ℤ high →
+    (south_of h low ≤ℤ latitude) × (latitude ≤ℤ north_of h high)

@@ -1,7 +1,7 @@
 //! Laws of the definitions. A law is a function without arguments whose contract states it.
 
 ghost use Rattle.viewport.specs.Axis.{ProductsAreQuotients};
-ghost use Rattle.viewport.specs.View.{MarginsAreRoundedUp, SixteenthsAreRoundedDown, WindowHasNearPlaces};
+ghost use Rattle.viewport.specs.View.{HeightsAreBounded, HeightsRise, HeightsRiseSlowly, MarginsAreRoundedUp, SixteenthsAreRoundedDown, WindowHasNearPlaces};
 
 /// Sixteenths are rounded down: they are the greatest number that isn't more than the part's share.
 pub fn sixteenths()
@@ -22,4 +22,19 @@ pub fn window()
 /// A quotient by a whole is a product with one factor, cut by a limit.
 pub fn products()
     ensures { ProductsAreQuotients }
+{}
+
+/// What lies further north has no less a height.
+pub fn rising()
+    ensures { HeightsRise }
+{}
+
+/// A millionth of a degree of latitude makes at most twelve of height.
+pub fn slowly()
+    ensures { HeightsRiseSlowly }
+{}
+
+/// What has a height between two others lies between the latitudes that they have.
+pub fn bounded()
+    ensures { HeightsAreBounded }
 {}

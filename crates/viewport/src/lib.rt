@@ -13,9 +13,11 @@
 #![tactic(auto)]
 
 mod axis;
+mod heights;
 pub mod laws;
 mod projection;
 mod view;
 
+pub use heights::Heights;
 pub use projection::Projection;
 pub use view::{MAX_MARGIN, View};

@@ -4,10 +4,11 @@ ghost use Rattle.geom.specs.Range.{IsBelow};
 ghost use Rattle.geom.specs.World.{IsCoordinate, IsExtent};
 
 use crate::axis::Axis;
-use crate::view::{View, difference, span};
+use crate::heights::Heights;
+use crate::view::{View, below, difference, span};
 use geom::{
-    COORDINATE_LIMIT, Coordinate, Device, LEAST_COORDINATE, Micro, PictureSide, Pixel, World,
-    WorldBox,
+    COORDINATE_LIMIT, Coordinate, Device, GREATEST_COORDINATE, LEAST_COORDINATE, Micro,
+    PictureSide, Pixel, World, WorldBox,
 };
 use std::marker::Model;
 
@@ -32,7 +33,7 @@ impl Model for Projection {
 
 impl Projection {
     ghost use Rattle.geom.specs.Side.{IsPictureSide};
-    ghost use Rattle.viewport.specs.View.{device_point, sixteenths, window};
+    ghost use Rattle.viewport.specs.View.{device_point, height_of, sixteenths, window};
     ghost use Rattle.viewport.specs.declared.view.TheConstants.{MAX_MARGIN};
 
     /// The projection of a view. The call divides for the two axes, so callers make it once for a picture.
@@ -114,12 +115,12 @@ impl Projection {
 
     /// How far a latitude is from the top, in sixteenths of a pixel.
     pub fn down(&self, latitude: Coordinate) -> i64
-        ensures value { result ≡ sixteenths self.now.height (self.now.area.maxy -ℤ latitude) (self.now.area.maxy -ℤ self.now.area.miny) }
+        ensures value { result ≡ sixteenths self.now.height (self.now.area.maxy -ℤ height_of self.now.heights latitude) (self.now.area.maxy -ℤ self.now.area.miny) }
         ensures range { IsBelow (2 ^ 47) result }
     {
         let area = self.view.area();
         self.down
-            .sixteenths(difference(area.maxy(), latitude.get()))
+            .sixteenths(below(area.maxy(), self.view.heights().of(latitude)))
     }
 
     /// About the southernmost latitude that still lies at the pixel centres of a row, counted from the top, or above
@@ -129,18 +130,36 @@ impl Projection {
         let whole = span(area.miny(), area.maxy());
         let sixteenths = 16 * u64::from(row) + 9;
         let below = (sixteenths * whole - 1) / (16 * u64::from(self.view.height().pixels()));
-        southward(area.maxy(), below)
+        southward(self.view.heights(), area.maxy(), below)
+    }
+
+    /// What the view measures from south to north.
+    pub fn heights(&self) -> Heights
+        ensures { result ≡ self.now.heights }
+    {
+        self.view.heights()
     }
 }
 
-// So many millionths of a degree south of a latitude, or the southernmost one.
-fn southward(latitude: Micro, below: u64) -> Coordinate
-    requires { IsCoordinate latitude }
+// About the latitude so many millionths of a degree below a height, or the southernmost one.
+fn southward(heights: Heights, top: Micro, below: u64) -> Coordinate
+    requires { IsCoordinate top }
 {
     if below < 2 * COORDINATE_LIMIT {
-        let number = latitude.millionths() - below as i64;
-        Coordinate::new(Micro::new(number.max(LEAST_COORDINATE)))
+        let number = guess(heights, top.millionths() - below as i64);
+        Coordinate::new(Micro::new(number.clamp(LEAST_COORDINATE, GREATEST_COORDINATE)))
     } else {
         Coordinate::new(Micro::new(LEAST_COORDINATE))
+    }
+}
+
+// About the southernmost latitude that lies so far north.
+fn guess(heights: Heights, height: i64) -> i64
+    requires { IsBelow (2 ^ 46) height }
+    ensures { IsBelow (2 ^ 48) result }
+{
+    match heights {
+        Heights::Latitudes => height,
+        Heights::Mercator => heights.south(height) + 1,
     }
 }

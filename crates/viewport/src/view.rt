@@ -1,10 +1,11 @@
 ghost use Rattle.std.specs.Prelude.{◌≡◌, ◌≤◌, ◌<◌, ◌^◌, pos, ◌+ℤ◌, ◌-ℤ◌, ◌<ℤ◌, unsigned_abs};
 ghost use Rattle.geom.specs.Device.{pixel_of};
-ghost use Rattle.geom.specs.Range.{IsBelow};
+ghost use Rattle.geom.specs.Range.{IsBelow, IsWithin};
 ghost use Rattle.geom.specs.World.{IsCoordinate, IsExtent};
-ghost use Rattle.viewport.specs.View.{shown_by, sixteenths};
+ghost use Rattle.viewport.specs.View.{height_of, north_of, shown_by, sixteenths, south_of};
 ghost use Rattle.viewport.specs.declared.view.TheConstants.{MAX_MARGIN};
 
+use crate::heights::Heights;
 use geom::{Coordinate, Device, Micro, PictureSide, Pixel, World, WorldBox};
 use std::marker::Model;
 
@@ -15,6 +16,7 @@ pub const MAX_MARGIN: u16 = 4_096;
 /// is an extent of the world.
 #[derive(Clone, Copy)]
 pub struct View {
+    heights: Heights,
     area: WorldBox,
     width: PictureSide,
     height: PictureSide,
@@ -26,26 +28,34 @@ impl Model for View {
 
     ghost Value = { ViewValue };
 
-    ghost view = { λ v. record { area = v.area; width = v.width; height = v.height } };
+    ghost view = { λ v. record { heights = v.heights; area = v.area; width = v.width; height = v.height } };
 
     ghost invariant = { λ v. IsExtent v.area };
 
-    ghost inverse = { λ v. record { area = v.area; width = v.width; height = v.height } };
+    ghost inverse = { λ v. record { heights = v.heights; area = v.area; width = v.width; height = v.height } };
 }
 
 impl View {
     ghost use Rattle.viewport.specs.View.{device_point, window};
 
     /// The view of an area, an extent of the world, by a picture of that many columns and rows.
-    pub fn new(area: WorldBox, width: PictureSide, height: PictureSide) -> Self
+    pub fn new(heights: Heights, area: WorldBox, width: PictureSide, height: PictureSide) -> Self
         requires { IsExtent area }
-        ensures { result ≡ record { area = area; width = width; height = height } }
+        ensures { result ≡ record { heights = heights; area = area; width = width; height = height } }
     {
         View {
+            heights,
             area,
             width,
             height,
         }
+    }
+
+    // What it measures from south to north.
+    pub(crate) fn heights(self) -> Heights
+        ensures { result ≡ self.heights }
+    {
+        self.heights
     }
 
     // The part of the world that it shows.
@@ -92,6 +102,7 @@ impl View {
         ensures { result ≡ window self margin }
     {
         let View {
+            heights,
             area,
             width,
             height,
@@ -100,9 +111,9 @@ impl View {
         let down = shown_by(margin, height, span(area.miny(), area.maxy()));
         WorldBox::new(
             less(area.minx(), across),
-            less(area.miny(), down),
+            south_side(heights, area.miny(), down),
             more(area.maxx(), across),
-            more(area.maxy(), down),
+            north_side(heights, area.maxy(), down),
         )
     }
 
@@ -119,11 +130,16 @@ impl View {
 
     // How far a latitude is from the top, in sixteenths of a pixel.
     fn down(self, latitude: Coordinate) -> i64
-        ensures value { result ≡ sixteenths self.height (self.area.maxy -ℤ latitude) (self.area.maxy -ℤ self.area.miny) }
+        ensures value { result ≡ sixteenths self.height (self.area.maxy -ℤ height_of self.heights latitude) (self.area.maxy -ℤ self.area.miny) }
         ensures range { IsBelow (2 ^ 47) result }
     {
-        let View { area, height, .. } = self;
-        let part = difference(area.maxy(), latitude.get());
+        let View {
+            heights,
+            area,
+            height,
+            ..
+        } = self;
+        let part = below(area.maxy(), heights.of(latitude));
         let whole = difference(area.maxy(), area.miny());
         sixteenths(height, part, whole)
     }
@@ -137,6 +153,16 @@ pub(crate) fn difference(a: Micro, b: Micro) -> i64
     ensures range { IsBelow (2 ^ 31) result }
 {
     a.millionths() - b.millionths()
+}
+
+// How far a height is below the top, in millionths of a degree.
+pub(crate) fn below(top: Micro, height: i64) -> i64
+    requires top { IsCoordinate top }
+    requires height { IsWithin 1100000000 height }
+    ensures value { result ≡ top -ℤ height }
+    ensures range { IsBelow (2 ^ 31) result }
+{
+    top.millionths() - height
 }
 
 // How far a part is of the whole, in sixteenths of a pixel, rounded down.
@@ -175,7 +201,8 @@ fn shown_by(margin: u16, side: PictureSide, span: u64) -> u64
 fn less(a: Micro, by: u64) -> Micro
     requires a { IsCoordinate a }
     requires by { by < 2 ^ 44 }
-    ensures { result ≡ a -ℤ pos by }
+    ensures value { result ≡ a -ℤ pos by }
+    ensures range { IsBelow (2 ^ 46) result }
 {
     Micro::new(a.millionths() - by as i64)
 }
@@ -184,7 +211,26 @@ fn less(a: Micro, by: u64) -> Micro
 fn more(a: Micro, by: u64) -> Micro
     requires a { IsCoordinate a }
     requires by { by < 2 ^ 44 }
-    ensures { result ≡ a +ℤ pos by }
+    ensures value { result ≡ a +ℤ pos by }
+    ensures range { IsBelow (2 ^ 46) result }
 {
     Micro::new(a.millionths() + by as i64)
+}
+
+// A latitude south of all that lie no more than so far below a height.
+fn south_side(heights: Heights, low: Micro, by: u64) -> Micro
+    requires low { IsCoordinate low }
+    requires by { by < 2 ^ 44 }
+    ensures { result ≡ south_of heights (low -ℤ pos by) }
+{
+    Micro::new(heights.south(less(low, by).millionths()))
+}
+
+// A latitude north of all that lie no more than so far above a height.
+fn north_side(heights: Heights, high: Micro, by: u64) -> Micro
+    requires high { IsCoordinate high }
+    requires by { by < 2 ^ 44 }
+    ensures { result ≡ north_of heights (high +ℤ pos by) }
+{
+    Micro::new(heights.north(more(high, by).millionths()))
 }

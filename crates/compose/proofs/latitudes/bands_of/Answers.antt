@@ -2,14 +2,15 @@ use Rattle.std.proofs.Common.{◌≡◌, ◌∙◌, ℕ, ◌+◌, ◌-◌, ◌<�
 use Rattle.std.proofs.lemmas.Bool.{cases_lt}
 use Rattle.std.proofs.lemmas.List.{get_or-append_right, get_or_append_left, length-append}
 use lib.IntN.{ℤ}
+use Rattle.viewport.specs.declared.heights.Heights.{Heights}
 use Rattle.compose.specs.Flipped.{AreBands, IsBand}
 use Rattle.compose.specs.declared.latitudes.Band.{Band}
 use Rattle.compose.proofs.latitudes.bands_of.Goals as goal
 
 -- the band of one more row
-bands-more : (south north : ℤ) (height row : ℕ) (bands : List Band) (band : Band) → length bands ≡ row → AreBands south north height bands → IsBand south north height row band →
-    AreBands south north height (bands ++ band ∷ [])
-bands-more south north height row bands band count are is = λ k d h. ⊎_elim
+bands-more : (heights : Heights) (south north : ℤ) (height row : ℕ) (bands : List Band) (band : Band) → length bands ≡ row → AreBands heights south north height bands → IsBand heights south north height row band →
+    AreBands heights south north height (bands ++ band ∷ [])
+bands-more heights south north height row bands band count are is = λ k d h. ⊎_elim
     (λ (lt : k < length bands). rw (get_or_append_left bands (band ∷ []) d k lt) (are k d lt))
     (λ (ge : length bands ≤ k).
     let same : k ≡ row = omega (arith, h, ge, count, length-append bands (band ∷ [])) in
@@ -25,5 +26,5 @@ loop-row-preserved c =
     let band = c.band_of.result in
     rw c.in_ok-push.ensures.items (record {
       count = length-append l.bands.items (band ∷ []) ∙ ap (λ n. n + 1) l.invariant.count;
-      each = bands-more view.area.miny view.area.maxy view.height l.row l.bands.items band l.invariant.count l.invariant.each c.band_of.ensures;
+      each = bands-more view.heights view.area.miny view.area.maxy view.height l.row l.bands.items band l.invariant.count l.invariant.each c.band_of.ensures;
     })

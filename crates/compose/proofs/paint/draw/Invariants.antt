@@ -1,5 +1,5 @@
 use Rattle.std.proofs.Common.{All, length, ◌<◌}
-use Rattle.compose.specs.Drawn.{IsDrawnTo}
+use Rattle.compose.proofs.Mentions.{IsDrawnTo}
 use Rattle.compose.proofs.paint.draw.Given as goal
 
 -- the layers before the rest have been mentioned

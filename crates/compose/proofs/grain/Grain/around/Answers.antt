@@ -8,6 +8,9 @@ use Rattle.compose.specs.Grain.{AreGrains}
 use Rattle.compose.proofs.Graining.{around-has, around-pixel, coordinate-below, coordinate-held, grains_around}
 use Rattle.compose.proofs.grain.Grain.around.Goals as goal
 
+pub less-requires-clause-number : goal.less-requires-clause-number
+less-requires-clause-number c = coordinate-held c.millionths-x.result c.get.result c.millionths-x.ensures c.get.ensures.limits
+
 pub less-requires-2-clause-number : goal.less-requires-2-clause-number
 less-requires-2-clause-number c = coordinate-held c.millionths-y.result c.get-2.result c.millionths-y.ensures c.get-2.ensures.limits
 
@@ -31,7 +34,7 @@ returns-clause-has c =
     let words-x = word (2 ^ 31) c.millionths-x.result (omega arith) east in
     let words-y = word (2 ^ 31) c.millionths-y.result (omega arith) north in
     let words-across = word (2 ^ 31) across (omega arith) are.columns.most in
-    let words-down = word (2 ^ 31) down (omega arith) are.rows.most in
+    let words-down = word (2 ^ 31) down (omega arith) are.down_most in
     let minx : c.less.result ≡ c.args.place.x -ℤ pos left *ℤ across = rw (words-x, words-across, x) at c.less.ensures.value in
     let miny : c.less-2.result ≡ c.args.place.y -ℤ pos (15 - top) *ℤ down = rw (words-y, words-down, y) at c.less-2.ensures.value in
     let maxx : c.more.result ≡ c.args.place.x +ℤ pos (15 - left) *ℤ across = rw (words-x, words-across, x) at c.more.ensures.value in
@@ -63,7 +66,7 @@ returns-clause-pixel c =
     let words-x = word (2 ^ 31) c.millionths-x.result (omega arith) east in
     let words-y = word (2 ^ 31) c.millionths-y.result (omega arith) north in
     let words-across = word (2 ^ 31) across (omega arith) are.columns.most in
-    let words-down = word (2 ^ 31) down (omega arith) are.rows.most in
+    let words-down = word (2 ^ 31) down (omega arith) are.down_most in
     let minx : c.less.result ≡ c.args.place.x -ℤ pos left *ℤ across = rw (words-x, words-across, x) at c.less.ensures.value in
     let miny : c.less-2.result ≡ c.args.place.y -ℤ pos (15 - top) *ℤ down = rw (words-y, words-down, y) at c.less-2.ensures.value in
     let maxx : c.more.result ≡ c.args.place.x +ℤ pos (15 - left) *ℤ across = rw (words-x, words-across, x) at c.more.ensures.value in

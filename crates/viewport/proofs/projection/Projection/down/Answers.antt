@@ -3,6 +3,7 @@ use Rattle.std.proofs.lemmas.Int.{ints}
 use Rattle.std.specs.Int.{int_div_euclid}
 use Rattle.geom.specs.Range.{IsBelow}
 use Rattle.geom.specs.World.{Area}
+use Rattle.viewport.specs.View.{height_of}
 use Rattle.viewport.proofs.Products.{axis-sixteenths}
 use Rattle.geom.proofs.Integers.{word-below}
 use Rattle.viewport.proofs.projection.Projection.down.Goals as goal
@@ -10,8 +11,10 @@ use Rattle.viewport.proofs.projection.Projection.down.Goals as goal
 pub returns-clause-value : goal.returns-clause-value
 returns-clause-value c =
     let v = c.self.inside.view in
-    let size : IsBelow (2 ^ 47) c.difference.result = record { above = omega (arith, ints, c.difference.ensures.range.above); below = omega (arith, ints, c.difference.ensures.range.below) } in
-    let part : c.difference.result ≡ v.area.maxy -ℤ c.args.latitude = rw (c.difference.ensures.value, c.get.ensures.value, c.maxy.ensures) (ap (λ (a : Area). a.maxy -ℤ c.args.latitude) c.area-area.ensures.value) in
+    let size : IsBelow (2 ^ 47) c.below.result = record { above = omega (arith, ints, c.below.ensures.range.above); below = omega (arith, ints, c.below.ensures.range.below) } in
+    let height : IsBelow (2 ^ 47) c.of.result = record { above = omega (arith, ints, c.of.ensures.range.least); below = omega (arith, ints, c.of.ensures.range.most) } in
+    let part : c.below.result ≡ v.area.maxy -ℤ height_of v.heights c.args.latitude =
+    rw (c.below.ensures.value, word-below c.of.result height, c.of.ensures.value, c.heights.ensures, c.maxy.ensures) (ap (λ (a : Area). a.maxy -ℤ height_of v.heights c.args.latitude) c.area-area.ensures.value) in
     rw (word-below c.sixteenths.result c.sixteenths.ensures.range, ← c.self.view_is)
-    (axis-sixteenths v.height (v.area.maxy -ℤ c.args.latitude) v.area.miny v.area.maxy c.sixteenths.result c.self.inside.down c.self.invariant.down c.self.invariant.area.rows
-    (c.sixteenths.ensures.value ∙ ap (λ z. int_div_euclid (pos c.self.inside.down.times *ℤ z) (pos c.self.inside.down.whole)) (word-below c.difference.result size ∙ part)))
+    (axis-sixteenths v.height (v.area.maxy -ℤ height_of v.heights c.args.latitude) v.area.miny v.area.maxy c.sixteenths.result c.self.inside.down c.self.invariant.down c.self.invariant.area.rows
+    (c.sixteenths.ensures.value ∙ ap (λ z. int_div_euclid (pos c.self.inside.down.times *ℤ z) (pos c.self.inside.down.whole)) (word-below c.below.result size ∙ part)))
