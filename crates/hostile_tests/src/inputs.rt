@@ -153,6 +153,20 @@ pub const QUERY_ROWS: &str = "\
 0 8 0 0 0 0 0 0 0 0 0; 0=drawn
 0 0 0 0 0 0 0 8 0 0 0; 0=lines";
 
+/// A worked source of the reader of the png.
+pub const PNG: &[u8] = b"\
+REQUEST=GetMap&VERSION=1.3.0&LAYERS=a&STYLES=&CRS=CRS:84&BBOX=0,0,4,4&WIDTH=4&HEIGHT=4&FORMAT=image/png&TRANSPARENT=TRUE";
+
+/// What comes of all that is made of it.
+pub const PNG_ROWS: &str = "\
+15 75 13 5 0 0 5 8 0 0 0; 0=prefixes
+12 59 22 7 2 1 7 10 0 0 0; 0=0
+12 59 22 7 2 1 7 10 0 0 0; 0=34
+12 59 22 7 2 1 7 10 0 0 0; 0=123
+12 59 22 7 2 1 7 10 0 0 0; 0=255
+0 8 0 0 0 0 0 0 0 0 0; 0=drawn
+0 0 8 0 0 0 0 0 0 0 0; 0=lines";
+
 /// A worked source of the reader of the script.
 pub const SCRIPT: &[u8] = b"\
 QUERY REQUEST=x\n\

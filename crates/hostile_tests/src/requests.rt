@@ -1,4 +1,6 @@
-use crate::inputs::{BATCH, BATCH_ROWS, HEAD, HEAD_ROWS, QUERY, QUERY_ROWS, SCRIPT, SCRIPT_ROWS};
+use crate::inputs::{
+    BATCH, BATCH_ROWS, HEAD, HEAD_ROWS, PNG, PNG_ROWS, QUERY, QUERY_ROWS, SCRIPT, SCRIPT_ROWS,
+};
 use crate::made::tally_of;
 use crate::maps::{some_machine, some_map};
 use crate::tally::Tally;
@@ -106,6 +108,13 @@ fn heads_are_asked_or_refused(rt: HostRuntime) -> Result<(), TableFault> {
 fn queries_have_their_codes(rt: HostRuntime) -> Result<(), TableFault> {
     check_rows(rt.alloc(), QUERY_ROWS, '=', 7, |alloc, way| {
         tally_of(alloc, QUERY, way, add_query)
+    })
+}
+
+#[test]
+fn queries_for_a_png_have_their_codes(rt: HostRuntime) -> Result<(), TableFault> {
+    check_rows(rt.alloc(), PNG_ROWS, '=', 7, |alloc, way| {
+        tally_of(alloc, PNG, way, add_query)
     })
 }
 

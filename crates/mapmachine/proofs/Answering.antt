@@ -5,7 +5,7 @@ use Rattle.wmsquery.specs.Meaning.{IsMeaning}
 use Rattle.wmsquery.specs.declared.fault.WmsFault.{WmsFault}
 use Rattle.wmsquery.specs.declared.request.Request.{Request}
 use Rattle.mapmachine.specs.Machine.{Answers, IsAnswer}
-use Rattle.mapmachine.specs.declared.reply.Answer.{Answer}
+use Rattle.answers.specs.declared.answer.Answer.{Answer}
 
 -- an answer to the meaning is one to the query
 pub answered : {E : Type 0} (state : State) (query : List ℕ) (meaning : Result Request WmsFault) (answer : Result Answer E) →

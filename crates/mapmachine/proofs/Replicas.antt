@@ -1,5 +1,5 @@
 -- Machines that published equal lists of batches are in one state, and a state has one answer to a query.
-use Rattle.std.proofs.Common.{◌≡◌, ◌∙◌, ℕ, Bool, true, false, if◌then◌else◌, List, [], ◌∷◌, length, Option, None, Some, Result, Ok, Err, option_and_then, slice_get, refl, sym, ap}
+use Rattle.std.proofs.Common.{◌≡◌, ◌∙◌, ℕ, Bool, true, false, if◌then◌else◌, List, [], ◌∷◌, length, Option, None, Some, Result, Ok, Err, option_and_then, slice_get, refl, sym, ap, subst}
 use Rattle.std.specs.List.{AllZip}
 use Rattle.batches.specs.Batch.{State, accepted}
 use Rattle.compose.specs.Picture.{HasOnePicture}
@@ -7,6 +7,7 @@ use Rattle.featureinfo.specs.Hits.{AreHits, HasOneHitList}
 use Rattle.featureinfo.specs.declared.layer_hits.LayerHits.{LayerHits}
 use Rattle.mapdefs.specs.declared.layer.LayerFields.{LayerFields}
 use Rattle.mapdefs.specs.declared.map.MapFields.{MapFields}
+use Rattle.mapdefs.specs.declared.picture.PictureFields.{PictureFields}
 use Rattle.operations.specs.declared.mime.Mime.TheVariants as mime
 use Rattle.wmsquery.specs.Meaning.{IsMeaning, MeaningIsOne}
 use Rattle.wmsquery.specs.Pairs.{given, names_of, pairs_of, texts_of}
@@ -16,13 +17,15 @@ use Rattle.wmsquery.specs.declared.fault.Code.{Code}
 use Rattle.wmsquery.specs.declared.fault.Code.TheVariants as code
 use Rattle.wmsquery.specs.declared.fault.Parameter.TheVariants as parameter
 use Rattle.wmsquery.specs.declared.fault.WmsFault.{WmsFault}
+use Rattle.wmsquery.specs.declared.request.Format.{Format}
+use Rattle.wmsquery.specs.declared.request.Format.TheVariants as format
 use Rattle.wmsquery.specs.declared.request.InformationRequest.{InformationRequest}
 use Rattle.wmsquery.specs.declared.request.Request.{Request}
 use Rattle.wmsquery.specs.declared.request.Request.TheVariants as request
 use Rattle.featureinfo.specs.Answer as featureinfo
-use Rattle.mapmachine.specs.Machine.{Answers, AreAskedHits, IsAnswer, Runs, scene_of, view_of, scale_of, written_picture}
-use Rattle.mapmachine.specs.Replicas.{ReplicasAnswerAlike, published_batches}
-use Rattle.mapmachine.specs.declared.reply.Answer.{Answer}
+use Rattle.mapmachine.specs.Machine.{Answers, AreAskedHits, IsAnswer, Runs, scene_of, view_of, scale_of, IsWrittenPicture}
+use Rattle.mapmachine.specs.Replicas.{AreAlike, equal_answers, equal_pictures, ReplicasAnswerAlike, published_batches}
+use Rattle.answers.specs.declared.answer.Answer.{Answer}
 use Rattle.mapmachine.specs.declared.reply.Event.{Event}
 use Rattle.mapmachine.specs.declared.reply.Event.TheVariants.{Query, Batch}
 use Rattle.mapmachine.specs.declared.reply.Reply.{Reply}
@@ -132,19 +135,30 @@ one-found one-hit-list map r (index ∷ indices) (a ∷ found) (b ∷ others) ((
     let first : a ≡ b = same-hits a b (f.0 ∙ sym g.0) (one-hit-list (scene_of map r.map) layer r.column r.row r.count a.features b.features mine theirs) in
     rw (first, one-found one-hit-list map r indices found others layers fs gs) refl
 
--- there is one answer to what a query means
+-- equal answers are alike
+equal-alike : (a b : Answer) → a ≡ b → AreAlike a b
+equal-alike a b e = rw (← e) (equal_answers a)
+
+-- two answers with one picture in a format are alike
+pictures-alike : (f : Format) (picture : PictureFields) (a b : Answer) → IsWrittenPicture f picture a → IsWrittenPicture f picture b → AreAlike a b
+pictures-alike format.Png picture a b is are = equal_pictures picture a b is are
+pictures-alike format.Pixmap picture a b is are = equal-alike a b (is ∙ sym are)
+pictures-alike format.ArbitraryMap picture a b is are = equal-alike a b (is ∙ sym are)
+
+-- two answers to what a query means are alike
 one-to : HasOnePicture → HasOneHitList → (state : State) (query : List ℕ) (meaning : Result Request WmsFault) (a b : Answer) → IsMeaning state.map state.sequence query meaning →
-    Answers state meaning a → Answers state meaning b → a ≡ b
-one-to picture hits state query (Err fault) a b meant e f = e ∙ sym f
-one-to picture hits state query (Ok request.Capabilities) a b meant e f = e ∙ sym f
+    Answers state meaning a → Answers state meaning b → AreAlike a b
+one-to picture hits state query (Err fault) a b meant e f = equal-alike a b (e ∙ sym f)
+one-to picture hits state query (Ok request.Capabilities) a b meant e f = equal-alike a b (e ∙ sym f)
 one-to picture hits state query (Ok (request.Map r)) a b meant (p, is, e) (q, are, f) =
-    e ∙ ap (written_picture r.format) (picture state.map (view_of r) (scale_of (view_of r)) r.chosen r.background p q is are) ∙ sym f
+    let one : q ≡ p = sym (picture state.map (view_of r) (scale_of (view_of r)) r.chosen r.background p q is are) in
+    pictures-alike r.format p a b e (subst (λ (shown : PictureFields). IsWrittenPicture r.format shown b) one f)
 one-to picture hits state query (Ok (request.Information r)) a b meant (found, mine, e) (others, theirs, f) =
     let layers : HasLayers state.map r.layers = queried-layers state.map (layer_names (texts_of (pairs_of query))) (names_of (given (texts_of (pairs_of query)) parameter.QueryLayers)) r.layers meant.1.1.layers in
-    e ∙ ap (λ (h : List LayerHits). record { mime = mime.Plain; body = featureinfo.answer state.map h }) (one-found hits state.map r r.layers found others layers mine theirs) ∙ sym f
+    equal-alike a b (e ∙ ap (λ (h : List LayerHits). record { mime = mime.Plain; body = featureinfo.answer state.map h }) (one-found hits state.map r r.layers found others layers mine theirs) ∙ sym f)
 
--- there is one answer to a query in a state
-one-answer : MeaningIsOne → HasOnePicture → HasOneHitList → (state : State) (query : List ℕ) (a b : Answer) → IsAnswer state query a → IsAnswer state query b → a ≡ b
+-- two answers to a query in a state are alike
+one-answer : MeaningIsOne → HasOnePicture → HasOneHitList → (state : State) (query : List ℕ) (a b : Answer) → IsAnswer state query a → IsAnswer state query b → AreAlike a b
 one-answer one picture hits state query a b (meaning, meant, is) (other, said, are) =
     let same : other ≡ meaning = one state.map state.sequence query other meaning said meant in
     one-to picture hits state query meaning a b meant is (rw same at are)

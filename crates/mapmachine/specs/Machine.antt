@@ -1,5 +1,5 @@
 -- The map machine: its answer to a query, its state after a batch, and its runs (docs/SERVICE.md, "The machine").
-use Rattle.std.specs.Prelude.{◌≡◌, ℕ, ◌+◌, ◌-ℤ◌, unsigned_abs, List, [], ◌∷◌, Result, Ok, Err}
+use Rattle.std.specs.Prelude.{◌≡◌, ℕ, ◌+◌, ◌-ℤ◌, unsigned_abs, List, [], ◌∷◌, Some, Result, Ok, Err}
 use Rattle.std.specs.List.{AllZip}
 use Rattle.geom.specs.Scale.{PictureScale}
 use Rattle.mapdefs.specs.declared.map.MapFields.{MapFields}
@@ -7,6 +7,10 @@ use Rattle.mapdefs.specs.declared.picture.PictureFields.{PictureFields}
 use Rattle.operations.specs.declared.mime.Mime.TheVariants as mime
 use Rattle.scene.specs.Scene.{SceneValue}
 use Rattle.viewport.specs.View.{ViewValue}
+use Rattle.viewport.specs.declared.heights.Heights.{Heights}
+use Rattle.viewport.specs.declared.heights.Heights.TheVariants as heights
+use Rattle.crsaxes.specs.declared.crs.Crs.{Crs}
+use Rattle.crsaxes.specs.declared.crs.Crs.TheVariants as crs
 use Rattle.wmsquery.specs.Meaning.{IsMeaning}
 use Rattle.wmsquery.specs.Report.{report}
 use Rattle.wmsquery.specs.declared.fault.WmsFault.{WmsFault}
@@ -18,36 +22,44 @@ use Rattle.wmsquery.specs.declared.request.Request.{Request}
 use Rattle.wmsquery.specs.declared.request.Request.TheVariants as request
 use Rattle.batches.specs.Batch.{State, batched}
 use Rattle.capabilities.specs.Document.{document}
+use Rattle.png.specs.Decode.{decoded}
 use Rattle.symbols.specs.Netpbm.{pam, ppm}
 use Rattle.compose.specs.Picture.{IsPictureOf}
 use Rattle.featureinfo.specs.Answer as featureinfo
 use Rattle.featureinfo.specs.Hits.{AreHitsOf}
 use Rattle.featureinfo.specs.declared.layer_hits.LayerHits.{LayerHits}
-use Rattle.mapmachine.specs.declared.reply.Answer.{Answer}
+use Rattle.answers.specs.declared.answer.Answer.{Answer}
 use Rattle.mapmachine.specs.declared.reply.Event.{Event}
 use Rattle.mapmachine.specs.declared.reply.Event.TheVariants.{Query, Batch}
 use Rattle.mapmachine.specs.declared.reply.Reply.{Reply}
 use Rattle.mapmachine.specs.declared.reply.Reply.TheVariants.{Answered, Published, Refused, NoMemory}
 
+-- what a picture in a system measures from south to north
+abbrev pub heights_of : Crs → Heights
+heights_of crs.Crs84 = heights.Latitudes
+heights_of crs.Epsg4326 = heights.Latitudes
+heights_of crs.Epsg3857 = heights.Mercator
+
 -- the view of a request: its area, by a picture of its sides
 abbrev pub view_of : MapRequest → ViewValue
-view_of request = record { area = request.area; width = request.width; height = request.height }
+view_of request = record { heights = heights_of request.crs; area = request.area; width = request.width; height = request.height }
 
 -- the scale of a view: how much of the world, from west to east, its columns of pixels show
 abbrev pub scale_of : ViewValue → PictureScale
 scale_of view = record { span = unsigned_abs (view.area.maxx -ℤ view.area.minx); width = view.width }
 
--- a picture in a format
-abbrev pub written_picture : Format → PictureFields → Answer
-written_picture format.Pixmap picture = record { mime = mime.Pixmap; body = ppm picture }
-written_picture format.ArbitraryMap picture = record { mime = mime.ArbitraryMap; body = pam picture }
+-- an answer is a picture in a format: as a pixmap these bytes, as PNG any that are read as the picture
+abbrev pub IsWrittenPicture : Format → PictureFields → Answer → Type 0
+IsWrittenPicture format.Png picture answer = (answer.mime ≡ mime.Png) × (decoded answer.body ≡ Some picture)
+IsWrittenPicture format.Pixmap picture answer = answer ≡ record { mime = mime.Pixmap; body = ppm picture }
+IsWrittenPicture format.ArbitraryMap picture answer = answer ≡ record { mime = mime.ArbitraryMap; body = pam picture }
 
 -- the answer to a request for a picture: the requested picture of the map, in its format
 abbrev pub IsMapAnswer : MapFields → MapRequest → Answer → Type 0
 IsMapAnswer map request answer =
     (picture : PictureFields)
     × IsPictureOf map (view_of request) (scale_of (view_of request)) request.chosen request.background picture
-    × (answer ≡ written_picture request.format picture)
+    × IsWrittenPicture request.format picture answer
 
 -- the scene of a request for a picture: its map, its view and its scale
 abbrev pub scene_of : MapFields → MapRequest → SceneValue

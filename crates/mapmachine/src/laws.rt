@@ -14,7 +14,7 @@ pub fn published_counts()
 
 /// Two machines that began alike and published equal lists of batches have one state, whatever
 /// queries and refused batches came to each besides. Where both answer a query, they answer it with
-/// the same bytes. So servers that follow one log stand for one server.
+/// the same bytes, or in PNG with the same picture. So servers that follow one log stand for one server.
 pub fn replicas_answer_alike()
     ensures { ReplicasAnswerAlike }
 {

@@ -1,23 +1,26 @@
 ghost use Rattle.std.specs.Prelude.{◌≡◌, ◌<◌, ◌-ℤ◌, unsigned_abs, length, All, Ok, Err, IfOk, IfSome, IfErr, OnErr};
 ghost use Rattle.std.specs.List.{AllZip, Contains};
 ghost use Rattle.geom.specs.World.{IsExtent};
-ghost use Rattle.mapmachine.specs.Machine.{written_picture};
+ghost use Rattle.mapmachine.specs.Machine.{heights_of, IsWrittenPicture};
 
-use crate::reply::{Answer, Event, Reply};
+use crate::reply::{Event, Reply};
+use answers::Answer;
 use batches::{BatchError, BatchFault, BatchKind, MAX_BATCH, apply_batch};
 use capabilities::document;
 use compose::draw;
+use crsaxes::Crs;
 use featureinfo::{LayerHits, PixelQuery, hits_in, text};
 use geom::{PictureSide, WorldBox};
 use layers::Layers;
 use mapdefs::{Items, Map, Picture, Shared};
 use operations::Mime;
+use png::write_png;
 use scaledenom::Scale;
 use scene::Scene;
 use std::alloc::{AllocError, Global};
 use std::marker::Model;
 use symbols::{write_pam, write_ppm};
-use viewport::View;
+use viewport::{Heights, View};
 use wmsquery::{
     Format, InformationRequest, MapRequest, QueryError, Request, WmsFault, read as read_query,
     report,
@@ -54,9 +57,13 @@ fn scale_of(area: WorldBox, width: PictureSide) -> Scale
 
 // A picture in a format.
 fn written_picture(alloc: Global, format: Format, picture: &Picture) -> Result<Answer, AllocError>
-    ensures { IfOk result (λ answer. answer ≡ written_picture format picture.now) }
+    ensures { IfOk result (IsWrittenPicture format picture.now) }
 {
     match format {
+        Format::Png => Ok(Answer {
+            mime: Mime::Png,
+            body: write_png(alloc, picture)?,
+        }),
         Format::Pixmap => Ok(Answer {
             mime: Mime::Pixmap,
             body: write_ppm(alloc, picture)?,
@@ -142,7 +149,12 @@ impl Machine {
     {
         Scene::new(
             self.layers.map(),
-            View::new(request.area, request.width, request.height),
+            View::new(
+                heights_of(request.crs),
+                request.area,
+                request.width,
+                request.height,
+            ),
             scale_of(request.area, request.width),
         )
     }
@@ -310,5 +322,15 @@ impl Machine {
             replies.push_reserved(self.step(event));
         }
         Ok(Items::of(replies))
+    }
+}
+
+// What a picture in a system measures from south to north.
+fn heights_of(crs: Crs) -> Heights
+    ensures { result ≡ heights_of crs }
+{
+    match crs {
+        Crs::Crs84 | Crs::Epsg4326 => Heights::Latitudes,
+        Crs::Epsg3857 => Heights::Mercator,
     }
 }

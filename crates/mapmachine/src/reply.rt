@@ -1,6 +1,5 @@
+use answers::Answer;
 use batches::{BatchFault, Bytes};
-use mapdefs::Items;
-use operations::Mime;
 
 /// What comes to the machine.
 #[derive(Drop)]
@@ -9,15 +8,6 @@ pub enum Event<'a> {
     Query(Bytes<'a>),
     /// A batch of commands that change the map, as its bytes came.
     Batch(Bytes<'a>),
-}
-
-/// The answer to a query.
-#[derive(Drop)]
-pub struct Answer {
-    /// The type of the body.
-    pub mime: Mime,
-    /// The bytes of the body.
-    pub body: Items<u8>,
 }
 
 /// The machine's reply to an event.

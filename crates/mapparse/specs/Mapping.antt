@@ -22,7 +22,7 @@ use Rattle.mapwords.specs.Fault.{and_then}
 use Rattle.mapwords.specs.declared.table.TextKeyword.{TextKeyword}
 use Rattle.mapwords.specs.declared.table.TextKeyword.TheVariants.{Name, ClassItem, LabelItem, Template, WmsTitle, OwsTitle, WmsOnlineResource, OwsOnlineResource}
 use Rattle.mapwords.specs.declared.table.CountKeyword.TheVariants.{Width, Size, Tolerance, Priority, Buffer, MinDistance}
-use Rattle.mapwords.specs.declared.table.FlagKeyword.TheVariants.{Partials, Force}
+use Rattle.mapwords.specs.declared.table.FlagKeyword.TheVariants.{Partials, Force, Png, Mercator}
 use Rattle.mapwords.specs.declared.table.ScaleKeyword.TheVariants.{Min, Max}
 use Rattle.mapwords.specs.declared.table.ColourKeyword.{ColourKeyword}
 use Rattle.mapwords.specs.declared.table.ColourKeyword.TheVariants.{Color, OutlineColor}
@@ -152,13 +152,15 @@ whole_world = record {
   maxy = pos 90000000;
 }
 
--- a map has the title and the address of its service, its extent, without which it shows the whole world, its font, its
--- symbols and its layers
+-- a map has the title and the address of its service, its extent, without which it shows the whole world, what it offers
+-- beside what each map does, its font, its symbols and its layers
 abbrev pub map_with : List Symbol → List (Option TableFields) → Option FontFields → MapTree → MapFields
 map_with symbols tables font tree = record {
   title = unwrap_or (service_title tree.values) (codes "WMS");
   url = unwrap_or (either_text WmsOnlineResource OwsOnlineResource tree.values) (codes "http://localhost/wms?");
   extent = unwrap_or (last extent_in tree.values) whole_world;
+  png = unwrap_or (last (flag_in Png) tree.values) false;
+  mercator = unwrap_or (last (flag_in Mercator) tree.values) false;
   font = font;
   symbols = symbols;
   layers = map (layer_of symbols) (zip tree.layers tables);

@@ -1,10 +1,12 @@
 -- The files that a mapfile uses, and which of their faults is reported (docs/MAPFILE.md, "Files").
-use Rattle.std.specs.Prelude.{ℕ, Bool, false, ◌&&◌, ◌||◌, if◌then◌else◌, List, [], ◌∷◌, ◌++◌, map, take, drop, Option, None, Some}
+use Rattle.std.specs.Prelude.{◌≡◌, ℕ, Bool, true, false, not, ◌&&◌, ◌||◌, ◌==◌, if◌then◌else◌, IfSome, slice_get, List, [], ◌∷◌, ◌++◌, map, take, drop, Option, None, Some}
 use Rattle.std.specs.List.{list_any}
 use Rattle.std.specs.Result.{is_err}
 use Rattle.mapdefs.specs.Name.{is_same_name}
 use Rattle.mapwords.specs.declared.fault.Fault.{Fault}
 use Rattle.mapwords.specs.declared.fault.ParseKind.TheVariants.{MissingFile, BadFile}
+use Rattle.mapwords.specs.declared.keyword.Keyword.{Keyword}
+use Rattle.mapwords.specs.declared.keyword.Keyword.TheVariants.{Config, Data, Image}
 use Rattle.maptree.specs.declared.tree.LayerTree.{LayerTree}
 use Rattle.maptree.specs.declared.tree.MapTree.{MapTree}
 use Rattle.mapwords.specs.declared.named.Named.{Named}
@@ -13,6 +15,9 @@ use Rattle.maptree.specs.Symbol.{first_fault}
 use Rattle.maptree.specs.Values.{last, text_in}
 use Rattle.mapwords.specs.declared.table.TextKeyword.TheVariants.{LabelFont}
 use Rattle.symbols.specs.Format.{pixmap_of}
+use Rattle.mapparse.specs.declared.fault.FileCause.{FileCause}
+use Rattle.mapparse.specs.declared.fault.FileCause.TheVariants.{Missing, NoFont, NoPixmap, NoTable}
+use Rattle.mapparse.specs.declared.fault.FileFault.{FileFault}
 use Rattle.mapparse.specs.declared.files.FileBytes.{FileBytes}
 use Rattle.mapparse.specs.Files.{bytes_in}
 use Rattle.mapparse.specs.Fonts.{font_of}
@@ -70,6 +75,44 @@ lacks_font name bytes (Some file) = is_same_name file.text name && is_err (font_
 abbrev pub is_bad : MapTree → List ℕ → List ℕ → Bool
 is_bad tree name bytes =
     list_any (lacks_pixmap name bytes) tree.symbols || list_any (lacks_table name bytes) tree.layers || lacks_font name bytes (font_file tree)
+
+-- the use that the bytes don't fit, by the reader that refuses them: of a symbol's image, else of a layer's table, else of the font
+abbrev pub refuses : MapTree → List ℕ → List ℕ → FileCause → Bool
+refuses tree name bytes Missing = false
+refuses tree name bytes (NoPixmap fault) = list_any (lacks_pixmap name bytes) tree.symbols
+refuses tree name bytes (NoTable fault) = not (list_any (lacks_pixmap name bytes) tree.symbols) && list_any (lacks_table name bytes) tree.layers
+refuses tree name bytes (NoFont fault) =
+    not (list_any (lacks_pixmap name bytes) tree.symbols) && (not (list_any (lacks_table name bytes) tree.layers) && lacks_font name bytes (font_file tree))
+
+-- two names of files are one, on one line
+abbrev pub is_same_use : Named → Named → Bool
+is_same_use a b = a.line == b.line && is_same_name a.text b.text
+
+-- the font is used there
+abbrev pub is_font_use : Named → Option Named → Bool
+is_font_use there None = false
+is_font_use there (Some font) = is_same_use font there
+
+-- the keyword that names a file there
+abbrev pub keyword_of : MapTree → Named → Keyword
+keyword_of tree there =
+    if list_any (λ (symbol : SymbolTree). is_same_use symbol.image there) tree.symbols then Image
+    else (if is_font_use there (font_file tree) then Config else Data)
+
+-- the keyword of the use that a cause is about: of a missing file that of its first use
+abbrev pub keyword_by : MapTree → Named → FileCause → Keyword
+keyword_by tree first Missing = keyword_of tree first
+keyword_by tree first (NoPixmap fault) = Image
+keyword_by tree first (NoTable fault) = Data
+keyword_by tree first (NoFont fault) = Config
+
+-- what a fault says of the file: which of the used ones it is, the line of its first use, the keyword of the use that it doesn't fit, and why
+pub record IsOfUse (files : List FileBytes) (tree : MapTree) (fault : FileFault) : Type 0 where
+  pub first : Named
+  pub is : slice_get (first_uses tree) fault.number ≡ Some first
+  pub line : fault.line ≡ first.line
+  pub keyword : fault.keyword ≡ keyword_by tree first fault.cause
+  pub refused : IfSome (bytes_in first.text files) (λ bytes. refuses tree first.text bytes fault.cause ≡ true)
 
 -- the fault of a file that is first used there, by its bytes
 abbrev pub fault_by : MapTree → Named → Option (List ℕ) → Option Fault

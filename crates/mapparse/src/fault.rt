@@ -36,9 +36,11 @@ impl FileCause {
 /// The fault of a file, with its cause.
 #[derive(Clone, Copy)]
 pub struct FileFault {
+    /// Which of the files it is that the mapfile uses, in the order of their first use, counted from 0.
+    pub number: usize,
     /// The line of the file's first use, counted from 1.
     pub line: u64,
-    /// The keyword that names the file there: IMAGE, DATA or CONFIG.
+    /// The keyword of the use that the file doesn't fit: IMAGE, DATA or CONFIG. A missing file has that of its first use.
     pub keyword: Keyword,
     /// Why it isn't what it is used as.
     pub cause: FileCause,

@@ -34,8 +34,8 @@ impl Mapfile {
     ghost use Rattle.maptree.specs.Source.{tree_of};
     ghost use Rattle.mapparse.specs.Mapping.{map_of};
     ghost use Rattle.mapparse.specs.Fault.{fault_in};
-    ghost use Rattle.mapparse.specs.Uses.{files_fault, uses_of};
-    ghost use Rattle.std.specs.Prelude.{option_map};
+    ghost use Rattle.mapparse.specs.Uses.{IsOfUse, files_fault, uses_of};
+    ghost use Rattle.std.specs.Prelude.{IfSome, option_map};
 
     /// Reads a mapfile in one pass, or reports its first fault with its line.
     ///
@@ -60,7 +60,8 @@ impl Mapfile {
     /// The fault of the first used of the files that have one, with its cause. It is `None` where no file
     /// has one.
     pub fn files_fault(&self, alloc: Global, files: &Files) -> Result<Option<FileFault>, AllocError>
-        ensures { IfOk result (λ found. option_map fault_in found ≡ files_fault files.now self.now) }
+        ensures fault { IfOk result (λ found. option_map fault_in found ≡ files_fault files.now self.now) }
+        ensures said { IfOk result (λ found. IfSome found (IsOfUse files.now self.now)) }
     {
         files_fault(&self.tree, files, alloc)
     }

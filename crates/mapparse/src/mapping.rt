@@ -268,6 +268,8 @@ fn map_with(tree: MapTree, parts: FileParts, alloc: Global) -> Result<Map, Alloc
         title,
         url,
         extent: area_of(values.extent()),
+        png: values.flag(FlagKeyword::Png).unwrap_or(false),
+        mercator: values.flag(FlagKeyword::Mercator).unwrap_or(false),
         font,
         symbols,
         layers,

@@ -1,15 +1,16 @@
-ghost use Rattle.std.specs.Prelude.{◌≡◌, [], Some, take, drop, is_some, option_map, IfOk, IfSome, OnOk};
+ghost use Rattle.std.specs.Prelude.{◌≡◌, [], true, Some, take, drop, is_some, option_map, IfOk, IfSome, OnOk};
 ghost use Rattle.std.specs.List.{list_any};
 ghost use Rattle.mapwords.specs.declared.fault.ParseKind.TheVariants.{BadFile};
 ghost use Rattle.mapparse.specs.Fault.{kind_of, fault_in};
-ghost use Rattle.mapparse.specs.Uses.{is_among, with_use, uses_after, with_font, font_file, first_uses, uses_of, is_named, lacks_pixmap, lacks_table, lacks_font, is_bad, file_fault, files_fault};
+ghost use Rattle.mapparse.specs.Uses.{is_among, with_use, uses_after, with_font, font_file, first_uses, uses_of, is_named, lacks_pixmap, lacks_table, lacks_font, is_bad, refuses, is_same_use, keyword_of, keyword_by, file_fault, files_fault, IsOfUse};
+ghost use Rattle.mapparse.specs.Files.{bytes_in};
 
 use crate::fault::{FileCause, FileFault};
 use crate::files::Files;
 use crate::font::font_of;
 use crate::table::table_for;
-use bdffont::FontError;
-use csvpoints::CsvError;
+use bdffont::{FontError, FontFault};
+use csvpoints::{CsvError, CsvFault};
 use mapdefs::{Duplicate, Items, Text};
 use maptree::{LayerTree, MapTree, Named, SymbolTree};
 use mapwords::{Keyword, TextKeyword};
@@ -119,16 +120,15 @@ fn pixmap_fault(
     bytes: &[u8],
     symbols: &[SymbolTree],
     alloc: Global,
-) -> Result<Option<FileCause>, AllocError>
-    ensures found { IfOk result (λ found. is_some found ≡ list_any (lacks_pixmap name.now bytes.now) symbols.now) }
-    ensures kind { IfOk result (λ found. IfSome found (λ cause. kind_of cause ≡ BadFile)) }
+) -> Result<Option<PixFault>, AllocError>
+    ensures { IfOk result (λ found. is_some found ≡ list_any (lacks_pixmap name.now bytes.now) symbols.now) }
 {
     for symbol in symbols {
         if symbol.image.text.as_str() == name {
             match read(alloc, bytes) {
                 Ok(_) => {}
                 Err(PixFault::NoMemory) => return Err(AllocError),
-                Err(fault) => return Ok(Some(FileCause::NoPixmap(fault))),
+                Err(fault) => return Ok(Some(fault)),
             }
         }
     }
@@ -151,16 +151,15 @@ fn table_fault(
     bytes: &[u8],
     layers: &[LayerTree],
     alloc: Global,
-) -> Result<Option<FileCause>, AllocError>
-    ensures found { IfOk result (λ found. is_some found ≡ list_any (lacks_table name.now bytes.now) layers.now) }
-    ensures kind { IfOk result (λ found. IfSome found (λ cause. kind_of cause ≡ BadFile)) }
+) -> Result<Option<CsvFault>, AllocError>
+    ensures { IfOk result (λ found. is_some found ≡ list_any (lacks_table name.now bytes.now) layers.now) }
 {
     for layer in layers {
         if is_named(name, &layer.table) {
             match table_for(layer, bytes, alloc) {
                 Ok(_) => {}
                 Err(CsvError::NoMemory) => return Err(AllocError),
-                Err(CsvError::Fault(fault)) => return Ok(Some(FileCause::NoTable(fault))),
+                Err(CsvError::Fault(fault)) => return Ok(Some(fault)),
             }
         }
     }
@@ -173,15 +172,14 @@ fn font_fault(
     bytes: &[u8],
     font: Option<&Named>,
     alloc: Global,
-) -> Result<Option<FileCause>, AllocError>
-    ensures found { IfOk result (λ found. is_some found ≡ lacks_font name.now bytes.now (option_map (λ x. x.now) font.entry)) }
-    ensures kind { IfOk result (λ found. IfSome found (λ cause. kind_of cause ≡ BadFile)) }
+) -> Result<Option<FontFault>, AllocError>
+    ensures { IfOk result (λ found. is_some found ≡ lacks_font name.now bytes.now (option_map (λ x. x.now) font.entry)) }
 {
     match font {
         Some(file) if file.text.as_str() == name => match font_of(bytes, alloc) {
             Ok(_) => Ok(None),
             Err(FontError::NoMemory) => Err(AllocError),
-            Err(FontError::Fault(fault)) => Ok(Some(FileCause::NoFont(fault))),
+            Err(FontError::Fault(fault)) => Ok(Some(fault)),
         },
         _ => Ok(None),
     }
@@ -195,28 +193,43 @@ fn cause_in(
     alloc: Global,
 ) -> Result<Option<FileCause>, AllocError>
     ensures found { IfOk result (λ found. is_some found ≡ is_bad tree.now name.now bytes.now) }
+    ensures refused { IfOk result (λ found. IfSome found (λ cause. refuses tree.now name.now bytes.now cause ≡ true)) }
     ensures kind { IfOk result (λ found. IfSome found (λ cause. kind_of cause ≡ BadFile)) }
 {
-    if let Some(cause) = pixmap_fault(name, bytes, tree.symbols.as_slice(), alloc)? {
-        return Ok(Some(cause));
+    if let Some(fault) = pixmap_fault(name, bytes, tree.symbols.as_slice(), alloc)? {
+        return Ok(Some(FileCause::NoPixmap(fault)));
     }
-    if let Some(cause) = table_fault(name, bytes, tree.layers.as_slice(), alloc)? {
-        return Ok(Some(cause));
+    if let Some(fault) = table_fault(name, bytes, tree.layers.as_slice(), alloc)? {
+        return Ok(Some(FileCause::NoTable(fault)));
     }
-    font_fault(name, bytes, font_file(tree), alloc)
+    match font_fault(name, bytes, font_file(tree), alloc)? {
+        Some(fault) => Ok(Some(FileCause::NoFont(fault))),
+        None => Ok(None),
+    }
 }
 
 // Whether two names of files are the same one, on the same line.
-fn is_same_use(a: &Named, b: &Named) -> bool {
+fn is_same_use(a: &Named, b: &Named) -> bool
+    ensures { result ≡ is_same_use a.now b.now }
+{
     a.line == b.line && a.text.as_str() == b.text.as_str()
 }
 
+// Whether the image of some symbol is named there.
+fn is_image_use(file: &Named, symbols: &[SymbolTree]) -> bool
+    ensures { result ≡ list_any (λ symbol. is_same_use symbol.image file.now) symbols.now }
+{
+    symbols
+        .iter()
+        .any(|symbol| is_same_use(&symbol.image, file))
+}
+
 // The keyword that names a file there.
-fn keyword_of(file: &Named, tree: &MapTree) -> Keyword {
-    for symbol in tree.symbols.as_slice() {
-        if is_same_use(&symbol.image, file) {
-            return Keyword::Image;
-        }
+fn keyword_of(tree: &MapTree, file: &Named) -> Keyword
+    ensures { result ≡ keyword_of tree.now file.now }
+{
+    if is_image_use(file, tree.symbols.as_slice()) {
+        return Keyword::Image;
     }
     match font_file(tree) {
         Some(font) if is_same_use(font, file) => Keyword::Config,
@@ -224,27 +237,32 @@ fn keyword_of(file: &Named, tree: &MapTree) -> Keyword {
     }
 }
 
-// The fault of a file that is first used there.
-fn file_fault(
+// The keyword of the use that a cause is about.
+fn keyword_by(tree: &MapTree, first: &Named, cause: FileCause) -> Keyword
+    ensures { result ≡ keyword_by tree.now first.now cause }
+{
+    match cause {
+        FileCause::Missing => keyword_of(tree, first),
+        FileCause::NoPixmap(_) => Keyword::Image,
+        FileCause::NoTable(_) => Keyword::Data,
+        FileCause::NoFont(_) => Keyword::Config,
+    }
+}
+
+// Why a file that is first used there isn't what it is used as.
+fn file_cause(
     tree: &MapTree,
     first: &Named,
     files: &Files,
     alloc: Global,
-) -> Result<Option<FileFault>, AllocError>
-    ensures { IfOk result (λ found. option_map fault_in found ≡ file_fault files.now tree.now first.now) }
+) -> Result<Option<FileCause>, AllocError>
+    ensures fault { IfOk result (λ found. option_map (λ cause. record { line = first.now.line; kind = kind_of cause }) found ≡ file_fault files.now tree.now first.now) }
+    ensures refused { IfOk result (λ found. IfSome found (λ cause. IfSome (bytes_in first.now.text files.now) (λ bytes. refuses tree.now first.now.text bytes cause ≡ true))) }
 {
     let name = first.text.as_str();
-    let cause = match files.bytes(name) {
-        Some(bytes) => cause_in(tree, name, bytes, alloc)?,
-        None => Some(FileCause::Missing),
-    };
-    match cause {
-        Some(cause) => Ok(Some(FileFault {
-            line: first.line,
-            keyword: keyword_of(first, tree),
-            cause,
-        })),
-        None => Ok(None),
+    match files.bytes(name) {
+        Some(bytes) => cause_in(tree, name, bytes, alloc),
+        None => Ok(Some(FileCause::Missing)),
     }
 }
 
@@ -254,12 +272,18 @@ pub fn files_fault(
     files: &Files,
     alloc: Global,
 ) -> Result<Option<FileFault>, AllocError>
-    ensures { IfOk result (λ found. option_map fault_in found ≡ files_fault files.now tree.now) }
+    ensures fault { IfOk result (λ found. option_map fault_in found ≡ files_fault files.now tree.now) }
+    ensures said { IfOk result (λ found. IfSome found (IsOfUse files.now tree.now)) }
 {
     let firsts = first_uses(tree, alloc)?;
-    for first in &firsts {
-        if let Some(fault) = file_fault(tree, first, files, alloc)? {
-            return Ok(Some(fault));
+    for (number, first) in firsts.iter().enumerate() {
+        if let Some(cause) = file_cause(tree, first, files, alloc)? {
+            return Ok(Some(FileFault {
+                number,
+                line: first.line,
+                keyword: keyword_by(tree, first, cause),
+                cause,
+            }));
         }
     }
     Ok(None)

@@ -185,6 +185,10 @@ pub data IsWritten : Block → Value → List TokenValue → Type 0 where
       IsWritten b (value.Text texts.Data (named given line)) (bare line word ∷ quoted line given ∷ [])
   font : (given : List ℕ) (line : ℕ) →
       IsWritten block.Map (value.Text texts.LabelFont (named given line)) (bare line (codes "CONFIG") ∷ quoted line (codes "LABELFONT") ∷ quoted line given ∷ [])
+  formats : (line : ℕ) →
+      IsWritten block.Map (value.Flag flags.Png true) (bare line (codes "CONFIG") ∷ quoted line (codes "WMS_FORMATS") ∷ quoted line (codes "image/png") ∷ [])
+  systems : (line : ℕ) →
+      IsWritten block.Map (value.Flag flags.Mercator true) (bare line (codes "CONFIG") ∷ quoted line (codes "WMS_CRS") ∷ quoted line (codes "EPSG:3857") ∷ [])
   metadata : (b : Block) (key : List ℕ) (keyword : TextKeyword) (given : List ℕ) (line : ℕ) → IsKey b key keyword →
       IsWritten b (value.Text keyword (named given line)) (quoted line key ∷ quoted line given ∷ [])
   csv_x : (given : List ℕ) (line : ℕ) → IsWritten block.Layer (value.Text texts.CsvX (named given line)) (setting (codes "CSV_X") given line)

@@ -5,6 +5,7 @@ pub mod Fault
 pub mod Given
 pub mod Keyword
 pub mod Label
+pub mod Offer
 pub mod Rule
 pub mod Setting
 pub mod Table

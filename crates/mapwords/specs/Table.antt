@@ -48,10 +48,12 @@ count_number count.Priority = 3
 count_number count.Buffer = 4
 count_number count.MinDistance = 5
 
--- for each that takes TRUE or FALSE
+-- for each that takes TRUE or FALSE, and for what a CONFIG offers
 abbrev pub flag_number : FlagKeyword → ℕ
 flag_number flag.Partials = 0
 flag_number flag.Force = 1
+flag_number flag.Png = 2
+flag_number flag.Mercator = 3
 
 -- for each that takes a scale denominator
 abbrev pub scale_number : ScaleKeyword → ℕ

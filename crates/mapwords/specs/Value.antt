@@ -14,6 +14,7 @@ use Rattle.mapwords.specs.declared.colour.Component.{Component}
 use Rattle.mapwords.specs.declared.named.Named.{Named}
 use Rattle.mapwords.specs.declared.table.ColourKeyword.{ColourKeyword}
 use Rattle.mapwords.specs.declared.table.TextKeyword.TheVariants.{LabelFont, Data}
+use Rattle.mapwords.specs.declared.table.FlagKeyword.TheVariants.{Png, Mercator}
 use Rattle.mapwords.specs.declared.table.OnlyWord.{OnlyWord}
 use Rattle.mapwords.specs.declared.table.OnlyWord.TheVariants.{Pixels, On}
 use Rattle.mapwords.specs.declared.role.Expected.{Expected}
@@ -27,6 +28,7 @@ use Rattle.mapwords.specs.declared.fault.ParseKind.TheVariants.{WrongValue, BadE
 use Rattle.mapwords.specs.Fault.{fault_of, refused}
 use Rattle.mapwords.specs.Extent.{extent_of}
 use Rattle.mapwords.specs.Label.{position_of, flag_of}
+use Rattle.mapwords.specs.Offer.{png_of, mercator_of}
 use Rattle.mapwords.specs.Rule.{rule_of}
 use Rattle.mapwords.specs.Setting.{setting_step}
 use Rattle.mapwords.specs.Count.{read_count, number_in}
@@ -108,9 +110,14 @@ abbrev pub north_step : ℤ → ℤ → ℤ → Option ℤ → Option ValueStep
 north_step minx miny maxx None = None
 north_step minx miny maxx (Some maxy) = option_map (λ area. Whole (value.Extent area)) (extent_of minx miny maxx maxy)
 
--- a CONFIG has a key and a value: that of LABELFONT names the file of the labels' font, another has no effect
+-- a CONFIG has a key and a value: that of LABELFONT names the file of the labels' font, those of WMS_FORMATS and WMS_CRS
+-- say what is offered, another has no effect
 abbrev pub config_step : List ℕ → ValueStep
-config_step key = if is_same_name key (codes "LABELFONT") then More (expected.Text LabelFont) else More (expected.Unused 0)
+config_step key =
+    if is_same_name key (codes "LABELFONT") then More (expected.Text LabelFont)
+    else if is_same_name key (codes "WMS_FORMATS") then More expected.Formats
+    else if is_same_name key (codes "WMS_CRS") then More expected.Systems
+    else More (expected.Unused 0)
 
 -- a token as a value of which nothing is kept but numbers, if it is such a value
 abbrev pub plain_step : Expected → TokenValue → Option ValueStep
@@ -129,6 +136,8 @@ plain_step (expected.East x y) t = east_step x y (coordinate_of t.text)
 plain_step (expected.North x y east) t = north_step x y east (coordinate_of t.text)
 plain_step (expected.Only word) t = only_step word t.text
 plain_step expected.ConfigKey t = Some (config_step t.text)
+plain_step expected.Formats t = option_map (λ offered. Whole (value.Flag Png offered)) (png_of t.text)
+plain_step expected.Systems t = option_map (λ offered. Whole (value.Flag Mercator offered)) (mercator_of t.text)
 plain_step (expected.Unused more) t = Some (unused_step more)
 plain_step _ t = None
 

@@ -23,6 +23,7 @@ mod label;
 pub mod laws;
 mod named;
 mod number;
+mod offer;
 mod role;
 mod rule;
 mod setting;

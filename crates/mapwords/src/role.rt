@@ -53,6 +53,10 @@ pub enum Expected {
     Setting,
     /// The key of a CONFIG, after which its value comes.
     ConfigKey,
+    /// Names of formats, of which the service offers those that it can make.
+    Formats,
+    /// Names of coordinate reference systems, of which it offers web mercator.
+    Systems,
     /// The west of the extent, after which south, east and north come. What was read of it is kept as
     /// plain numbers, in millionths of a degree.
     West,

@@ -50,11 +50,15 @@ pub enum CountKeyword {
     MinDistance,
 }
 
-/// The keywords that take TRUE or FALSE.
+/// The keywords that take TRUE or FALSE, and what a CONFIG offers or doesn't.
 #[derive(Clone, Copy)]
 pub enum FlagKeyword {
     Partials,
     Force,
+    /// Pictures in the format PNG.
+    Png,
+    /// Pictures in web mercator.
+    Mercator,
 }
 
 /// The keywords that take a scale denominator.

@@ -13,6 +13,7 @@ use crate::fault::{ParseFault, ParseKind, fault_of};
 use crate::label::{flag_of, position_of};
 use crate::named::Named;
 use crate::number::read_number;
+use crate::offer::{mercator_of, png_of};
 use crate::role::Expected;
 use crate::rule::{ClassRule, RuleError};
 use crate::setting::setting_step;
@@ -156,6 +157,13 @@ fn whole(value: Option<Value>) -> Option<ValueStep>
     value.map(ValueStep::Whole)
 }
 
+// The last step of what a CONFIG offers.
+fn offer(keyword: FlagKeyword, offered: Option<bool>) -> Option<ValueStep>
+    ensures { result ≡ option_map (λ is. Whole (ValueTree.Flag keyword is)) offered }
+{
+    whole(offered.map(|is| Value::Flag(keyword, is)))
+}
+
 // Skips a value that has no effect, before so many more.
 fn unused_step(more: u8) -> ValueStep
     ensures { result ≡ unused_step more }
@@ -213,12 +221,17 @@ fn north_step(minx: i64, miny: i64, maxx: i64, north: Option<Coordinate>) -> Opt
     extent_step(Extent::of(minx, miny, maxx, maxy))
 }
 
-// Reads the key of a CONFIG. That of the labels' font is followed by the name of its file.
+// Reads the key of a CONFIG. That of the labels' font is followed by the name of its file, the other two by what is
+// offered.
 fn config_step(key: &str) -> ValueStep
     ensures { result ≡ config_step key.now }
 {
     if key == "LABELFONT" {
         ValueStep::More(Expected::Text(TextKeyword::LabelFont))
+    } else if key == "WMS_FORMATS" {
+        ValueStep::More(Expected::Formats)
+    } else if key == "WMS_CRS" {
+        ValueStep::More(Expected::Systems)
     } else {
         ValueStep::More(Expected::Unused(0))
     }
@@ -252,6 +265,8 @@ fn plain_step(expected: Expected, token: &Token) -> Option<ValueStep>
         Expected::North(x, y, east) => north_step(x, y, east, Coordinate::read(text)),
         Expected::Only(word) => only_step(word, text),
         Expected::ConfigKey => Some(config_step(text)),
+        Expected::Formats => offer(FlagKeyword::Png, png_of(text)),
+        Expected::Systems => offer(FlagKeyword::Mercator, mercator_of(text)),
         Expected::Unused(more) => Some(unused_step(more)),
         // They are kept as texts.
         Expected::Text(_) | Expected::Table | Expected::Rule | Expected::Setting => None,

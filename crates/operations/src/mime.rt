@@ -4,6 +4,8 @@ ghost use Rattle.operations.specs.Mime.{mime_text};
 /// What the body of an answer is.
 #[derive(Clone, Copy, Debug, PartialEq, Eq)]
 pub enum Mime {
+    /// A picture as Portable Network Graphics.
+    Png,
     /// A picture as Netpbm's portable pixmap.
     Pixmap,
     /// A picture as Netpbm's portable arbitrary map.
@@ -21,6 +23,7 @@ impl Mime {
         ensures { result.now ≡ mime_text self }
     {
         match self {
+            Mime::Png => "image/png",
             Mime::Pixmap => "image/x-portable-pixmap",
             Mime::ArbitraryMap => "image/x-portable-arbitrarymap",
             Mime::Xml => "text/xml",

@@ -10,6 +10,7 @@ const BOXES: &str = "\
 -1500000 2000000 250000 1000000000=CRS:84=-1.5,2,.25,1000
 # the fault that comes first of several
 UnknownCrs=EPSG:1=1,2,x
+UnknownCrs=EPSG:3857=1,2,3,4
 UnknownCrs=crs:84=1,2,3,4
 UnknownCrs=CRS:84 =1,2,3,4
 UnknownCrs==1,2,3,4
@@ -27,8 +28,31 @@ Empty=CRS:84=4,0,0,4
 Empty=EPSG:4326=0,5,4,5
 Empty=EPSG:4326=4,5,0,6";
 
-fn box_or_fault(alloc: Global, crs: &str, text: &str) -> Result<String, AllocError> {
-    match bbox(crs, text) {
+// The same where web mercator is offered: eastings and northings in metres. By 111319.490793 metres a degree of the
+// equator, a millionth of it has 0.1113194908 metres.
+const METRES: &str = "\
+-180000000 -180000000 180000000 180000000=EPSG:3857=-20037508.342789244,-20037508.342789244,20037508.342789244,20037508.342789244
+1000000 -2000000 3000000 5000000=EPSG:3857=111319.490793,-222638.981587,333958.47238,556597.453966
+# just below and just above a half of a millionth
+0 1 1 2=EPSG:3857=0.055659,0.05566,0.166979,0.16698
+-1 -2 0 -1=EPSG:3857=-0.05566,-0.16698,-0.055659,-0.166979
+-999999993 0 999999993 9=EPSG:3857=-111319490,0,111319490,1
+# 1,000 degrees have 111319490.79327358 metres, which are written as the next millionth
+-1000000000 0 1000000000 9=EPSG:3857=-111319490.793274,0,111319490.793274,1
+10000000 40000000 14000000 44500000=CRS:84=10,40,14,44.5
+10000000 40000000 14000000 44500000=EPSG:4326=40,10,44.5,14
+NotANumber=EPSG:3857=0,0,111319490.793275,4
+NotANumber=EPSG:3857=0,0,4 ,4
+Empty=EPSG:3857=0,0,0.05,4
+UnknownCrs=EPSG:900913=0,0,4,4";
+
+fn box_or_fault(
+    alloc: Global,
+    mercator: bool,
+    crs: &str,
+    text: &str,
+) -> Result<String, AllocError> {
+    match bbox(mercator, crs, text) {
         Ok(area) => {
             let (west, south) = (area.minx().millionths(), area.miny().millionths());
             let (east, north) = (area.maxx().millionths(), area.maxy().millionths());
@@ -42,10 +66,22 @@ fn rows_of_boxes(alloc: Global, row: &str) -> Result<String, AllocError> {
     let Some((crs, text)) = row.split_once('=') else {
         return String::from_str(alloc, "malformed");
     };
-    box_or_fault(alloc, crs, text)
+    box_or_fault(alloc, false, crs, text)
+}
+
+fn rows_of_metres(alloc: Global, row: &str) -> Result<String, AllocError> {
+    let Some((crs, text)) = row.split_once('=') else {
+        return String::from_str(alloc, "malformed");
+    };
+    box_or_fault(alloc, true, crs, text)
 }
 
 #[test]
 fn boxes_are_read_in_the_axis_order(rt: HostRuntime) -> Result<(), TableFault> {
-    check_rows(rt.alloc(), BOXES, '=', 20, rows_of_boxes)
+    check_rows(rt.alloc(), BOXES, '=', 21, rows_of_boxes)
+}
+
+#[test]
+fn boxes_in_metres_are_read_easting_first(rt: HostRuntime) -> Result<(), TableFault> {
+    check_rows(rt.alloc(), METRES, '=', 12, rows_of_metres)
 }

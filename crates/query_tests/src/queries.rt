@@ -39,6 +39,7 @@ InvalidParameterValue: STYLES|STYLES=default,default&@
 InvalidParameterValue: STYLES|LAYERS=a,c&STYLES=default&@
 MissingParameterValue: CRS|CRS=&@
 InvalidCRS: CRS|CRS=EPSG:1&@
+InvalidCRS: CRS|CRS=EPSG:3857&@
 MissingParameterValue: STYLES|VERSION=1.3.0&REQUEST=GetMap&LAYERS=a&CRS=CRS:84&BBOX=0,0,4,4&WIDTH=4&HEIGHT=4&FORMAT=image/x-portable-pixmap
 InvalidParameterValue: LAYERS|LAYERS=a*,c&@
 # the numbers, the format and the colours
@@ -157,6 +158,27 @@ InvalidPoint: I|I=x&J=x&$
 3,2,0, 0 0 4000000 4000000 4 3 nothing map; 0,3, 200000 1 2|LAYERS=d,c,a&QUERY_LAYERS=a,d&FORMAT=image/x-portable-arbitrarymap&TRANSPARENT=TRUE&FEATURE_COUNT=200001&I=0000000000000000000000001&$
 0,2,3, 0 0 4000000 4000000 4 3 255 255 255; 3,0, 200000 3 2|FEATURE_COUNT=1000000000000000000000000000000&UPDATESEQUENCE=x&$";
 
+// The same of a map that offers PNG and web mercator. `png` ends a picture in that format.
+const OFFERED: &str = "\
+# PNG
+0, 0 0 4000000 4000000 4 4 255 255 255 png|FORMAT=image/png&@
+0, 0 0 4000000 4000000 4 4 10 20 30 png|FORMAT=image/png&TRANSPARENT=FALSE&BGCOLOR=0x0A141E&@
+0, 0 0 4000000 4000000 4 4 nothing png|TRANSPARENT=true&FORMAT=image/png&BGCOLOR=0x0A141E&@
+0,2,3, 0 0 4000000 4000000 4 3 255 255 255 png; 3,0, 1 3 2|FORMAT=image/png&$
+0, 0 0 4000000 4000000 4 4 255 255 255|@
+0, 0 0 4000000 4000000 4 4 nothing map|TRANSPARENT=true&FORMAT=image/x-portable-arbitrarymap&@
+InvalidFormat: FORMAT|FORMAT=image/PNG&@
+InvalidFormat: FORMAT|FORMAT=image/gif&@
+InvalidFormat: FORMAT|FORMAT=image/png%20&@
+# web mercator: a degree of the equator has 111319.490793 metres
+0, 1000000 2000000 3000000 5000000 4 4 255 255 255|CRS=EPSG:3857&BBOX=111319.490793,222638.981587,333958.472380,556597.453966&@
+0, -180000000 -180000000 180000000 180000000 4 4 255 255 255|CRS=EPSG:3857&BBOX=-20037508.342789244,-20037508.342789244,20037508.342789244,20037508.342789244&@
+0, 0 0 4000000 4000000 4 4 255 255 255|CRS=CRS:84&@
+InvalidParameterValue: BBOX|CRS=EPSG:3857&BBOX=0,0,111319490.8,4&@
+InvalidParameterValue: BBOX|CRS=EPSG:3857&BBOX=0,0,0.04,4&@
+InvalidCRS: CRS|CRS=EPSG:900913&@
+InvalidCRS: CRS|CRS=epsg:3857&@";
+
 // A layer of polygons without any.
 fn layer(alloc: Global, name: Text, on: bool, queryable: bool) -> Layer
     ensures { result.classes ≡ [] }
@@ -167,15 +189,19 @@ fn layer(alloc: Global, name: Text, on: bool, queryable: bool) -> Layer
     Layer::new(fields)
 }
 
-fn map_of(alloc: Global, layers: Vec<Layer>) -> Map
+fn map_of(alloc: Global, layers: Vec<Layer>, offers: bool) -> Map
     requires count { length layers.items ≤ MAX_LAYERS }
     requires symbols { All (LayerNamesSymbolsOf 0) layers.items }
 {
-    Map::new(map_fields(alloc, Items::of(layers)))
+    let mut fields = map_fields(alloc, Items::of(layers));
+    fields.png = offers;
+    fields.mercator = offers;
+    Map::new(fields)
 }
 
-// A map of the layers `a` to `d`, of which `b` is switched off and `c` isn't queryable.
-fn test_map(alloc: Global) -> Result<Map, AllocError> {
+// A map of the layers `a` to `d`, of which `b` is switched off and `c` isn't queryable. It offers PNG and web
+// mercator or doesn't.
+fn test_map(alloc: Global, offers: bool) -> Result<Map, AllocError> {
     let a = Text::from_str(alloc, "a")?;
     let b = Text::from_str(alloc, "b")?;
     let c = Text::from_str(alloc, "c")?;
@@ -186,7 +212,7 @@ fn test_map(alloc: Global) -> Result<Map, AllocError> {
         layer(alloc, c, true, false),
         layer(alloc, d, true, true),
     ]?;
-    Ok(map_of(alloc, layers))
+    Ok(map_of(alloc, layers, offers))
 }
 
 // Indices, each with a comma after it.
@@ -205,6 +231,7 @@ fn ground(alloc: Global, request: &MapRequest) -> Result<String, AllocError> {
         None => String::from_str(alloc, "nothing")?,
     };
     match request.format {
+        Format::Png => text.push_str(" png")?,
         Format::Pixmap => {}
         Format::ArbitraryMap => text.push_str(" map")?,
     }
@@ -259,18 +286,29 @@ fn spelt(alloc: Global, query: &str) -> Result<String, AllocError> {
 
 fn rows_of_queries(alloc: Global, row: &str) -> Result<String, AllocError> {
     let query = spelt(alloc, row)?;
-    let map = test_map(alloc)?;
+    let map = test_map(alloc, false)?;
+    result_of(alloc, query.as_str(), &map)
+}
+
+fn rows_of_offers(alloc: Global, row: &str) -> Result<String, AllocError> {
+    let query = spelt(alloc, row)?;
+    let map = test_map(alloc, true)?;
     result_of(alloc, query.as_str(), &map)
 }
 
 #[test]
 fn queries_have_worked_results(rt: HostRuntime) -> Result<(), TableFault> {
-    check_rows(rt.alloc(), QUERIES, '|', 72, rows_of_queries)
+    check_rows(rt.alloc(), QUERIES, '|', 73, rows_of_queries)
 }
 
 #[test]
 fn queries_of_other_operations_have_worked_results(rt: HostRuntime) -> Result<(), TableFault> {
     check_rows(rt.alloc(), OTHERS, '|', 51, rows_of_queries)
+}
+
+#[test]
+fn offers_have_worked_results(rt: HostRuntime) -> Result<(), TableFault> {
+    check_rows(rt.alloc(), OFFERED, '|', 16, rows_of_offers)
 }
 
 // A definition cites the same constant as the code, so only a test can find a wrong limit.

@@ -5,7 +5,7 @@ use Rattle.std.proofs.lemmas.Bool.{and_parts, cases_lt, eqb-true}
 use Rattle.std.proofs.lemmas.List.Elements.{All-head, All-tail}
 use Rattle.hex.specs.Hex.{encode_lower, encode_with, lower_digits}
 use Rattle.hex.proofs.HexLemmas.{length-encode_with}
-use Rattle.operations.specs.declared.mime.Mime.TheVariants.{Pixmap, ArbitraryMap}
+use Rattle.operations.specs.declared.mime.Mime.TheVariants.{Png, Pixmap, ArbitraryMap}
 use Rattle.scripts.specs.Transcript.{body_text, hex_line, hex_within}
 use Rattle.scripts.specs.Digits.{digit_value, bytes_of, AreFullLines, lines_text}
 
@@ -92,10 +92,11 @@ lines-full (suc n) (b ∷ bs) h =
     (λ others. omega (arith, digits, len, rest, others)) (lines-full n (drop 32 (b ∷ bs)) (omega (arith, rest)))
 
 pub digits-stand : (body : List ℕ) → All (λ byte. byte < 256) body →
-    (lines : List (List ℕ)) × (body_text Pixmap body ≡ lines_text lines) × (body_text ArbitraryMap body ≡ lines_text lines) × AreFullLines lines × (bytes_of (concat lines) ≡ Some body)
+    (lines : List (List ℕ)) × (body_text Png body ≡ lines_text lines) × (body_text Pixmap body ≡ lines_text lines) × (body_text ArbitraryMap body ≡ lines_text lines) × AreFullLines lines × (bytes_of (concat lines) ≡ Some body)
 digits-stand body below =
     let enough : length body ≤ length body = omega arith in (
       digit-lines (length body) body,
+      lines-written (length body) body,
       lines-written (length body) body,
       lines-written (length body) body,
       lines-full (length body) body enough,

@@ -1,7 +1,7 @@
 -- Lines of hexadecimal digits, and the bytes of which they are the text (docs/SERVICE.md, "Sessions").
 use Rattle.std.specs.Prelude.{◌≡◌, ◌≤◌, ◌<◌, ◌+◌, ◌-◌, ◌*◌, ◌&&◌, nat_le, ℕ, if◌then◌else◌, List, [], ◌∷◌, ◌++◌, length, Option, None, Some, codes}
 use Rattle.std.specs.List.{All, concat, flat_map}
-use Rattle.operations.specs.declared.mime.Mime.TheVariants.{Pixmap, ArbitraryMap}
+use Rattle.operations.specs.declared.mime.Mime.TheVariants.{Png, Pixmap, ArbitraryMap}
 use Rattle.scripts.specs.Transcript.{body_text}
 
 -- the value of a digit: 0 to 9 for themselves, a to f for 10 to 15
@@ -42,4 +42,4 @@ lines_text lines = flat_map (λ line. line ++ codes "\n") lines
 -- the law: the body of a picture, in each format, is written as such lines, and their digits, one line after the other, are the text of its bytes
 abbrev pub DigitsStandForBody : Type 0
 DigitsStandForBody = (body : List ℕ) → All (λ byte. byte < 256) body →
-    (lines : List (List ℕ)) × (body_text Pixmap body ≡ lines_text lines) × (body_text ArbitraryMap body ≡ lines_text lines) × AreFullLines lines × (bytes_of (concat lines) ≡ Some body)
+    (lines : List (List ℕ)) × (body_text Png body ≡ lines_text lines) × (body_text Pixmap body ≡ lines_text lines) × (body_text ArbitraryMap body ≡ lines_text lines) × AreFullLines lines × (bytes_of (concat lines) ≡ Some body)

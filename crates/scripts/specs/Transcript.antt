@@ -5,9 +5,9 @@ use Rattle.std.specs.Fmt.{decimal}
 use Rattle.hex.specs.Hex.{encode_lower}
 use Rattle.batches.specs.Fault.{number_of}
 use Rattle.operations.specs.Mime.{mime_text}
-use Rattle.mapmachine.specs.declared.reply.Answer.{Answer}
+use Rattle.answers.specs.declared.answer.Answer.{Answer}
 use Rattle.operations.specs.declared.mime.Mime.{Mime}
-use Rattle.operations.specs.declared.mime.Mime.TheVariants.{Pixmap, ArbitraryMap, Xml, Plain}
+use Rattle.operations.specs.declared.mime.Mime.TheVariants.{Png, Pixmap, ArbitraryMap, Xml, Plain}
 use Rattle.mapmachine.specs.declared.reply.Reply.{Reply}
 use Rattle.mapmachine.specs.declared.reply.Reply.TheVariants.{Answered, Published, Refused, NoMemory}
 
@@ -27,6 +27,7 @@ hex_lines bytes = hex_within (length bytes) bytes
 
 -- the text of a body: pictures in hexadecimal
 abbrev pub body_text : Mime → List ℕ → List ℕ
+body_text Png body = hex_lines body
 body_text Pixmap body = hex_lines body
 body_text ArbitraryMap body = hex_lines body
 body_text Xml body = body

@@ -49,7 +49,7 @@ fn send_body<S: Sink>(sink: &mut S, mime: Mime, body: &[u8]) -> Result<(), PutFa
     ensures flag { MatchResult result (λ _. S.put_failed sink.new ≡ S.put_failed sink.old) (λ _. S.put_failed sink.new ≡ true) }
 {
     match mime {
-        Mime::Pixmap | Mime::ArbitraryMap => send_hex(sink, body),
+        Mime::Png | Mime::Pixmap | Mime::ArbitraryMap => send_hex(sink, body),
         Mime::Xml | Mime::Plain => put_all(sink, body),
     }
 }

@@ -77,6 +77,8 @@ pub fn map_fields(alloc: Global, layers: Items<Layer>) -> MapFields
       title = [];
       url = [];
       extent = record { minx = pos 0; miny = pos 0; maxx = pos 4000000; maxy = pos 4000000 };
+      png = false;
+      mercator = false;
       font = None;
       symbols = [];
       layers = layers;
@@ -87,6 +89,8 @@ pub fn map_fields(alloc: Global, layers: Items<Layer>) -> MapFields
         title: no_text(alloc),
         url: no_text(alloc),
         extent: WorldBox::new(zero, zero, four, four),
+        png: false,
+        mercator: false,
         font: None,
         symbols: SharedItems::empty(),
         layers,

@@ -23,7 +23,7 @@ use Rattle.wmsquery.specs.declared.request.Request.TheVariants as request
 use Rattle.wmsquery.specs.Meaning.{HasValues, HasInformation, IsRequestOf, IsMeaningOf, IsMeaningErrorOf}
 use Rattle.wmsquery.specs.Order.{first_fault, order, map_order, information_order}
 use Rattle.wmsquery.specs.Pairs.{Texts, given}
-use Rattle.wmsquery.specs.Query.{operation_in, layer_names, area_in, format_in, background_in, asked_in, column_in, row_in, refusal, looked_at}
+use Rattle.wmsquery.specs.Query.{operation_in, layer_names, system_in, area_in, format_in, background_in, asked_in, column_in, row_in, refusal, looked_at}
 use Rattle.wmsquery.specs.Reading.{IsErrorOf, checked, operation_read, layers_read, viewport_read, output_read, map_read, asked_read, pixel_read, information_read, own_read, request_read}
 use Rattle.wmsquery.specs.Values.{and_then, service_of, version_of, layers_of, styles_of, system_of, area_of, side_of, format_of, transparent_of, background_of, background_for, info_format_of, feature_count_of, pixel_of, sequence_of}
 use Rattle.wmsquery.proofs.FirstFault.{checked-last, checked-then, or_later, stretches, stretch-then}
@@ -68,26 +68,26 @@ module _ (map : MapFields) (sequence : ℕ) (t : Texts) where
       checked-then refused parameter.Styles [] (styles_of o (length (layer_names t)) (t parameter.Styles)) _
       (ap (λ r. result_err (and_then r (λ q. styles_of q (length (layer_names t)) (t parameter.Styles)))) is) (λ _ _. refl)))
 
-  viewport-fault : result_err (viewport_read t) ≡ first_fault refused viewport_order
+  viewport-fault : result_err (viewport_read map t) ≡ first_fault refused viewport_order
   viewport-fault =
-      checked-then refused parameter.Crs (parameter.Bbox ∷ parameter.Width ∷ parameter.Height ∷ []) (system_of (given t parameter.Crs)) _ refl (λ crs is.
+      checked-then refused parameter.Crs (parameter.Bbox ∷ parameter.Width ∷ parameter.Height ∷ []) (system_of map.mercator (given t parameter.Crs)) _ refl (λ crs is.
       checked-then refused parameter.Bbox (parameter.Width ∷ parameter.Height ∷ []) (area_of crs (given t parameter.Bbox)) _
       (ap (λ s. result_err (and_then s (λ system. area_of system (given t parameter.Bbox)))) is) (λ _ _.
       checked-then refused parameter.Width (parameter.Height ∷ []) (side_of (given t parameter.Width)) _ refl (λ _ _.
       checked-then refused parameter.Height [] (side_of (given t parameter.Height)) _ refl (λ _ _. refl))))
 
-  output-fault : (o : Operation) → operation_in t ≡ Ok o → result_err (output_read o t) ≡ first_fault refused output_order
+  output-fault : (o : Operation) → operation_in t ≡ Ok o → result_err (output_read map o t) ≡ first_fault refused output_order
   output-fault o is =
-      checked-then refused parameter.Format (parameter.Transparent ∷ parameter.Bgcolor ∷ []) (format_of o (given t parameter.Format)) _
-      (ap (λ r. result_err (and_then r (λ q. format_of q (given t parameter.Format)))) is) (λ _ _.
+      checked-then refused parameter.Format (parameter.Transparent ∷ parameter.Bgcolor ∷ []) (format_of map.png o (given t parameter.Format)) _
+      (ap (λ r. result_err (and_then r (λ q. format_of map.png q (given t parameter.Format)))) is) (λ _ _.
       checked-then refused parameter.Transparent (parameter.Bgcolor ∷ []) (transparent_of (given t parameter.Transparent)) _ refl (λ _ _.
       checked-then refused parameter.Bgcolor [] (background_of (given t parameter.Bgcolor)) _ refl (λ _ _. refl)))
 
   map-fault : (o : Operation) → operation_in t ≡ Ok o → result_err (map_read map o t) ≡ first_fault refused map_order
   map-fault o is =
       stretch-then refused layers_order (viewport_order ++ output_order) (layers_read map o t) _ (layers-fault o is) (λ _ _.
-      stretch-then refused viewport_order output_order (viewport_read t) _ viewport-fault (λ _ _.
-      stretch-then refused output_order [] (output_read o t) _ (output-fault o is) (λ _ _. refl)))
+      stretch-then refused viewport_order output_order (viewport_read map t) _ viewport-fault (λ _ _.
+      stretch-then refused output_order [] (output_read map o t) _ (output-fault o is) (λ _ _. refl)))
 
   asked-fault : result_err (asked_read map t) ≡ first_fault refused asked_order
   asked-fault =
@@ -113,18 +113,20 @@ module _ (map : MapFields) (sequence : ℕ) (t : Texts) where
       unchecked parameter.Layers _ chosen (layers.is ∙ styles.rest)
 
   record HasViewport (viewport : Viewport) : Type 0 where
-    pub area : area_in t ≡ Ok viewport.area
+    pub crs : system_in map t ≡ Ok viewport.crs
+    pub area : area_in map t ≡ Ok viewport.area
     pub width : side_of (given t parameter.Width) ≡ Ok viewport.width
     pub height : side_of (given t parameter.Height) ≡ Ok viewport.height
 
-  viewport-value : (viewport : Viewport) → viewport_read t ≡ Ok viewport → HasViewport viewport
+  viewport-value : (viewport : Viewport) → viewport_read map t ≡ Ok viewport → HasViewport viewport
   viewport-value viewport e =
-      let crs = steps (checked parameter.Crs (system_of (given t parameter.Crs))) _ viewport e in
+      let crs = steps (checked parameter.Crs (system_of map.mercator (given t parameter.Crs))) _ viewport e in
       let area = steps (checked parameter.Bbox (area_of crs.first (given t parameter.Bbox))) _ viewport crs.rest in
       let width = steps (checked parameter.Width (side_of (given t parameter.Width))) _ viewport area.rest in
       let height = steps (checked parameter.Height (side_of (given t parameter.Height))) _ viewport width.rest in
-      let same = same-value (record { area = area.first; width = width.first; height = height.first }) viewport height.rest in
+      let same = same-value (record { crs = crs.first; area = area.first; width = width.first; height = height.first }) viewport height.rest in
       record {
+        crs = unchecked parameter.Crs _ crs.first crs.is ∙ ap (λ (f : Viewport). Ok f.crs) same;
         area = ap (λ s. and_then s (λ system. area_of system (given t parameter.Bbox))) (unchecked parameter.Crs _ crs.first crs.is)
             ∙ unchecked parameter.Bbox _ area.first area.is ∙ ap (λ (f : Viewport). Ok f.area) same;
         width = unchecked parameter.Width _ width.first width.is ∙ ap (λ (f : Viewport). Ok f.width) same;
@@ -132,19 +134,19 @@ module _ (map : MapFields) (sequence : ℕ) (t : Texts) where
       }
 
   record HasOutput (output : Output) : Type 0 where
-    pub format : format_in t ≡ Ok output.format
-    pub background : background_in t ≡ Ok output.background
+    pub format : format_in map t ≡ Ok output.format
+    pub background : background_in map t ≡ Ok output.background
 
-  background-is : (f : Format) (b : Bool) (c : Rgb) → format_in t ≡ Ok f → transparent_of (given t parameter.Transparent) ≡ Ok b →
-      background_of (given t parameter.Bgcolor) ≡ Ok c → background_in t ≡ Ok (background_for f b c)
+  background-is : (f : Format) (b : Bool) (c : Rgb) → format_in map t ≡ Ok f → transparent_of (given t parameter.Transparent) ≡ Ok b →
+      background_of (given t parameter.Bgcolor) ≡ Ok c → background_in map t ≡ Ok (background_for f b c)
   background-is f b c is_format is_transparent is_colour = rw (is_format, is_transparent, is_colour) refl
 
-  output-value : (o : Operation) → operation_in t ≡ Ok o → (output : Output) → output_read o t ≡ Ok output → HasOutput output
+  output-value : (o : Operation) → operation_in t ≡ Ok o → (output : Output) → output_read map o t ≡ Ok output → HasOutput output
   output-value o is output e =
-      let format = steps (checked parameter.Format (format_of o (given t parameter.Format))) _ output e in
+      let format = steps (checked parameter.Format (format_of map.png o (given t parameter.Format))) _ output e in
       let transparent = steps (checked parameter.Transparent (transparent_of (given t parameter.Transparent))) _ output format.rest in
       let colour = steps (checked parameter.Bgcolor (background_of (given t parameter.Bgcolor))) _ output transparent.rest in
-      let f = ap (λ r. and_then r (λ q. format_of q (given t parameter.Format))) is ∙ unchecked parameter.Format _ format.first format.is in
+      let f = ap (λ r. and_then r (λ q. format_of map.png q (given t parameter.Format))) is ∙ unchecked parameter.Format _ format.first format.is in
       let b = unchecked parameter.Transparent _ transparent.first transparent.is in
       let c = unchecked parameter.Bgcolor _ colour.first colour.is in
       let same = same-value _ output colour.rest in
@@ -156,13 +158,14 @@ module _ (map : MapFields) (sequence : ℕ) (t : Texts) where
   map-value : (o : Operation) → operation_in t ≡ Ok o → (r : MapRequest) → map_read map o t ≡ Ok r → HasValues map t r
   map-value o is r e =
       let chosen = steps (layers_read map o t) _ r e in
-      let viewport = steps (viewport_read t) _ r chosen.rest in
-      let output = steps (output_read o t) _ r viewport.rest in
+      let viewport = steps (viewport_read map t) _ r chosen.rest in
+      let output = steps (output_read map o t) _ r viewport.rest in
       let same = same-value _ r output.rest in
       let f = viewport-value viewport.first viewport.is in
       let l = output-value o is output.first output.is in
       record {
         chosen = layers-value o chosen.first chosen.is ∙ ap (λ (q : MapRequest). Ok q.chosen) same;
+        crs = f.crs ∙ ap (λ (q : MapRequest). Ok q.crs) same;
         area = f.area ∙ ap (λ (q : MapRequest). Ok q.area) same;
         width = f.width ∙ ap (λ (q : MapRequest). Ok q.width) same;
         height = f.height ∙ ap (λ (q : MapRequest). Ok q.height) same;

@@ -72,13 +72,13 @@ module _ (t u : Texts) where
   refusal-same map sequence parameter.Styles e b =
       λ i. result_err (and_then (operation_of (option_and_then some_text (b.0 i))) (λ o.
       styles_of o (length (names_of (option_and_then some_text (b.1.0 i)))) (e i)))
-  refusal-same map sequence parameter.Crs e b = ap (λ x. result_err (system_of (option_and_then some_text x))) e
+  refusal-same map sequence parameter.Crs e b = ap (λ x. result_err (system_of map.mercator (option_and_then some_text x))) e
   refusal-same map sequence parameter.Bbox e b =
-      λ i. result_err (and_then (system_of (option_and_then some_text (b.0 i))) (λ crs. area_of crs (option_and_then some_text (e i))))
+      λ i. result_err (and_then (system_of map.mercator (option_and_then some_text (b.0 i))) (λ crs. area_of crs (option_and_then some_text (e i))))
   refusal-same map sequence parameter.Width e b = ap (λ x. result_err (side_of (option_and_then some_text x))) e
   refusal-same map sequence parameter.Height e b = ap (λ x. result_err (side_of (option_and_then some_text x))) e
   refusal-same map sequence parameter.Format e b =
-      λ i. result_err (and_then (operation_of (option_and_then some_text (b.0 i))) (λ o. format_of o (option_and_then some_text (e i))))
+      λ i. result_err (and_then (operation_of (option_and_then some_text (b.0 i))) (λ o. format_of map.png o (option_and_then some_text (e i))))
   refusal-same map sequence parameter.Transparent e b = ap (λ x. result_err (transparent_of (option_and_then some_text x))) e
   refusal-same map sequence parameter.Bgcolor e b = ap (λ x. result_err (background_of (option_and_then some_text x))) e
   refusal-same map sequence parameter.QueryLayers e b =

@@ -4,8 +4,9 @@ use Rattle.std.proofs.lemmas.List.Elements.{All-nil, All-cons, All-head, All-wea
 use Rattle.std.specs.Fmt.{decimal}
 use Rattle.std.specs.Option.{option_map_or}
 use Rattle.std.specs.Result.{result_ok, result_err}
+use Rattle.crsaxes.specs.Metres.{metres_down, metres_up}
 use Rattle.crsaxes.specs.declared.crs.Crs.{Crs}
-use Rattle.crsaxes.specs.declared.crs.Crs.TheVariants.{Crs84, Epsg4326}
+use Rattle.crsaxes.specs.declared.crs.Crs.TheVariants.{Crs84, Epsg3857, Epsg4326}
 use Rattle.geom.specs.World.{Area, IsExtent}
 use Rattle.geom.specs.Written.{written}
 use Rattle.geom.proofs.Written.{numeral}
@@ -16,7 +17,7 @@ use Rattle.operations.specs.declared.operation.Operation.TheVariants as operatio
 use Rattle.mapdefs.specs.declared.colour.Rgb.{Rgb}
 use Rattle.wmsquery.specs.declared.fault.Parameter.TheVariants as parameter
 use Rattle.wmsquery.specs.declared.request.Format.{Format}
-use Rattle.wmsquery.specs.declared.request.Format.TheVariants.{Pixmap, ArbitraryMap}
+use Rattle.wmsquery.specs.declared.request.Format.TheVariants.{Png, Pixmap, ArbitraryMap}
 use Rattle.wmsquery.specs.declared.request.InformationRequest.{InformationRequest}
 use Rattle.wmsquery.specs.declared.request.MapRequest.{MapRequest}
 use Rattle.wmsquery.specs.declared.request.Request.{Request}
@@ -24,11 +25,11 @@ use Rattle.wmsquery.specs.declared.request.Request.TheVariants as request
 use Rattle.wmsquery.specs.Meaning.{HasValues, HasInformation, IsMeaningOf}
 use Rattle.wmsquery.specs.Order.{first_of, first_fault, order, map_order, information_order}
 use Rattle.wmsquery.specs.Pairs.{Texts, some_text, texts_of, given, names_of}
-use Rattle.wmsquery.specs.Query.{operation_in, layer_names, styles_in, area_in, format_in, background_in, asked_in, column_in, row_in, refusal, looked_at}
+use Rattle.wmsquery.specs.Query.{operation_in, layer_names, styles_in, system_in, area_in, format_in, background_in, asked_in, column_in, row_in, refusal, looked_at}
 use Rattle.wmsquery.specs.Values.{and_then, service_of, operation_of, layers_of, styles_of, system_of, area_of, side_of, format_of, transparent_of, background_of, background_for, asked_of, feature_count_of, pixel_of}
-use Rattle.wmsquery.specs.Written.{with_commas, crs_text, bbox_text, format_text, transparent_text, background_text, picture_pairs, feature_pairs, written_pairs, AreNamed, IsBackground, IsColour, IsPicture, IsInformation, IsWritable, WrittenIsMeant}
+use Rattle.wmsquery.specs.Written.{IsKnown, with_commas, crs_text, bbox_text, format_text, transparent_text, background_text, picture_pairs, feature_pairs, written_pairs, AreNamed, IsOffered, IsBackground, IsColour, IsPicture, IsInformation, IsWritable, WrittenIsMeant}
 use Rattle.wmsquery.proofs.FirstFault.{AreAccepted, none-refused, none-both}
-use Rattle.wmsquery.proofs.WrittenAreas.{IsNumberByte, written-plain, digits-plain, area-written, colour-written}
+use Rattle.wmsquery.proofs.WrittenAreas.{IsNumberByte, written-plain, down-plain, up-plain, digits-plain, area-written, colour-written}
 use Rattle.wmsquery.proofs.WrittenLayers.{layers-written, asked-written, same-count, no-commas, names-split}
 use Rattle.wmsquery.proofs.WrittenPairs.{IsTextPair, plain_pair, pairs-written}
 use Rattle.wmsquery.proofs.WrittenTexts.{IsText, ascii-text, tested-text, text-pair, joined-text, names-text, hex-text}
@@ -44,6 +45,7 @@ number-text bs h = ascii-text bs (All-weaker IsNumberByte (λ b. b < 128) (λ b 
 crs-is-text : (crs : Crs) → IsText (crs_text crs)
 crs-is-text Crs84 = tested-text _ refl
 crs-is-text Epsg4326 = tested-text _ refl
+crs-is-text Epsg3857 = tested-text _ refl
 
 -- four coordinates are text
 four-text : (a b c d : List ℕ) → IsText a → IsText b → IsText c → IsText d → IsText (with_commas (a ∷ b ∷ c ∷ d ∷ []))
@@ -53,6 +55,10 @@ four-text a b c d ha hb hc hd =
 
 -- a box is text
 bbox-is-text : (crs : Crs) (area : Area) → IsExtent area → IsText (bbox_text crs area)
+bbox-is-text Epsg3857 area is =
+    four-text (written (metres_down area.minx)) (written (metres_down area.miny)) (written (metres_up area.maxx)) (written (metres_up area.maxy))
+    (number-text _ (down-plain area.minx is.world.west)) (number-text _ (down-plain area.miny is.world.south))
+    (number-text _ (up-plain area.maxx is.world.east)) (number-text _ (up-plain area.maxy is.world.north))
 bbox-is-text Crs84 area is =
     four-text (written area.minx) (written area.miny) (written area.maxx) (written area.maxy)
     (number-text _ (written-plain area.minx is.world.west)) (number-text _ (written-plain area.miny is.world.south))
@@ -85,6 +91,7 @@ texts-more {name} {value} {rest} n v others = record { all = All-cons IsTextPair
 
 -- the name of a format is text, and so are the parameters of a background
 format-is-text : (format : Format) → IsText (format_text format)
+format-is-text Png = tested-text _ refl
 format-is-text Pixmap = tested-text _ refl
 format-is-text ArbitraryMap = tested-text _ refl
 
@@ -98,7 +105,7 @@ background-is-text (Some colour) = hex-text (colour.red ∷ colour.green ∷ col
 
 -- all pairs that say which picture are texts
 picture-texts : (map : MapFields) (crs : Crs) (o : Operation) (names : List (List ℕ)) (r : MapRequest) (more : List (List ℕ × List ℕ)) →
-    IsPicture map names r → AreTexts more → AreTexts (picture_pairs crs o names r ++ more)
+    IsPicture map crs names r → AreTexts more → AreTexts (picture_pairs crs o names r ++ more)
 picture-texts map crs o names r more is others =
     texts-more (tested-text _ refl) (name-is-text o)
     (texts-more (tested-text _ refl) (tested-text _ refl)
@@ -114,8 +121,8 @@ picture-texts map crs o names r more is others =
     others))))))))))
 
 -- and those that say which features
-feature-texts : (map : MapFields) (names queried : List (List ℕ)) (r : InformationRequest) → IsInformation map names queried r → AreTexts (feature_pairs queried r)
-feature-texts map names queried r is =
+feature-texts : (map : MapFields) (crs : Crs) (names queried : List (List ℕ)) (r : InformationRequest) → IsInformation map crs names queried r → AreTexts (feature_pairs queried r)
+feature-texts map crs names queried r is =
     texts-more (tested-text _ refl) (joined-text queried (names-text map r.layers queried is.named))
     (texts-more (tested-text _ refl) (tested-text _ refl)
     (texts-more (tested-text _ refl) (decimal-text r.count (omega (arith, is.count)))
@@ -124,11 +131,11 @@ feature-texts map names queried r is =
     texts-none))))
 
 -- all pairs of a request are texts
-all-texts : (map : MapFields) (crs : Crs) (names queried : List (List ℕ)) (r : Request) → IsWritable map names queried r → AreTexts (written_pairs crs names queried r)
+all-texts : (map : MapFields) (crs : Crs) (names queried : List (List ℕ)) (r : Request) → IsWritable map crs names queried r → AreTexts (written_pairs crs names queried r)
 all-texts map crs names queried request.Capabilities is = texts-more (tested-text _ refl) (name-is-text operation.Capabilities) texts-none
 all-texts map crs names queried (request.Map r) is = picture-texts map crs operation.Map names r [] is texts-none
 all-texts map crs names queried (request.Information r) is =
-    picture-texts map crs operation.Information names r.map (feature_pairs queried r) is.map (feature-texts map names queried r is)
+    picture-texts map crs operation.Information names r.map (feature_pairs queried r) is.map (feature-texts map crs names queried r is)
 
 -- ---- the values
 
@@ -152,6 +159,8 @@ each-some map (i ∷ is) [] are = absurd are
 
 -- nor is a box
 bbox-some : (crs : Crs) (area : Area) → 1 ≤ length (bbox_text crs area)
+bbox-some Epsg3857 area =
+    omega (arith, length-append (written (metres_down area.minx)) (44 ∷ with_commas (written (metres_down area.miny) ∷ written (metres_up area.maxx) ∷ written (metres_up area.maxy) ∷ [])))
 bbox-some Crs84 area = omega (arith, length-append (written area.minx) (44 ∷ with_commas (written area.miny ∷ written area.maxx ∷ written area.maxy ∷ [])))
 bbox-some Epsg4326 area = omega (arith, length-append (written area.miny) (44 ∷ with_commas (written area.minx ∷ written area.maxy ∷ written area.maxx ∷ [])))
 
@@ -172,19 +181,23 @@ operation-written operation.Information = refl
 crs-some : (crs : Crs) → some_text (crs_text crs) ≡ Some (crs_text crs)
 crs-some Crs84 = refl
 crs-some Epsg4326 = refl
+crs-some Epsg3857 = refl
 
-crs-written : (crs : Crs) → system_of (Some (crs_text crs)) ≡ Ok crs
-crs-written Crs84 = refl
-crs-written Epsg4326 = refl
+crs-written : (mercator : Bool) (crs : Crs) → IsKnown mercator crs → system_of mercator (Some (crs_text crs)) ≡ Ok crs
+crs-written mercator Crs84 known = refl
+crs-written mercator Epsg4326 known = refl
+crs-written mercator Epsg3857 known = rw known refl
 
 -- so is the name of a format
 format-some : (format : Format) → some_text (format_text format) ≡ Some (format_text format)
+format-some Png = refl
 format-some Pixmap = refl
 format-some ArbitraryMap = refl
 
-format-written : (o : Operation) (format : Format) → format_of o (Some (format_text format)) ≡ Ok format
-format-written o Pixmap = refl
-format-written o ArbitraryMap = refl
+format-written : (png : Bool) (o : Operation) (format : Format) → IsOffered png format → format_of png o (Some (format_text format)) ≡ Ok format
+format-written png o Png is = rw is refl
+format-written png o Pixmap is = refl
+format-written png o ArbitraryMap is = refl
 
 -- and so are the parameters of a background
 transparent-some : (background : Option Rgb) → some_text (transparent_text background) ≡ Some (transparent_text background)
@@ -218,8 +231,10 @@ background-written format (Some colour) is = colour-written colour is
 
 -- the three mean the background
 background-meant : (format : Format) (background : Option Rgb) → IsBackground format background → background_for format (is_none background) (written_colour background) ≡ background
+background-meant Png None is = refl
 background-meant ArbitraryMap None is = refl
 background-meant Pixmap None is = absurd is
+background-meant Png (Some colour) is = refl
 background-meant ArbitraryMap (Some colour) is = refl
 background-meant Pixmap (Some colour) is = refl
 
@@ -230,7 +245,7 @@ abbrev plain_texts : List (List ℕ × List ℕ) → Texts
 plain_texts pairs = texts_of (map plain_pair pairs)
 
 module _ (map : MapFields) (sequence : ℕ) (crs : Crs) (o : Operation) (names : List (List ℕ)) (r : MapRequest) (more : List (List ℕ × List ℕ))
-    (is : IsPicture map names r) where
+    (is : IsPicture map crs names r) where
   -- the texts of the query
   abbrev t : Texts
   t = plain_texts (picture_pairs crs o names r ++ more)
@@ -252,10 +267,10 @@ module _ (map : MapFields) (sequence : ℕ) (crs : Crs) (o : Operation) (names :
   styles-are = ap (λ p. and_then p (λ q. styles_of q (length (layer_names t)) (t parameter.Styles))) operation-is
 
   -- CRS and BBOX give the area
-  crs-is : system_of (given t parameter.Crs) ≡ Ok crs
-  crs-is = ap system_of (crs-some crs) ∙ crs-written crs
+  crs-is : system_in map t ≡ Ok crs
+  crs-is = ap (system_of map.mercator) (crs-some crs) ∙ crs-written map.mercator crs is.known
 
-  area-is : area_in t ≡ Ok r.area
+  area-is : area_in map t ≡ Ok r.area
   area-is =
       ap (λ s. and_then s (λ system. area_of system (given t parameter.Bbox))) crs-is
       ∙ ap (area_of crs) (some-given _ (bbox-some crs r.area))
@@ -271,11 +286,11 @@ module _ (map : MapFields) (sequence : ℕ) (crs : Crs) (o : Operation) (names :
       ap side_of (some-given (decimal r.height) (numeral r.height (omega (arith, is.height.most))).some) ∙ side-written r.height is.height
 
   -- the format and the background
-  format-is : format_in t ≡ Ok r.format
+  format-is : format_in map t ≡ Ok r.format
   format-is =
-      ap (λ p. and_then p (λ q. format_of q (given t parameter.Format))) operation-is
-      ∙ ap (format_of o) (format-some r.format)
-      ∙ format-written o r.format
+      ap (λ p. and_then p (λ q. format_of map.png q (given t parameter.Format))) operation-is
+      ∙ ap (format_of map.png o) (format-some r.format)
+      ∙ format-written map.png o r.format is.format
 
   transparent-is : transparent_of (given t parameter.Transparent) ≡ Ok (is_none r.background)
   transparent-is = ap transparent_of (transparent-some r.background) ∙ transparent-written r.background
@@ -283,7 +298,7 @@ module _ (map : MapFields) (sequence : ℕ) (crs : Crs) (o : Operation) (names :
   colour-is : background_of (given t parameter.Bgcolor) ≡ Ok (written_colour r.background)
   colour-is = ap background_of (background-some r.background) ∙ background-written r.format r.background is.background
 
-  background-is : background_in t ≡ Ok r.background
+  background-is : background_in map t ≡ Ok r.background
   background-is =
       ap (λ f. and_then f (λ format. and_then (transparent_of (given t parameter.Transparent)) (λ transparent. and_then (background_of (given t parameter.Bgcolor)) (λ colour. Ok (background_for format transparent colour))))) format-is
       ∙ ap (λ b. and_then b (λ transparent. and_then (background_of (given t parameter.Bgcolor)) (λ colour. Ok (background_for r.format transparent colour)))) transparent-is
@@ -297,7 +312,7 @@ module _ (map : MapFields) (sequence : ℕ) (crs : Crs) (o : Operation) (names :
 
   -- and the values are those of the request
   values-are : HasValues map t r
-  values-are = record { chosen = layers-are; area = area-is; width = width-is; height = height-is; format = format-is; background = background-is }
+  values-are = record { chosen = layers-are; crs = crs-is ∙ ap Ok (sym is.own); area = area-is; width = width-is; height = height-is; format = format-is; background = background-is }
 
 -- ---- what comes after SERVICE and REQUEST
 
@@ -312,7 +327,7 @@ no-fault map sequence t o service is none =
 
 -- ---- the values of feature information
 
-module _ (map : MapFields) (sequence : ℕ) (crs : Crs) (names queried : List (List ℕ)) (r : InformationRequest) (is : IsInformation map names queried r) where
+module _ (map : MapFields) (sequence : ℕ) (crs : Crs) (names queried : List (List ℕ)) (r : InformationRequest) (is : IsInformation map crs names queried r) where
   -- the texts of the query
   abbrev u : Texts
   u = plain_texts (picture_pairs crs operation.Information names r.map ++ feature_pairs queried r)
@@ -364,7 +379,7 @@ module _ (map : MapFields) (sequence : ℕ) (crs : Crs) (names queried : List (L
 -- ---- the law
 
 -- the texts that are written out mean the request
-texts-meant : (map : MapFields) (sequence : ℕ) (crs : Crs) (names queried : List (List ℕ)) (r : Request) → IsWritable map names queried r →
+texts-meant : (map : MapFields) (sequence : ℕ) (crs : Crs) (names queried : List (List ℕ)) (r : Request) → IsWritable map crs names queried r →
     IsMeaningOf map sequence (plain_texts (written_pairs crs names queried r)) (Ok r)
 texts-meant map sequence crs names queried request.Capabilities is =
     let known = ap operation_of (name-some operation.Capabilities) ∙ operation-written operation.Capabilities in

@@ -13,17 +13,18 @@ use Rattle.wmsquery.specs.declared.request.Request.{Request}
 use Rattle.wmsquery.specs.declared.request.Request.TheVariants as request
 use Rattle.wmsquery.specs.Order.{first_fault}
 use Rattle.wmsquery.specs.Pairs.{Texts, pairs_of, texts_of, given}
-use Rattle.wmsquery.specs.Query.{operation_in, layer_names, area_in, format_in, background_in, asked_in, column_in, row_in, refusal, looked_at}
+use Rattle.wmsquery.specs.Query.{operation_in, layer_names, system_in, area_in, format_in, background_in, asked_in, column_in, row_in, refusal, looked_at}
 use Rattle.wmsquery.specs.Values.{layers_of, side_of, feature_count_of}
 
 -- the request has the values of the parameters
 pub record HasValues (map : MapFields) (t : Texts) (r : MapRequest) : Type 0 where
   pub chosen : layers_of map (layer_names t) ≡ Ok r.chosen
-  pub area : area_in t ≡ Ok r.area
+  pub crs : system_in map t ≡ Ok r.crs
+  pub area : area_in map t ≡ Ok r.area
   pub width : side_of (given t parameter.Width) ≡ Ok r.width
   pub height : side_of (given t parameter.Height) ≡ Ok r.height
-  pub format : format_in t ≡ Ok r.format
-  pub background : background_in t ≡ Ok r.background
+  pub format : format_in map t ≡ Ok r.format
+  pub background : background_in map t ≡ Ok r.background
 
 -- so has the request for feature information
 pub record HasInformation (m : MapFields) (t : Texts) (r : InformationRequest) : Type 0 where

@@ -2,6 +2,7 @@
 use Rattle.std.specs.Prelude.{ℕ, List, [], ◌∷◌, length, Option, Result, Ok}
 use Rattle.std.specs.Option.{option_map_or}
 use Rattle.std.specs.Result.{result_ok, result_err}
+use Rattle.crsaxes.specs.declared.crs.Crs.{Crs}
 use Rattle.geom.specs.World.{Area}
 use Rattle.operations.specs.declared.operation.Operation.{Operation}
 use Rattle.mapdefs.specs.declared.colour.Rgb.{Rgb}
@@ -18,9 +19,13 @@ use Rattle.wmsquery.specs.Values.{and_then, service_of, operation_of, version_of
 abbrev pub layer_names : Texts → List (List ℕ)
 layer_names t = names_of (given t parameter.Layers)
 
--- the area that BBOX means in the axis order of CRS
-abbrev pub area_in : Texts → Result Area Code
-area_in t = and_then (system_of (given t parameter.Crs)) (λ crs. area_of crs (given t parameter.Bbox))
+-- the coordinate reference system that CRS means
+abbrev pub system_in : MapFields → Texts → Result Crs Code
+system_in map t = system_of map.mercator (given t parameter.Crs)
+
+-- the area that BBOX means in that system
+abbrev pub area_in : MapFields → Texts → Result Area Code
+area_in map t = and_then (system_in map t) (λ crs. area_of crs (given t parameter.Bbox))
 
 -- the operation that REQUEST means
 abbrev pub operation_in : Texts → Result Operation Code
@@ -31,13 +36,13 @@ abbrev pub styles_in : Texts → Result (Unit {0}) Code
 styles_in t = and_then (operation_in t) (λ o. styles_of o (length (layer_names t)) (t parameter.Styles))
 
 -- the format that FORMAT means, in the operation of REQUEST
-abbrev pub format_in : Texts → Result Format Code
-format_in t = and_then (operation_in t) (λ o. format_of o (given t parameter.Format))
+abbrev pub format_in : MapFields → Texts → Result Format Code
+format_in map t = and_then (operation_in t) (λ o. format_of map.png o (given t parameter.Format))
 
 -- the background that FORMAT, TRANSPARENT and BGCOLOR mean
-abbrev pub background_in : Texts → Result (Option Rgb) Code
-background_in t =
-    and_then (format_in t) (λ format.
+abbrev pub background_in : MapFields → Texts → Result (Option Rgb) Code
+background_in map t =
+    and_then (format_in map t) (λ format.
     and_then (transparent_of (given t parameter.Transparent)) (λ transparent.
     and_then (background_of (given t parameter.Bgcolor)) (λ colour.
     Ok (background_for format transparent colour))))
@@ -61,11 +66,11 @@ refusal map sequence t parameter.Request = result_err (operation_in t)
 refusal map sequence t parameter.Version = result_err (version_of (given t parameter.Version))
 refusal map sequence t parameter.Layers = result_err (layers_of map (layer_names t))
 refusal map sequence t parameter.Styles = result_err (styles_in t)
-refusal map sequence t parameter.Crs = result_err (system_of (given t parameter.Crs))
-refusal map sequence t parameter.Bbox = result_err (area_in t)
+refusal map sequence t parameter.Crs = result_err (system_in map t)
+refusal map sequence t parameter.Bbox = result_err (area_in map t)
 refusal map sequence t parameter.Width = result_err (side_of (given t parameter.Width))
 refusal map sequence t parameter.Height = result_err (side_of (given t parameter.Height))
-refusal map sequence t parameter.Format = result_err (format_in t)
+refusal map sequence t parameter.Format = result_err (format_in map t)
 refusal map sequence t parameter.Transparent = result_err (transparent_of (given t parameter.Transparent))
 refusal map sequence t parameter.Bgcolor = result_err (background_of (given t parameter.Bgcolor))
 refusal map sequence t parameter.QueryLayers = result_err (asked_in map t)

@@ -45,18 +45,18 @@ layers_read map o t =
     Ok chosen)))
 
 -- the area and the sides
-abbrev pub viewport_read : Texts → Result Viewport WmsFault
-viewport_read t =
-    and_then (checked parameter.Crs (system_of (given t parameter.Crs))) (λ crs.
+abbrev pub viewport_read : MapFields → Texts → Result Viewport WmsFault
+viewport_read map t =
+    and_then (checked parameter.Crs (system_of map.mercator (given t parameter.Crs))) (λ crs.
     and_then (checked parameter.Bbox (area_of crs (given t parameter.Bbox))) (λ area.
     and_then (checked parameter.Width (side_of (given t parameter.Width))) (λ width.
     and_then (checked parameter.Height (side_of (given t parameter.Height))) (λ height.
-    Ok (record { area = area; width = width; height = height })))))
+    Ok (record { crs = crs; area = area; width = width; height = height })))))
 
 -- the format and the background
-abbrev pub output_read : Operation → Texts → Result Output WmsFault
-output_read o t =
-    and_then (checked parameter.Format (format_of o (given t parameter.Format))) (λ format.
+abbrev pub output_read : MapFields → Operation → Texts → Result Output WmsFault
+output_read map o t =
+    and_then (checked parameter.Format (format_of map.png o (given t parameter.Format))) (λ format.
     and_then (checked parameter.Transparent (transparent_of (given t parameter.Transparent))) (λ transparent.
     and_then (checked parameter.Bgcolor (background_of (given t parameter.Bgcolor))) (λ colour.
     Ok (record { format = format; background = background_for format transparent colour }))))
@@ -65,9 +65,9 @@ output_read o t =
 abbrev pub map_read : MapFields → Operation → Texts → Result MapRequest WmsFault
 map_read map o t =
     and_then (layers_read map o t) (λ chosen.
-    and_then (viewport_read t) (λ viewport.
-    and_then (output_read o t) (λ output.
-    Ok (record { chosen = chosen; area = viewport.area; width = viewport.width; height = viewport.height; format = output.format; background = output.background }))))
+    and_then (viewport_read map t) (λ viewport.
+    and_then (output_read map o t) (λ output.
+    Ok (record { chosen = chosen; crs = viewport.crs; area = viewport.area; width = viewport.width; height = viewport.height; format = output.format; background = output.background }))))
 
 -- the layers whose features are requested
 abbrev pub asked_read : MapFields → Texts → Result (List ℕ) WmsFault

@@ -23,7 +23,7 @@ use Rattle.wmsquery.specs.declared.fault.Code.{Code}
 use Rattle.wmsquery.specs.declared.fault.Code.TheVariants as code
 use Rattle.wmsquery.specs.declared.lists.TheConstants.{MAX_NAMES}
 use Rattle.wmsquery.specs.declared.request.Format.{Format}
-use Rattle.wmsquery.specs.declared.request.Format.TheVariants.{Pixmap, ArbitraryMap}
+use Rattle.wmsquery.specs.declared.request.Format.TheVariants.{Png, Pixmap, ArbitraryMap}
 use Rattle.wmsquery.specs.Pairs.{names_in}
 
 -- the next step with a value, where there is one
@@ -110,9 +110,9 @@ abbrev pub styles_of : Operation → ℕ → Option (List ℕ) → Result (Unit 
 styles_of o count None = absent o tt
 styles_of o count (Some text) = styles_listed count text
 
--- CRS is a known coordinate reference system
-abbrev pub system_of : Option (List ℕ) → Result Crs Code
-system_of text = and_then (required text) (λ name. ok_or (crs_of name) code.InvalidCrs)
+-- CRS is a known coordinate reference system; web mercator where it is offered
+abbrev pub system_of : Bool → Option (List ℕ) → Result Crs Code
+system_of mercator text = and_then (required text) (λ name. ok_or (crs_of mercator name) code.InvalidCrs)
 
 -- BBOX is a box in the axis order of a system
 abbrev pub area_of : Crs → Option (List ℕ) → Result Area Code
@@ -122,16 +122,17 @@ area_of crs text = and_then (required text) (λ box. ok_or (result_ok (box_of_pa
 abbrev pub side_of : Option (List ℕ) → Result ℕ Code
 side_of text = and_then (required text) (λ digits. ok_or (option_and_then picture_side (number_in digits)) code.InvalidParameterValue)
 
--- the format with a name: portable pixmaps, or portable arbitrary maps
-abbrev pub format_named : List ℕ → Result Format Code
-format_named name =
+-- the format with a name: portable pixmaps, portable arbitrary maps, and PNG where it is offered
+abbrev pub format_named : Bool → List ℕ → Result Format Code
+format_named png name =
     if is_same_name name (codes "image/x-portable-pixmap") then Ok Pixmap
-    else (if is_same_name name (codes "image/x-portable-arbitrarymap") then Ok ArbitraryMap else Err code.InvalidFormat)
+    else (if is_same_name name (codes "image/x-portable-arbitrarymap") then Ok ArbitraryMap
+    else (if png && is_same_name name (codes "image/png") then Ok Png else Err code.InvalidFormat))
 
 -- FORMAT is the name of a format
-abbrev pub format_of : Operation → Option (List ℕ) → Result Format Code
-format_of o None = absent o Pixmap
-format_of o (Some name) = format_named name
+abbrev pub format_of : Bool → Operation → Option (List ℕ) → Result Format Code
+format_of png o None = absent o Pixmap
+format_of png o (Some name) = format_named png name
 
 -- TRANSPARENT is TRUE or FALSE without case, FALSE where it is missing
 abbrev pub transparent_of : Option (List ℕ) → Result Bool Code
@@ -153,6 +154,8 @@ background_of (Some text) = ok_or (colour_of text) code.InvalidParameterValue
 
 -- the background is none if the format can be transparent and TRANSPARENT is TRUE, else the colour of BGCOLOR
 abbrev pub background_for : Format → Bool → Rgb → Option Rgb
+background_for Png true colour = None
+background_for Png false colour = Some colour
 background_for ArbitraryMap true colour = None
 background_for ArbitraryMap false colour = Some colour
 background_for Pixmap transparent colour = Some colour

@@ -1,11 +1,12 @@
 -- Queries that are written out from a request (OGC 06-042, 7.2 to 7.4; URL Standard, application/x-www-form-urlencoded).
-use Rattle.std.specs.Prelude.{◌≡◌, ◌≢◌, ℕ, ◌≤◌, ◌<◌, true, List, [], ◌∷◌, ◌++◌, All, Contains, length, Option, None, Some, Ok, codes, IsUtf8}
+use Rattle.std.specs.Prelude.{◌≡◌, ◌≢◌, ℕ, ◌≤◌, ◌<◌, Bool, true, List, [], ◌∷◌, ◌++◌, All, Contains, length, Option, None, Some, Ok, codes, IsUtf8}
 use Rattle.std.specs.Fmt.{decimal}
 use Rattle.std.specs.List.{join_with_byte}
 use Rattle.form_urlencoded.specs.Form.{extend_pairs}
 use Rattle.hex.specs.Hex.{encode_lower}
+use Rattle.crsaxes.specs.Metres.{metres_down, metres_up}
 use Rattle.crsaxes.specs.declared.crs.Crs.{Crs}
-use Rattle.crsaxes.specs.declared.crs.Crs.TheVariants.{Crs84, Epsg4326}
+use Rattle.crsaxes.specs.declared.crs.Crs.TheVariants.{Crs84, Epsg3857, Epsg4326}
 use Rattle.geom.specs.Side.{IsPictureSide}
 use Rattle.geom.specs.World.{Area, IsExtent}
 use Rattle.geom.specs.Written.{written}
@@ -18,7 +19,7 @@ use Rattle.operations.specs.declared.operation.Operation.{Operation}
 use Rattle.operations.specs.declared.operation.Operation.TheVariants as operation
 use Rattle.wmsquery.specs.declared.lists.TheConstants.{MAX_NAMES}
 use Rattle.wmsquery.specs.declared.request.Format.{Format}
-use Rattle.wmsquery.specs.declared.request.Format.TheVariants.{Pixmap, ArbitraryMap}
+use Rattle.wmsquery.specs.declared.request.Format.TheVariants.{Png, Pixmap, ArbitraryMap}
 use Rattle.wmsquery.specs.declared.request.InformationRequest.{InformationRequest}
 use Rattle.wmsquery.specs.declared.request.MapRequest.{MapRequest}
 use Rattle.wmsquery.specs.declared.request.Request.{Request}
@@ -34,11 +35,20 @@ with_commas texts = join_with_byte 44 texts
 abbrev pub crs_text : Crs → List ℕ
 crs_text Crs84 = codes "CRS:84"
 crs_text Epsg4326 = codes "EPSG:4326"
+crs_text Epsg3857 = codes "EPSG:3857"
 
--- the sides of a box in the axis order of a system, written out in degrees with six decimals
+-- a system is known: web mercator where the map offers it
+abbrev pub IsKnown : Bool → Crs → Type 0
+IsKnown mercator Crs84 = Unit {0}
+IsKnown mercator Epsg4326 = Unit {0}
+IsKnown mercator Epsg3857 = mercator ≡ true
+
+-- the sides of a box in the axis order of a system, written out with six decimals: in degrees, or in metres rounded outwards
 abbrev pub bbox_text : Crs → Area → List ℕ
 bbox_text Crs84 area = with_commas (written area.minx ∷ written area.miny ∷ written area.maxx ∷ written area.maxy ∷ [])
 bbox_text Epsg4326 area = with_commas (written area.miny ∷ written area.minx ∷ written area.maxy ∷ written area.maxx ∷ [])
+bbox_text Epsg3857 area =
+    with_commas (written (metres_down area.minx) ∷ written (metres_down area.miny) ∷ written (metres_up area.maxx) ∷ written (metres_up area.maxy) ∷ [])
 
 -- a colour: `0x` and two hexadecimal digits each of red, green and blue
 abbrev pub colour_text : Rgb → List ℕ
@@ -46,6 +56,7 @@ colour_text colour = codes "0x" ++ encode_lower (colour.red ∷ colour.green ∷
 
 -- the name of a format
 abbrev pub format_text : Format → List ℕ
+format_text Png = codes "image/png"
 format_text Pixmap = codes "image/x-portable-pixmap"
 format_text ArbitraryMap = codes "image/x-portable-arbitrarymap"
 
@@ -124,27 +135,37 @@ pub record IsColour (colour : Rgb) : Type 0 where
   pub green : colour.green < 256
   pub blue : colour.blue < 256
 
--- a background is a colour, or in an arbitrary map none
+-- a format is offered: PNG where the map says so
+abbrev pub IsOffered : Bool → Format → Type 0
+IsOffered png Png = png ≡ true
+IsOffered png Pixmap = Unit {0}
+IsOffered png ArbitraryMap = Unit {0}
+
+-- a background is a colour, or in PNG and in an arbitrary map none
 abbrev pub IsBackground : Format → Option Rgb → Type 0
 IsBackground format (Some colour) = IsColour colour
+IsBackground Png None = Unit {0}
 IsBackground ArbitraryMap None = Unit {0}
 IsBackground Pixmap None = ⊥
 
--- a request of 1 to `MAX_NAMES` layers of these names, an extent of the world, sides that a picture may have, and a
--- background of its format
-pub record IsPicture (map : MapFields) (names : List (List ℕ)) (request : MapRequest) : Type 0 where
+-- a request of 1 to `MAX_NAMES` layers of these names, an extent of the world in a known system, sides that a picture may have, a
+-- format that the map offers, and a background of its format
+pub record IsPicture (map : MapFields) (crs : Crs) (names : List (List ℕ)) (request : MapRequest) : Type 0 where
   pub some : 1 ≤ length request.chosen
   pub most : length request.chosen ≤ MAX_NAMES
   pub named : AreNamed map request.chosen names
+  pub own : request.crs ≡ crs
+  pub known : IsKnown map.mercator crs
   pub area : IsExtent request.area
   pub width : IsPictureSide request.width
   pub height : IsPictureSide request.height
+  pub format : IsOffered map.png request.format
   pub background : IsBackground request.format request.background
 
 -- a request for 1 to `MAX_NAMES` layers of a picture that are queryable, by these names, a count of features that a layer may
 -- have, and a pixel of the picture
-pub record IsInformation (m : MapFields) (names queried : List (List ℕ)) (request : InformationRequest) : Type 0 where
-  pub map : IsPicture m names request.map
+pub record IsInformation (m : MapFields) (crs : Crs) (names queried : List (List ℕ)) (request : InformationRequest) : Type 0 where
+  pub map : IsPicture m crs names request.map
   pub some : 1 ≤ length request.layers
   pub most : length request.layers ≤ MAX_NAMES
   pub named : AreNamed m request.layers queried
@@ -156,12 +177,12 @@ pub record IsInformation (m : MapFields) (names queried : List (List ℕ)) (requ
   pub row : request.row < request.map.height
 
 -- the request can be written out, with these names
-abbrev pub IsWritable : MapFields → List (List ℕ) → List (List ℕ) → Request → Type 0
-IsWritable map names queried request.Capabilities = Unit {0}
-IsWritable map names queried (request.Map picture) = IsPicture map names picture
-IsWritable map names queried (request.Information information) = IsInformation map names queried information
+abbrev pub IsWritable : MapFields → Crs → List (List ℕ) → List (List ℕ) → Request → Type 0
+IsWritable map crs names queried request.Capabilities = Unit {0}
+IsWritable map crs names queried (request.Map picture) = IsPicture map crs names picture
+IsWritable map crs names queried (request.Information information) = IsInformation map crs names queried information
 
 -- the law that a query that is written out from a request means that request, in each system and at each sequence
 abbrev pub WrittenIsMeant : Type 0
 WrittenIsMeant = (map : MapFields) (sequence : ℕ) (crs : Crs) (names queried : List (List ℕ)) (request : Request) →
-    IsWritable map names queried request → IsMeaning map sequence (written_query crs names queried request) (Ok request)
+    IsWritable map crs names queried request → IsMeaning map sequence (written_query crs names queried request) (Ok request)

@@ -15,8 +15,8 @@ pub fn one_meaning()
     ensures { MeaningIsOne }
 {}
 
-/// A query that is written out from a request, in either axis order, means that request: each layer by
-/// its name, the sides of the box in degrees, the background as hexadecimal digits.
+/// A query that is written out from a request, in any system that the map offers, means that request: each layer by
+/// its name, the sides of the box in degrees or in metres, the background as hexadecimal digits.
 pub fn written_requests()
     ensures { WrittenIsMeant }
 {}

@@ -11,6 +11,7 @@ use crate::lists::{layers, styles};
 use crate::request::{Format, MapRequest};
 use crate::texts::ParameterTexts;
 use crate::values::{area, background, background_for, format, side, system, transparent, version};
+use crsaxes::Crs;
 use geom::{PictureSide, WorldBox};
 use mapdefs::{Items, Map, Rgb};
 use operations::Operation;
@@ -19,6 +20,7 @@ use std::alloc::Global;
 /// Which part of the world a picture shows, and by how many pixels.
 #[derive(Clone, Copy)]
 pub struct Viewport {
+    pub crs: Crs,
     pub area: WorldBox,
     pub width: PictureSide,
     pub height: PictureSide,
@@ -54,15 +56,19 @@ fn read_layers(
 }
 
 // The area and the sides of a picture.
-fn read_viewport(texts: &ParameterTexts) -> Result<Viewport, WmsFault>
-    ensures value { result ≡ viewport_read (kept texts.now) }
+fn read_viewport(texts: &ParameterTexts, map: &Map) -> Result<Viewport, WmsFault>
+    ensures value { result ≡ viewport_read map.now (kept texts.now) }
     ensures extent { IfOk result (λ viewport. IsExtent viewport.area) }
 {
-    let crs = checked(Parameter::Crs, system(texts.given(Parameter::Crs)))?;
+    let crs = checked(
+        Parameter::Crs,
+        system(map.get().mercator, texts.given(Parameter::Crs)),
+    )?;
     let area = checked(Parameter::Bbox, area(crs, texts.given(Parameter::Bbox)))?;
     let width = checked(Parameter::Width, side(texts.given(Parameter::Width)))?;
     let height = checked(Parameter::Height, side(texts.given(Parameter::Height)))?;
     Ok(Viewport {
+        crs,
         area,
         width,
         height,
@@ -70,10 +76,10 @@ fn read_viewport(texts: &ParameterTexts) -> Result<Viewport, WmsFault>
 }
 
 // The format and the background of a picture.
-fn read_output(operation: Operation, texts: &ParameterTexts) -> Result<Output, WmsFault>
-    ensures { result ≡ output_read operation (kept texts.now) }
+fn read_output(operation: Operation, texts: &ParameterTexts, map: &Map) -> Result<Output, WmsFault>
+    ensures { result ≡ output_read map.now operation (kept texts.now) }
 {
-    let format = format(operation, texts.given(Parameter::Format));
+    let format = format(map.get().png, operation, texts.given(Parameter::Format));
     let format = checked(Parameter::Format, format)?;
     let transparent = transparent(texts.given(Parameter::Transparent));
     let transparent = checked(Parameter::Transparent, transparent)?;
@@ -100,10 +106,11 @@ pub fn read_map(
     ensures within { IfOk result (IsMapWithin (length map.now.layers)) }
 {
     let chosen = read_layers(alloc, operation, texts, names, map)?;
-    let viewport = read_viewport(texts)?;
-    let output = read_output(operation, texts)?;
+    let viewport = read_viewport(texts, map)?;
+    let output = read_output(operation, texts, map)?;
     Ok(MapRequest {
         chosen,
+        crs: viewport.crs,
         area: viewport.area,
         width: viewport.width,
         height: viewport.height,

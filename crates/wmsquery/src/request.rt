@@ -1,9 +1,12 @@
+use crsaxes::Crs;
 use geom::{PictureSide, WorldBox};
 use mapdefs::{Items, Rgb};
 
 /// The format of a picture.
 #[derive(Clone, Copy)]
 pub enum Format {
+    /// Portable Network Graphics (PNG), in which a pixel may be transparent. It is one where the map offers it.
+    Png,
     /// Netpbm's portable pixmap (PPM), in which each pixel has a colour.
     Pixmap,
     /// Netpbm's portable arbitrary map (PAM), in which a pixel may be transparent.
@@ -15,7 +18,9 @@ pub enum Format {
 pub struct MapRequest {
     /// The indices of the layers in the map, in the order in which they are painted.
     pub chosen: Items<usize>,
-    /// The area of the world that the picture shows.
+    /// The coordinate reference system of the picture.
+    pub crs: Crs,
+    /// The area that the picture shows, in degrees, or in web mercator in degrees of the equator.
     pub area: WorldBox,
     /// The width of the picture.
     pub width: PictureSide,

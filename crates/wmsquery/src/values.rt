@@ -78,12 +78,12 @@ pub fn version(text: Option<&str>) -> Result<(), Code>
     }
 }
 
-/// The coordinate reference system that CRS means.
-pub fn system(text: Option<&str>) -> Result<Crs, Code>
-    ensures { result ≡ system_of (option_copied text.entry) }
+/// The coordinate reference system that CRS means, of a map that offers web mercator or doesn't.
+pub fn system(mercator: bool, text: Option<&str>) -> Result<Crs, Code>
+    ensures { result ≡ system_of mercator (option_copied text.entry) }
 {
     match text {
-        Some(name) => crs_of(name).ok_or(Code::InvalidCrs),
+        Some(name) => crs_of(mercator, name).ok_or(Code::InvalidCrs),
         None => Err(Code::MissingParameterValue),
     }
 }
@@ -125,9 +125,9 @@ pub fn side(text: Option<&str>) -> Result<PictureSide, Code>
     side_within(pixels).ok_or(Code::InvalidParameterValue)
 }
 
-/// The format that FORMAT means.
-pub fn format(operation: Operation, text: Option<&str>) -> Result<Format, Code>
-    ensures { result ≡ format_of operation (option_copied text.entry) }
+/// The format that FORMAT means, of a map that offers PNG or doesn't.
+pub fn format(png: bool, operation: Operation, text: Option<&str>) -> Result<Format, Code>
+    ensures { result ≡ format_of png operation (option_copied text.entry) }
 {
     let Some(name) = text else {
         return absent(operation, Format::Pixmap);
@@ -136,6 +136,8 @@ pub fn format(operation: Operation, text: Option<&str>) -> Result<Format, Code>
         Ok(Format::Pixmap)
     } else if name == "image/x-portable-arbitrarymap" {
         Ok(Format::ArbitraryMap)
+    } else if png && name == "image/png" {
+        Ok(Format::Png)
     } else {
         Err(Code::InvalidFormat)
     }
@@ -188,8 +190,8 @@ pub fn background_for(format: Format, transparent: bool, colour: Rgb) -> Option<
     ensures { result ≡ background_for format transparent colour }
 {
     match format {
-        Format::ArbitraryMap if transparent => None,
-        Format::ArbitraryMap | Format::Pixmap => Some(colour),
+        Format::Png | Format::ArbitraryMap if transparent => None,
+        Format::Png | Format::ArbitraryMap | Format::Pixmap => Some(colour),
     }
 }
 
