@@ -7,3 +7,4 @@ pub mod Search
 pub mod Within
 pub mod Words
 pub mod Written
+pub mod WrittenFont

@@ -89,7 +89,7 @@ cut [] = record { others = []; parts = refl; after = refl }
 cut (b ∷ bs) = cut-cons b bs (is_space b) refl (cut bs)
 
 -- a first part that is not empty is a word
-kept-first : (word : List ℕ) (others : List (List ℕ)) → 0 < length word → filter (λ w. nat_lt 0 (length w)) (word ∷ others) ≡ word ∷ filter (λ w. nat_lt 0 (length w)) others
+pub kept-first : (word : List ℕ) (others : List (List ℕ)) → 0 < length word → filter (λ w. nat_lt 0 (length w)) (word ∷ others) ≡ word ∷ filter (λ w. nat_lt 0 (length w)) others
 kept-first [] others h = absurd (omega arith)
 kept-first (b ∷ bs) others h = let some : nat_lt 0 (suc (length bs)) ≡ true = grind (arith, nat_tests) in rw some refl
 

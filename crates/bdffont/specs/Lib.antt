@@ -7,3 +7,4 @@ pub mod Keyword
 pub mod Number
 pub mod Sections
 pub mod Words
+pub mod Writing

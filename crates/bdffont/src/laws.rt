@@ -3,11 +3,23 @@
 ghost use Rattle.bdffont.specs.Bits.{WrittenRowIsRead};
 ghost use Rattle.bdffont.specs.File.{FileHasOneFont};
 ghost use Rattle.bdffont.specs.Ink.{InkIsOfACharacter};
+ghost use Rattle.bdffont.specs.Writing.{OtherLinesAreSkipped, WrittenFontIsRead};
 
 /// A row of pixels that is written out in hexadecimal digits, four pixels in each and the leftmost as
 /// its highest bit, is a row of its width and is read back.
 pub fn written_row_is_read()
     ensures { WrittenRowIsRead }
+{}
+
+/// A font that is written out is read as that font: its box, the number of its glyphs, and of each glyph STARTCHAR,
+/// ENCODING, DWIDTH, BBX, BITMAP, its rows and ENDCHAR.
+pub fn written_font_is_read()
+    ensures { WrittenFontIsRead }
+{}
+
+/// A line whose first word is no keyword, after STARTFONT and outside of a glyph's rows, changes nothing.
+pub fn other_lines_are_skipped()
+    ensures { OtherLinesAreSkipped }
 {}
 
 /// A file has one font. Two fonts that are ordered by their encodings, and have for each encoding the first

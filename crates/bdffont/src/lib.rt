@@ -3,8 +3,9 @@
 //! Proved: `read` gives the font that a file describes (clause `font`) or its first fault with its
 //! line (`error`), for any bytes. `extent` is the sum of the advances and the height of the font's box
 //! (`width`, `height`), and `ink` says of each pixel whether a text has ink there. Laws state that a
-//! file has one font, that a row which is written out is read back, and that ink is that of a
-//! character, the pen having advanced by those before it (`laws`). `split_char`, `glyph_of`, `advance_of` and
+//! file has one font, that a font or a row which is written out is read back, that lines which begin with
+//! no keyword change nothing, and that ink is that of a character, the pen having advanced by those before
+//! it (`laws`). `split_char`, `glyph_of`, `advance_of` and
 //! `corner_of` give a text's glyphs one by one, and the corner of each; `inks_at` says what one of them inks.
 //!
 //! Terms: a *section* is the part of a file in which a line stands, as a header or the rows of a glyph. The

@@ -3,13 +3,18 @@ use geom::{Micro, World, WorldBox};
 use std::alloc::{AllocError, Global};
 use test_maps::place;
 use test_tables::{TableFault, check_rows, numbers};
-use viewport::{MAX_MARGIN, Projection, View};
+use viewport::{Heights, MAX_MARGIN, Projection, View};
 
 // Four degrees by four degrees in four pixels by four pixels.
 fn square() -> View {
     let low = Micro::new(0);
     let high = Micro::new(4_000_000);
-    View::new(WorldBox::new(low, low, high, high), side(4), side(4))
+    View::new(
+        Heights::Latitudes,
+        WorldBox::new(low, low, high, high),
+        side(4),
+        side(4),
+    )
 }
 
 // Three degrees by six in four pixels by two: a pixel is three quarters of a degree wide.
@@ -17,7 +22,12 @@ fn oblong() -> View {
     let low = Micro::new(0);
     let east = Micro::new(3_000_000);
     let north = Micro::new(6_000_000);
-    View::new(WorldBox::new(low, low, east, north), side(4), side(2))
+    View::new(
+        Heights::Latitudes,
+        WorldBox::new(low, low, east, north),
+        side(4),
+        side(2),
+    )
 }
 
 // The smallest area in the largest picture.
@@ -25,6 +35,7 @@ fn dot() -> View {
     let low = Micro::new(0);
     let high = Micro::new(1);
     View::new(
+        Heights::Latitudes,
         WorldBox::new(low, low, high, high),
         side(2_048),
         side(2_048),
@@ -35,14 +46,24 @@ fn dot() -> View {
 fn world() -> View {
     let low = Micro::new(-1_000_000_000);
     let high = Micro::new(1_000_000_000);
-    View::new(WorldBox::new(low, low, high, high), side(3), side(1))
+    View::new(
+        Heights::Latitudes,
+        WorldBox::new(low, low, high, high),
+        side(3),
+        side(1),
+    )
 }
 
 // The same area, 2,048 pixels wide.
 fn wide() -> View {
     let low = Micro::new(-1_000_000_000);
     let high = Micro::new(1_000_000_000);
-    View::new(WorldBox::new(low, low, high, high), side(2_048), side(1))
+    View::new(
+        Heights::Latitudes,
+        WorldBox::new(low, low, high, high),
+        side(2_048),
+        side(1),
+    )
 }
 
 // The smallest area in the world's south-eastern corner, one pixel wide and 2,048 high.
@@ -50,6 +71,7 @@ fn corner() -> View {
     let (west, east) = (Micro::new(999_999_999), Micro::new(1_000_000_000));
     let (south, north) = (Micro::new(-1_000_000_000), Micro::new(-999_999_999));
     View::new(
+        Heights::Latitudes,
         WorldBox::new(west, south, east, north),
         side(1),
         side(2_048),
@@ -60,7 +82,12 @@ fn corner() -> View {
 fn thirds() -> View {
     let low = Micro::new(0);
     let high = Micro::new(3);
-    View::new(WorldBox::new(low, low, high, high), side(1), side(2_048))
+    View::new(
+        Heights::Latitudes,
+        WorldBox::new(low, low, high, high),
+        side(1),
+        side(2_048),
+    )
 }
 
 // The view of a name.

@@ -104,5 +104,5 @@ pub(crate) fn placed_of(
 ) -> Result<Vec<Placed>, AllocError> {
     let mut cache = Cache::new(alloc);
     add_all(&mut cache, entries)?;
-    cache.place(alloc, width, height, font)
+    cache.place(width, height, font)
 }

@@ -9,7 +9,7 @@ use mapdefs::{AllFeatures, Map, Near, Picture, Rgb};
 use scaledenom::Scale;
 use std::alloc::{AllocError, Global};
 use test_tables::{TableFault, check_rows};
-use viewport::View;
+use viewport::{Heights, View};
 
 // The letter of a colour, `.` where there is none.
 fn letter(colour: Option<Rgb>) -> char {
@@ -54,7 +54,12 @@ fn view_from(low: i64) -> View
 {
     let (low, high) = (Micro::new(low), Micro::new(low + 10_000_000));
     let side = PictureSide::new(10).unwrap();
-    View::new(WorldBox::new(low, low, high, high), side, side)
+    View::new(
+        Heights::Latitudes,
+        WorldBox::new(low, low, high, high),
+        side,
+        side,
+    )
 }
 
 // The picture of the chosen layers.

@@ -65,16 +65,21 @@ impl Cache<'_> {
 
     /// The placement of the candidates on a picture of that width and height, with the font.
     ///
-    /// It takes memory for the labels, for the indices that tests query, and for some advances of the font.
+    /// Where there are candidates, it takes memory for the labels, for the indices that tests query, and for some advances
+    /// of the font, all from the allocator of the candidates.
+    #[tactic(auto, using(crate::proofs::Unlabelled::none_placed))]
     pub fn place(
         &self,
-        alloc: Global,
         width: PictureSide,
         height: PictureSide,
         font: &Font,
     ) -> Result<Vec<Placed>, AllocError>
         ensures { IfOk result (λ labels. IsPlacement (setting (record { width = width; height = height; font = font.now }) self.now) labels.items) }
     {
+        let alloc = *self.candidates.allocator();
+        if self.candidates.is_empty() {
+            return Ok(Vec::new(alloc));
+        }
         let page = Page::new(alloc, width, height, font)?;
         place_all(alloc, &page, &self.candidates)
     }

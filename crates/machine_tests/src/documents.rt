@@ -2,6 +2,7 @@ use crate::maps::map_of;
 use capabilities::document;
 use std::alloc::{AllocError, Global};
 use std::test::Fail;
+use test_tables::{TableFault, check_rows};
 
 // Two layers, of which the first is queryable.
 const LAYERS: &str = "\
@@ -76,4 +77,46 @@ fn has_document(alloc: Global) -> Result<bool, AllocError> {
 fn a_map_has_its_document(rt: HostRuntime) -> Result<(), Fail> {
     assert!(rt; has_document(rt.alloc())?);
     Ok(())
+}
+
+// The sides of the box in metres, as far as there is one, and the words of a MAP that offers web mercator. They are worked out
+// from the ordinates of docs/DRAWING.md: a degree of the equator has 111319.490793273... metres.
+const METRES: &str = "\
+minx=\"111319.490793\" miny=\"-278387.114659\" maxx=\"3339584.723799\" maxy=\"445640.085477\"|EXTENT 1 -2.5 30 4
+# to the square world in the south and in the north, and beyond it in the east
+minx=\"-20037508.342790\" miny=\"-20037508.342790\" maxx=\"20037508.342790\" maxy=\"20037508.342790\"|EXTENT -180 -90 180 90
+minx=\"-20037508.342790\" miny=\"-20037508.342790\" maxx=\"20037508.342790\" maxy=\"20037508.342790\"|
+minx=\"16697923.618991\" miny=\"-6446275.825838\" maxx=\"23377093.066588\" maxy=\"0.000000\"|EXTENT 150 -50 210 0
+minx=\"1113194.907932\" miny=\"-20037508.342790\" maxx=\"2226389.815866\" maxy=\"-20037507.340913\"|EXTENT 10 -86 20 -85.051128
+# beyond the square world
+nothing|EXTENT 10 86 20 89
+nothing|EXTENT 10 -86 20 -85.051129";
+
+// What stands between two texts of a document, or `nothing`.
+fn between<'a>(text: &'a str, before: &str, after: &str) -> &'a str {
+    match text.split_once(before) {
+        Some((_, rest)) => match rest.split_once(after) {
+            Some((part, _)) => part,
+            None => "nothing",
+        },
+        None => "nothing",
+    }
+}
+
+fn metres_of(alloc: Global, words: &str) -> Result<String, AllocError> {
+    let mapfile = format!(in alloc; "MAP CONFIG WMS_CRS EPSG:3857 {words} END")?;
+    let map = map_of(alloc, mapfile.as_str())?;
+    let bytes = document(alloc, 0, &map)?;
+    match str::from_utf8(bytes.as_slice()) {
+        Ok(text) => String::from_str(
+            alloc,
+            between(text, "<BoundingBox CRS=\"EPSG:3857\" ", "/>"),
+        ),
+        Err(_) => String::from_str(alloc, "not UTF-8"),
+    }
+}
+
+#[test]
+fn maps_have_their_box_in_metres(rt: HostRuntime) -> Result<(), TableFault> {
+    check_rows(rt.alloc(), METRES, '|', 7, metres_of)
 }

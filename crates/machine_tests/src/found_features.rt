@@ -8,7 +8,7 @@ use scaledenom::Scale;
 use std::alloc::{AllocError, Global};
 use test_maps::InWindow;
 use test_tables::{TableFault, check_rows};
-use viewport::{MAX_MARGIN, View};
+use viewport::{Heights, MAX_MARGIN, View};
 
 // A layer of three points in one pixel, with the default tolerance of a layer of points.
 const POINTS: &str = "\
@@ -44,6 +44,7 @@ fn hits_in_window(alloc: Global, map: &Map, margin: u16, count: u32) -> Result<S
     let four = Micro::new(4_000_000);
     let side = PictureSide::new(4).unwrap();
     let view = View::new(
+        Heights::Latitudes,
         WorldBox::new(Micro::new(0), Micro::new(0), four, four),
         side,
         side,

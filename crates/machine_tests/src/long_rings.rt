@@ -78,13 +78,13 @@ fn is_answered(alloc: Global, last: u8) -> Result<bool, AllocError> {
     is_painted(alloc, &machine, last)
 }
 
-// A body that tests each edge for each pixel would make 2^44 tests.
 #[test]
-fn a_ring_of_65536_vertices_is_painted_64_times(rt: HostRuntime) -> Result<(), Fail> {
+fn a_ring_of_65536_vertices_that_is_named_64_times_is_painted(rt: HostRuntime) -> Result<(), Fail> {
     assert!(rt; is_answered(rt.alloc(), 0)?);
     Ok(())
 }
 
+// A body that tests each edge for each pixel would make 2^44 tests.
 #[test]
 fn rings_of_64_layers_are_painted(rt: HostRuntime) -> Result<(), Fail> {
     assert!(rt; is_answered(rt.alloc(), 63)?);

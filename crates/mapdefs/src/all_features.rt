@@ -1,4 +1,5 @@
-ghost use Rattle.std.specs.Prelude.{◌≡◌};
+ghost use Rattle.std.specs.Prelude.{◌≡◌, ◌<◌, length, IfOk};
+ghost use Rattle.mapdefs.specs.Near.{AreAllOf, AreCandidatesOf};
 
 use crate::{Map, Near};
 use geom::WorldBox;
@@ -23,7 +24,11 @@ impl<'a> AllFeatures<'a> {
 impl<'a> Near for AllFeatures<'a> {
     ghost map_of = { λ a. a.map.now };
 
-    fn candidates(&self, layer: usize, _window: WorldBox) -> Result<Vec<u32>, AllocError> {
+    fn candidates(&self, layer: usize, _window: WorldBox) -> Result<Vec<u32>, AllocError>
+        requires layer { layer < length self.now.map.now.layers }
+        ensures near { IfOk result (λ found. AreCandidatesOf self.now.map.now layer _window found.items) }
+        ensures all { IfOk result (λ found. AreAllOf self.now.map.now layer found.items) }
+    {
         let layer = &self.map.get().layers.as_slice()[layer];
         let count = layer.get().features.len();
         let mut found = Vec::with_capacity(self.alloc, count)?;

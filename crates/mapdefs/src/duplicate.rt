@@ -79,6 +79,8 @@ impl Duplicate for Map {
             title: fields.title.duplicate(alloc)?,
             url: fields.url.duplicate(alloc)?,
             extent: fields.extent,
+            png: fields.png,
+            mercator: fields.mercator,
             font: fields.font.duplicate(alloc)?,
             symbols: fields.symbols.duplicate(alloc)?,
             layers: fields.layers.duplicate(alloc)?,

@@ -16,6 +16,10 @@ pub struct MapFields {
     pub url: Text,
     /// The part of the world that the map shows.
     pub extent: WorldBox,
+    /// Whether the service offers pictures in the format PNG.
+    pub png: bool,
+    /// Whether the service offers pictures in web mercator.
+    pub mercator: bool,
     /// The font of the labels.
     pub font: Option<Shared<Font>>,
     pub symbols: SharedItems<Symbol>,

@@ -1,5 +1,5 @@
 -- What in a map isn't as its clients need it, though the map has no fault (docs/MAPFILE.md, "Warnings").
-use Rattle.std.specs.Prelude.{◌==◌, ◌&&◌, ◌||◌, not, ℕ, ◌+◌, pos, neg_ℤ, int_lt, is_some, nat_eq, Bool, true, false, List, [], ◌∷◌, ◌++◌, Option, None, Some, codes}
+use Rattle.std.specs.Prelude.{◌==◌, ◌&&◌, ◌||◌, not, ℕ, ◌+◌, pos, neg_ℤ, int_lt, is_some, nat_eq, Bool, true, false, List, [], ◌∷◌, ◌++◌, length, Option, None, Some, codes}
 use Rattle.std.specs.Cmp.Lexicographic.{pointwise}
 use Rattle.std.specs.Fmt.{decimal}
 use Rattle.std.specs.List.{flat_map, list_any}
@@ -41,9 +41,10 @@ is_beyond_degrees area =
 -- those on the texts of a layer of a number: its name can't be requested, its name and its title can't be in a document of XML
 abbrev pub text_warnings : ℕ → LayerFields → List Warning
 text_warnings number layer =
-    warned (list_any is_comma layer.name) (on_layer number concern.CommaInName)
+    warned (length layer.name == 0) (on_layer number concern.EmptyName)
+    ++ (warned (list_any is_comma layer.name) (on_layer number concern.CommaInName)
     ++ (warned (has_forbidden layer.name) (on_layer number concern.ForbiddenInName)
-    ++ warned (has_forbidden layer.title) (on_layer number concern.ForbiddenInTitle))
+    ++ warned (has_forbidden layer.title) (on_layer number concern.ForbiddenInTitle)))
 
 -- those on what looks at items that the layer doesn't have
 abbrev pub item_warnings : ℕ → LayerFields → List Warning
@@ -88,6 +89,7 @@ subject_of (Some number) = codes "LAYER " ++ decimal number
 -- the message on what isn't as it should be there
 unfoldable pub message_of : Concern → List ℕ
 message_of concern.NoAddress = codes " has no wms_onlineresource, and http://localhost/wms? has no port"
+message_of concern.EmptyName = codes " has an empty NAME, so that LAYERS can't ask for it"
 message_of concern.CommaInName = codes " has a NAME with a comma, so that LAYERS can't ask for it"
 message_of concern.ForbiddenInName = codes " has a NAME with a character that XML forbids"
 message_of concern.ForbiddenInTitle = codes " has a title with a character that XML forbids"

@@ -48,7 +48,11 @@ fn header(alloc: Global, bytes: &[u8]) -> Result<String, AllocError> {
     let is_end = |byte: &u8| *byte == b'\n' || *byte == b'\r';
     let line = bytes.split(is_end).find(|line| !line.is_empty());
     let text = str::from_utf8(line.unwrap_or(b"")).unwrap_or("");
-    cut(alloc, text.trim_start_matches('\u{FEFF}'), SHOWN_HEADER)
+    cut(
+        alloc,
+        text.strip_prefix('\u{FEFF}').unwrap_or(text),
+        SHOWN_HEADER,
+    )
 }
 
 // The columns that a layer looks for, and the header that lacks one.
@@ -59,29 +63,16 @@ fn columns(alloc: Global, layer: &LayerTree, bytes: &[u8]) -> Result<String, All
     format!(in alloc; "{x} and {y} are looked for in {header}")
 }
 
-// The name of the file of the first table that is named on a line.
-fn table_on(layers: &[LayerTree], line: u64) -> Option<&str> {
-    for layer in layers {
-        match &layer.table {
-            Some(file) if file.line == line => return Some(file.text.as_str()),
-            _ => {}
-        }
-    }
-    None
-}
-
-/// The columns that a layer looks for in the table that is named on a line, and the table's header, where that lacks
-/// one. The source is parsed for the names of the columns.
+/// The columns that a layer looks for in the table of this name, and the table's header, where that lacks one. The
+/// source is parsed for the names of the columns.
 pub fn message_on_columns(
     alloc: Global,
     source: &[u8],
     files: &Files,
-    line: u64,
+    name: &str,
 ) -> Option<String> {
     let tree = maptree::read(alloc, source).ok()?;
-    let layers = tree.layers.as_slice();
-    let name = table_on(layers, line)?;
-    for layer in layers {
+    for layer in tree.layers.as_slice() {
         match table_of(layer, name, files) {
             Some(bytes) if lacks_column(alloc, layer, bytes) => {
                 return columns(alloc, layer, bytes).ok();

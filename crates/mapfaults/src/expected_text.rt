@@ -19,6 +19,9 @@ fn plain_text(expected: Expected) -> &'static str {
         Expected::Green(..) | Expected::Blue(..) => "three counts from -1 to 255",
         Expected::Only(OnlyWord::Pixels) => "PIXELS alone",
         Expected::Only(OnlyWord::On) => "ON alone",
+        Expected::Formats =>
+            "image/png, image/x-portable-pixmap and image/x-portable-arbitrarymap, with spaces between them",
+        Expected::Systems => "EPSG:3857 alone",
         // Texts, settings, and what has no effect.
         _ => "a word or a quoted text",
     }

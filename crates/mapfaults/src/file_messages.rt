@@ -101,6 +101,17 @@ fn message_on_missing(
     }
 }
 
+// The columns of the file of a fault, which is a table that lacks one.
+fn message_on_columns_of(
+    alloc: Global,
+    at_hand: MapfileAtHand<'_>,
+    fault: FileFault,
+) -> Option<String> {
+    let names = at_hand.mapfile.wanted(alloc).ok()?;
+    let name = names.as_slice().get(fault.number)?;
+    message_on_columns(alloc, at_hand.source, at_hand.files, name.as_str())
+}
+
 // The message on a file that is no table. Where its header lacks a column, the columns are shown.
 fn message_on_table(
     alloc: Global,
@@ -113,7 +124,7 @@ fn message_on_table(
         "the file that {keyword} names is no table of points: {cause}"
     ).ok()?;
     let columns = match cause.kind {
-        CsvKind::NoColumn => message_on_columns(alloc, at_hand.source, at_hand.files, fault.line),
+        CsvKind::NoColumn => message_on_columns_of(alloc, at_hand, fault),
         _ => None,
     };
     match columns {

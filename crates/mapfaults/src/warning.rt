@@ -15,6 +15,8 @@ use xmltext::has_forbidden;
 pub enum Concern {
     /// The address is missing, and its default has no port.
     NoAddress,
+    /// A name is empty, as no name in `LAYERS` may be.
+    EmptyName,
     /// A name has a comma, which separates names in `LAYERS`.
     CommaInName,
     /// A name has a character that XML forbids.
@@ -58,6 +60,7 @@ impl Concern {
             Concern::NoAddress => {
                 " has no wms_onlineresource, and http://localhost/wms? has no port"
             }
+            Concern::EmptyName => " has an empty NAME, so that LAYERS can't ask for it",
             Concern::CommaInName => " has a NAME with a comma, so that LAYERS can't ask for it",
             Concern::ForbiddenInName => " has a NAME with a character that XML forbids",
             Concern::ForbiddenInTitle => " has a title with a character that XML forbids",
@@ -117,6 +120,8 @@ fn add_texts(out: &mut Vec<Warning>, number: usize, fields: &LayerFields) -> Res
 {
     let (name, title) = (fields.name.as_str(), fields.title.as_str());
     let layer = Some(number);
+    let concern = Concern::EmptyName;
+    add(out, name.is_empty(), Warning { layer, concern })?;
     let concern = Concern::CommaInName;
     add(out, has_comma(name), Warning { layer, concern })?;
     let concern = Concern::ForbiddenInName;

@@ -4,6 +4,8 @@ use test_tables::{TableFault, check_rows};
 // Keywords of WEB, LABEL, CLASS and FEATURE, in the form of `result_of_row`.
 const READ: &str = "\
 0 0 0 0 0:MAP EXTENT 1 2 3 4 EXTENT -1000 -1000 1000 1000 CONFIG a b CONFIG 'labelfont' c CONFIG END2 'END' END
+0 0 0 0 0:MAP CONFIG WMS_FORMATS '' CONFIG 'WMS_FORMATS' ' image/png  image/x-portable-pixmap image/x-portable-arbitrarymap ' CONFIG WMS_CRS EPSG:3857 CONFIG WMS_CRS '  ' END
+0 0 0 0 0:MAP CONFIG wms_formats image/gif CONFIG WMS_FORMAT image/gif CONFIG wms_crs EPSG:1 WEB METADATA WMS_CRS a WMS_FORMATS b END END END
 0 0 0 0 0:MAP WEB EMPTY e ERROR f FOOTER g HEADER h IMAGEPATH i IMAGEURL j LOG k END END
 0 0 0 0 0:MAP WEB MAXSCALEDENOM l MINSCALEDENOM 'm' TEMPLATE n END WEB END END
 0 0 0 0 0:MAP WEB METADATA a b 'END' c wms_title 'END' END VALIDATION a b END METADATA END END END
@@ -30,6 +32,16 @@ const READ: &str = "\
 2 WrongValue:MAP CONFIG LABELFONT|(f)
 2 MissingValue:MAP CONFIG LABELFONT|END
 2 WrongValue:MAP CONFIG|(LABELFONT) f
+2 WrongValue:MAP CONFIG WMS_FORMATS|image/gif CONFIG WMS_FORMATS image/png END
+2 WrongValue:MAP CONFIG WMS_FORMATS|'image/png,image/png'
+2 WrongValue:MAP CONFIG WMS_FORMATS|'image/png image/jpeg'
+2 WrongValue:MAP CONFIG WMS_FORMATS|image/PNG
+2 WrongValue:MAP CONFIG WMS_FORMATS|(image/png)
+2 MissingValue:MAP CONFIG WMS_FORMATS|END
+2 WrongValue:MAP CONFIG WMS_CRS|EPSG:25832 CONFIG WMS_CRS EPSG:3857 END
+2 WrongValue:MAP CONFIG WMS_CRS|'EPSG:3857 EPSG:4326'
+2 WrongValue:MAP CONFIG WMS_CRS|epsg:3857
+2 MissingValue:MAP CONFIG WMS_CRS|END
 2 WrongValue:MAP CONFIG a|(b)
 2 MissingValue:MAP CONFIG a|END
 # Faults of keys and values.
@@ -61,5 +73,5 @@ const READ: &str = "\
 
 #[test]
 fn keywords_of_webs_and_labels_are_read(rt: HostRuntime) -> Result<(), TableFault> {
-    check_rows(rt.alloc(), READ, ':', 52, result_of_row)
+    check_rows(rt.alloc(), READ, ':', 64, result_of_row)
 }

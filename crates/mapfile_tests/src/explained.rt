@@ -62,6 +62,9 @@ sound|MAP END
 2: 1001 is no latitude in POINTS: a number from -1000 to 1000|MAP LAYER FEATURE POINTS 1 2 3~1001
 2: (a) is no key of METADATA|MAP WEB METADATA a b~(a)
 1: (f) is no value of CONFIG, which takes a word or a quoted text|MAP CONFIG LABELFONT (f)
+2: image/gif is no value of CONFIG, which takes image/png, image/x-portable-pixmap and image/x-portable-arbitrarymap, with spaces between them|MAP CONFIG WMS_FORMATS~image/gif
+2: EPSG:25832 is no value of CONFIG, which takes EPSG:3857 alone|MAP CONFIG WMS_CRS~EPSG:25832
+2: CONFIG has no value|MAP CONFIG WMS_CRS~END
 2: the mapfile ends inside LAYER of line 2, which has no END|MAP~LAYER NAME a
 3: the mapfile ends inside LAYER of line 2, which has no END|MAP~LAYER~NAME
 7: the mapfile ends inside LABEL of line 5, which has no END|MAP~LAYER CLASS~style end~STYLE END~LABEL~COLOR 1 2~
@@ -103,6 +106,7 @@ sound|MAP END
 2: MINSCALE is MapServer's and isn't supported: write MINSCALEDENOM|MAP LAYER~MINSCALE 1
 2: OPACITY is MapServer's and isn't supported|MAP LAYER~OPACITY 50
 2: COLOR is MapServer's and isn't supported: write it into a STYLE of the CLASS|MAP LAYER CLASS~COLOR 1 2 3
+2: METADATA is MapServer's and isn't supported|MAP LAYER CLASS~METADATA 'a' 'b' END
 2: ANGLE is MapServer's and isn't supported|MAP LAYER CLASS STYLE~ANGLE 30
 2: TEXT is MapServer's and isn't supported: name an item by LABELITEM in the LAYER|MAP LAYER CLASS LABEL~TEXT 'a'
 2: FILLED is MapServer's and isn't supported|MAP SYMBOL~FILLED TRUE
@@ -118,7 +122,7 @@ sound|MAP END
 
 #[test]
 fn faults_are_explained(rt: HostRuntime) -> Result<(), TableFault> {
-    check_rows(rt.alloc(), ROWS, '|', 89, explanation_of_row)
+    check_rows(rt.alloc(), ROWS, '|', 93, explanation_of_row)
 }
 
 // The result for sources with a block, a vertex or an item more than a map may have.

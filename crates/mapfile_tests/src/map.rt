@@ -1,5 +1,6 @@
-use crate::results::result_of;
+use crate::results::{fault_text, result_of};
 use crate::said::said;
+use mapparse::{Files, parse};
 use std::alloc::{AllocError, Global};
 use test_tables::{TableFault, check_rows};
 
@@ -171,6 +172,30 @@ fn title_of_map(alloc: Global, keywords: &str) -> Result<String, AllocError> {
 #[test]
 fn services_have_their_titles_and_addresses(rt: HostRuntime) -> Result<(), TableFault> {
     check_rows(rt.alloc(), TITLES, '~', 9, title_of_map)
+}
+
+// Whether a map offers PNG and web mercator, and what stands in its MAP.
+const OFFERS: &str = "\
+false false~NAME a
+true false~CONFIG WMS_FORMATS 'image/png'
+false true~CONFIG 'WMS_CRS' EPSG:3857
+true true~CONFIG WMS_CRS ' EPSG:3857' CONFIG WMS_FORMATS 'image/x-portable-pixmap  image/png'
+false false~CONFIG WMS_FORMATS image/png CONFIG WMS_FORMATS '' CONFIG WMS_CRS EPSG:3857 CONFIG WMS_CRS ' '
+false true~CONFIG WMS_FORMATS image/x-portable-pixmap CONFIG WMS_CRS '' CONFIG WMS_CRS 'EPSG:3857 EPSG:3857'
+false false~CONFIG wms_formats image/png CONFIG wms_crs EPSG:3857 WEB METADATA WMS_CRS EPSG:3857 WMS_FORMATS image/png END END";
+
+// What the map of a MAP offers.
+fn offers_of_map(alloc: Global, keywords: &str) -> Result<String, AllocError> {
+    let source = format!(in alloc; "MAP {keywords} END")?;
+    match parse(alloc, source.as_bytes(), &Files::new(alloc)) {
+        Ok(map) => format!(in alloc; "{} {}", map.get().png, map.get().mercator),
+        Err(fault) => fault_text(alloc, fault),
+    }
+}
+
+#[test]
+fn maps_offer_what_their_last_configs_say(rt: HostRuntime) -> Result<(), TableFault> {
+    check_rows(rt.alloc(), OFFERS, '~', 7, offers_of_map)
 }
 
 // A mapfile in pieces. A row is the result where the source ends within a token of the piece, the result

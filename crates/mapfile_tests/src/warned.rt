@@ -41,6 +41,7 @@ a.map: warning: the service has a title with a character that XML forbids~|MAP N
 a.map: warning: the service has an address with a character that XML forbids~|MAP WEB METADATA wms_onlineresource 'b^c' END END END
 # layers
 |MAP WEB METADATA wms_onlineresource b END END LAYER NAME a TYPE LINE METADATA wms_title 'a,b' END END END
+a.map: warning: LAYER 2 has an empty NAME, so that LAYERS can't ask for it~|MAP WEB METADATA wms_onlineresource b END END LAYER NAME a TYPE LINE END LAYER NAME '' TYPE LINE END END
 a.map: warning: LAYER 2 has a NAME with a comma, so that LAYERS can't ask for it~|MAP WEB METADATA wms_onlineresource b END END LAYER NAME a TYPE LINE END LAYER NAME a,b TYPE LINE END END
 a.map: warning: LAYER 1 has a title with a character that XML forbids~|MAP WEB METADATA wms_onlineresource b END END LAYER NAME a TYPE LINE METADATA wms_title 'a^b' END END END
 a.map: warning: LAYER 1 has a NAME with a character that XML forbids~|MAP WEB METADATA wms_onlineresource b END END LAYER NAME 'a^b' TYPE LINE METADATA wms_title 'a' END END END
@@ -64,5 +65,5 @@ a.map: warning: the service has no wms_onlineresource, and http://localhost/wms?
 
 #[test]
 fn maps_have_worked_warnings(rt: HostRuntime) -> Result<(), TableFault> {
-    check_rows(rt.alloc(), ROWS, '|', 26, warnings_of_row)
+    check_rows(rt.alloc(), ROWS, '|', 27, warnings_of_row)
 }

@@ -1,4 +1,5 @@
 pub mod Balanced
+pub mod ByteFaults
 pub mod Grammar
 pub mod Lexing
 pub mod OneReading

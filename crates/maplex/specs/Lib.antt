@@ -1,4 +1,5 @@
 pub mod Byte
+pub mod ByteFault
 pub mod Grammar
 pub mod Lexed
 pub mod Logic

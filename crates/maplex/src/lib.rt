@@ -4,6 +4,7 @@
 //! `Tokens::next` takes the first token that is left, by its clause `token`, or reports the fault that
 //! ends them, by `fault`. From then on it returns `None`. `laws` states that `lexed` finds the one
 //! reading of the source by its grammar, in which blanks, comments and tokens make up the source.
+//! `byte_fault` finds what is wrong with a bad byte where one is the first fault of a source.
 //!
 //! Terms: a *separator* is a space, tab, LF, CR or form feed. A *bare word* (`Shape::Word`) is a token
 //! without quotes and brackets, a *quoted text* (`Shape::Text`) one between quotes. A *logical expression*
@@ -12,6 +13,7 @@
 //! comes after the last token: the end of the source, or its first *fault*.
 #![tactic(auto)]
 
+mod bad_byte;
 mod byte;
 mod cursor;
 mod extent;
@@ -22,6 +24,7 @@ mod text;
 mod token;
 mod tokens;
 
+pub use bad_byte::{ByteFault, byte_fault};
 pub use fault::{LexFault, LexKind, Tail};
 pub use token::{Shape, TOKEN_LIMIT, Token};
 pub use tokens::Tokens;

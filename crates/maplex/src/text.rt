@@ -9,16 +9,16 @@ use crate::fault::{LexFault, LexKind};
 use crate::token::TOKEN_LIMIT;
 use std::str;
 
-// How many bytes come before the first control byte.
-fn control_at(bytes: &[u8]) -> usize
+/// How many bytes come before the first control byte.
+pub fn control_at(bytes: &[u8]) -> usize
     ensures count { result ≡ position_or_len is_control bytes.now }
     ensures within { result ≤ length bytes.now }
 {
     bytes.iter().take_while(|byte| !is_control(**byte)).count()
 }
 
-// The bytes as text, or the index of the first bad one.
-fn read_text(bytes: &[u8]) -> Result<&str, usize>
+/// The bytes as text, or the index of the first bad one.
+pub fn read_text(bytes: &[u8]) -> Result<&str, usize>
     ensures same { IfOk result (λ text. text.now ≡ bytes.now) }
     ensures good { OnOk result (bad_at bytes.now ≡ length bytes.now) }
     ensures bad { IfErr result (λ at. at ≡ bad_at bytes.now) }

@@ -10,9 +10,9 @@ use crate::text::checked_text;
 use crate::token::{TOKEN_LIMIT, Token};
 use std::marker::Model;
 
-// One step of reading, at a position with no blank before the token: the token and how many bytes
-// it takes, a fault, or `None` at the end.
-fn step<'a>(at: &Cursor<'a>) -> Option<Result<(Token<'a>, usize), LexFault>>
+/// One step of reading, at a position with no blank before the token: the token and how many bytes
+/// it takes, a fault, or `None` at the end.
+pub fn step<'a>(at: &Cursor<'a>) -> Option<Result<(Token<'a>, usize), LexFault>>
     ensures token { IfSome result (λ r. IfOk r (λ t. step at.now ≡ Reads t.0 (further t.1 at.now))) }
     ensures within { IfSome result (λ r. IfOk r (λ t. t.1 ≤ length at.now.rest)) }
     ensures limit { IfSome result (λ r. IfOk r (λ t. length t.0.text ≤ TOKEN_LIMIT)) }

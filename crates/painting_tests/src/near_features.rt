@@ -8,7 +8,7 @@ use scaledenom::Scale;
 use std::alloc::{AllocError, Global};
 use test_maps::InWindow;
 use test_tables::{TableFault, check_rows};
-use viewport::{MAX_MARGIN, View};
+use viewport::{Heights, MAX_MARGIN, View};
 
 // The picture of the first layer of a map, four degrees by four in four pixels by four, where features are found in the
 // window of that margin alone.
@@ -18,6 +18,7 @@ fn drawn_in_window(alloc: Global, map: &Map, margin: u16) -> Result<String, Allo
     let four = Micro::new(4_000_000);
     let side = PictureSide::new(4).unwrap();
     let view = View::new(
+        Heights::Latitudes,
         WorldBox::new(Micro::new(0), Micro::new(0), four, four),
         side,
         side,

@@ -13,7 +13,7 @@ use scaledenom::Scale;
 use std::alloc::{AllocError, Global};
 use test_maps::{map_fields, one_feature, place};
 use test_tables::numbers;
-use viewport::View;
+use viewport::{Heights, View};
 
 // The colours by their letters: `#` is brown, `o` dark and `.` white. Any other letter is none.
 fn colour_of(letter: u8) -> Option<Rgb> {
@@ -364,7 +364,12 @@ fn drawn(
     let low = Micro::new(0);
     let high = Micro::new(i64::from(degrees) * 1_000_000);
     let side = PictureSide::new(u16::from(degrees)).unwrap();
-    let view = View::new(WorldBox::new(low, low, high, high), side, side);
+    let view = View::new(
+        Heights::Latitudes,
+        WorldBox::new(low, low, high, high),
+        side,
+        side,
+    );
     let scale = Scale::of(280_000, PictureSide::new(1).unwrap());
     let near = AllFeatures::of(alloc, map);
     let picture = picture(alloc, map, &near, view, scale, chosen, background)?;

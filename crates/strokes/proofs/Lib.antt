@@ -1,8 +1,8 @@
 pub mod Beyond
 pub mod Keeping
-pub mod Leaving
 pub mod Marking
 pub mod Nearness
+pub mod OnLine
 pub mod Parts
 pub mod Reaching
 pub mod Sequences

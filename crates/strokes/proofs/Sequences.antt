@@ -75,7 +75,7 @@ rise-least e = go (int_le e.from.y e.to.y) refl
     go true h = omega (arith, ints)
     go false h = omega (arith, ints)
 
-positive : (z : ℤ) → pos 0 ≤ℤ z → 0 < unsigned_abs z → pos 0 <ℤ z
+pub positive : (z : ℤ) → pos 0 ≤ℤ z → 0 < unsigned_abs z → pos 0 <ℤ z
 positive (pos n) p q = omega (arith, ints)
 positive (negsuc n) p q = absurd (omega (arith, ints))
 
@@ -83,14 +83,14 @@ positive (negsuc n) p q = absurd (omega (arith, ints))
 apart-same : (a b : ℤ) → unsigned_abs (a -ℤ b) ≡ unsigned_abs (b -ℤ a)
 apart-same a b = omega (arith, ints)
 
-run-across : (a b : DevicePoint) → unsigned_abs (run (record { from = a; to = b })) ≡ across a b
+pub run-across : (a b : DevicePoint) → unsigned_abs (run (record { from = a; to = b })) ≡ across a b
 run-across a b = go (int_le a.y b.y)
   where
     go : (t : Bool) → unsigned_abs ((if t then b else a).x -ℤ (if t then a else b).x) ≡ across a b
     go true = refl
     go false = apart-same a.x b.x
 
-rise-down : (a b : DevicePoint) → unsigned_abs (rise (record { from = a; to = b })) ≡ down a b
+pub rise-down : (a b : DevicePoint) → unsigned_abs (rise (record { from = a; to = b })) ≡ down a b
 rise-down a b = go (int_le a.y b.y)
   where
     go : (t : Bool) → unsigned_abs ((if t then b else a).y -ℤ (if t then a else b).y) ≡ down a b
@@ -98,7 +98,7 @@ rise-down a b = go (int_le a.y b.y)
     go false = apart-same a.y b.y
 
 -- what lies between two heights lies between the ends of the segment
-between-ends : (a b : DevicePoint) (y : ℤ) → LiesBetween a.y y b.y → is_between (record { from = a; to = b }) y ≡ true
+pub between-ends : (a b : DevicePoint) (y : ℤ) → LiesBetween a.y y b.y → is_between (record { from = a; to = b }) y ≡ true
 between-ends a b y h = go (int_le a.y b.y) refl
   where
     both : (low high : ℤ) → low ≤ℤ y → y ≤ℤ high → (int_le low y && int_le y high) ≡ true
@@ -109,7 +109,7 @@ between-ends a b y h = go (int_le a.y b.y) refl
     go false e = ⊎_elim (λ p. both b.y a.y (omega (arith, ints, p.0, p.1, not_le_of a.y b.y e)) (omega (arith, ints, p.0, p.1, not_le_of a.y b.y e))) (λ p. both b.y a.y p.0 p.1) h
 
 -- and of the turned one
-between-turned : (a b : DevicePoint) (x : ℤ) → LiesBetween a.x x b.x → is_between (turned_edge (record { from = a; to = b })) x ≡ true
+pub between-turned : (a b : DevicePoint) (x : ℤ) → LiesBetween a.x x b.x → is_between (turned_edge (record { from = a; to = b })) x ≡ true
 between-turned a b x h = go (int_le a.y b.y)
   where
     go : (t : Bool) → is_between (record { from = turned (if t then a else b); to = turned (if t then b else a) }) x ≡ true
@@ -127,7 +127,7 @@ rows w a b j further between =
     (sequence.0, λ i. rw steep (sequence.1 i))
 
 -- a segment that goes across rises where it is turned
-turned-rise : (e : EdgeEnds) → 0 < unsigned_abs (run e) → pos 0 <ℤ rise (turned_edge e)
+pub turned-rise : (e : EdgeEnds) → 0 < unsigned_abs (run e) → pos 0 <ℤ rise (turned_edge e)
 turned-rise e h = go (int_le (low_end e).x (high_end e).x) refl
   where
     apart : (z : ℤ) → 0 < unsigned_abs z → pos 0 ≤ℤ z → pos 0 <ℤ z

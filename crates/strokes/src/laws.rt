@@ -1,8 +1,8 @@
 //! Laws of the definitions that the contracts cite. A law is a function without arguments whose contract
 //! states it.
 
-ghost use Rattle.strokes.specs.Law.{AreColumnsWide, AreRowsWide, IsNothing, IsSameBack};
-ghost use Rattle.strokes.specs.Short.{LineStandsWithoutShortSegments, ShortSegmentsAddNothing};
+ghost use Rattle.strokes.specs.Law.{AreColumnsWide, AreRowsWide, FlatSegmentsFollowTheirLine, IsNothing, IsSameBack, SteepSegmentsFollowTheirLine};
+ghost use Rattle.strokes.specs.Short.{ShortSegmentsAddNothing};
 
 /// In each row whose pixel centres lie between its ends, a segment that goes further down than across covers
 /// as many pixels as it is wide, side by side.
@@ -14,6 +14,17 @@ pub fn steep()
 /// below another.
 pub fn flat()
     ensures { AreColumnsWide }
+{}
+
+/// A segment that goes further down than across covers the points between the heights of its ends that lie within half
+/// its width of its line.
+pub fn steep_along_its_line()
+    ensures { SteepSegmentsFollowTheirLine }
+{}
+
+/// Any other one that has a length does so with across and down exchanged.
+pub fn flat_along_its_line()
+    ensures { FlatSegmentsFollowTheirLine }
 {}
 
 /// A segment covers the same pixels in both directions.
@@ -30,9 +41,4 @@ pub fn nothing()
 /// one column or one row, at most the width apart.
 pub fn short()
     ensures { ShortSegmentsAddNothing }
-{}
-
-/// So a line of an odd width covers the same pixels without such segments.
-pub fn without_short()
-    ensures { LineStandsWithoutShortSegments }
 {}

@@ -2,12 +2,12 @@
 //!
 //! Proved: `Line`, `Segment` and `Square` are covers. What `Cover::covers` and `Cover::row` say of a segment is
 //! `covers_segment`, by comparisons of products; of a square it is `covers_square`. A line covers what its
-//! segments and the squares round its vertices cover (`covers_pixel`). `laws::steep` and `laws::flat` state that
-//! a segment is as many pixels thick as the line is wide, `laws::back` that it covers the same in both
-//! directions. By `laws::nothing` it covers nothing where it has no length. By `laws::short` a short segment of
-//! an odd width covers nothing but the squares round its ends, so that by `laws::without_short` a line covers
-//! the same without them. `RowWalk::columns` gives what the segment covers in a row (`all`), with one division
-//! for each segment.
+//! segments and the squares round its vertices cover (`covers_pixel`). `laws::steep_along_its_line` and
+//! `laws::flat_along_its_line` state that a segment covers what lies between its ends, within half its width of
+//! its line; `laws::steep` and `laws::flat` that it is as many pixels thick as the line is wide; `laws::back` that
+//! it covers the same in both directions. By `laws::nothing` it covers nothing where it has no length. By
+//! `laws::short` a short segment of an odd width covers nothing but the squares round its ends.
+//! `RowWalk::columns` gives what the segment covers in a row (`all`), with one division for each segment.
 //!
 //! Terms: a *segment* joins two vertices of a line. It is *steep* where it goes further down than across.
 //! To *turn* a point or a segment is to exchange across and down: what a steep segment covers row by row, a
