@@ -27,6 +27,9 @@ use std::sync::Wait;
 const PICTURE: &[u8] =
     b"VERSION=1.3.0&REQUEST=GetMap&LAYERS=a,p&STYLES=&CRS=CRS:84&BBOX=0,0,2,1&WIDTH=2&HEIGHT=1&FORMAT=image/x-portable-pixmap";
 
+const PNG: &[u8] =
+    b"VERSION=1.3.0&REQUEST=GetMap&LAYERS=a,p&STYLES=&CRS=CRS:84&BBOX=0,0,2,1&WIDTH=2&HEIGHT=1&FORMAT=image/png&TRANSPARENT=TRUE";
+
 const HITS: &[u8] =
     b"VERSION=1.3.0&REQUEST=GetFeatureInfo&LAYERS=p&CRS=CRS:84&BBOX=0,0,2,1&WIDTH=2&HEIGHT=1&QUERY_LAYERS=p&INFO_FORMAT=text/plain&I=0&J=0";
 
@@ -46,6 +49,7 @@ fn answer(rt: &HostRuntime, name: &str) -> io::Result<Option<String>> {
         "head" => head_row(rt),
         "recover" => recover_row(rt),
         "picture" => reply_row(rt, PICTURE),
+        "png" => reply_row(rt, PNG),
         "hits" => reply_row(rt, HITS),
         _ => reply_row(rt, CAPABILITIES),
     }
