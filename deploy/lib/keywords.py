@@ -85,7 +85,8 @@ REFUSED = {
         "LABELSIZEITEM": "leave it out: letters are as large as the font has them",
         "MASK": "leave it out, or cut the features before, as by ogr2ogr -clipsrc",
         "MAXFEATURES": "leave it out, or choose by deploy/features --where",
-        "MAXGEOWIDTH": "write MAXSCALEDENOM", "MAXSCALE": "write MAXSCALEDENOM", "MINGEOWIDTH": "write MINSCALEDENOM",
+        "MAXGEOWIDTH": "write MAXSCALEDENOM", "MAXSCALE": "write MAXSCALEDENOM",
+        "MINFEATURESIZE": "leave it out: small features are drawn, too", "MINGEOWIDTH": "write MINSCALEDENOM",
         "MINSCALE": "write MINSCALEDENOM", "OFFSITE": "leave it out, and the raster layer with it",
         "OPACITY": "leave it out, or write the colour that results", "PLUGIN": CONVERT,
         "POSTLABELCACHE": "leave it out: labels lie above all layers", "REQUIRES": "leave it out: clients say which layers",
@@ -103,7 +104,7 @@ REFUSED = {
         "FALLBACK": "leave it out, and write the CLASS last, without EXPRESSION",
         "KEYIMAGE": LEAVE_OUT, "LEADER": "leave it out: a label stands at its anchor",
         "MAXSCALE": "write MAXSCALEDENOM", "MAXSIZE": LEAVE_OUT, "METADATA": LEAVE_OUT, "MINSCALE": "write MINSCALEDENOM",
-        "MINSIZE": LEAVE_OUT, "OUTLINECOLOR": IN_STYLE, "SIZE": IN_STYLE, "SYMBOL": IN_STYLE,
+        "MINFEATURESIZE": "leave it out: small features are drawn, too", "MINSIZE": LEAVE_OUT, "OUTLINECOLOR": IN_STYLE, "SIZE": IN_STYLE, "SYMBOL": IN_STYLE,
         "TEXT": "name an item by LABELITEM in the LAYER", "VALIDATION": LEAVE_OUT,
     },
     "STYLE": {
@@ -157,7 +158,7 @@ REASONS = {
     "CLASS STATUS": "a class counts; leave out one that is OFF",
     "IMAGECOLOR": "the background is that of the request",
     "IMAGETYPE": "each request names its FORMAT",
-    "OUTPUTFORMAT": "pictures are PPM and PAM; deploy/formats makes PNG, JPEG and WebP of them",
+    "OUTPUTFORMAT": 'pictures are PPM and PAM, and PNG by CONFIG "WMS_FORMATS"; deploy/formats makes JPEG and WebP of them',
     "MAP SIZE": "each request names its WIDTH and HEIGHT",
     "MAP MAXSIZE": "a picture has at most 2,048 by 2,048 pixels",
     "MAP ANGLE": "a picture is never turned",
@@ -182,6 +183,25 @@ METADATA_KEYS = {
     "LAYER": {"wms_title", "ows_title"},
 }
 
+# The ends of names of metadata by which MapServer keeps something from its clients.
+ITEM_LISTS = ("_include_items", "_exclude_items")
+ADDRESS_LISTS = ("_allowed_ip_list", "_denied_ip_list")
+
+
+def kept_back(owner, key, text):
+    """What a value of metadata keeps from MapServer's clients and not from those here, with what to do; nothing for others."""
+    key = key.lower()
+    if owner == "LAYER" and key.endswith(ITEM_LISTS) and not (key.endswith(ITEM_LISTS[0]) and text.strip().lower() == "all"):
+        return "a layer with TEMPLATE answers all of its ITEMS: write those alone that clients may see, or use deploy/convert"
+    words = text.lower().split()
+    is_whole = owner == "LAYER" or "*" in words or {"getcapabilities", "getmap", "getfeatureinfo"} <= {*words}
+    if key.endswith("_enable_request") and (not is_whole or any(word.startswith("!") for word in words)):
+        return f"what is in the mapfile is served to everybody: leave {'the LAYER' if owner == 'LAYER' else 'it'} out, or use deploy/convert"
+    if key.endswith(ADDRESS_LISTS):
+        return "everybody is answered: write allow and deny into nginx.conf"
+    return None
+
+
 # The values that a keyword takes: a range of counts or numbers, or words.
 COUNTED = {
     "STYLE WIDTH": (1, 32), "STYLE SIZE": (1, 256), "LAYER TOLERANCE": (0, 64), "LABEL BUFFER": (0, 64),
@@ -193,6 +213,8 @@ CHOICES = {
     "LABEL PARTIALS": "TRUE FALSE", "LABEL FORCE": "TRUE FALSE", "LAYER LABELCACHE": "ON",
     "LAYER TOLERANCEUNITS": "PIXELS",
 }
+# The names that a key of CONFIG takes, with spaces between them.
+OFFERED = {"WMS_FORMATS": "image/png image/x-portable-pixmap image/x-portable-arbitrarymap", "WMS_CRS": "EPSG:3857"}
 
 # What to write for a value of MapServer's that isn't taken, by block and keyword and then the value.
 VALUES = {

@@ -1,5 +1,6 @@
 """Tokens and expressions of a mapfile, as docs/MAPFILE.md has them. Used by lint."""
 import decimal
+import os
 import re
 
 NUMBER = re.compile(r"[+-]?(\d+\.?\d*|\.\d+)([eE][+-]?\d+)?", re.ASCII)
@@ -130,6 +131,30 @@ class Reader:
                 while end < len(self.source) and self.source[end] not in ENDS:
                     end += 1
                 yield Token("word", self.take(end), line)
+
+
+# An INCLUDE within an INCLUDE goes so deep at most.
+DEEPEST = 5
+
+
+def included(path, folder, depth=0):
+    """The tokens of a mapfile with those of the files that it includes in place of each INCLUDE, each with its file and line.
+
+    A file that can't be read gives none.
+    """
+    try:
+        with open(path, encoding="utf-8", errors="surrogateescape", newline="") as file:
+            source = file.read()
+    except OSError:
+        return
+    tokens = iter(Reader(source, lambda *found: None, lambda *found: None).tokens)
+    for token in tokens:
+        if token.shape == "word" and token.text.upper() == "INCLUDE" and depth < DEEPEST:
+            named = next(tokens, None)
+            if named:
+                yield from included(os.path.join(folder, named.text), folder, depth + 1)
+        else:
+            yield token, (path, token.line)
 
 
 class NoLogic(Exception):

@@ -1,8 +1,13 @@
-"""The classes of a layer: rules that are read here, and items that MapServer computes for the others."""
+"""The classes of a layer: which of them a feature has, and rules that are read here, or an item for the others."""
 import re
 
 import mapfile
 import mapscript
+
+# A style that colours by a range of values becomes so many classes.
+RANGES = 8
+ITEM = "class"
+BRACKETS = re.compile(r"\[([^\]]+)\]")
 
 
 def quoted(text):
@@ -12,77 +17,129 @@ def quoted(text):
     return f"'{text}'" if "'" not in text else '"' + text.replace('"', "'") + '"'
 
 
-class Rules:
-    """The rules of a layer's classes. What can't be written becomes an item that holds 1 where MapServer's rule does."""
+def folded_rule(text, item):
+    """A rule that compares a text without regard to case; nothing where it is none."""
+    return f'("[{item}]" =* {text[:-1]})' if text.startswith('"') and item and '"' not in text[1:-2] else None
 
-    def __init__(self, layer, names, report, node):
-        self.layer, self.names, self.report, self.node = layer, names, report, node
-        self.computed = {}
 
-    def rule(self, number):
-        """The EXPRESSION of a class, as it is written here: nothing where there is none."""
-        text = self.layer.getClass(number).getExpressionString()
+def list_rule(text):
+    """The list that a regular expression is; nothing where it is none."""
+    inner = text[1:-1]
+    alternatives = re.fullmatch(r"\^?\(?([\w -]+(?:\|[\w -]+)*)\)?\$?", inner)
+    if alternatives and inner.startswith("^") and inner.endswith("$") and ("|" not in inner or "(" in inner):
+        return "{" + alternatives[1].replace("|", ",") + "}"
+    return None
+
+
+class Kind:
+    """A class of MapServer's: its number in the mapfile, from 0, and the values over which its colour goes."""
+
+    def __init__(self, number, given):
+        self.number, self.given = number, given
+        styles = (given.getStyle(at) for at in range(given.numstyles))
+        self.ranged = next((style for style in styles if style.rangeitem and style.maxvalue > style.minvalue), None)
+        self.is_on = given.status != mapscript.MS_OFF
+
+    def parts(self):
+        """The parts that it is drawn in, 0 for the whole."""
+        return range(1, RANGES + 1) if self.ranged else (0,)
+
+    def part_of(self, value):
+        """The part of a value, and 0 where the class is in one part."""
+        if self.ranged is None:
+            return 0
+        step = (self.ranged.maxvalue - self.ranged.minvalue) / RANGES
+        return min(max(int((value - self.ranged.minvalue) / step) + 1, 1), RANGES)
+
+
+class Classes:
+    """The classes by which a layer is drawn."""
+
+    def __init__(self, map, layer, report, node):
+        self.map, self.layer, self.report, self.node = map, layer, report, node
+        numbers = list(range(layer.numclasses))
+        if layer.classgroup:
+            numbers = [number for number in numbers if (layer.getClass(number).group or "").lower() == layer.classgroup.lower()]
+            for number in reversed(range(layer.numclasses)):
+                if number not in numbers:
+                    layer.removeClass(number)
+        self.kinds = [Kind(number, layer.getClass(at)) for at, number in enumerate(numbers)]
+        bounds = (bound for kind in self.kinds for bound in (kind.given.minscaledenom, kind.given.maxscaledenom))
+        edges = sorted({bound for bound in bounds if bound > 0})
+        # A scale between each two bounds, and on each side of all; none where each class shows at all scales.
+        self.scales = [(low + high) / 2 for low, high in zip([0] + edges, edges + [2 * edges[-1]])] if edges else [-1.0]
+        for kind in self.kinds:
+            kind.given.minfeaturesize = -1
+        self.rules = None
+
+    def of(self, shape, value):
+        """The classes that a shape has at some scale, each with its part; `value` gives that of an item."""
+        found = []
+        for scale in self.scales:
+            self.map.scaledenom = scale
+            at = self.layer.getClassIndex(self.map, shape)
+            if at < 0 or not self.kinds[at].is_on:
+                continue
+            ranged = self.kinds[at].ranged
+            part = (at, self.kinds[at].part_of(value(ranged.rangeitem)) if ranged else 0)
+            if part not in found:
+                found.append(part)
+        return tuple(found)
+
+    def name(self, found):
+        """The value of the item `class` of a feature."""
+        named = [f"{self.kinds[at].number + 1}" + (f".{part}" if part else "") for at, part in found]
+        return "+".join(named)
+
+    # Rules.
+
+    def decide(self, usable):
+        """Finds the rule of each class, as it is written over the usable items; `is_computed` says whether all are by one item."""
+        known = {name.lower() for name in usable}
+        found = [self.plain(kind, known) for kind in self.kinds]
+        is_apart = len(self.scales) > 1 and not all(kind.is_on for kind in self.kinds)
+        self.is_computed = is_apart or any(why for _, why, _ in found)
+        for kind, (rule, why, changed) in zip(self.kinds, found):
+            place = self.node.at("CLASS", kind.number, "EXPRESSION")
+            if why:
+                self.report.changed(place, f"{why}: the item {ITEM} is the number of each feature's CLASS")
+            elif changed and not self.is_computed:
+                self.report.changed(place, changed)
+        self.rules = [rule for rule, _, _ in found]
+
+    def plain(self, kind, known):
+        """A class's rule as it is written here, why it can't be, and what was changed in it."""
+        text = kind.given.getExpressionString()
+        if kind.ranged:
+            return None, f"a colour by {kind.ranged.rangeitem} is {RANGES} classes", None
         if not text:
-            return None
-        place = self.node.at("CLASS", number, "EXPRESSION")
+            return None, None, None
+        rule, changed = self.written(text)
+        if rule == "":
+            return None, None, changed
+        if rule is None:
+            return None, f"{text} can't be written here", None
+        named = BRACKETS.findall(rule) if rule.startswith("(") else [self.layer.classitem or ""]
+        hidden = [name for name in named if name.lower() not in known]
+        return rule, f"{text} needs {', '.join(hidden)}, which isn't answered" if hidden else None, changed
+
+    def written(self, text):
+        """A rule as it is written here, and what was changed: nothing for none that can be written, an empty one for none."""
         if text.startswith('"') and text.endswith('"'):
-            return quoted(text[1:-1])
+            return quoted(text[1:-1]), None
         if text.startswith("{") and text.endswith("}"):
-            return text
+            return text, None
         if text.startswith("("):
-            return text if mapfile.Logic(text).fault() is None else self.compute(number, text, place)
-        if text.startswith("/"):
-            return self.regular(number, text, place)
-        return self.folded(number, text, place)
+            return (text if mapfile.Logic(text).fault() is None else None), None
+        if text in ("/.*/", "/./"):
+            return "", f"{text}, which takes each value, is no EXPRESSION"
+        rule = list_rule(text) if text.startswith("/") else folded_rule(text, self.layer.classitem)
+        return rule, f"{text} is {'the list ' if text.startswith('/') else ''}{rule}"
 
-    def folded(self, number, text, place):
-        """A text or a regular expression that is compared without regard to case."""
-        item = self.layer.classitem
-        if text.startswith('"') and item and '"' not in text[1:-2]:
-            rule = f'("[{item}]" =* {text[:-1]})'
-            self.report.changed(place, f"{text} is {rule}")
-            return rule
-        return self.compute(number, text, place)
-
-    def regular(self, number, text, place):
-        """A regular expression: a list where it is one, no rule where it takes all."""
-        inner = text[1:-1]
-        if inner in (".*", "."):
-            self.report.changed(place, f"{text}, which takes each value, is no EXPRESSION")
-            return None
-        alternatives = re.fullmatch(r"\^?\(?([\w -]+(?:\|[\w -]+)*)\)?\$?", inner)
-        if alternatives and inner.startswith("^") and inner.endswith("$") and ("|" not in inner or "(" in inner):
-            rule = "{" + alternatives[1].replace("|", ",") + "}"
-            self.report.changed(place, f"{text} is the list {rule}")
-            return rule
-        return self.compute(number, text, place)
-
-    def compute(self, number, text, place):
-        """A rule over an item that says whether MapServer's own rule holds."""
-        item = f"class{number}"
-        while item.lower() in [name.lower() for name in self.names]:
-            item += "_"
-        self.computed[item] = self.holding(text)
-        rule = f'("[{item}]" = "1")'
-        self.report.changed(place, f"{text} can't be written here: the item {item} is 1 where MapServer finds it true")
-        return rule
-
-    def holding(self, text):
-        """The numbers of the shapes of which a rule is true."""
-        layer = self.layer
-        filter, item = layer.getFilterString(), layer.filteritem
-        if not text.startswith("("):
-            layer.filteritem = layer.classitem
-        layer.setFilter(text)
-        layer.open()
-        layer.whichShapes(mapscript.rectObj(-1e30, -1e30, 1e30, 1e30))
-        found = set()
-        while (shape := layer.nextShape()) is not None:
-            found.add((shape.tileindex, shape.index))
-        layer.close()
-        layer.filteritem = item
-        layer.setFilter(filter or "")
-        return found
+    def by_item(self, at, part, features):
+        """The rule of a part of a class over the item `class`: the values that occur."""
+        names = {self.name(feature.classes): None for feature in features if (at, part) in feature.classes}
+        return "{" + ",".join(names) + "}" if names else None
 
 
 def scales(low, high, factor):
@@ -98,23 +155,3 @@ def both(one, other, choose):
     """A bound of two, where each may be none."""
     given = [bound for bound in (one, other) if bound > 0]
     return choose(given) if given else -1
-
-
-BRACKETS = re.compile(r"\[([^\]]+)\]")
-
-
-def text_of(label_text, values):
-    """The text of a label, as TEXT says it with the values of a feature; nothing where it can't be worked out."""
-    known = {name.lower(): value for name, value in values.items()}
-    if label_text.startswith('"') and label_text.endswith('"'):
-        return BRACKETS.sub(lambda found: known.get(found[1].lower(), ""), label_text[1:-1])
-    if not label_text.startswith("("):
-        return BRACKETS.sub(lambda found: known.get(found[1].lower(), ""), label_text)
-    pieces = []
-    for piece in re.split(r"\s*\+\s*(?=[\"'\[(])", label_text[1:-1].strip()):
-        found = re.fullmatch(r"\"([^\"]*)\"|'([^']*)'|\[([^\]]+)\]", piece.strip())
-        if found is None:
-            return None
-        plain = found[1] if found[1] is not None else found[2]
-        pieces.append(known.get(found[3].lower(), "") if plain is None else BRACKETS.sub(lambda one: known.get(one[1].lower(), ""), plain))
-    return "".join(pieces)

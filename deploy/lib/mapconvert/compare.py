@@ -110,34 +110,128 @@ def side_by_side(one, other, both):
     return whole
 
 
-def compare(source, made, folder, program, count, side):
-    """A line for each view, and the largest share without and with half-tones. The longer side of a picture has so many pixels."""
-    map = mapscript.mapObj(source)
-    map.scalebar.status = map.legend.status = mapscript.MS_OFF
-    map.web.metadata.set("ows_enable_request", "*")
-    map.web.metadata.set("wms_srs", "CRS:84 EPSG:4326")
-    map.web.metadata.set("wms_onlineresource", "http://localhost/?")
+def without_labels(map):
     for number in range(map.numlayers):
         layer = map.getLayer(number)
+        for at in range(layer.numclasses):
+            while layer.getClass(at).numlabels:
+                layer.getClass(at).removeLabel(0)
+
+
+def each_style(map):
+    """The styles of a map, each with the type of its layer and its layer."""
+    for number in range(map.numlayers):
+        layer = map.getLayer(number)
+        for at in range(layer.numclasses):
+            for one in range(layer.getClass(at).numstyles):
+                yield layer, layer.getClass(at).getStyle(one)
+
+
+def without_patterns(map):
+    """Draws the patterns of polygons in their mean colours."""
+    from mapconvert import marks
+
+    drawn = marks.Marks(map.source, ".")
+    for layer, style in each_style(map):
+        if layer.type == mapscript.MS_LAYER_POLYGON and style.symbol:
+            red, green, blue = map_colour(drawn.mean_colour(style))
+            style.symbol = 0
+            style.color.setRGB(red, green, blue)
+
+
+def map_colour(text):
+    return map(int, text.split())
+
+
+def without_opacity(map):
+    for layer, style in each_style(map):
+        layer.setOpacity(100)
+        style.opacity = 100
+        style.color.alpha = style.outlinecolor.alpha = 255
+
+
+def with_whole_widths(map):
+    """Draws lines and outlines in whole pixels."""
+    for _, style in each_style(map):
+        if style.width > 0:
+            style.width = max(int(style.width + 0.5), 1)
+
+
+# What MapServer draws otherwise, in the order in which it is taken away: what differs less then is by this.
+CAUSES = (("labels", without_labels), ("patterns", without_patterns), ("opacity", without_opacity), ("widths", with_whole_widths))
+
+
+class Source:
+    """MapServer's map, asked by WMS for the layers that were written."""
+
+    def __init__(self, path, made):
+        self.path, self.made = path, made
+
+    def map(self, changes=()):
+        map = mapscript.mapObj(self.path)
+        map.applyDefaultSubstitutions()
+        map.scalebar.status = map.legend.status = mapscript.MS_OFF
+        for key, text in (("ows_enable_request", "*"), ("wms_enable_request", "*"), ("wms_srs", "CRS:84 EPSG:4326"), ("wms_onlineresource", "http://localhost/?")):
+            map.web.metadata.set(key, text)
+        for number in range(map.numlayers):
+            self.open(map, map.getLayer(number), number)
+        if not map.getProjection():
+            map.setProjection("init=epsg:4326")
+        map.source = self.path
+        for change in changes:
+            change(map)
+        return map
+
+    def open(self, map, layer, number):
         layer.status = mapscript.MS_OFF
-        layer.metadata.set("ows_enable_request", "*")
-        if number in made.renamed:
-            layer.name = made.renamed[number]
+        for key in ("ows_enable_request", "wms_enable_request"):
+            layer.metadata.set(key, "*")
+        if number in self.made.renamed:
+            layer.name = self.made.renamed[number]
         if not (layer.getProjection() or map.getProjection()):
             layer.setProjection("init=epsg:4326")
-    if not map.getProjection():
-        map.setProjection("init=epsg:4326")
-    west, south, east, north = made.extent
+
+
+def without_ours(path):
+    """The name of the map that was written, without its labels, beside it."""
+    with open(path, encoding="utf-8") as file:
+        text = re.sub(r"^      LABEL .* END$\n", "", file.read(), flags=re.MULTILINE)
+    plain = os.path.join(os.path.dirname(path), "compare.map")
+    with open(plain, "w", encoding="utf-8") as file:
+        file.write(text)
+    return plain
+
+
+def causes_of(source, made, program, path, box, size, share):
+    """What of a share goes, as one cause after the other is taken away, in words."""
+    plain = without_ours(path)
+    mine = by_mapservd(program, plain, made.written, [box], size)[0]
+    os.remove(plain)
+    words, changes = [], []
+    for name, change in CAUSES:
+        changes.append(change)
+        less = difference(by_mapserver(source.map(changes), made.asked, box, *size), mine)[1]
+        if share - less >= 0.0005:
+            words.append(f"{name} {share - less:.2%}")
+        share = min(share, less)
+    return ", ".join([*words, f"edges and the rest {share:.2%}"])
+
+
+def compare(path, made, folder, program, count, side):
+    """A line for each view, and the largest share without and with half-tones. The longer side of a picture has so many pixels."""
+    source, west, south, east, north = Source(path, made), *made.extent
     across, up = east - west, north - south
-    width, height = (max(1, round(side * span / max(across, up))) for span in (across, up))
-    boxes = views(made.extent, made.anchors, count)
-    ours = by_mapservd(program, os.path.join(folder, "map.map"), made.written, boxes, (width, height))
+    size = tuple(max(1, round(side * span / max(across, up))) for span in (across, up))
+    boxes, written = views(made.extent, made.anchors, count), os.path.join(folder, "map.map")
+    ours, map = by_mapservd(program, written, made.written, boxes, size), source.map()
     lines, worst, all_of_it = [], 0, 0
     for number, (box, drawn) in enumerate(zip(boxes, ours), 1):
-        wanted = by_mapserver(map, made.asked, box, width, height)
+        wanted = by_mapserver(map, made.asked, box, *size)
         both, share, plain = difference(wanted, drawn)
         worst, all_of_it = max(worst, plain), max(all_of_it, share)
-        path = os.path.join(folder, f"compare{number}.png")
-        side_by_side(wanted, drawn, both).save(path)
-        lines.append(f"view {number}, {','.join(number_text(side) for side in box)}: {share:.2%} of the pixels differ, {plain:.2%} beyond half-tones, {path}")
+        picture = os.path.join(folder, f"compare{number}.png")
+        side_by_side(wanted, drawn, both).save(picture)
+        lines.append(f"view {number}, {','.join(number_text(side) for side in box)}: {share:.2%} of the pixels differ, {plain:.2%} beyond half-tones, {picture}")
+        if share >= 0.001:
+            lines.append(f"  by cause: {causes_of(source, made, program, written, box, size, share)}")
     return lines, worst, all_of_it

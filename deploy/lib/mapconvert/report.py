@@ -1,5 +1,6 @@
 """What was changed and left out, with the file and line of the mapfile where it stands."""
 import os
+import re
 
 import keywords
 import mapfile
@@ -8,13 +9,15 @@ import mapfile
 BLOCKS = {
     "MAP": "LAYER WEB SYMBOL LEGEND SCALEBAR REFERENCE QUERYMAP OUTPUTFORMAT PROJECTION",
     "WEB": "METADATA VALIDATION",
-    "LAYER": "CLASS FEATURE METADATA PROJECTION VALIDATION JOIN CLUSTER COMPOSITE GRID SCALETOKEN CONNECTIONOPTIONS",
+    "LAYER": "CLASS FEATURE METADATA PROJECTION VALIDATION JOIN CLUSTER COMPOSITE GRID SCALETOKEN CONNECTIONOPTIONS IDENTIFY BINDVALS",
     "CLASS": "STYLE LABEL METADATA VALIDATION LEADER",
     "STYLE": "PATTERN", "LABEL": "STYLE", "LEGEND": "LABEL", "SCALEBAR": "LABEL", "LEADER": "STYLE",
     "FEATURE": "POINTS", "SYMBOL": "POINTS PATTERN STYLE", "SCALETOKEN": "VALUES",
 }
+# Blocks of which one line is said for all that stands in them.
+WHOLE = {"LEGEND", "SCALEBAR", "REFERENCE", "QUERYMAP", "OUTPUTFORMAT", "JOIN", "CLUSTER", "COMPOSITE", "GRID", "SCALETOKEN", "LEADER", "IDENTIFY"}
 # Blocks whose words are no keywords.
-FLAT = {"METADATA", "PROJECTION", "VALIDATION", "POINTS", "PATTERN", "VALUES", "CONNECTIONOPTIONS"}
+FLAT = {"METADATA", "PROJECTION", "VALIDATION", "POINTS", "PATTERN", "VALUES", "CONNECTIONOPTIONS", "BINDVALS"}
 
 
 class Node:
@@ -37,56 +40,64 @@ class Node:
         return node.keywords.get(path[0]) or (blocks[0].place if blocks else node.place)
 
 
+class Seen:
+    """A keyword as it stands in the mapfile: its block, its place, its first value, and the number of its layer."""
+
+    def __init__(self, block, word, place, value, layer):
+        self.block, self.word, self.place, self.value, self.layer = block, word, place, value, layer
+
+
 class Locator:
-    """Finds where the blocks of a mapfile stand, in the file or in one that it includes."""
+    """Finds where the blocks and keywords of a mapfile stand, in the file or in one that it includes."""
 
     def __init__(self, path):
-        self.folder, self.tokens, self.next = os.path.dirname(path), [], 0
-        self.take(path, 0)
-        self.map = Node((path, 1))
+        self.tokens, self.next, self.seen = list(mapfile.included(path, os.path.dirname(path))), 0, []
+        self.map, self.layers = Node((path, 1)), 0
         while self.next < len(self.tokens) and self.word() != "MAP":
             self.next += 1
         if self.next < len(self.tokens):
             self.next += 1
-            self.fill("MAP", self.map)
-
-    def take(self, path, depth):
-        try:
-            with open(path, encoding="utf-8", errors="surrogateescape", newline="") as file:
-                source = file.read()
-        except OSError:
-            return
-        tokens = iter(mapfile.Reader(source, lambda *found: None, lambda *found: None).tokens)
-        for token in tokens:
-            if token.shape == "word" and token.text.upper() == "INCLUDE" and depth < 5:
-                named = next(tokens, None)
-                if named:
-                    self.take(os.path.join(self.folder, named.text), depth + 1)
-            else:
-                self.tokens.append((token, (path, token.line)))
+            self.fill("MAP", self.map, True)
 
     def word(self):
         token = self.tokens[self.next][0]
         return token.text.upper() if token.shape == "word" else None
 
-    def fill(self, block, node):
-        """Reads a block up to its END."""
+    def value(self):
+        """The text of the next token, where it is a value."""
+        if self.next == len(self.tokens) or self.word() == "END":
+            return None
+        return self.tokens[self.next][0].text
+
+    def fill(self, block, node, is_said):
+        """Reads a block up to its END. Its keywords are kept where one line of their own is due for them."""
         while self.next < len(self.tokens):
             word, place = self.word(), self.tokens[self.next][1]
             self.next += 1
             if word == "END":
                 return
-            if block in FLAT or word is None or not word[0].isalpha():
+            if block == "METADATA" and is_said:
+                self.keep(block, self.tokens[self.next - 1][0].text, place)
+                self.next += 1
+            # an i behind a text has it compared without regard to case
+            if block in FLAT or word is None or not word[0].isalpha() or word == "I":
                 continue
+            if is_said:
+                self.keep(block, word, place)
             if word in BLOCKS.get(block, "").split():
                 inner = Node(place)
                 node.blocks.setdefault(word, []).append(inner)
-                self.fill(word, inner)
+                self.fill(word, inner, is_said and word not in WHOLE and (block, word) != ("LABEL", "STYLE"))
+                self.layers += (block, word) == ("MAP", "LAYER")
                 continue
             node.keywords[word] = place
             known = {**keywords.COUNTS.get(block, {}), **keywords.UNUSED.get(block, {})}
             if known.get(word, 1) and self.next < len(self.tokens) and self.word() != "END":
                 self.next += 1
+
+    def keep(self, block, word, place):
+        # of a METADATA the block that it stands in isn't needed: the number of the layer tells it from that of WEB
+        self.seen.append(Seen(block, word, place, self.value(), self.layers if block not in ("MAP", "WEB", "SYMBOL") else None))
 
     def layer(self, number, count):
         """The block of a layer; that of the map where it isn't known which block is the layer's."""
@@ -94,28 +105,51 @@ class Locator:
         return layers[number] if len(layers) == count else self.map
 
 
+# So many lines of a kind are shown, and then how many more there are.
+SHOWN = 5
+PARTICULAR = re.compile(r"\"[^\"]*\"|'[^']*'|\{[^}]*\}|\(.*\)|\[[^]]*\]|[\d.,]*\d")
+
+
 class Report:
     """The lines of what was changed and what was left out."""
 
     def __init__(self):
-        self.lines, self.changes, self.losses = [], 0, 0
+        self.lines, self.changes, self.losses = {}, 0, 0
+        self.words_at = {}
 
     def changed(self, place, words):
-        self.changes += 1
-        self.add(place, f"changed: {words}")
+        self.changes += self.add(place, f"changed: {words}")
 
     def left_out(self, place, words):
-        self.losses += 1
-        self.add(place, f"left out: {words}")
+        self.losses += self.add(place, f"left out: {words}")
 
     def notes(self, place, words):
         self.add(place, f"note: {words}")
 
     def add(self, place, words):
+        """Adds a line, once; whether it is new."""
         path, line = place
-        if (path, line, words) not in self.lines:
-            self.lines.append((path, line, words))
+        is_new = (path, line, words) not in self.lines
+        self.lines[path, line, words] = None
+        if is_new:
+            self.words_at.setdefault(place, []).append(words)
+        return is_new
+
+    def has(self, place, word=""):
+        """Whether there is a line for a place, in which a word stands."""
+        return any(word in words for words in self.words_at.get(place, []))
+
+    def shown(self):
+        """The lines in the order of the files, of each kind five, and how many more there are."""
+        counts = {}
+        for path, line, words in sorted(self.lines, key=lambda one: one[:2]):
+            kind = PARTICULAR.sub("#", words)
+            counts.setdefault(kind, []).append(words)
+            if len(counts[kind]) <= SHOWN:
+                yield f"{os.path.basename(path)}:{line}: {words}"
+        for words in counts.values():
+            if len(words) > SHOWN:
+                yield f"and {len(words) - SHOWN:,} more like this: {words[SHOWN]}"
 
     def text(self):
-        lines = [f"{os.path.basename(path)}:{line}: {words}" for path, line, words in sorted(self.lines, key=lambda one: one[:2])]
-        return "\n".join([*lines, f"{self.changes} changed, {self.losses} left out"]) + "\n"
+        return "\n".join([*self.shown(), f"{self.changes:,} changed, {self.losses:,} left out"]) + "\n"

@@ -1,0 +1,166 @@
+"""What the styles of a layer's classes become."""
+import mapscript
+
+# Inches in each unit of MapServer's, by its number; DD is by the length of a degree at the equator.
+INCHES = {0: 1, 1: 12, 2: 63_360, 3: 39.3701, 4: 39_370.1, 5: 4_374_754}
+INCHES_OF_A_PIXEL = 1 / 72
+
+
+def colour_of(colour):
+    if colour.red < 0 or colour.alpha == 0:
+        return None
+    return f"{colour.red} {colour.green} {colour.blue}"
+
+
+def pixels(number, most):
+    return min(max(int(number + 0.5), 1), most)
+
+
+def mixed(over, below, share):
+    """The colour of which `over` takes a share, and `below` the rest."""
+    parts = (int(share * one + (1 - share) * other + 0.5) for one, other in zip(map(int, over.split()), map(int, below.split())))
+    return "%d %d %d" % tuple(parts)
+
+
+def between(low, high, share):
+    """The colour at a share of the way from one to another."""
+    parts = (int(one + (other - one) * share) for one, other in ((low.red, high.red), (low.green, high.green), (low.blue, high.blue)))
+    return "%d %d %d" % tuple(parts)
+
+
+def scale_of_sizes(map, layer):
+    """The scale at which sizes in units of the ground are worked out: the middle of those at which the layer shows."""
+    low, high = layer.minscaledenom, layer.maxscaledenom
+    if low > 0 and high > 0:
+        return (low * high) ** 0.5
+    if low > 0 or high > 0:
+        return low * 2 if low > 0 else high / 2
+    map.setExtent(map.extent.minx, map.extent.miny, map.extent.maxx, map.extent.maxy)
+    return map.scaledenom if map.scaledenom > 0 else 10_000
+
+
+def write_in_pixels(map, layer, report, node):
+    """Brings SIZEUNITS of the ground to pixels, at one scale."""
+    if layer.sizeunits not in INCHES:
+        return
+    scale = scale_of_sizes(map, layer)
+    factor = INCHES[layer.sizeunits] / (scale * INCHES_OF_A_PIXEL)
+    for number in range(layer.numclasses):
+        kind = layer.getClass(number)
+        for at in range(kind.numstyles):
+            style = kind.getStyle(at)
+            for name in ("size", "width", "outlinewidth"):
+                if getattr(style, name) > 0:
+                    setattr(style, name, getattr(style, name) * factor)
+            style.size = min(max(style.size, style.minsize), style.maxsize) if style.size > 0 else style.size
+            style.width = min(max(style.width, style.minwidth), style.maxwidth) if style.width > 0 else style.width
+    layer.sizeunits = mapscript.MS_PIXELS
+    report.changed(node.at("SIZEUNITS"), f"SIZEUNITS: sizes are pixels, as they are at 1:{scale:,.0f}")
+
+
+class Styles:
+    """The styles of one layer."""
+
+    def __init__(self, map, layer, kind, marks, report, node):
+        self.map, self.layer, self.kind, self.marks, self.report, self.node = map, layer, kind, marks, report, node
+
+    def place(self, number, at, word=None):
+        return self.node.at("CLASS", number, "STYLE", at, *([word] if word else []))
+
+    def lost(self, number, at, style):
+        """Says what of a style has no counterpart."""
+        lost = [
+            (style.patternlength > 0, "PATTERN", "PATTERN: the line isn't dashed"),
+            (style.opacity < 100 or 0 < style.color.alpha < 255, "OPACITY", "OPACITY: what lies below doesn't show through"),
+            (self.kind != "POINT" and (style.offsetx or style.offsety), "OFFSET", "OFFSET: it is painted where the feature is"),
+            (style.minscaledenom > 0, "MINSCALEDENOM", "MINSCALEDENOM of a STYLE: it shows at the scales of its CLASS"),
+            (style.maxscaledenom > 0, "MAXSCALEDENOM", "MAXSCALEDENOM of a STYLE: it shows at the scales of its CLASS"),
+            (style.rangeitem and style.maxvalue <= style.minvalue, "RANGEITEM", "RANGEITEM without a DATARANGE: one colour for all values"),
+        ]
+        for is_lost, word, why in lost:
+            if is_lost:
+                self.report.left_out(self.place(number, at, word), why)
+        for binding in range(mapscript.MS_STYLE_BINDING_LENGTH):
+            if style.getBinding(binding):
+                why = f"[{style.getBinding(binding)}]: each value is drawn as if it weren't given"
+                self.report.left_out(self.place(number, at), why)
+
+    def point(self, number, at, style):
+        symbol = self.marks.name_of(style, style.symbolname)
+        if symbol is None:
+            return None
+        self.report.changed(self.place(number, at, "SYMBOL"), f"the mark is the pixmap {symbol}.ppm, as MapServer draws it")
+        if self.marks.is_translucent(style):
+            self.report.left_out(self.place(number, at, "SYMBOL"), "the mark's translucent pixels: they are opaque or clear")
+        return [f'SYMBOL "{symbol}"']
+
+    def width(self, number, at, width):
+        kept = pixels(width, 32)
+        if kept != width:
+            self.report.changed(self.place(number, at, "WIDTH"), f"the width {width:g} is {kept}")
+        return kept
+
+    def line(self, number, at, style):
+        colour = colour_of(style.color)
+        if style.symbol and style.gap != 0:
+            self.report.left_out(self.place(number, at, "GAP"), "GAP: no marks along a line")
+            return None
+        if style.symbol:
+            self.report.left_out(self.place(number, at, "SYMBOL"), "SYMBOL of a line: it is a plain line of its SIZE")
+        width = max(style.width, style.size) if style.symbol and style.size > 0 else style.width
+        return None if colour is None else [f"COLOR {colour}", f"WIDTH {self.width(number, at, width)}"]
+
+    def casing(self, number, at, style):
+        colour = colour_of(style.outlinecolor)
+        if colour is None or style.outlinewidth <= 0 or style.symbol and style.gap != 0:
+            return None
+        return [f"COLOR {colour}", f"WIDTH {self.width(number, at, style.width + 2 * style.outlinewidth)}"]
+
+    def ground(self, fill):
+        """What lies below an outline: the class's own fill, else the colour of the map."""
+        return fill or colour_of(self.map.imagecolor) or "255 255 255"
+
+    def polygon(self, number, at, style, below):
+        """A polygon's style; `below` is the fill that the class has painted before."""
+        fill, outline = colour_of(style.color), colour_of(style.outlinecolor)
+        if style.symbol and (fill or self.map.symbolset.getSymbol(style.symbol).type == mapscript.MS_SYMBOL_PIXMAP):
+            fill = self.marks.mean_colour(style)
+            self.report.left_out(self.place(number, at, "SYMBOL"), f"SYMBOL of a polygon: it is filled in the mean colour {fill}")
+        lines = [f"COLOR {fill}"] if fill else []
+        if outline:
+            width = max(style.width, style.size if style.symbol else 0)
+            if 0 < width < 1:
+                thin = mixed(outline, self.ground(fill or below), width)
+                self.report.changed(self.place(number, at, "WIDTH"), f"an outline of the width {width:g} is one of 1 in the mixed colour {thin}")
+                outline, width = thin, 1
+            lines += [f"OUTLINECOLOR {outline}", f"WIDTH {self.width(number, at, width)}"]
+        return lines or None
+
+    def of(self, number, kind, part):
+        """The styles of a class in the order in which MapServer paints them, each with what it paints."""
+        painted, below = [], None
+        for at in range(kind.numstyles):
+            style = kind.getStyle(at)
+            if style.getGeomTransform():
+                self.report.left_out(self.place(number, at, "GEOMTRANSFORM"), "a STYLE with GEOMTRANSFORM")
+                continue
+            if part and style.rangeitem and style.maxvalue > style.minvalue:
+                style = self.at_part(style, part)
+            self.lost(number, at, style)
+            if self.kind == "LINE":
+                painted += [self.casing(number, at, style), self.line(number, at, style)]
+            elif self.kind == "POINT":
+                painted.append(self.point(number, at, style))
+            else:
+                painted.append(self.polygon(number, at, style, below))
+                below = next((line.removeprefix("COLOR ") for line in painted[-1] or () if line.startswith("COLOR ")), below)
+        return [lines for lines in painted if lines]
+
+    def at_part(self, style, part):
+        """A style with the colour in the middle of a part of its range."""
+        from mapconvert.classes import RANGES
+
+        coloured = style.clone()
+        share = (part - 0.5) / RANGES
+        coloured.color.red, coloured.color.green, coloured.color.blue = map(int, between(style.mincolor, style.maxcolor, share).split())
+        return coloured
