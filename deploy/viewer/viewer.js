@@ -6,7 +6,8 @@
 const SERVER = "../wms";
 const TILES = "../tiles/wmts";
 const LEGEND = "legend.json";
-const PICTURE = "image/x-portable-arbitrarymap";
+const PNG = "image/png";
+const ARBITRARY_MAP = "image/x-portable-arbitrarymap";
 
 // A pixel counts as 0.28 mm, and a degree of longitude as 111,319.491 m.
 const SCALE_OF_A_DEGREE = 111319.491 / 0.00028;
@@ -15,8 +16,8 @@ const SCALE_OF_A_DEGREE = 111319.491 / 0.00028;
 let served = { layers: [] };
 // The names of MapProxy's layers; empty where none are served.
 let tileNames = new Set();
-// What deploy/legend wrote: the classes of each layer, by its name; nothing where it isn't there.
-let legend = {};
+// What deploy/legend wrote: the colour of the ground, and the classes of each layer, by its name; nothing where it isn't there.
+let legend = { layers: {} };
 let map;
 // What lies on the map: a canvas, or layers of tiles.
 let overlays = [];
@@ -24,6 +25,9 @@ let overlays = [];
 let asked = new AbortController();
 let timer;
 
+/** The format of whole pictures: PNG where the map offers it. */
+const pictureType = () => served.hasPng ? PNG : ARBITRARY_MAP;
+const isPicture = (type) => [PNG, ARBITRARY_MAP].includes(type);
 const byId = (id) => document.getElementById(id);
 const say = (text) => { byId("message").textContent = text; };
 const source = () => document.querySelector("input[name=source]:checked").value;
@@ -60,6 +64,10 @@ async function xmlOf(response) {
 async function ask(parameters, type, signal) {
     const query = new URLSearchParams({ SERVICE: "WMS", VERSION: "1.3.0", ...parameters });
     const response = await get(`${SERVER}?${query}`, signal);
+    if (isPicture(type)) {
+        // demo/serve has a program answer, until another is built, of which nothing is proved
+        byId("unproved").hidden = response.headers.get("X-Proved") !== "no";
+    }
     const came = (response.headers.get("Content-Type") || "no type").split(";")[0];
     if (came === "text/xml") {
         const xml = await xmlOf(response);
@@ -75,7 +83,7 @@ async function ask(parameters, type, signal) {
     if (came !== type) {
         throw new Error(`The server answers with ${came} in place of ${type}.`);
     }
-    return type === PICTURE ? response.arrayBuffer() : response.text();
+    return isPicture(type) ? response.arrayBuffer() : response.text();
 }
 
 /** The parameters of a picture of a box in degrees. Each system has its own order of the axes. */
@@ -89,7 +97,7 @@ function pictureOf(layers, system, box, width, height) {
         BBOX: sides.map((degrees) => degrees.toFixed(6)).join(","),
         WIDTH: width,
         HEIGHT: height,
-        FORMAT: PICTURE,
+        FORMAT: pictureType(),
         TRANSPARENT: "TRUE",
     };
 }
@@ -113,8 +121,21 @@ function degreesOfPixel() {
     return (east - west) / Math.min(map.getSize().x, served.width);
 }
 
+/** The pixels of a PNG, which has to be of the size that was asked for. */
+async function canvasOfPng(bytes, width, height) {
+    const image = await createImageBitmap(new Blob([bytes], { type: PNG }));
+    if (image.width !== width || image.height !== height) {
+        throw new Error(`The server's picture isn't one of ${width} by ${height} pixels.`);
+    }
+    const canvas = document.createElement("canvas");
+    canvas.width = width;
+    canvas.height = height;
+    canvas.getContext("2d").drawImage(image, 0, 0);
+    return canvas;
+}
+
 /** The pixels of a PAM, which has to be of the size that was asked for. */
-function canvasOf(bytes, width, height) {
+function canvasOfPam(bytes, width, height) {
     const head = `P7\nWIDTH ${width}\nHEIGHT ${height}\nDEPTH 4\nMAXVAL 255\nTUPLTYPE RGB_ALPHA\nENDHDR\n`;
     const came = new TextDecoder("latin1").decode(bytes.slice(0, head.length));
     if (came !== head || bytes.byteLength !== head.length + 4 * width * height) {
@@ -161,8 +182,11 @@ async function showPicture(layers, isAgain = false) {
     const waiting = setTimeout(() => { byId("waiting").hidden = signal.aborted; }, 300);
     const { west, south, east, north } = boxOfView();
     try {
-        const bytes = await ask({ REQUEST: "GetMap", ...picture }, PICTURE, signal);
-        const canvas = canvasOf(bytes, picture.WIDTH, picture.HEIGHT);
+        const bytes = await ask({ REQUEST: "GetMap", ...picture }, picture.FORMAT, signal);
+        const canvas = await (picture.FORMAT === PNG ? canvasOfPng : canvasOfPam)(bytes, picture.WIDTH, picture.HEIGHT);
+        if (signal.aborted) {
+            return;
+        }
         // This overlay takes any element.
         replaceOverlays([L.svgOverlay(canvas, [[south, west], [north, east]])]);
     } catch (error) {
@@ -208,12 +232,12 @@ function tilesOf(name) {
     return tiles.on("tileerror", () => say("A tile of MapProxy's didn't come."));
 }
 
-/** Shows PNG tiles that deploy/formats packs. A tile of a layer that is gone has the others asked for once more. */
+/** Shows PNG tiles of the server, or of deploy/formats. A tile of a layer that is gone has the others asked for once more. */
 function showPng(layers, isAgain = false) {
     asked = new AbortController();
     const signal = asked.signal;
     const names = layers.map((layer) => layer.name).join(",");
-    const options = { layers: names, version: "1.3.0", format: "image/png", transparent: true, maxZoom: 18 };
+    const options = { layers: names, version: "1.3.0", format: PNG, transparent: true, maxZoom: 18 };
     const tiles = L.tileLayer.wms(SERVER, { ...options, noWrap: true, bounds: [[-90, -180], [90, 180]] });
     tiles.once("tileerror", async () => {
         try {
@@ -254,6 +278,7 @@ function showSoon() {
 /** Greys layers, and hides classes of the legend, that the present scale doesn't show. */
 function markScales() {
     const scale = degreesOfPixel() * SCALE_OF_A_DEGREE;
+    byId("scale").textContent = `1:${Math.round(scale).toLocaleString("en")}`;
     const visible = ({ minScale = 0, maxScale = Infinity }) => minScale <= scale && scale < maxScale;
     for (const layer of served.layers) {
         layer.input.parentElement.classList.toggle("out-of-scale", !visible(layer));
@@ -265,11 +290,37 @@ function markScales() {
     }
 }
 
-function afterMove() {
-    markScales();
+/** Keeps in the page's address what is shown: level and centre, and the layers that are on where some are off. */
+function keepPlace() {
     const center = map.getCenter();
     const level = map.getZoom() - (source() === "tiles" ? 1 : 0);
-    history.replaceState(null, "", `#${level}/${center.lat.toFixed(5)}/${center.lng.toFixed(5)}`);
+    const on = layersOn();
+    const every = served.layers.every((layer) => layer.input.checked || layer.input.disabled);
+    const names = every ? "" : `/${on.map((layer) => encodeURIComponent(layer.name)).join(",")}`;
+    history.replaceState(null, "", `#${level}/${center.lat.toFixed(5)}/${center.lng.toFixed(5)}${names}`);
+}
+
+/** What the page's address keeps: [level, latitude, longitude, names of layers or nothing]. */
+function placeOfAddress() {
+    const found = /^#([\d.]+)\/(-?[\d.]+)\/(-?[\d.]+)(?:\/(.*))?$/.exec(location.hash);
+    if (!found) {
+        return null;
+    }
+    const names = found[4]?.split(",").filter(Boolean).map(decodeURIComponent);
+    return [Number(found[1]), Number(found[2]), Number(found[3]), names];
+}
+
+/** Switches on the layers that the page's address names, and the others off; all where it names none. */
+function switchLayers() {
+    const names = placeOfAddress()?.[3];
+    if (names) {
+        served.layers.forEach((layer) => { layer.input.checked = !layer.input.disabled && names.includes(layer.name); });
+    }
+}
+
+function afterMove() {
+    markScales();
+    keepPlace();
     if (!isTiled()) {
         showSoon();
     }
@@ -277,6 +328,7 @@ function afterMove() {
 
 function changeLayers() {
     markScales();
+    keepPlace();
     map.closePopup();
     showSoon();
 }
@@ -313,6 +365,57 @@ function clickOf(layers, latlng, point) {
     return { ...picture, I: column, J: row };
 }
 
+/** Whether an item is the one in which deploy/convert gives a feature the numbers of its classes, for drawing alone. */
+const isForDrawing = ([name, value]) => name === "class" && /^\d+(\.\d)?(\+\d+(\.\d)?)*$/.test(value);
+
+/** The features of an answer: each with its layer's name and its items as [name, value]. A value may have several lines. */
+function featuresOf(text) {
+    const features = [];
+    let layer = "";
+    for (const line of text.split("\n").slice(1)) {
+        const opening = /^Layer '(.*)'$/.exec(line);
+        const item = /^    (.*?) = '(.*)$/.exec(line);
+        if (opening) {
+            layer = opening[1];
+        } else if (/^  Feature \d+:$/.test(line)) {
+            features.push({ layer, items: [] });
+        } else if (item && features.length > 0) {
+            features.at(-1).items.push([item[1], item[2]]);
+        } else if (features.at(-1)?.items.length > 0) {
+            features.at(-1).items.at(-1)[1] += `\n${line}`;
+        }
+    }
+    for (const feature of features) {
+        feature.items = feature.items.map(([name, value]) => [name, value.trimEnd().replace(/'$/, "")]);
+        if (feature.items.length > 0 && isForDrawing(feature.items.at(-1))) {
+            feature.items.pop();
+        }
+    }
+    return features;
+}
+
+/** The table of a click: a heading for each feature, its layer, and a row for each item. */
+function tableOf(text) {
+    const features = featuresOf(text);
+    const table = document.createElement("table");
+    table.className = "features";
+    if (features.length === 0) {
+        table.insertRow().insertCell().textContent = "No feature is here.";
+    }
+    for (const { layer, items } of features) {
+        const heading = document.createElement("th");
+        heading.colSpan = 2;
+        heading.textContent = served.layers.find((one) => one.name === layer)?.title ?? layer;
+        table.insertRow().append(heading);
+        for (const [name, value] of items) {
+            const row = table.insertRow();
+            row.insertCell().textContent = name;
+            row.insertCell().textContent = value;
+        }
+    }
+    return table;
+}
+
 /** Shows the features at a click, of the layers that can be asked: the topmost, as the proxy refuses more names. */
 async function showFeatures(event) {
     const layers = layersOn().filter((layer) => layer.queryable).slice(-MOST_ASKED);
@@ -324,11 +427,7 @@ async function showFeatures(event) {
     const query = { REQUEST: "GetFeatureInfo", ...click, QUERY_LAYERS: click.LAYERS, INFO_FORMAT: "text/plain" };
     try {
         const text = await ask({ ...query, FEATURE_COUNT: 10 }, "text/plain");
-        const lines = document.createElement("pre");
-        lines.className = "features";
-        // The first line is the title of all such answers.
-        lines.textContent = text.split("\n").slice(1).join("\n").trimEnd() || "No feature is here.";
-        L.popup({ maxWidth: 400 }).setLatLng(event.latlng).setContent(lines).openOn(map);
+        L.popup({ maxWidth: 400 }).setLatLng(event.latlng).setContent(tableOf(text)).openOn(map);
     } catch (error) {
         say(error.message);
     }
@@ -388,7 +487,7 @@ function readCapabilities(xml) {
             [side("northBoundLatitude", 90), side("eastBoundLongitude", 180)],
         ],
         layers,
-        hasPng: [...xml.querySelectorAll("GetMap > Format")].some((one) => one.textContent === "image/png"),
+        hasPng: [...xml.querySelectorAll("GetMap > Format")].some((one) => one.textContent === PNG),
         allTiles: nameTiles(layers),
         width: numberOf(xml, "MaxWidth", 2048),
         height: numberOf(xml, "MaxHeight", 2048),
@@ -397,7 +496,7 @@ function readCapabilities(xml) {
 
 /** The lines of a layer's legend. */
 function legendOf(layer) {
-    layer.lines = (legend[layer.name] ?? []).map((entry) => {
+    layer.lines = (legend.layers[layer.name] ?? []).map((entry) => {
         const line = document.createElement("div");
         const picture = document.createElement("img");
         line.className = "class";
@@ -442,9 +541,9 @@ function makeMap() {
     map.attributionControl.addAttribution(escaped(served.title));
     L.control.scale({ imperial: false }).addTo(map);
     map.on("moveend", afterMove).on("click", showFeatures);
-    const place = /^#([\d.]+)\/(-?[\d.]+)\/(-?[\d.]+)$/.exec(location.hash);
+    const place = placeOfAddress();
     if (place) {
-        map.setView([Number(place[2]), Number(place[3])], Number(place[1]));
+        map.setView([place[1], place[2]], place[0]);
     } else {
         map.fitBounds(served.extent);
     }
@@ -465,9 +564,12 @@ async function findTiles() {
 
 async function readLegend() {
     try {
-        legend = await (await get(LEGEND)).json();
+        legend = { layers: {}, ...await (await get(LEGEND)).json() };
     } catch (error) {
-        legend = {};
+        legend = { layers: {} };
+    }
+    if (/^#[0-9a-f]{6}$/.test(legend.ground ?? "")) {
+        document.documentElement.style.setProperty("--ground", legend.ground);
     }
 }
 
@@ -483,6 +585,7 @@ async function begin() {
         return;
     }
     await readLegend();
+    switchLayers();
     writePanel();
     makeMap();
     findTiles();
