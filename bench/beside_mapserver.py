@@ -7,7 +7,7 @@ It needs Debian's cgi-mapserver, gdal-bin, nginx-light, spawn-fcgi and fonts-dej
 layer has the polygons of countries; without it demo/world.map is taken. Lines, squares and labels are made by rule. MapServer
 gets them as shapefiles with an index of their own each (ogr2ogr, shptree), and runs as one FastCGI process behind nginx.
 The built program reads them from its mapfile, and runs with one worker and no proxy. Both are asked over a kept
-connection, each scenario in turn, and answer pictures as PPM; the last figure is that of MapServer's PNG. A figure is what
+connection, each scenario in turn, and answer pictures as PPM and as PNG; the last figures are the bytes of the PNGs. A figure is what
 /proc says that the threads of the server's process took, with HTTP here and without nginx there. An answer of another kind
 or size ends the script with 1.
 """
@@ -138,7 +138,7 @@ def write_mapfiles(folder, data):
     ours = "".join(
         layer_words(layer, 'PROCESSING "ITEMS=name"\n' + "".join(inline(data[layer.data])), layer.ours) for layer in LAYERS
     )
-    (folder / "ours.map").write_text(f'{head}CONFIG "LABELFONT" "6x13.bdf"\n{ours}END\n')
+    (folder / "ours.map").write_text(f'{head}CONFIG "LABELFONT" "6x13.bdf" CONFIG "WMS_FORMATS" "{PNG}"\n{ours}END\n')
     shutil.copy(DEMO / "6x13.bdf", folder)
 
 
@@ -243,10 +243,21 @@ def check(server, query, answer):
     if "GetMap" in query and kind == PPM:
         head = b"P6\n%s %s\n255\n" % (size[1].encode(), size[2].encode())
         is_right = body.replace(b" \n", b"\n").startswith(head)
+    elif "GetMap" in query:
+        sides = int(size[1]).to_bytes(4, "big") + int(size[2]).to_bytes(4, "big")
+        is_right = kind == PNG and body.startswith(b"\x89PNG") and body[16:24] == sides
     else:
         is_right = b"ServiceException" not in body and b"msWMS" not in body
     if status != 200 or not is_right:
         sys.exit(f"{server.name} answers {query}: {status} {kind} {body[:300]}")
+
+
+def compared(ours, theirs, query):
+    """The milliseconds of both, and how many times as many ours are."""
+    for server in (ours, theirs):
+        check(server, query, server.ask(query))
+    mine, other = ours.each(query), theirs.each(query)
+    return [f"{mine:.3f}", f"{other:.2f}", f"{mine / other:.3f}"]
 
 
 def main():
@@ -260,14 +271,13 @@ def main():
         write_mapfiles(folder, data)
         theirs = start_mapserver(folder)
         ours = start_ours(os.path.abspath(sys.argv[1]), folder)
-        print("| Scenario | Ours, ms | MapServer, ms | Ours to MapServer's | MapServer's PNG, ms |\n|---|---|---|---|---|", flush=True)
+        print("| Scenario | Ours, ms | MapServer, ms | Ours to MapServer's | Ours as PNG | MapServer's | One to the other | Bytes |")
+        print("|---|---|---|---|---|---|---|---|", flush=True)
         try:
             for title, query, png in scenarios():
-                for server in (ours, theirs):
-                    check(server, query, server.ask(query))
-                mine, other = ours.each(query), theirs.each(query)
-                packed = f"{theirs.each(png):.2f}" if png else ""
-                print(f"| {title} | {mine:.3f} | {other:.2f} | {mine / other:.3f} | {packed} |", flush=True)
+                figures = compared(ours, theirs, query)
+                figures += [*compared(ours, theirs, png), " and ".join(str(len(server.ask(png)[2])) for server in (ours, theirs))] if png else [""] * 4
+                print(f"| {title} | {' | '.join(figures)} |", flush=True)
         finally:
             ours.stop()
             theirs.stop()

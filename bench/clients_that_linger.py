@@ -1,5 +1,5 @@
 #!/usr/bin/env python3
-"""Tries clients that send more than a head, or less, or don't read. Usage: clients_that_linger.py PROGRAM [COUNT]
+"""Tries clients that send more than a head, or less, or don't read. Usage: clients_that_linger.py PROGRAM [COUNT [unread]]
 
 Each way is tried COUNT times (100 where it isn't given) on a server of one worker and on one of four. A picture of 512
 by 512 pixels is asked for by a head that closes, with a body of 3 bytes in a second write, by http.client, which writes
@@ -9,8 +9,9 @@ or a second head follow the first.
 Then clients linger at a server of one worker: one sends nothing; one half a head; one half a head, and a byte each
 second; one a head for a picture of 12 MB, of which it reads nothing; one has its answer, and neither sends more nor leaves.
 Another client that asks beside each of them is to be answered at once. All are to be dropped: the first three after 2
-seconds, as --timeout says, whether bytes come or not; the one that reads nothing 2 seconds after the last byte that the
-system took for it; and the one that stays after 3 seconds, as --idle says.
+seconds, as --timeout says, whether bytes come or not; and the one that stays after 3 seconds, as --idle says. The one that reads
+nothing has time for half of the bytes that the system took for it, more than a minute: with `unread` as a third argument it is
+waited for.
 """
 import http.client
 import os
@@ -161,7 +162,7 @@ def is_wrong(name, what, seconds, least, most):
     return seconds is None or not least <= seconds <= most
 
 
-def try_unread(mapfile):
+def try_unread(mapfile, is_awaited):
     """A client that reads nothing can't see that it was dropped: the server has a descriptor less then."""
     with Server(mapfile, 1) as port:
         seconds_of(port, LARGE)
@@ -175,9 +176,11 @@ def try_unread(mapfile):
         began = time.monotonic()
         seconds, whole = seconds_of(port, SMALL)
         wrong = is_wrong("beside a picture that isn't read", "answered", seconds, 0, 1) or not whole
-        while descriptors() > count and time.monotonic() < began + 60:
+        while is_awaited and descriptors() > count and time.monotonic() < began + 200:
             time.sleep(0.01)
-        wrong += is_wrong("a picture that isn't read", "dropped", time.monotonic() - began + 0.5, TIMEOUT - 0.1, TIMEOUT + 1.5)
+        if is_awaited:
+            # the time of half of 2 to 4 MiB, at 16 bytes a millisecond, comes to the timeout
+            wrong += is_wrong("a picture that isn't read", "dropped", time.monotonic() - began + 0.5, TIMEOUT + 55, TIMEOUT + 132.5)
         stream.close()
     return wrong
 
@@ -221,7 +224,7 @@ def main():
         mapfile.write(MAP)
         mapfile.flush()
         wrong = sum(try_ways(mapfile.name, workers, count) for workers in (1, 4))
-        wrong += try_lingering(mapfile.name) + try_unread(mapfile.name)
+        wrong += try_lingering(mapfile.name) + try_unread(mapfile.name, "unread" in sys.argv[3:])
     print("ok" if wrong == 0 else f"failed: {wrong}")
     sys.exit(wrong)
 

@@ -4,14 +4,15 @@
 Usage: failing_calls.py PROGRAM [EVERY]
 
 A library that is loaded before the C library, built here with cc, counts the calls and fails the one of a number, or
-lets it move one byte alone. For `refusals.py` it can count calls for memory between two marks alone. Maps of demo/ are checked and played; sessions of a map's own ask for a picture with
-labels, for the capabilities document and for feature information; and a map is served by two workers, to three clients
+lets it move one byte alone. For `refusals.py` it can count calls for memory between two marks alone. Maps of demo/ are checked
+and played; sessions of a map's own ask for a picture with labels, for PNG of few colours, of many and of more than a palette
+has, for the capabilities document and for feature information; and a map is served by two workers, to three clients
 and three administrators, who change it between the clients' requests. What comes out may be less than the right answer,
 never another: a reply is right or NOMEMORY; where a file or a stream fails, what was written is a prefix of the right
 output, with the status of that failure; the message on a fault may be missing, and with `--explain` the line on memory may
 stand in their place; where a call moves one byte, nothing changes. Of what is served each picture is, by hand, that of
 the state which the lines of the administration leave, where a line that is cut or missing leaves two or three; at most
-one of the six connections has less than its whole answer, 503, HELD or NOMEMORY; and where the service fails, no client
+one of the six connections has less than its whole answer, 503, BUSY, HELD or NOMEMORY; and where the service fails, no client
 is answered. The program always ends by itself, once so many connections as were asked for came at each port.
 
 With EVERY only every so-many-th call fails. The script prints how many calls each kind has while it lets them fail,
@@ -27,6 +28,7 @@ import tempfile
 import threading
 import time
 
+from decoders import bodies, of_pam, of_png, seen
 from served import ports_of
 
 # the seconds of a run, which takes some hundredths
@@ -159,6 +161,15 @@ FEATURE TEXT A POINTS 4.5 5.5 END END FEATURE TEXT A POINTS 4.5 5.5 END END END 
 %%
 QUERY VERSION=1.3.0&REQUEST=GetMap&LAYERS=a&STYLES=&CRS=CRS:84&BBOX=0,0,10,10&WIDTH=10&HEIGHT=10&FORMAT=image/x-portable-pixmap
 """
+# a pixmap of 272 colours
+MANY = b"P6\n16 17\n255\n" + b"".join(bytes([at // 16, at % 16 * 16, 99]) for at in range(272))
+PNG_MAP = b"""MAP CONFIG WMS_FORMATS image/png SYMBOL NAME s TYPE PIXMAP IMAGE many.ppm END
+LAYER NAME a TYPE POINT CLASS STYLE SYMBOL s END END FEATURE POINTS 8 8.5 END END END END
+%%
+"""
+PNG = b"QUERY VERSION=1.3.0&REQUEST=GetMap&LAYERS=a&STYLES=&CRS=CRS:84&BBOX=%s&WIDTH=%d&HEIGHT=%d&FORMAT=image/%s&TRANSPARENT=%s\n"
+# sides and boxes: 8 colours with nothing beside them, 256, and all of them with nothing round them and without
+PNG_BOXES = [(10, 1, b"-2,16,8,17"), (16, 16, b"0,1,16,17"), (18, 18, b"0,0,18,18"), (16, 17, b"0,0,16,17")]
 CAPABILITIES = b"""MAP WEB METADATA wms_title 'A "map"' wms_onlineresource "http://a.example/?b&" END END
 LAYER NAME a TYPE POINT TEMPLATE t MINSCALEDENOM 5 METADATA wms_title "<a>" END END LAYER NAME b TYPE LINE END END
 %%
@@ -187,6 +198,21 @@ def labelled():
     """The picture of the two labels: the ink of each, of three pixels, begins in columns 1 and 5 of row 2."""
     ink = {(1, 2), (2, 2), (1, 3), (5, 2), (6, 2), (5, 3)}
     return b"P6\n10 10\n255\n" + b"".join(bytes([10, 20, 30] if (at % 10, at // 10) in ink else [255] * 3) for at in range(100))
+
+
+def pngs():
+    """A session of pictures, each as PAM and as PNG, transparent or not."""
+    for width, height, box in PNG_BOXES:
+        for clear in (b"TRUE", b"FALSE"):
+            for form in (b"x-portable-arbitrarymap", b"png"):
+                yield PNG % (box, width, height, form, clear)
+
+
+def are_read(output):
+    """Whether each PNG of a transcript has the pixels of the PAM before it."""
+    found = [body for _, body in bodies(output)]
+    pairs = [(of_pam(pam), of_png(png)) for pam, png in zip(found[::2], found[1::2])]
+    return len(pairs) == 2 * len(PNG_BOXES) and all(pam[:2] == png[:2] and pam[2] == seen(png[2]) for pam, png in pairs)
 
 
 def report(code, parameter):
@@ -263,12 +289,17 @@ def states_after(state, commands, got):
                 yield after
 
 
+def states_left(state, commands, got):
+    """The same; where memory for the connection was refused nothing of it was read."""
+    yield from [state] if got == b"BUSY\n" else states_after(state, commands, got)
+
+
 def is_history(got, is_client_right):
     """Whether some history explains all that was got: each client's answer is right in the state of its turn."""
     states = [([], [])]
     for client, administrator, (_, commands) in zip(got[::2], got[1::2], TURNS):
         states = [state for state in states if is_client_right(client, ANSWERS[state[0][-1] if state[0] else None])]
-        states = [after for state in states for after in states_after(state, commands, administrator)]
+        states = [after for state in states for after in states_left(state, commands, administrator)]
     return bool(states)
 
 
@@ -316,8 +347,8 @@ def may_fail(run, right):
 
 
 def may_want_thread(run, right):
-    """A run of which one call for a thread failed: all of them come after the program has said that it listens."""
-    return run.status == 3 and len(run.got) == 2 * len(TURNS) and may_have_served(run, (3,), None)
+    """A run of which one call for a thread failed: the program starts all of them before it says that it listens."""
+    return (run.status, run.output, run.errors, run.got) == (3, b"", b"", [])
 
 
 def cases(folder):
@@ -328,6 +359,8 @@ def cases(folder):
     transparent = script.replace(b"x-portable-pixmap", b"x-portable-arbitrarymap&TRANSPARENT=TRUE")
     yield "session", "", DEMO, (DEMO / "harbours.map").read_bytes() + b"%%\n" + script + transparent, b"\n"
     yield "labels", "", folder, LABELS, transcript(b"image/x-portable-pixmap", labelled())
+    (folder / "many.ppm").write_bytes(MANY)
+    yield "PNG", "", folder, PNG_MAP + b"".join(pngs()), b"\n"
     yield "capabilities", "", folder, CAPABILITIES, b"</WMS_Capabilities>\n" + transcript(b"text/xml", report(b"InvalidUpdateSequence", b"UPDATESEQUENCE"))
     yield "information", "", folder, FEATURES, transcript(b"text/plain", FOUND) + transcript(b"text/xml", report(b"InvalidPoint", b"I"))
     for words, ending in [("run lakes.map lakes.script", b"\n"), ("check harbours.map", b"features\n"), ("check --explain faulty.map", b"")]:
@@ -339,6 +372,8 @@ def kinds_of(name, right, ending):
     """Which calls are let fail, how many there are, and by what a run is right; the run with none has to be."""
     if right.memory == 0 or not right.output.endswith(ending):
         sys.exit(f"failed: {name} ends with {right.key()}, and {right.memory} calls for memory were counted")
+    if name == "PNG" and not are_read(right.output):
+        sys.exit(f"failed: a PNG has other pixels than the PAM: {right.output}")
     yield "FAIL_MEMORY", right.memory, may_want_memory
     yield "FAIL_BYTES", right.bytes, may_fail
     yield "SHORT_BYTES", right.bytes, lambda run, right: run.key() == right.key()

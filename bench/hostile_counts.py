@@ -61,6 +61,7 @@ ENDFONT
     "batch": b"OFF a\nAPPEND 15 p\nx,y\n1,2\n3.5,-4\nON a\r\nCLEAR p\n",
     "head": b"GET /wms?REQUEST=x HTTP/1.1\r\nHost: a\r\nContent-Length: 0\r\n\r\n",
     "query": b"REQUEST=GetMap&VERSION=1.3.0&LAYERS=a&STYLES=&CRS=CRS:84&BBOX=0,0,4,4&WIDTH=4&HEIGHT=4&FORMAT=image/x-portable-pixmap",
+    "png": b"REQUEST=GetMap&VERSION=1.3.0&LAYERS=a&STYLES=&CRS=CRS:84&BBOX=0,0,4,4&WIDTH=4&HEIGHT=4&FORMAT=image/png&TRANSPARENT=TRUE",
     "script": b"QUERY REQUEST=x\nBATCH 12\nOFF a\nOFF b\nQUERY \n",
     "administrator": b"BATCH 6\nOFF a\nRETRY\nBATCH 5\nON b\n",
 }
@@ -281,6 +282,7 @@ READERS = {
     "batch": one(batch),
     "head": one(head),
     "query": one(query),
+    "png": one(lambda source: query(source, ("image/png",))),
     "script": one(script),
     "administrator": administrator,
 }

@@ -330,7 +330,8 @@ def pixmap(source):
 CODES = ["", "Missing", "Invalid", "Operation", "LayerNotDefined", "StyleNotDefined", "InvalidCRS", "InvalidFormat"]
 
 
-def query(source):
+def query(source, offered=()):
+    """A query to a map that offers these formats, too."""
     given = {}
     for pair in source.split(b"&"):
         name, _, value = pair.partition(b"=")
@@ -354,7 +355,8 @@ def query(source):
         (has("WIDTH"), "Missing"), (digits(given.get("WIDTH", "")), "Invalid"),
         (has("HEIGHT"), "Missing"), (digits(given.get("HEIGHT", "")), "Invalid"),
         (has("FORMAT"), "Missing"),
-        (given.get("FORMAT") in ("image/x-portable-pixmap", "image/x-portable-arbitrarymap"), "InvalidFormat"),
+        (given.get("FORMAT") in ("image/x-portable-pixmap", "image/x-portable-arbitrarymap", *offered), "InvalidFormat"),
+        (not has("TRANSPARENT") or given["TRANSPARENT"].lower() in ("true", "false"), "Invalid"),
     ]
     for holds, code in rows:
         if not holds:

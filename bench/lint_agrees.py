@@ -35,6 +35,8 @@ TABLE = [
     "WEB VALIDATION a b END METADATA 'wms_title' 't' END END\n{}",
     "WEB VALIDATION a END END\n{}",
     "CONFIG LABELFONT f.bdf CONFIG x y\n{}",
+    "CONFIG WMS_FORMATS ' image/png  image/x-portable-pixmap' CONFIG WMS_CRS EPSG:3857 CONFIG WMS_CRS ''\n{}",
+    "CONFIG WMS_FORMATS\nimage/gif CONFIG WMS_FORMATS image/png\n{}", "CONFIG WMS_CRS 'EPSG:3857\tEPSG:3857'\n{}", "CONFIG WMS_CRS epsg:3857\n{}",
     "SIZE x y SIZE 'END' 1\n{}",
     "IMAGECOLOR 1 2\n{}", "IMAGECOLOR '#0a141e'\n{}", "IMAGECOLOR '#0a141'\n{}",
     "EXTENT 1 0 1\n1\n{}", "EXTENT 0 0\n0 1\n{}", "EXTENT 0 0 1000.0000004 1\n{}", "EXTENT 0 0 1000.0000005 1\n{}",
@@ -83,6 +85,14 @@ ONCE = [
     "CLASS METADATA a b END STYLE COLOR 10 20 30 END END TEMPLATE t", "CLASS VALIDATION a b END END", "COMPOSITE OPACITY 50 END",
     "CLASS LEADER STYLE PATTERN 2 2 END END END STYLE COLOR 10 20 30 END END", "CLASS STYLE PATTERN 2 2 END END END",
     "SCALETOKEN VALUES '0' 'a' END END", "CLUSTER MAXDISTANCE 20 END", "GRID LABELFORMAT DD END",
+]
+
+
+# What metadata keeps from MapServer's clients and nobody here: no fault of `check`, and so often a difference to lint alone.
+KEPT_BACK = [
+    ("METADATA wms_exclude_items a END", 1), ("METADATA gml_include_items 'a,b' ows_exclude_items c END", 2), ("METADATA ows_include_items all END", 0),
+    ("METADATA ows_enable_request '!*' END", 1), ("METADATA wms_enable_request '* !GetFeatureInfo' END", 1), ("METADATA ows_enable_request '*' END", 0),
+    ("METADATA ows_allowed_ip_list '10.0.0.1' END", 1), ("METADATA wms_title t END", 0),
 ]
 
 
@@ -155,6 +165,22 @@ def agrees(program, lint, path, name):
     return False
 
 
+def looks_into_includes(lint):
+    """Whether lint finds what stands in an included file, by the lines of that file, and in one that this includes."""
+    with tempfile.TemporaryDirectory() as folder:
+        for name, text in (("a.map", whole("INCLUDE 'b.part'")), ("b.part", "LAYER NAME l TYPE POINT\nINCLUDE 'c.part'\nOPACITY 5\nEND\n"), ("c.part", "\nMASK 'm'\n")):
+            with open(os.path.join(folder, name), "w", encoding="utf-8") as file:
+                file.write(text)
+        linter = lint.Linter(os.path.join(folder, "a.map"), whole("INCLUDE 'b.part'"))
+        linter.read_all()
+        inner = linter.included[0] if linter.included else None
+        innermost = inner.included[0] if inner and inner.included else None
+        found = [[line for line, is_difference, _ in one.found if is_difference] if one else None for one in (linter, inner, innermost)]
+    if found != [[2], [2, 3], [2]]:
+        print(f"lint finds {found} in a mapfile and what it includes")
+    return found == [[2], [2, 3], [2]]
+
+
 def load_lint():
     path = os.path.join(TOP, "deploy", "lint")
     loader = importlib.machinery.SourceFileLoader("lint", path)
@@ -179,6 +205,14 @@ def main():
         count, wrong = count + 1, wrong + (linter.differences != 1)
         if linter.differences != 1:
             print(f"{text}: lint differs {linter.differences} times in place of once: {linter.found}")
+    for text, wanted in KEPT_BACK:
+        linter = lint.Linter("kept back", whole(LAYER.replace("{}", text)))
+        linter.read_all()
+        is_right = (linter.differences, len(linter.kept_back)) == (0, wanted)
+        count, wrong = count + 1, wrong + (not is_right)
+        if not is_right:
+            print(f"{text}: lint finds {linter.kept_back} and {linter.found}")
+    count, wrong = count + 1, wrong + (not looks_into_includes(lint))
     small = [open(path, encoding="utf-8", errors="surrogateescape").read() for path in ours + others if os.path.getsize(path) < 20_000]
     with tempfile.TemporaryDirectory() as folder:
         made = list(tables()) + [text for source in small for text in spoiled(source)]

@@ -24,11 +24,11 @@ USED = ["mapparse", "layers", "mapdefs", "geom", "scaledenom", "viewport", "symb
 EARTH, TILE, PART = "-180 -90 180 90", "5 43 16 54", "0 0 4 4"
 
 
-def needed():
-    """The lines of crates.txt that the program stands on, and its own."""
+def needed(used):
+    """The crates that a program stands on, in the order of crates.txt, and what each line of it has."""
     lines = (HERE.parent / "crates.txt").read_text().splitlines()
     stands_on = {name: below.split() for name, below in (line.split(":") for line in lines if line[:1] not in ("", "#"))}
-    found, open_names = set(), list(USED)
+    found, open_names = set(), list(used)
     while open_names:
         name = open_names.pop()
         if name in stands_on and name not in found:
@@ -37,20 +37,20 @@ def needed():
     return [name for name in stands_on if name in found], stands_on
 
 
-def build(folder):
-    """The program, built in the folder."""
-    top = pathlib.Path(folder)
-    names, stands_on = needed()
+def build(folder, source_name="painting_counts.rt.txt", used=tuple(USED)):
+    """The program, or another one of bench/ that stands on these crates, built in the folder."""
+    top, called = pathlib.Path(folder), source_name.partition(".")[0].replace("_", "")
+    names, stands_on = needed(used)
     for name in names:
         shutil.copytree(HERE.parent / "crates" / name, top / "crates" / name, ignore=shutil.ignore_patterns("out"))
-    source = top / "crates" / "paintingcounts" / "src"
+    source = top / "crates" / called / "src"
     source.mkdir(parents=True)
-    shutil.copy(HERE / "painting_counts.rt.txt", source / "main.rt")
-    lines = [f"{name}: {' '.join(stands_on[name])}" for name in names] + [f"paintingcounts: {' '.join(USED)}"]
+    shutil.copy(HERE / source_name, source / "main.rt")
+    lines = [f"{name}: {' '.join(stands_on[name])}" for name in names] + [f"{called}: {' '.join(used)}"]
     (top / "crates.txt").write_text("\n".join(lines) + "\n")
     subprocess.run(["git", "init", "-q", folder], check=True)
     subprocess.run(["rt", "run", "--", "0"], cwd=source.parent, input=b"", stdout=sys.stderr, check=True)
-    return str(source.parent / "out" / "paintingcounts")
+    return str(source.parent / "out" / called)
 
 
 def of_extent(extent, layer):

@@ -13,6 +13,7 @@ on which the list of mutants had it. What refuses it is one or more of these, wi
     prover                  the prover, by a clause that wasn't noted
     prover and tests        the prover, and a test too; test NAME where it was noted
     test NAME, tests NAMES  tests, and no clause
+    case NAME               a case, and no clause
     law NAME                a law on the definitions; the mutant changes a definition
     script PATH             a script that tries the built program
     proof alone: ..         only the law's proof stops: the law is still true
@@ -51,7 +52,7 @@ def kind_of(row):
     if by.startswith(AT_FIRST):
         return "nothing at first"
     first = re.match(r"\w+", by)[0]
-    return {"test": "tests", "proof": "nothing"}.get(first, first)
+    return {"test": "tests", "case": "tests", "proof": "nothing"}.get(first, first)
 
 
 def missing(row, crates, names):
@@ -89,7 +90,9 @@ def missing_of(part, crate, names):
         yield f"the law {rest}"
     elif word == "script" and not (TABLE.parent.parent / rest).exists():
         yield f"the script {rest}"
-    elif word not in ("edit", "law", "script", "prover", "nothing:", "proof"):
+    elif word == "case" and not (TABLE.parent.parent / "crates/replay/data" / rest).exists():
+        yield f"the case {rest}"
+    elif word not in ("edit", "law", "case", "script", "prover", "nothing:", "proof"):
         yield f"anything of the name {word}, which refuses a mutant,"
 
 

@@ -1,0 +1,58 @@
+#!/usr/bin/env python3
+"""Compares the ordinates of web mercator with the logarithm that they stand for, by 30 digits.
+
+Usage: ordinates.py [LATITUDES [SEED]]
+
+The numbers of crates/mercator/src/table.rt are worked out anew, and then the ordinates of LATITUDES random latitudes up
+to 85.06 degrees (1,000,000), by the rule of docs/DRAWING.md. The greatest difference, at most 0.56 millionths of a degree
+of the equator, is printed. The script ends with 1 where a number of the table isn't the nearest, or the difference is
+greater. It needs Debian's python3-mpmath.
+"""
+import math
+import pathlib
+import random
+import re
+import sys
+
+import mpmath
+
+TABLE = pathlib.Path(__file__).resolve().parent.parent / "crates/mercator/src/table.rt"
+STEP, PARTS, LAST, MOST = 8192, 16, 85_060_000, 0.56
+mpmath.mp.dps = 30
+
+
+def exact(latitude):
+    """The ordinate of so many millionths of a degree by the logarithm, in millionths of a degree of the equator."""
+    phi = mpmath.mpf(latitude) * mpmath.pi / 180_000_000
+    return mpmath.log(mpmath.tan(mpmath.pi / 4 + phi / 2)) * 180_000_000 / mpmath.pi
+
+
+def by_rule(table, latitude):
+    """The ordinate by the parabola through three neighbours of the table."""
+    step, past = divmod(latitude, STEP)
+    first, second, third = table[step:step + 3]
+    slope = (3 * STEP - past) * (second - first) - (STEP - past) * (third - second)
+    return (2**27 * first + slope * past + 2**30) // 2**31
+
+
+def near(latitude):
+    """The same as `exact`, by floats, which say where to look."""
+    return math.asinh(math.tan(math.radians(latitude / 1e6))) * 180e6 / math.pi
+
+
+def main():
+    count = int(sys.argv[1]) if len(sys.argv) > 1 else 1_000_000
+    chosen = random.Random(int(sys.argv[2]) if len(sys.argv) > 2 else 1)
+    rows = TABLE.read_text().split("[\n", 1)[1]
+    table = [int(number.replace("_", "")) for number in re.findall(r"[\d_]+", rows)]
+    wrong = [at for at, number in enumerate(table) if number != int(mpmath.nint(exact(STEP * at) * PARTS))]
+    latitudes = (chosen.randint(0, LAST) for _ in range(count))
+    worst = sorted(latitudes, key=lambda latitude: abs(by_rule(table, latitude) - near(latitude)))[-20:]
+    most = max(abs(by_rule(table, latitude) - exact(latitude)) for latitude in worst)
+    print(f"{len(table):,} numbers, of which {len(wrong)} aren't the nearest")
+    print(f"{count:,} latitudes: at most {float(most):.4f} millionths off, {float(most) * 0.11131949:.4f} m")
+    return 1 if wrong or most > MOST else 0
+
+
+if __name__ == "__main__":
+    sys.exit(main())
