@@ -1,7 +1,7 @@
 #!/usr/bin/env python3
 """Looks whether what the documents name is there.
 
-Usage: documents.py
+Usage: documents.py [--write]
 
 Read are README.md, CHANGELOG.md, what lies in docs/, the README.md of bench/, demo/ and deploy/, and of bench/results/,
 which says what was, the links. Looked for are
@@ -13,9 +13,10 @@ which says what was, the links. Looked for are
   in CHANGELOG.md, which says what was;
 - definitions: `Name` before or behind a file of specs/, and the modules that stand behind `crate/specs`:;
 - edits that must fail, by their names that end in .edit, and what bench/planted.csv names (planted.py);
-- clauses: in the tables of docs/PROMISES.md those behind a call, elsewhere `name` behind the word clause.
+- clauses: `name` behind the word clause;
+- each cell of bench/rules.csv, and whether docs/RULES.md is the page that it gives (rules.py).
 
-The script prints each that isn't there, with the file and the line of the document, and at the end how many names
+With --write that page is made anew, and nothing is looked for. The script prints each that isn't there, with the file and the line of the document, and at the end how many names
 are there and how many aren't. It ends with 1 where one isn't.
 """
 import functools
@@ -24,6 +25,7 @@ import re
 import sys
 
 import planted
+import rules
 
 TOP = pathlib.Path(__file__).resolve().parent.parent
 FOLDERS = ("bench", "demo", "deploy")
@@ -75,20 +77,31 @@ class Crate:
         if not declares(self.code, owner):
             return False
         body = re.search(rf"\b(?:enum|struct) {owner}\b.*?^}}", self.code, re.M | re.S)
-        return body is not None and re.search(rf"^    (pub )?{name}\b", body[0], re.M) is not None
+        return body is not None and re.search(rf"^    (pub |ghost )?{name}\b", body[0], re.M) is not None
+
+    def declares_in(self, file, name):
+        """Whether a file of src/ declares an item, or a method of a type, of that name."""
+        text = self.files.get(f"{file}.rt", "")
+        path, _, last = name.rpartition("::")
+        owners = self.owners_of(path) if path[:1].isupper() else set()
+        return declares(text, last) and (not owners or any((owner, last) in methods(text) for owner in owners))
+
+    def contracts(self, name):
+        """The contracts of a call, of each where several have the name."""
+        path, _, call = name.rpartition("::")
+        owners = self.owners_of(path) if path[:1].isupper() else set()
+        for text in self.files.values():
+            for header, body in blocks(text) if owners else [("", text)]:
+                if not owners or owners & types(header):
+                    yield from re.findall(rf"\bfn {call}\b(.*?)(?:^ *{{}}?$|;$)", body, re.M | re.S)
 
     def clauses(self, name):
         """The clauses of a call, by the names behind `ensures`."""
-        path, _, call = name.rpartition("::")
-        owners = self.owners_of(path) if path[:1].isupper() else set()
-        found = set()
-        for text in self.files.values():
-            for header, body in blocks(text) if owners else [("", text)]:
-                if owners and not owners & types(header):
-                    continue
-                for contract in re.findall(rf"\bfn {call}\b(.*?)(?:^ *{{}}?$|;$)", body, re.M | re.S):
-                    found |= set(re.findall(r"\bensures\*? (\w+)", contract))
-        return found
+        return {clause for contract in self.contracts(name) for clause in re.findall(r"\bensures\*? (\w+)", contract)}
+
+    def has_nameless_clause(self, name):
+        """Whether a call has a clause without a name."""
+        return any(re.search(r"\bensures\*? \{", contract) for contract in self.contracts(name))
 
 
 def is_method(owner, name):
@@ -215,19 +228,16 @@ def found_definitions(document, line):
 
 
 def found_clauses(document, line):
-    if document.name == "PROMISES.md":
-        for call, clauses in re.findall(r"`(\w+::[\w:]+)`((?: `\w+`)+)", line):
-            crate, _, name = call.partition("::")
-            there = CRATES[crate].clauses(name) if crate in CRATES else set()
-            for clause in re.findall(r"\w+", clauses):
-                yield f"the clause {clause} of {call}", clause in there
     for clause in re.findall(r"\bclauses? `(\w+)`", line):
         yield f"the clause {clause}", clause in CLAUSES
 
 
 def main():
+    if sys.argv[1:] == ["--write"]:
+        rules.PAGE.write_text(rules.page())
+        return
     results = sorted(TOP.glob("bench/results/*.md"))
-    documents = [TOP / "README.md", TOP / "CHANGELOG.md", *sorted(TOP.glob("docs/*.md")), *(TOP / name / "README.md" for name in FOLDERS)]
+    documents = [TOP / "README.md", TOP / "CHANGELOG.md", *sorted(TOP.glob("docs/**/*.md")), *(TOP / name / "README.md" for name in FOLDERS)]
     passed = failed = 0
     for document in [*documents, *results]:
         is_code = False
@@ -243,6 +253,10 @@ def main():
                 passed, failed = passed + is_there, failed + (not is_there)
                 if not is_there:
                     print(f"{document.relative_to(TOP)}:{number}: {what} isn't there")
+    for what, is_there in rules.check(CRATES):
+        passed, failed = passed + is_there, failed + (not is_there)
+        if not is_there:
+            print(f"{what} isn't there")
     for what in planted.check(CRATES):
         print(what)
         failed += 1
