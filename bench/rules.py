@@ -13,6 +13,7 @@ end of an entry, or alone:
     mutant             an edit of must-fail, `planted` for a row of planted.csv, or `tests` where tests alone refuse one
 """
 import csv
+import functools
 import os
 import pathlib
 import re
@@ -160,11 +161,16 @@ def found_code(words, row, crates):
         yield f"a call that keeps the rule in {words[0]}.rt", is_file and any(crates[crate].declares_in(file, name) for name in kept)
 
 
+@functools.cache
+def mutants():
+    return planted.rows()
+
+
 def is_planted(row):
     """Whether a mutant of planted.csv changes a function of the row."""
     named = [words for column in ("kept by", "code") for words in named_in(row, column)]
     functions = {word.rpartition("::")[2] for words in named for word in words}
-    return any(mutant["crate"] in crates_of(named) and mutant["function"].rpartition("::")[2] in functions for mutant in planted.rows())
+    return any(mutant["crate"] in crates_of(named) and mutant["function"].rpartition("::")[2] in functions for mutant in mutants())
 
 
 def found_mutants(row, crates):
