@@ -24,7 +24,7 @@ on which the list of mutants had it. What refuses it is one or more of these, wi
 Without arguments the script looks whether each crate, function, clause, test, law, script and edit is there, and whether
 each edit of must-fail has its row. It prints what isn't there, then the counts by crate and by what refuses, and ends
 with 1 where something isn't there. With --pick it prints N rows at random, which somebody plants again by hand and tries
-as docs/PLANTED.md says; equal seeds pick equal rows.
+as "Plant one" of VERIFICATION.md says; equal seeds pick equal rows.
 """
 import argparse
 import csv
