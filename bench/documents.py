@@ -14,7 +14,7 @@ which says what was, the links. Looked for are
 - definitions: `Name` before or behind a file of specs/, and the modules that stand behind `crate/specs`:;
 - edits that must fail, by their names that end in .edit, and what bench/planted.csv names (planted.py);
 - clauses: `name` behind the word clause;
-- each cell of bench/rules.csv, and whether docs/RULES.md is the page that it gives (rules.py).
+- each cell of bench/rules.csv, and whether docs/developers/RULES.md is the page that it gives (rules.py).
 
 With --write that page is made anew, and nothing is looked for. The script prints each that isn't there, with the file and the line of the document, and at the end how many names
 are there and how many aren't. It ends with 1 where one isn't.

@@ -22,7 +22,7 @@ import planted
 
 TABLE = pathlib.Path(__file__).resolve().parent / "rules.csv"
 DOCS = TABLE.parent.parent / "docs"
-PAGE = DOCS / "RULES.md"
+PAGE = DOCS / "developers" / "RULES.md"
 COLUMNS = ["subject", "look for", "rule or promise", "page", "definition", "kept by", "code", "mutant"]
 MOST_WORDS = 30
 BEFORE = ("over", "by", "model")
