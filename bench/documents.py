@@ -16,8 +16,8 @@ which says what was, the links. Looked for are
 - clauses: `name` behind the word clause;
 - each cell of bench/rules.csv, and whether docs/developers/RULES.md is the page that it gives (rules.py).
 
-With --write that page is made anew, and nothing is looked for. The script prints each that isn't there, with the file and the line of the document, and at the end how many names
-are there and how many aren't. It ends with 1 where one isn't.
+With --write that page is made anew, and nothing is looked for. The script prints each that isn't there, with the file and the
+line of the document, and at the end how many names are there and how many aren't. It ends with 1 where one isn't.
 """
 import functools
 import pathlib
