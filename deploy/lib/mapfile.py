@@ -18,14 +18,24 @@ TOO_LONG = f"a text of more than {LONGEST:,} bytes: shorten it"
 TOO_LARGE = decimal.Decimal(10**13)
 
 
+def exact(text):
+    """The number that a text is, and one as large or as small for an exponent beyond those of a decimal."""
+    try:
+        return decimal.Decimal(text)
+    except decimal.InvalidOperation:
+        digits, exponent = text.lower().split("e")
+        return decimal.Decimal(f"{digits}e{'-' if exponent.startswith('-') else ''}{LONGEST * 2}")
+
+
 def millionths(text):
     """The number that a text is, rounded as the server rounds it; nothing where it is no number."""
     if not NUMBER.fullmatch(text):
         return None
+    number = exact(text)
     try:
-        return decimal.Decimal(text).quantize(MILLIONTH, decimal.ROUND_HALF_UP)
+        return number.quantize(MILLIONTH, decimal.ROUND_HALF_UP)
     except decimal.InvalidOperation:
-        return TOO_LARGE
+        return TOO_LARGE.copy_sign(number)
 
 
 def count(text):
