@@ -1,0 +1,109 @@
+#!/usr/bin/python3
+"""What deploy/lint shows of a mapfile."""
+import contextlib
+import io
+import os
+import subprocess
+import sys
+import tempfile
+import unittest
+
+import loading
+
+lint = loading.script("deploy/lint")
+LAYER = "LAYER NAME 'a' TYPE POINT"
+
+
+def shown(source, is_quiet=False):
+    """The lines for a mapfile, each without its file."""
+    linter = lint.Linter("m.map", source)
+    linter.read_all()
+    with contextlib.redirect_stdout(io.StringIO()) as out:
+        lint.show(linter, is_quiet)
+    return [line.removeprefix("m.map:") for line in out.getvalue().splitlines()]
+
+
+class Blocks(unittest.TestCase):
+    def test_a_whole_map_has_no_line(self):
+        self.assertEqual(shown(f"MAP NAME 'm' EXTENT -10 -5 20 30 {LAYER} CLASS STYLE COLOR 10 20 30 SIZE 7 END END END END"), [])
+
+    def test_a_keyword_of_mapservers_is_reported_with_its_line(self):
+        lines = shown(f"MAP\n{LAYER}\nFILTER 'x'\nOPACITY 50 END END")
+        self.assertEqual([line.split(" is ")[0] for line in lines], ["3: FILTER", "4: OPACITY"])
+        self.assertIn("write an EXPRESSION into each CLASS", lines[0])
+
+    def test_a_refused_block_is_skipped_whole(self):
+        source = f"MAP {LAYER} CLASS\nLEADER STYLE COLOR 1 2 3 END END\nSTYLE\nPATTERN 5 6 END COLOR 10 20 30 END END END END"
+        self.assertEqual([line.split(" is ")[0] for line in shown(source)], ["2: LEADER", "4: PATTERN"])
+
+    def test_a_misspelt_keyword_gets_the_one_that_is_alike(self):
+        self.assertEqual(shown("MAP\nEXTNET 1 2 3 4 END"), ["2: EXTNET is no keyword of MAP: write EXTENT"])
+
+    def test_a_keyword_of_another_block_gets_that(self):
+        self.assertEqual(shown(f"MAP {LAYER}\nPRIORITY 3 END END"), ["2: PRIORITY is no keyword of LAYER: it stands in LABEL"])
+
+    def test_what_a_block_requires_is_named_with_its_first_and_last_line(self):
+        self.assertEqual(shown("MAP\nLAYER\nNAME 'a'\nEND END"), ["4: the LAYER of line 2 has no TYPE: write one"])
+
+    def test_a_name_stands_once(self):
+        self.assertEqual(shown(f"MAP {LAYER} END\n{LAYER} END END"), ['2: an earlier LAYER has the NAME "a": write another'])
+
+    def test_a_symbol_may_stand_behind_what_names_it(self):
+        style = "CLASS STYLE\nSYMBOL '{}' END END END"
+        symbol = "SYMBOL NAME 's' TYPE PIXMAP IMAGE 's.ppm' END"
+        self.assertEqual(shown(f"MAP {LAYER} {style.format('s')} {symbol} END"), [])
+        self.assertEqual(shown(f"MAP {LAYER} {style.format('0')} END"), [])
+        self.assertIn("2: \"t\" names no symbol of MAP", shown(f"MAP {LAYER} {style.format('t')} {symbol} END")[0])
+        self.assertIn("MapServer counts its symbols", shown(f"MAP {LAYER} {style.format('3')} {symbol} END")[0])
+
+    def test_a_block_that_is_not_ended_is_reported_on_the_last_line(self):
+        self.assertEqual(shown(f"MAP\n{LAYER}\n"), ["3: the mapfile ends inside a block: write its END"])
+
+    def test_what_stands_round_the_map_is_reported(self):
+        self.assertEqual(shown("MAP END\nEND"), ["2: END stands after the END of MAP: remove it, or an END before it"])
+        self.assertIn("save the file without a byte order mark", shown("\ufeffMAP END")[0])
+
+    def test_words_without_effect_are_left_out_where_they_are_not_wanted(self):
+        source = f"MAP SIZE 400 300\n{LAYER} METADATA 'wms_abstract' 'x' END END END"
+        self.assertEqual([line.split(" has ")[0] for line in shown(source)], ["1: SIZE", '2: METADATA "wms_abstract"'])
+        self.assertEqual(shown(source, True), [])
+
+    def test_a_class_has_one_label(self):
+        lines = shown(f"MAP {LAYER} CLASS LABEL END\nLABEL END\nLABEL END END END END")
+        self.assertEqual(lines, ["2: CLASS has one LABEL too many: write a further LAYER of the same features"])
+
+
+class Files(unittest.TestCase):
+    def setUp(self):
+        folder = tempfile.TemporaryDirectory()
+        self.addCleanup(folder.cleanup)
+        self.folder = folder.name
+
+    def write(self, name, text):
+        path = os.path.join(self.folder, name)
+        os.makedirs(os.path.dirname(path), exist_ok=True)
+        with open(path, "w", encoding="utf-8") as file:
+            file.write(text)
+        return path
+
+    def run_on(self, *words):
+        ran = subprocess.run([sys.executable, os.path.join(loading.TOP, "deploy", "lint"), *words], capture_output=True, text=True)
+        return ran.returncode, ran.stdout.replace(self.folder + "/", "").splitlines()
+
+    def test_names_in_included_files_are_those_below_the_folder_of_the_mapfile(self):
+        path = self.write("m.map", "MAP\nINCLUDE 'parts/one'\nEND")
+        self.write("parts/one", "\nINCLUDE 'two'\nINCLUDE 'parts/three'")
+        self.write("two", "UNITS DD")
+        self.write("parts/three", "\n\nANGLE 5")
+        status, lines = self.run_on(path)
+        found = [line.split(" has ")[0].split(" is ")[0] for line in lines]
+        self.assertEqual(found[:5], ["m.map:2: INCLUDE", "parts/one:2: INCLUDE", "parts/one:3: INCLUDE", "two:1: UNITS", "parts/three:3: ANGLE"])
+        self.assertEqual((status, lines[5]), (1, "3 differences, 2 words without effect"))
+
+    def test_a_mapfile_that_cannot_be_read_ends_with_2(self):
+        self.assertEqual(self.run_on(os.path.join(self.folder, "missing.map"))[0], 2)
+        self.assertEqual(self.run_on()[0], 2)
+
+
+if __name__ == "__main__":
+    unittest.main()
