@@ -98,7 +98,19 @@ class Files(unittest.TestCase):
         status, lines = self.run_on(path)
         found = [line.split(" has ")[0].split(" is ")[0] for line in lines]
         self.assertEqual(found[:5], ["m.map:2: INCLUDE", "parts/one:2: INCLUDE", "parts/one:3: INCLUDE", "two:1: UNITS", "parts/three:3: ANGLE"])
-        self.assertEqual((status, lines[5]), (1, "3 differences, 2 words without effect"))
+        self.assertEqual((status, lines[5]), (1, "3 differences, 2 keywords without effect"))
+
+    def test_one_and_several_are_counted_as_they_are_called(self):
+        rows = [
+            ("MAP END", [], 0, "0 differences, 0 keywords without effect"),
+            ("MAP ANGLE 5 END", [], 0, "0 differences, 1 keyword without effect"),
+            ("MAP ANGLE 5 UNITS DD TRANSPARENT ON END", [], 1, "1 difference, 2 keywords without effect"),
+            ("MAP TRANSPARENT ON END", ["--quiet"], 1, "1 difference"),
+        ]
+        for source, words, status, line in rows:
+            found, lines = self.run_on(*words, self.write("m.map", source))
+            self.assertEqual(found, status, source)
+            self.assertIn(line, lines)
 
     def test_a_mapfile_that_cannot_be_read_ends_with_2(self):
         self.assertEqual(self.run_on(os.path.join(self.folder, "missing.map"))[0], 2)
