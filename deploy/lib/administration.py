@@ -47,7 +47,7 @@ class Answer:
 def address_of(text):
     """The host and the port that a text names, as 8081 or 127.0.0.1:8081."""
     found = re.fullmatch(r"(?:([A-Za-z0-9.-]+|\[[0-9A-Fa-f:]+\]):)?(\d{1,5})", text)
-    if not found or int(found[2]) > 65_535:
+    if not found or not 1 <= int(found[2]) <= 65_535:
         raise ValueError(f"{text} is no port, as 8081 or 127.0.0.1:8081")
     return (found[1] or "127.0.0.1").strip("[]"), int(found[2])
 
