@@ -37,6 +37,8 @@ def translated(pairs, values):
         name = NAMES.get(name, name)
         kept.append((f"{name}={urllib.parse.quote(value, safe=':,/')}", name, value))
     if values.get("REQUEST") == "GetFeatureInfo" and not values.get("INFO_FORMAT"):
+        # the server looks at the first pair of a name alone
+        kept = [pair for pair in kept if pair[1] != "INFO_FORMAT"]
         kept.append(("INFO_FORMAT=text/plain", "INFO_FORMAT", "text/plain"))
     return kept
 
