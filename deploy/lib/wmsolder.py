@@ -96,12 +96,12 @@ def layer_lines(layer):
     systems = ["EPSG:4326" if found.text == "CRS:84" else found.text for found in layer.findall(f"{WMS}CRS")]
     yield from (elements("SRS", system) for system in dict.fromkeys(systems))
     yield from box_lines(layer)
-    for inner in layer.findall(f"{WMS}Layer"):
-        yield from layer_lines(inner)
     least, most = (text_at(layer, f"{side}ScaleDenominator", None) for side in ("Min", "Max"))
     if least or most:
         hint = {"min": f"{float(least or 0) * DIAGONAL:.6f}", "max": f"{float(most or 1e12) * DIAGONAL:.6f}"}
         yield f"<ScaleHint{attributes(**hint)}/>"
+    for inner in layer.findall(f"{WMS}Layer"):
+        yield from layer_lines(inner)
     yield "</Layer>"
 
 
