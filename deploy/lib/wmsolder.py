@@ -45,19 +45,20 @@ def translated(pairs, values):
 
 def exception_of(body):
     """The exception of 1.1.1 that one of 1.3.0 is."""
-    code, text = fault_of(body)
+    code, text = fault_of(body, True)
     return f"""<?xml version="1.0" encoding="UTF-8" standalone="no"?>
 <!DOCTYPE ServiceExceptionReport SYSTEM "http://schemas.opengis.net/wms/1.1.1/exception_1_1_1.dtd">
 <ServiceExceptionReport version="1.1.1">
-<ServiceException code="{CODES.get(code, code)}">{WORDS.get(text, text)}</ServiceException>
+<ServiceException code="{code}">{text}</ServiceException>
 </ServiceExceptionReport>
 """.encode()
 
 
-def fault_of(body):
-    """The code of an exception of the server's, and what it names."""
+def fault_of(body, is_older):
+    """The code of an exception of the server's, and what it names, in the words of 1.1.1 or of 1.3.0."""
     found = re.search(r'<ServiceException code="(\w+)">([^<]*)<', body.decode("utf-8", "replace"))
-    return (found[1], found[2]) if found else ("NoApplicableCode", "the server gives no reason")
+    code, text = (found[1], found[2]) if found else ("NoApplicableCode", "the server gives no reason")
+    return (CODES.get(code, code), WORDS.get(text, text)) if is_older else (code, text)
 
 
 # The document
