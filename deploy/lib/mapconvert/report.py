@@ -52,7 +52,8 @@ class Locator:
 
     def __init__(self, path):
         self.tokens, self.next, self.seen = list(mapfile.included(path, os.path.dirname(path))), 0, []
-        self.map, self.layers = Node((path, 1)), 0
+        # the number of the layer that is read, where one is, and how many were read before
+        self.map, self.inside, self.layers = Node((path, 1)), None, 0
         while self.next < len(self.tokens) and self.word() != "MAP":
             self.next += 1
         if self.next < len(self.tokens):
@@ -87,8 +88,10 @@ class Locator:
             if word in BLOCKS.get(block, "").split():
                 inner = Node(place)
                 node.blocks.setdefault(word, []).append(inner)
+                self.inside = self.layers if (block, word) == ("MAP", "LAYER") else self.inside
                 self.fill(word, inner, is_said and word not in WHOLE and (block, word) != ("LABEL", "STYLE"))
-                self.layers += (block, word) == ("MAP", "LAYER")
+                if (block, word) == ("MAP", "LAYER"):
+                    self.inside, self.layers = None, self.layers + 1
                 continue
             node.keywords[word] = place
             known = {**keywords.COUNTS.get(block, {}), **keywords.UNUSED.get(block, {})}
@@ -96,8 +99,7 @@ class Locator:
                 self.next += 1
 
     def keep(self, block, word, place):
-        # of a METADATA the block that it stands in isn't needed: the number of the layer tells it from that of WEB
-        self.seen.append(Seen(block, word, place, self.value(), self.layers if block not in ("MAP", "WEB", "SYMBOL") else None))
+        self.seen.append(Seen(block, word, place, self.value(), self.inside))
 
     def layer(self, number, count):
         """The block of a layer; that of the map where it isn't known which block is the layer's."""
