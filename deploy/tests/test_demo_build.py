@@ -1,0 +1,146 @@
+#!/usr/bin/python3
+"""Which crates demo/build builds, in which order, and when it builds nothing."""
+import contextlib
+import io
+import os
+import shutil
+import tempfile
+import unittest
+from unittest import mock
+
+import loading
+
+build = loading.script("demo/build")
+CRATES = """# Ground
+base: thiserror
+apart: base
+# Text: and numbers
+middle: base hex
+side: base
+tests: middle
+mapservd: middle side clap
+above: mapservd
+"""
+
+
+class Sources(unittest.TestCase):
+    def setUp(self):
+        folder = tempfile.TemporaryDirectory()
+        self.addCleanup(folder.cleanup)
+        self.top = folder.name
+        built = os.path.join(self.top, "crates", "mapservd", "out", "mapservd")
+        for name, value in (("TOP", self.top), ("OUT", os.path.join(self.top, "demo", "out")), ("BUILT", built), ("DIGEST", built + ".sources")):
+            patch = mock.patch.object(build, name, value)
+            patch.start()
+            self.addCleanup(patch.stop)
+        self.write("crates.txt", CRATES)
+        self.write("HANDLES", "none")
+        for name, size in (("base", 10), ("middle", 40), ("side", 50), ("mapservd", 5), ("apart", 1000), ("tests", 1000)):
+            self.write(f"crates/{name}/src/lib.rt", "x" * size)
+
+    def write(self, path, text):
+        path = os.path.join(self.top, path)
+        os.makedirs(os.path.dirname(path), exist_ok=True)
+        with open(path, "w", encoding="utf-8") as file:
+            file.write(text)
+        return path
+
+    def digest(self):
+        return build.digest_of(build.crates())
+
+
+class Crates(Sources):
+    def test_those_that_the_program_stands_on_are_found(self):
+        self.assertEqual(build.crates(), {"base": [], "middle": ["base"], "side": ["base"], "mapservd": ["middle", "side"]})
+
+    def test_a_chain_weighs_what_stands_above_it_too(self):
+        self.write("crates/side/specs/S.antt", "x" * 7)
+        self.write("crates/side/proofs/P.antt", "x" * 3)
+        self.write("crates/side/must-fail/a.edit", "x" * 900)
+        self.assertEqual(build.chains(build.crates()), {"mapservd": 5, "side": 65, "middle": 45, "base": 75})
+
+    def test_a_copy_has_the_sources_of_these_alone(self):
+        self.write("crates/side/out/kept", "x")
+        self.write("crates/side/must-fail/a.edit", "x")
+        folder = os.path.join(self.top, "copy")
+        os.mkdir(folder)
+        build.copy(build.crates(), folder)
+        with open(os.path.join(folder, "crates.txt"), encoding="utf-8") as file:
+            self.assertEqual([line.partition(":")[0] for line in file], ["base", "middle", "side", "mapservd"])
+        self.assertEqual(sorted(os.listdir(os.path.join(folder, "crates"))), ["base", "mapservd", "middle", "side"])
+        self.assertEqual(os.listdir(os.path.join(folder, "crates", "side")), ["src"])
+
+
+class Digests(Sources):
+    def test_it_is_of_names_and_bytes(self):
+        seen = [self.digest()]
+        changes = [("crates/base/src/lib.rt", "y" * 10), ("crates/base/src/new.rt", ""), ("crates/side/proofs/P.antt", "x"), ("HANDLES", "some"), ("crates.txt", CRATES + "# end\n")]
+        for path, text in changes:
+            self.write(path, text)
+            seen.append(self.digest())
+        os.rename(os.path.join(self.top, "crates/base/src/new.rt"), os.path.join(self.top, "crates/base/src/newer.rt"))
+        seen.append(self.digest())
+        self.assertEqual(len(set(seen)), len(seen))
+
+    def test_what_the_program_is_not_made_of_is_not_in_it(self):
+        before = self.digest()
+        for path in ("crates/base/out/kept", "crates/base/must-fail/a.edit", "crates/apart/src/lib.rt", "demo/world.map"):
+            self.write(path, "other")
+        os.utime(os.path.join(self.top, "crates/base/src/lib.rt"), (1, 1))
+        self.assertEqual(self.digest(), before)
+
+    def test_it_says_whether_the_program_is_built(self):
+        below = build.crates()
+        self.assertFalse(build.is_built(below))
+        os.chmod(self.write("crates/mapservd/out/mapservd", "program"), 0o755)
+        self.assertFalse(build.is_built(below))
+        self.write("crates/mapservd/out/mapservd.sources", self.digest() + "\n")
+        self.assertTrue(build.is_built(below))
+        self.write("crates/base/src/lib.rt", "changed")
+        self.assertFalse(build.is_built(below))
+
+
+class Orders(Sources):
+    def building(self, fails=()):
+        """The order in which one job builds, and the log of the crate that failed."""
+        building, order = build.Building(build.crates(), [self.top]), []
+
+        def one(name, folder):
+            order.append(name)
+            return f"log.{name}" if name in fails else None
+
+        with mock.patch.object(building, "build", one), contextlib.redirect_stdout(io.StringIO()) as said:
+            building.run()
+        return order, building.failed, said.getvalue().splitlines()
+
+    def test_the_heaviest_chain_of_those_that_can_be_built_comes_first(self):
+        order, failed, said = self.building()
+        self.assertEqual((order, failed), (["base", "side", "middle", "mapservd"], None))
+        self.assertEqual([line.split(",")[0] for line in said], ["1 of 4: base", "2 of 4: side", "3 of 4: middle", "4 of 4: mapservd"])
+
+    def test_after_one_that_fails_none_is_begun(self):
+        self.assertEqual(self.building(["side"])[:2], (["base", "side"], "log.side"))
+
+    def test_the_time_that_is_left_is_by_what_was_built(self):
+        building = build.Building(build.crates(), [self.top])
+        with mock.patch.object(build.time, "time", lambda: building.begun + 600):
+            self.assertEqual(building.time_left(), "")
+            # 10 of 105 bytes are less than a tenth, 55 of them took ten minutes
+            building.done = {"base"}
+            self.assertEqual(building.time_left(), "")
+            building.done = {"mapservd", "side"}
+            self.assertEqual(building.time_left(), ", some 9 minutes left")
+            building.done = {"base", "middle", "side"}
+            self.assertEqual(building.time_left(), ", a minute left")
+
+    def test_a_library_is_linked_for_the_other_jobs(self):
+        other = os.path.join(self.top, "other")
+        building = build.Building(build.crates(), [self.top, other])
+        kept = self.write("crates/base/out/rlib/a/b", "x")
+        building.hand_on("base")
+        self.assertTrue(os.path.samefile(kept, os.path.join(other, "crates/base/out/rlib/a/b")))
+        shutil.rmtree(other)
+
+
+if __name__ == "__main__":
+    unittest.main()
