@@ -116,6 +116,7 @@ class Places(unittest.TestCase):
         boxes = compare.views((10, 40, 30, 50), [(12, 44)], 6)
         self.assertEqual(boxes[:3], [(10, 40, 30, 50), (7, 41.5, 17, 46.5), (9.5, 42.75, 14.5, 45.25)])
         # four zooms, and then the first again
+        self.assertEqual(boxes[4], (11.375, 43.6875, 12.625, 44.3125))
         self.assertEqual((boxes[5], len(boxes)), (boxes[1], 6))
         self.assertEqual(compare.views((10, 40, 30, 50), [], 2)[1], (15, 42.5, 25, 47.5))
 

@@ -28,7 +28,7 @@ MAP = """MAP
       END
     END
   END
-  LAYER NAME 'b' TYPE LINE
+  DEBUG 3 LAYER NAME 'b' TYPE LINE
     OFFSITE 1 2 3
     METADATA 'wms_allowed_ip_list' '10.0.0.1' END
   END
@@ -111,13 +111,13 @@ class Leftovers(Reading):
         self.assertEqual([[part.strip() for part in line] for line in found], [
             # what changes no picture and no answer is noted
             ["2", "note", "STATUS"], ["3", "note", "TEMPLATEPATTERN"], ["6", "note", 'METADATA "wms_abstract" has no effect here'],
-            ["9", "left out", "STATUS"], ["11", "note", "PROCESSING BANDS=1"], ["17", "left out", "INITIALGAP"], ["22", "left out", "OFFSITE"],
+            ["9", "left out", "STATUS"], ["11", "note", "PROCESSING BANDS=1"], ["17", "left out", "INITIALGAP"], ["21", "note", "DEBUG"], ["22", "left out", "OFFSITE"],
             ["23", "left out", "wms_allowed_ip_list"], ["part", "3", "left out"],
         ])
 
     def test_layers_that_are_left_out_whole_have_no_line(self):
         lines = [line.split(":")[0] for line in self.said(gone=[0])]
-        self.assertEqual(lines, ["2", "3", "6", "22", "23"])
+        self.assertEqual(lines, ["2", "3", "6", "21", "22", "23"])
 
     def test_what_is_reported_already_has_no_second_line(self):
         report = Report()

@@ -64,11 +64,11 @@ class Legends(unittest.TestCase):
     def test_titles(self):
         rows = [
             ("TITLE 't' NAME 'n' EXPRESSION 'e'", "t"), ("NAME 'n' EXPRESSION 'e'", "n"), ("EXPRESSION {a,b}", "a, b"),
-            ("EXPRESSION ([x] > 3 AND '[y]' = 'z')", "x > 3 AND 'y' = 'z'"), ("", "others"),
+            ("EXPRESSION ([x] > 3 AND '[y]' = 'z')", "x > 3 AND 'y' = 'z'"), ("NAME 'm'", "m"), ("", "others"),
         ]
         found = self.entries("POINT", *(text + " STYLE COLOR 1 2 3 END" for text, _ in rows))
         self.assertEqual([entry["title"] for entry in found], [title for _, title in rows])
-        self.assertEqual([entry["takesAll"] for entry in found], [False] * 4 + [True])
+        self.assertEqual([entry["takesAll"] for entry in found], [False] * 4 + [True] * 2)
         # of a layer without rules
         self.assertEqual(self.entries("POINT", "STYLE COLOR 1 2 3 END")[0]["title"], "")
 

@@ -47,9 +47,9 @@ class Packed(unittest.TestCase):
             self.assertEqual(list(unpacked(data).convert(picture.mode).getdata()), list(picture.getdata()))
 
     def test_a_small_png_with_many_colours_keeps_what_is_clear(self):
-        rows = [[(column * 8, row * 8, 128, 255) if column != row else CLEAR for column in range(32)] for row in range(32)]
+        rows = [[(column * 4, row * 4, 0, 255) if column != row else CLEAR for column in range(64)] for row in range(64)]
         found = unpacked(wmsformats.small_png(drawn("RGBA", *rows))).convert("RGBA")
-        self.assertEqual([at for at, pixel in enumerate(found.getdata()) if pixel[3] == 0], [33 * row for row in range(32)])
+        self.assertEqual([at for at, pixel in enumerate(found.getdata()) if pixel[3] == 0], [65 * row for row in range(64)])
 
     def test_a_jpeg_is_near(self):
         flat = Image.new("RGB", (16, 16), (200, 100, 50))
