@@ -32,7 +32,7 @@ class NotNow(Exception):
 
 class Note:
     """The number of the log's last batch that the server has answered, its submission, the server's sequence after it,
-    and whether the next batch may have been sent. All that is kept in a file, which is put away before anything goes on."""
+    and whether the next batch may have been sent. All that is kept in a file, which is synced before anything goes on."""
 
     FIELDS = ("number", "submission", "sequence", "is_begun")
 
