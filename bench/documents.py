@@ -3,8 +3,8 @@
 
 Usage: documents.py [--write]
 
-Read are README.md, CHANGELOG.md, what lies in docs/, the README.md of bench/, demo/ and deploy/, and of bench/results/,
-which says what was, the links. Looked for are
+Read are README.md, CHANGELOG.md, what lies in docs/, the README.md of bench/, crates/, demo/ and deploy/, and of
+bench/results/, which says what was, the links. Looked for are
 
 - links: the file, and the heading in it;
 - paths that begin with a folder of the repository or with a crate, also without .antt or .rt at the end, and files in
@@ -14,6 +14,7 @@ which says what was, the links. Looked for are
 - definitions: `Name` before or behind a file of specs/, and the modules that stand behind `crate/specs`:;
 - edits that must fail, by their names that end in .edit, and what bench/planted.csv names (planted.py);
 - clauses: `name` behind the word clause;
+- each crate of crates.txt: what it depends on above it, and its line in crates/README.md below the same heading;
 - each cell of bench/rules.csv, and whether docs/developers/RULES.md is the page that it gives (rules.py).
 
 With --write that page is made anew, and nothing is looked for. The script prints each that isn't there, with the file and the
@@ -29,6 +30,7 @@ import rules
 
 TOP = pathlib.Path(__file__).resolve().parent.parent
 FOLDERS = ("bench", "demo", "deploy")
+CRATES_PAGE = TOP / "crates" / "README.md"
 NAME = re.compile(r"[A-Za-z_]\w*(::\w+)*")
 # backquoted names with commas between them, alone and each perhaps with a remark in brackets
 NAMES = r"(?:`[\w:]+`(?:,| and) )*`[\w:]+`"
@@ -232,12 +234,36 @@ def found_clauses(document, line):
         yield f"the clause {clause}", clause in CLAUSES
 
 
+def headed(path, heading, name):
+    """The names of a file, in its order, each with the heading before it."""
+    found, last = [], None
+    for line in path.read_text().splitlines():
+        if begins := re.fullmatch(heading, line):
+            last = begins[1]
+        elif named := re.match(name, line):
+            found.append((last, named[1]))
+    return found
+
+
+def found_crates():
+    """Whether crates.txt goes from the lowest crate up, and crates/README.md has the same crates below the same headings."""
+    listed, described = headed(TOP / "crates.txt", r"# (\w+)", r"(\w+):"), headed(CRATES_PAGE, r"## (\w+)", r"\| `(\w+)` \|")
+    for heading, name in listed:
+        yield f"crates/README.md: one line of {name} below {heading}", described.count((heading, name)) == 1
+    for heading, name in described:
+        yield f"crates.txt: {name} below {heading}", (heading, name) in listed
+    below = set()
+    for name, used in re.findall(r"^(\w+):(.*)$", (TOP / "crates.txt").read_text(), re.M):
+        yield from ((f"crates.txt: {other} above {name}", other in below) for other in used.split() if other in CRATES)
+        below.add(name)
+
+
 def main():
     if sys.argv[1:] == ["--write"]:
         rules.PAGE.write_text(rules.page())
         return
     results = sorted(TOP.glob("bench/results/*.md"))
-    documents = [TOP / "README.md", TOP / "CHANGELOG.md", *sorted(TOP.glob("docs/**/*.md")), *(TOP / name / "README.md" for name in FOLDERS)]
+    documents = [TOP / "README.md", TOP / "CHANGELOG.md", *sorted(TOP.glob("docs/**/*.md")), CRATES_PAGE, *(TOP / name / "README.md" for name in FOLDERS)]
     passed = failed = 0
     for document in [*documents, *results]:
         is_code = False
@@ -253,7 +279,7 @@ def main():
                 passed, failed = passed + is_there, failed + (not is_there)
                 if not is_there:
                     print(f"{document.relative_to(TOP)}:{number}: {what} isn't there")
-    for what, is_there in rules.check(CRATES):
+    for what, is_there in [*found_crates(), *rules.check(CRATES)]:
         passed, failed = passed + is_there, failed + (not is_there)
         if not is_there:
             print(f"{what} isn't there")

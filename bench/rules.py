@@ -23,6 +23,7 @@ import planted
 TABLE = pathlib.Path(__file__).resolve().parent / "rules.csv"
 DOCS = TABLE.parent.parent / "docs"
 PAGE = DOCS / "developers" / "RULES.md"
+CRATES_PAGE = TABLE.parent.parent / "crates" / "README.md"
 COLUMNS = ["subject", "look for", "rule or promise", "page", "definition", "kept by", "code", "mutant"]
 MOST_WORDS = 30
 BEFORE = ("over", "by", "model")
@@ -85,8 +86,8 @@ def relative(path):
 
 
 def document(name):
-    """The document of a name, wherever it lies in docs/."""
-    return next(DOCS.rglob(f"{name}.md"), DOCS / f"{name}.md")
+    """The document of a name, wherever it lies in docs/; `crates` is the page of the crates."""
+    return CRATES_PAGE if name == "crates" else next(DOCS.rglob(f"{name}.md"), DOCS / f"{name}.md")
 
 
 def link(page):
