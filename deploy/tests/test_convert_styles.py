@@ -1,0 +1,141 @@
+#!/usr/bin/python3
+"""What deploy/convert makes of styles, labels and names, where mapscript is or a stand-in for it."""
+import unittest
+from types import SimpleNamespace
+
+import loading
+
+CONSTANTS = {
+    "MS_LAYER_POINT": 0, "MS_LAYER_LINE": 1, "MS_LAYER_POLYGON": 2, "MS_OFF": 0, "MS_ON": 1, "MS_TRUE": 1, "MS_NONE": 0,
+    "MS_STYLE_BINDING_LENGTH": 12, "MS_SYMBOL_PIXMAP": 1003,
+}
+loading.has_package("mapscript", **CONSTANTS)
+loading.has_package("PIL", "Image")
+from mapconvert import layers, styles
+from mapconvert.report import Node, Report
+
+convert = loading.script("deploy/convert")
+NONE = SimpleNamespace(red=-1, green=-1, blue=-1, alpha=255)
+
+
+def colour(red, green, blue, alpha=255):
+    return SimpleNamespace(red=red, green=green, blue=blue, alpha=alpha)
+
+
+def style_of(**given):
+    """A style as MapServer has it, with its defaults."""
+    values = dict(color=NONE, outlinecolor=NONE, symbol=0, symbolname=None, size=-1, width=1, outlinewidth=0, gap=0, patternlength=0, opacity=100,
+                  offsetx=0, offsety=0, minscaledenom=-1, maxscaledenom=-1, rangeitem=None, minvalue=0, maxvalue=0)
+    made = SimpleNamespace(**{**values, **given})
+    made.getGeomTransform, made.getBinding = lambda: None, lambda number: None
+    return made
+
+
+class Painting(unittest.TestCase):
+    def setUp(self):
+        self.report = Report()
+
+    def of(self, kind, *given):
+        map = SimpleNamespace(imagecolor=colour(200, 210, 220))
+        made = styles.Styles(map, None, kind, None, self.report, Node(("m.map", 7)))
+        return made.of(0, SimpleNamespace(numstyles=len(given), getStyle=lambda at: given[at]), 0)
+
+    def said(self):
+        return [line.split(": ", 1)[1] for line in self.report.text().splitlines()[:-1]]
+
+    def test_a_line_has_a_colour_and_a_whole_width(self):
+        self.assertEqual(self.of("LINE", style_of(color=colour(10, 20, 30), width=2.5)), [["COLOR 10 20 30", "WIDTH 3"]])
+        self.assertEqual(self.said(), ["changed: the width 2.5 is 3"])
+        self.assertEqual(self.of("LINE", style_of(width=2)), [])
+
+    def test_an_outline_of_a_line_lies_below_it(self):
+        style = style_of(color=colour(10, 20, 30), outlinecolor=colour(40, 50, 60), width=4, outlinewidth=2)
+        self.assertEqual(self.of("LINE", style), [["COLOR 40 50 60", "WIDTH 8"], ["COLOR 10 20 30", "WIDTH 4"]])
+
+    def test_marks_along_a_line_are_left_out(self):
+        self.assertEqual(self.of("LINE", style_of(color=colour(10, 20, 30), symbol=3, gap=20)), [])
+        self.assertEqual(self.said(), ["left out: GAP: no marks along a line"])
+
+    def test_a_symbol_of_a_line_gives_its_size(self):
+        self.assertEqual(self.of("LINE", style_of(color=colour(10, 20, 30), symbol=3, size=6)), [["COLOR 10 20 30", "WIDTH 6"]])
+        self.assertEqual(self.report.losses, 1)
+
+    def test_a_polygon_has_a_fill_and_an_outline(self):
+        style = style_of(color=colour(10, 20, 30), outlinecolor=colour(40, 50, 60), width=3)
+        self.assertEqual(self.of("POLYGON", style), [["COLOR 10 20 30", "OUTLINECOLOR 40 50 60", "WIDTH 3"]])
+        self.assertEqual(self.of("POLYGON", style_of()), [])
+
+    def test_a_thin_outline_has_a_mixed_colour_over_what_lies_below(self):
+        # 0.25 of 40 50 60 with 0.75 of 10 20 30, of 100 120 140 and of the ground, 200 210 220
+        thin = {"outlinecolor": colour(40, 50, 60), "width": 0.25}
+        self.assertEqual(self.of("POLYGON", style_of(color=colour(10, 20, 30), **thin))[0][1:], ["OUTLINECOLOR 18 28 38", "WIDTH 1"])
+        self.assertEqual(self.of("POLYGON", style_of(color=colour(100, 120, 140)), style_of(**thin))[1], ["OUTLINECOLOR 85 103 120", "WIDTH 1"])
+        self.assertEqual(self.of("POLYGON", style_of(**thin)), [["OUTLINECOLOR 160 170 180", "WIDTH 1"]])
+
+    def test_what_has_no_counterpart_is_reported(self):
+        self.of("LINE", style_of(color=colour(10, 20, 30, 100), patternlength=2, offsetx=3, minscaledenom=1000, rangeitem="pop"))
+        self.assertEqual([line.split(":")[0] + ":" + line.split(":")[1].split(" of ")[0] for line in self.said()], [
+            "left out: PATTERN", "left out: OPACITY", "left out: OFFSET", "left out: MINSCALEDENOM", "left out: RANGEITEM without a DATARANGE",
+        ])
+
+
+class Labels(unittest.TestCase):
+    def label(self, **given):
+        values = dict(color=colour(10, 20, 30), outlinecolor=NONE, position=110, priority=1, buffer=0, mindistance=-1, partials=0, force=0, font="sans",
+                      size=9, wrap="", numstyles=0, angle=0, anglemode=0)
+        label = SimpleNamespace(**{**values, **given}, getExpressionString=lambda: None, getTextString=lambda: "[name]")
+        writer = layers.LayerWriter.__new__(layers.LayerWriter)
+        writer.report, writer.node, writer.options = Report(), Node(("m.map", 7)), SimpleNamespace(fonts=[])
+        writer.layer, writer.features = SimpleNamespace(labelitem=None), []
+        lines, _ = writer.label(SimpleNamespace(number=0, given=SimpleNamespace(numlabels=1, getLabel=lambda at: label)))
+        self.fonts, self.report = writer.options.fonts, writer.report
+        return lines
+
+    def test_the_plainest(self):
+        self.assertEqual(self.label(), ["COLOR 10 20 30", "POSITION AUTO", "PRIORITY 1"])
+        self.assertEqual(self.fonts, [("sans", 9)])
+
+    def test_all_of_it(self):
+        lines = self.label(outlinecolor=colour(40, 50, 60), position=104, priority=7, buffer=3, mindistance=80, partials=1, force=1, size=-1)
+        self.assertEqual(lines[1:], ["OUTLINECOLOR 40 50 60", "POSITION LL", "PRIORITY 7", "BUFFER 3", "MINDISTANCE 80", "PARTIALS TRUE", "FORCE TRUE"])
+        self.assertEqual(self.fonts, [("sans", 10)])
+
+    def test_counts_stay_in_their_bounds(self):
+        lines = self.label(priority=12, buffer=99, mindistance=5000)
+        self.assertEqual(lines[2:], ["PRIORITY 10", "BUFFER 64", "MINDISTANCE 4096"])
+
+    def test_another_position_is_auto(self):
+        self.assertEqual((self.label(position=112)[1], self.report.changes), ("POSITION AUTO", 1))
+
+    def test_what_has_no_counterpart_is_reported(self):
+        self.label(angle=30, wrap="|", numstyles=1)
+        self.assertEqual(self.report.losses, 3)
+
+
+class Names(unittest.TestCase):
+    def name(self, given, taken):
+        return convert.name_of(SimpleNamespace(name=given), 4, taken, Report(), ("m.map", 7))
+
+    def test_names_are_there_and_differ(self):
+        taken = {"roads", "roads_"}
+        self.assertEqual([self.name(given, taken) for given in ("rivers", "roads", "a,b", None, "rivers")], ["rivers", "roads__", "a_b", "layer5", "rivers_"])
+
+    def test_what_the_map_offers_is_what_mapserver_offers(self):
+        def offered(projection, **metadata):
+            map = SimpleNamespace(web=SimpleNamespace(metadata=metadata), getProjection=lambda: projection)
+            return [line.split('"')[3] for line in convert.offered_lines(map)]
+
+        self.assertEqual(offered(None), ["image/png"])
+        self.assertEqual(offered("init=epsg:3857", wms_getmap_formatlist="image/jpeg"), ["EPSG:3857"])
+        self.assertEqual(offered(None, ows_getmap_formatlist="image/jpeg,image/png", wms_srs="EPSG:4326 EPSG:900913"), ["image/png", "EPSG:3857"])
+        self.assertEqual(offered("init=epsg:38571", wms_getmap_formatlist="image/pngx"), [])
+
+    def test_the_size_of_a_view(self):
+        self.assertEqual([convert.size_of(text) for text in ("100", "2048")], [100, 2048])
+        for text in ("99", "2049", "-200", "x"):
+            with self.assertRaises(convert.argparse.ArgumentTypeError):
+                convert.size_of(text)
+
+
+if __name__ == "__main__":
+    unittest.main()
