@@ -18,17 +18,23 @@ def script(path):
     return loaded
 
 
+# The packages for which something stands in.
+STAND_INS = {}
+
+
 def has_package(name, *inner, **members):
     """Whether a package is installed. Where it isn't, an empty module with these inner modules and members stands in for it.
 
     So what a script decides without the package is tested all the same.
     """
-    if importlib.util.find_spec(name) is not None:
+    if name not in STAND_INS and importlib.util.find_spec(name) is not None:
         return True
-    sys.modules[name] = types.ModuleType(name)
+    package = STAND_INS.setdefault(name, types.ModuleType(name))
+    sys.modules[name] = package
     for part in inner:
-        sys.modules[f"{name}.{part}"] = types.ModuleType(part)
-        setattr(sys.modules[name], part, sys.modules[f"{name}.{part}"])
+        module = STAND_INS.setdefault(f"{name}.{part}", types.ModuleType(part))
+        sys.modules[f"{name}.{part}"] = module
+        setattr(package, part, module)
     for member, value in members.items():
-        setattr(sys.modules[name], member, value)
+        setattr(package, member, value)
     return False
