@@ -163,7 +163,12 @@ class Layers(Reporting):
     def test_the_extent_is_that_of_the_features_outwards(self):
         lines = features.whole_map([], self.features, "m", self.report)
         self.assertIn("  EXTENT 1.00 -20.25 30.00 40.13", lines)
-        self.assertIn("  EXTENT 6.50 7.50 7.50 8.50", features.whole_map([], [features.Feature("1", {}, "POINT", [[("7", "8")]])], "m", self.report))
+
+    def test_the_extent_of_one_place_is_a_degree_within_the_world(self):
+        rows = [("7", "8", "6.50 7.50 7.50 8.50"), ("180", "-90", "179.50 -90.00 180.00 -89.50"), ("-179.8", "89.9", "-180.00 89.40 -179.30 90.00"), ("1000", "91", "999.50 90.50 1000.00 91.50")]
+        for x, y, extent in rows:
+            place = features.Feature("1", {}, "POINT", [[(x, y)]])
+            self.assertIn(f"  EXTENT {extent}", features.whole_map([], [place], "m", self.report))
 
 
 class Sources(unittest.TestCase):
