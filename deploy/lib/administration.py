@@ -10,7 +10,7 @@ import socket
 MOST = 4_194_304
 # The seconds that a server may take for a batch: it reads it, draws no picture meanwhile, and waits for those that are.
 PATIENCE = 600
-LINE = re.compile(rb"(PUBLISHED) (\d{1,20})|(REFUSED) (\d{1,10}) ([1-8])|(HELD|NOMEMORY|IDLE|MALFORMED|FAILED)")
+LINE = re.compile(rb"(PUBLISHED) (\d{1,20})|(REFUSED) (\d{1,10}) ([1-8])|(HELD|NOMEMORY|IDLE|MALFORMED|FAILED|BUSY)")
 
 KINDS = {
     1: "an unknown word, or a command that can't be read",

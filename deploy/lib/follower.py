@@ -14,6 +14,7 @@ from administration import Administrator, Answer, Unanswered, sequence_of
 QUICK = 60
 NOT_NOW = {
     "NOMEMORY": "the server has no memory for a batch",
+    "BUSY": "the server has no memory for a connection",
     "FAILED": "the server can't write its journal, and has to be started again",
 }
 

@@ -24,6 +24,7 @@ class Addresses(unittest.TestCase):
 class Lines(unittest.TestCase):
     def test_each_answer_has_its_numbers(self):
         rows = [("PUBLISHED 18446744073709551615", "PUBLISHED", [2**64 - 1]), ("REFUSED 3 8", "REFUSED", [3, 8]), ("IDLE", "IDLE", [])]
+        rows += [(word, word, []) for word in ("HELD", "NOMEMORY", "FAILED", "BUSY", "MALFORMED")]
         for line, word, numbers in rows:
             answer = administration.Answer(line)
             self.assertEqual((answer.word, answer.numbers, str(answer)), (word, numbers, line))

@@ -61,7 +61,7 @@ class Outcomes(unittest.TestCase):
         self.assertEqual((status, out, sent), (PUBLISHED, "PUBLISHED 41\n", [("10.0.0.7", 8081), b"ON a\nOFF b c\n"]))
 
     def test_a_status_for_each_answer(self):
-        rows = [("REFUSED 1 2", REFUSED), ("MALFORMED", REFUSED), ("NOMEMORY", PENDING), ("FAILED", PENDING), ("IDLE", PUBLISHED)]
+        rows = [("REFUSED 1 2", REFUSED), ("MALFORMED", REFUSED), ("NOMEMORY", PENDING), ("FAILED", PENDING), ("BUSY", PENDING), ("IDLE", PUBLISHED)]
         for answer, status in rows:
             self.assertEqual(run(["8081", "ON a"], answer)[0], status, answer)
 

@@ -55,7 +55,7 @@ class Machine:
     def batch(self, data):
         self.given.append(data)
         fault = self.faults.pop(0) if self.faults else None
-        if fault in ("HELD", "NOMEMORY", "FAILED"):
+        if fault in ("HELD", "NOMEMORY", "FAILED", "BUSY"):
             if fault == "HELD":
                 self.sequence += 1
                 self.pending = f"PUBLISHED {self.sequence}"
@@ -124,7 +124,7 @@ class Following(unittest.TestCase):
         self.at(2, 2)
 
     def test_a_server_without_memory_or_journal_is_waited_for(self):
-        for fault in ("NOMEMORY", "FAILED"):
+        for fault in ("NOMEMORY", "FAILED", "BUSY"):
             self.machine.faults = [fault]
             with self.assertRaises(follower.NotNow):
                 self.step(Log(b"ON a"))
