@@ -8,17 +8,18 @@ use lib.IntN.{ℤ, pos, ◌+ℤ◌, ◌-ℤ◌, ◌*ℤ◌}
 use lib.Signed.{◌<ℤ◌, ◌≤ℤ◌}
 use mir.Syntax.{w64}
 use mir.Val.{of_z, to_z}
-use Rattle.geom.proofs.Products.{add-mul, is_le, mul-add, mul-comm, mul-left_comm, mul-sub, product_nonneg}
-use Rattle.geom.proofs.Quotients.{at_most-by_product, quotient-below, quotient_is, quotient_parts}
+use Rattle.geom.proofs.Products.{add-mul, is_le, mul-add, mul-left_comm, mul-sub, product_nonneg}
+use Rattle.geom.proofs.Quotients.{at_most-by_product, quotient_is, quotient_parts}
 use Rattle.geom.specs.Device.{PixelValue, pixel_of}
 use Rattle.geom.specs.Range.{IsBelow}
-use Rattle.geom.specs.World.{Area, IsCoordinate, Place}
+use Rattle.geom.specs.World.{Area, IsCoordinate, IsExtent, Place}
 use Rattle.scanfill.proofs.Words.{product-below, word}
 use Rattle.viewport.specs.View.{ViewValue, device_point, height_of, sixteenths, steepest}
 use Rattle.viewport.specs.declared.heights.Heights.{Heights}
 use Rattle.viewport.proofs.Rising.{rising-law, slowly-law}
-use Rattle.compose.specs.Grain.{AreGrains, AreOfPixel, IsGrain}
+use Rattle.compose.specs.Grain.{AreOfPixel, AreOfRow, IsGrain, row_at}
 use Rattle.compose.specs.Stroked.{has_place}
+use Rattle.compose.proofs.Flipping.{sixteenths-rising}
 use Rattle.compose.proofs.Quieting.{LiesIn, lies-in}
 
 -- so many grains before a part its share is less by no more sixteenths than that
@@ -98,12 +99,12 @@ grains_around across down place left top = record {
   maxy = place.y +ℤ pos top *ℤ down;
 }
 
-pub around-has : (view : ViewValue) (across down : ℤ) (place : Place) (left top : ℕ) → AreGrains view across down → has_place (grains_around across down place left top) place ≡ true
-around-has view across down place left top are = in-box (grains_around across down place left top) place (record {
-  west = omega (arith, ints, product_nonneg (pos left) across (omega (arith, ints)) are.columns.least);
-  east = omega (arith, ints, product_nonneg (pos (15 - left)) across (omega (arith, ints)) are.columns.least);
-  south = omega (arith, ints, product_nonneg (pos (15 - top)) down (omega (arith, ints)) are.down_least);
-  north = omega (arith, ints, product_nonneg (pos top) down (omega (arith, ints)) are.down_least);
+pub around-has : (across down : ℤ) (place : Place) (left top : ℕ) → pos 0 ≤ℤ across → pos 0 ≤ℤ down → has_place (grains_around across down place left top) place ≡ true
+around-has across down place left top across_least down_least = in-box (grains_around across down place left top) place (record {
+  west = omega (arith, ints, product_nonneg (pos left) across (omega (arith, ints)) across_least);
+  east = omega (arith, ints, product_nonneg (pos (15 - left)) across (omega (arith, ints)) across_least);
+  south = omega (arith, ints, product_nonneg (pos (15 - top)) down (omega (arith, ints)) down_least);
+  north = omega (arith, ints, product_nonneg (pos top) down (omega (arith, ints)) down_least);
 })
 
 -- what makes no more than a grain is one
@@ -128,24 +129,50 @@ times-above h a b n down least most =
     let most_up : (height_of h (a +ℤ step) -ℤ height_of h a) ≤ℤ (pos (steepest h) *ℤ step) = rw same at slow in
     omega (arith, ints, up, most_up, mul-left_comm (pos (steepest h)) (pos n) down)
 
-pub around-pixel : (view : ViewValue) (across down : ℤ) (place : Place) (left top : ℕ) → AreGrains view across down → left ≤ 15 → top ≤ 15 →
-    (device_point view place).x ≡ int_div_euclid (device_point view place).x (pos 16) *ℤ pos 16 +ℤ pos left →
-    (device_point view place).y ≡ int_div_euclid (device_point view place).y (pos 16) *ℤ pos 16 +ℤ pos top →
-    AreOfPixel view (grains_around across down place left top) (pixel_of (device_point view place))
-around-pixel view across down place left top are narrow flat x y p has =
+-- latitudes of so many grains round one lie in its row, if the grains make no more of height than a grain where heights rise the most
+pub flat-row : (view : ViewValue) (grain down latitude : ℤ) (top : ℕ) → IsExtent view.area →
+    IsGrain view.height (view.area.maxy -ℤ view.area.miny) grain → pos 0 ≤ℤ down → (pos (steepest view.heights) *ℤ down) ≤ℤ grain → top ≤ 15 →
+    sixteenths view.height (view.area.maxy -ℤ height_of view.heights latitude) (view.area.maxy -ℤ view.area.miny) ≡ row_at view latitude *ℤ pos 16 +ℤ pos top →
+    AreOfRow view (latitude -ℤ pos (15 - top) *ℤ down) (latitude +ℤ pos top *ℤ down) (row_at view latitude)
+flat-row view grain down latitude top extent is least fits few at other south north =
     let area = view.area in
-    let in_box = lies-in (grains_around across down place left top) p has in
-    let column = same-pixel-of view.width (place.x -ℤ area.minx) (p.x -ℤ area.minx) (area.maxx -ℤ area.minx) across left (omega (arith, ints, are.area.columns)) are.columns narrow x
-    (omega (arith, ints, in_box.west)) (omega (arith, ints, in_box.east)) in
     let h = view.heights in
     let times = pos (steepest h) in
-    let above = times-above h place.y p.y top down are.down_least in_box.north in
-    let below = times-above h p.y place.y (15 - top) down are.down_least (omega (arith, ints, in_box.south)) in
-    let row = same-pixel-of view.height (area.maxy -ℤ height_of h place.y) (area.maxy -ℤ height_of h p.y) (area.maxy -ℤ area.miny) (times *ℤ down) top (omega (arith, ints, are.area.rows)) are.rows flat y
-    (omega (arith, ints, above)) (omega (arith, ints, below)) in
+    let flat = flat-grain view.height (area.maxy -ℤ area.miny) grain (times *ℤ down) is (product_nonneg times down (omega (arith, ints)) least) fits in
+    let above = times-above h latitude other top down least north in
+    let below = times-above h other latitude (15 - top) down least (omega (arith, ints, south)) in
+    same-pixel-of view.height (area.maxy -ℤ height_of h latitude) (area.maxy -ℤ height_of h other) (area.maxy -ℤ area.miny) (times *ℤ down) top (omega (arith, ints, extent.rows)) flat few at
+    (omega (arith, ints, above)) (omega (arith, ints, below))
+
+-- what lies further north lies in no lower row
+row-rising : (view : ViewValue) (a b : ℤ) → IsExtent view.area → a ≤ℤ b → row_at view b ≤ℤ row_at view a
+row-rising view a b extent le =
+    let area = view.area in
+    let up = rising-law view.heights a b le in
+    let part = λ (latitude : ℤ). sixteenths view.height (area.maxy -ℤ height_of view.heights latitude) (area.maxy -ℤ area.miny) in
+    let more : part b ≤ℤ part a =
+    sixteenths-rising view.height (area.maxy -ℤ height_of view.heights b) (area.maxy -ℤ height_of view.heights a) (area.maxy -ℤ area.miny) (omega (arith, ints, extent.rows)) (omega (arith, ints, up)) in
+    let one = quotient_parts (part a) (pos 16) (omega (arith, ints)) in
+    let other = quotient_parts (part b) (pos 16) (omega (arith, ints)) in
+    at_most-by_product (row_at view b) (row_at view a) (pos 16) (omega (arith, ints)) (omega (arith, ints, one.1, other.0, more))
+
+-- latitudes between two of one row lie in it
+pub tested-row : (view : ViewValue) (south north row : ℤ) → IsExtent view.area → row_at view south ≡ row → row_at view north ≡ row → AreOfRow view south north row
+tested-row view south north row extent low high latitude least most =
+    omega (arith, ints, low, high, row-rising view south latitude extent least, row-rising view latitude north extent most)
+
+pub around-pixel : (view : ViewValue) (across down : ℤ) (place : Place) (left top : ℕ) → IsExtent view.area → IsGrain view.width (view.area.maxx -ℤ view.area.minx) across → left ≤ 15 →
+    (device_point view place).x ≡ int_div_euclid (device_point view place).x (pos 16) *ℤ pos 16 +ℤ pos left →
+    AreOfRow view (place.y -ℤ pos (15 - top) *ℤ down) (place.y +ℤ pos top *ℤ down) (pixel_of (device_point view place)).j →
+    AreOfPixel view (grains_around across down place left top) (pixel_of (device_point view place))
+around-pixel view across down place left top extent is narrow x rows p has =
+    let area = view.area in
+    let in_box = lies-in (grains_around across down place left top) p has in
+    let column = same-pixel-of view.width (place.x -ℤ area.minx) (p.x -ℤ area.minx) (area.maxx -ℤ area.minx) across left (omega (arith, ints, extent.columns)) is narrow x
+    (omega (arith, ints, in_box.west)) (omega (arith, ints, in_box.east)) in
     let here = pixel_of (device_point view p) in
     let there = pixel_of (device_point view place) in
-    ap (λ (i : ℤ). the-pixel i here.j) column ∙ ap (λ (j : ℤ). the-pixel there.i j) row
+    ap (λ (i : ℤ). the-pixel i here.j) column ∙ ap (λ (j : ℤ). the-pixel there.i j) (rows p.y in_box.south in_box.north)
   where
     the-pixel : ℤ → ℤ → PixelValue
     the-pixel i j = record { i = i; j = j }

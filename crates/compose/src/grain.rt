@@ -1,17 +1,23 @@
-ghost use Rattle.std.specs.Prelude.{◌≡◌, ◌≤◌, ◌<◌, ◌*◌, ◌^◌, true, pos, ◌+ℤ◌, ◌-ℤ◌, ◌*ℤ◌, ◌≤ℤ◌, ◌<ℤ◌};
+ghost use Rattle.std.specs.Prelude.{◌≡◌, ◌≤◌, ◌<◌, ◌-◌, ◌*◌, ◌^◌, true, IsTrue, pos, ◌+ℤ◌, ◌-ℤ◌, ◌*ℤ◌, ◌≤ℤ◌, ◌<ℤ◌};
 ghost use Rattle.std.specs.Int.{int_div_euclid};
 ghost use Rattle.geom.specs.Device.{pixel_of};
 ghost use Rattle.geom.specs.Range.{IsBelow};
 ghost use Rattle.geom.specs.World.{IsCoordinate};
 ghost use Rattle.viewport.specs.View.{device_point, steepest};
-ghost use Rattle.compose.specs.Grain.{AreOfPixel, IsGrain};
+ghost use Rattle.compose.specs.Grain.{AreOfPixel, AreOfRow, IsGrain, row_at};
 ghost use Rattle.compose.specs.Stroked.{has_place};
 
-use geom::{Device, Micro, PictureSide, World, WorldBox};
+use geom::{
+    Coordinate, Device, GREATEST_COORDINATE, LEAST_COORDINATE, Micro, PictureSide, World, WorldBox,
+};
 use std::marker::Model;
 use viewport::{Heights, Projection};
 
-/// A projection, and its grain: how many whole millionths of a degree a sixteenth of a pixel shows, across and down.
+// The square of half a turn, in hundredths of a degree.
+const HALF_TURN_SQUARED: u64 = 18_000 * 18_000;
+
+/// A projection, and its grain: how many whole millionths a sixteenth of a pixel shows, of longitude across, and of height
+/// down.
 #[derive(Drop)]
 pub struct Grain<'a> {
     projection: &'a Projection,
@@ -39,11 +45,7 @@ impl<'a> Grain<'a> {
         Grain {
             projection,
             across: grain_of(projection.width(), span(area.minx(), area.maxx())),
-            down: flat_grain_of(
-                projection.height(),
-                span(area.miny(), area.maxy()),
-                projection.heights(),
-            ),
+            down: grain_of(projection.height(), span(area.miny(), area.maxy())),
         }
     }
 
@@ -62,12 +64,47 @@ impl<'a> Grain<'a> {
     {
         let (x, y) = (place.x().get().millionths(), place.y().get().millionths());
         let (left, top) = (into_pixel(at.x()), into_pixel(at.y()));
+        let down = self.grain_at(place, at, top);
         box_of(
             less(x, left, self.across),
-            less(y, 15 - top, self.down),
+            less(y, 15 - top, down),
             more(x, 15 - left, self.across),
-            more(y, top, self.down),
+            more(y, top, down),
         )
+    }
+
+    // How many whole millionths of latitude a sixteenth of a pixel shows round a place, so many sixteenths below the top of
+    // its pixel. In web mercator that is guessed and tested. It is what a sixteenth shows where heights rise the most, if the
+    // guess fails.
+    fn grain_at(&self, place: World, at: Device, top: u8) -> i64
+        requires at { at ≡ device_point self.now place }
+        requires top { at.y ≡ int_div_euclid at.y (pos 16) *ℤ pos 16 +ℤ pos top }
+        requires few { top ≤ 15 }
+        ensures least { pos 0 ≤ℤ result }
+        ensures most { IsBelow (2 ^ 31) result }
+        ensures row { AreOfRow self.now (place.y -ℤ pos (15 - top) *ℤ result) (place.y +ℤ pos top *ℤ result) (pixel_of at).j }
+    {
+        let latitude = place.y().get().millionths();
+        let heights = self.projection.heights();
+        if heights == Heights::Mercator {
+            let guess = about_grain(self.down, latitude);
+            let (south, north) = (less(latitude, 15 - top, guess), more(latitude, top, guess));
+            if self.is_of_row(south, at) && self.is_of_row(north, at) {
+                return guess;
+            }
+        }
+        flattened(self.down, heights)
+    }
+
+    // Whether a latitude lies in the row of pixels of a point.
+    fn is_of_row(&self, latitude: i64, at: Device) -> bool
+        ensures { IsTrue result → row_at self.now latitude ≡ (pixel_of at).j }
+    {
+        if latitude < LEAST_COORDINATE || latitude > GREATEST_COORDINATE {
+            return false;
+        }
+        let latitude = Coordinate::new(Micro::new(latitude));
+        self.projection.down(latitude).div_euclid(16) == at.pixel().j()
     }
 }
 
@@ -90,17 +127,6 @@ fn grain_of(side: PictureSide, whole: i64) -> i64
     whole.div_euclid(16 * i64::from(side.pixels()))
 }
 
-// The whole millionths of a degree of latitude that a sixteenth of a pixel shows, even where heights rise the most.
-fn flat_grain_of(side: PictureSide, whole: i64, heights: Heights) -> i64
-    requires some { pos 0 <ℤ whole }
-    requires most { IsBelow (2 ^ 31) whole }
-    ensures fits { IsGrain side whole (pos (steepest heights) *ℤ result) }
-    ensures least { pos 0 ≤ℤ result }
-    ensures most { IsBelow (2 ^ 31) result }
-{
-    flattened(grain_of(side, whole), heights)
-}
-
 // The latitudes of a grain of heights, where heights rise the most.
 fn flattened(grain: i64, heights: Heights) -> i64
     requires least { pos 0 ≤ℤ grain }
@@ -113,6 +139,22 @@ fn flattened(grain: i64, heights: Heights) -> i64
         Heights::Latitudes => grain,
         Heights::Mercator => grain / 12,
     }
+}
+
+// About the latitudes of a grain of heights in web mercator: less by the cosine of the latitude, for which Bhaskara's
+// fraction stands, and by a sixteenth, since the cosine changes within a pixel. It is a guess, which the caller tests.
+fn about_grain(grain: i64, latitude: i64) -> i64
+    requires least { pos 0 ≤ℤ grain }
+    requires most { IsBelow (2 ^ 31) grain }
+    requires latitude { IsCoordinate latitude }
+    ensures least { pos 0 ≤ℤ result }
+    ensures most { IsBelow (2 ^ 31) result }
+{
+    let hundredths = latitude.unsigned_abs() / 10_000;
+    let square = hundredths * hundredths;
+    let part = HALF_TURN_SQUARED.saturating_sub(4 * square);
+    let guess = grain as u64 * part / (HALF_TURN_SQUARED + square);
+    (guess - guess / 16).min(grain as u64) as i64
 }
 
 // How many sixteenths of a pixel a number lies past the pixel's side.

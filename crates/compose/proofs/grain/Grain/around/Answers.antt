@@ -2,9 +2,10 @@ use Rattle.std.proofs.Common.{◌≡◌, ◌-◌, ◌^◌, arith}
 use Rattle.std.proofs.lemmas.Int.{ints}
 use Rattle.std.specs.Int.{int_div_euclid}
 use lib.IntN.{pos, ◌+ℤ◌, ◌-ℤ◌, ◌*ℤ◌}
+use Rattle.geom.specs.Device.{pixel_of}
 use Rattle.scanfill.proofs.Words.{word}
 use Rattle.viewport.specs.View.{device_point}
-use Rattle.compose.specs.Grain.{AreGrains}
+use Rattle.compose.specs.Grain.{AreGrains, AreOfRow}
 use Rattle.compose.proofs.Graining.{around-has, around-pixel, coordinate-below, coordinate-held, grains_around}
 use Rattle.compose.proofs.grain.Grain.around.Goals as goal
 
@@ -23,10 +24,10 @@ more-requires-2-clause-number c = coordinate-held c.millionths-y.result c.get-2.
 pub returns-clause-has : goal.returns-clause-has
 returns-clause-has c =
     let across = c.self.inside.across in
-    let down = c.self.inside.down in
+    let down = c.grain_at-down.result in
     let left = c.into_pixel-left.result in
     let top = c.into_pixel-top.result in
-    let are : AreGrains c.args.self.now across down = rw c.self.view_is at c.self.invariant in
+    let are : AreGrains c.args.self.now across c.self.inside.down = rw c.self.view_is at c.self.invariant in
     let x : c.millionths-x.result ≡ c.args.place.x = omega (arith, ints, c.millionths-x.ensures, c.get.ensures.value, c.x.ensures, c.get.ensures.limits) in
     let y : c.millionths-y.result ≡ c.args.place.y = omega (arith, ints, c.millionths-y.ensures, c.get-2.ensures.value, c.y.ensures, c.get-2.ensures.limits) in
     let east = coordinate-below c.millionths-x.result (rw c.millionths-x.ensures c.get.ensures.limits) in
@@ -34,7 +35,7 @@ returns-clause-has c =
     let words-x = word (2 ^ 31) c.millionths-x.result (omega arith) east in
     let words-y = word (2 ^ 31) c.millionths-y.result (omega arith) north in
     let words-across = word (2 ^ 31) across (omega arith) are.columns.most in
-    let words-down = word (2 ^ 31) down (omega arith) are.down_most in
+    let words-down = word (2 ^ 31) down (omega arith) c.grain_at-down.ensures.most in
     let minx : c.less.result ≡ c.args.place.x -ℤ pos left *ℤ across = rw (words-x, words-across, x) at c.less.ensures.value in
     let miny : c.less-2.result ≡ c.args.place.y -ℤ pos (15 - top) *ℤ down = rw (words-y, words-down, y) at c.less-2.ensures.value in
     let maxx : c.more.result ≡ c.args.place.x +ℤ pos (15 - left) *ℤ across = rw (words-x, words-across, x) at c.more.ensures.value in
@@ -50,15 +51,15 @@ returns-clause-has c =
       maxx,
       maxy,
     ) at c.box_of.ensures in
-    rw box (around-has c.args.self.now across down c.args.place left top are)
+    rw box (around-has across down c.args.place left top are.columns.least c.grain_at-down.ensures.least)
 
 pub returns-clause-pixel : goal.returns-clause-pixel
 returns-clause-pixel c =
     let across = c.self.inside.across in
-    let down = c.self.inside.down in
+    let down = c.grain_at-down.result in
     let left = c.into_pixel-left.result in
     let top = c.into_pixel-top.result in
-    let are : AreGrains c.args.self.now across down = rw c.self.view_is at c.self.invariant in
+    let are : AreGrains c.args.self.now across c.self.inside.down = rw c.self.view_is at c.self.invariant in
     let x : c.millionths-x.result ≡ c.args.place.x = omega (arith, ints, c.millionths-x.ensures, c.get.ensures.value, c.x.ensures, c.get.ensures.limits) in
     let y : c.millionths-y.result ≡ c.args.place.y = omega (arith, ints, c.millionths-y.ensures, c.get-2.ensures.value, c.y.ensures, c.get-2.ensures.limits) in
     let east = coordinate-below c.millionths-x.result (rw c.millionths-x.ensures c.get.ensures.limits) in
@@ -66,7 +67,7 @@ returns-clause-pixel c =
     let words-x = word (2 ^ 31) c.millionths-x.result (omega arith) east in
     let words-y = word (2 ^ 31) c.millionths-y.result (omega arith) north in
     let words-across = word (2 ^ 31) across (omega arith) are.columns.most in
-    let words-down = word (2 ^ 31) down (omega arith) are.down_most in
+    let words-down = word (2 ^ 31) down (omega arith) c.grain_at-down.ensures.most in
     let minx : c.less.result ≡ c.args.place.x -ℤ pos left *ℤ across = rw (words-x, words-across, x) at c.less.ensures.value in
     let miny : c.less-2.result ≡ c.args.place.y -ℤ pos (15 - top) *ℤ down = rw (words-y, words-down, y) at c.less-2.ensures.value in
     let maxx : c.more.result ≡ c.args.place.x +ℤ pos (15 - left) *ℤ across = rw (words-x, words-across, x) at c.more.ensures.value in
@@ -85,6 +86,7 @@ returns-clause-pixel c =
     let point = device_point c.args.self.now c.args.place in
     let column : point.x ≡ int_div_euclid point.x (pos 16) *ℤ pos 16 +ℤ pos left =
     rw (c.x-2.ensures.value, word (2 ^ 47) c.args.at.x (omega arith) c.x-2.ensures.limits.across, c.requires) at c.into_pixel-left.ensures.value in
-    let row : point.y ≡ int_div_euclid point.y (pos 16) *ℤ pos 16 +ℤ pos top =
-    rw (c.y-2.ensures.value, word (2 ^ 47) c.args.at.y (omega arith) c.y-2.ensures.limits.down, c.requires) at c.into_pixel-top.ensures.value in
-    rw (box, c.requires) (around-pixel c.args.self.now across down c.args.place left top are c.into_pixel-left.ensures.most c.into_pixel-top.ensures.most column row)
+    let row : AreOfRow c.args.self.now (c.args.place.y -ℤ pos (15 - top) *ℤ down) (c.args.place.y +ℤ pos top *ℤ down) (pixel_of point).j =
+    rw c.requires at c.grain_at-down.ensures.row in
+    rw (box, c.requires)
+    (around-pixel c.args.self.now across down c.args.place left top are.area are.columns c.into_pixel-left.ensures.most column row)
