@@ -74,8 +74,7 @@ impl<'a> Grain<'a> {
     }
 
     // How many whole millionths of latitude a sixteenth of a pixel shows round a place, so many sixteenths below the top of
-    // its pixel. In web mercator that is guessed and tested. It is what a sixteenth shows where heights rise the most, if the
-    // guess fails.
+    // its pixel.
     fn grain_at(&self, place: World, at: Device, top: u8) -> i64
         requires at { at ≡ device_point self.now place }
         requires top { at.y ≡ int_div_euclid at.y (pos 16) *ℤ pos 16 +ℤ pos top }
@@ -84,16 +83,28 @@ impl<'a> Grain<'a> {
         ensures most { IsBelow (2 ^ 31) result }
         ensures row { AreOfRow self.now (place.y -ℤ pos (15 - top) *ℤ result) (place.y +ℤ pos top *ℤ result) (pixel_of at).j }
     {
-        let latitude = place.y().get().millionths();
-        let heights = self.projection.heights();
-        if heights == Heights::Mercator {
-            let guess = about_grain(self.down, latitude);
-            let (south, north) = (less(latitude, 15 - top, guess), more(latitude, top, guess));
-            if self.is_of_row(south, at) && self.is_of_row(north, at) {
-                return guess;
-            }
+        match self.projection.heights() {
+            Heights::Latitudes => self.down,
+            Heights::Mercator => self.guessed_grain(place, at, top),
         }
-        flattened(self.down, heights)
+    }
+
+    // The same in web mercator: a guess that is tested, or what a sixteenth shows where heights rise the most.
+    fn guessed_grain(&self, place: World, at: Device, top: u8) -> i64
+        requires at { at ≡ device_point self.now place }
+        requires top { at.y ≡ int_div_euclid at.y (pos 16) *ℤ pos 16 +ℤ pos top }
+        requires few { top ≤ 15 }
+        ensures least { pos 0 ≤ℤ result }
+        ensures most { IsBelow (2 ^ 31) result }
+        ensures row { AreOfRow self.now (place.y -ℤ pos (15 - top) *ℤ result) (place.y +ℤ pos top *ℤ result) (pixel_of at).j }
+    {
+        let latitude = place.y().get().millionths();
+        let guess = about_grain(self.down, latitude);
+        let (south, north) = (less(latitude, 15 - top, guess), more(latitude, top, guess));
+        if self.is_of_row(south, at) && self.is_of_row(north, at) {
+            return guess;
+        }
+        flattened(self.down, self.projection.heights())
     }
 
     // Whether a latitude lies in the row of pixels of a point.

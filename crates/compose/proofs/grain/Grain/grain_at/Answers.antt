@@ -1,48 +1,26 @@
-use Rattle.std.proofs.Common.{◌≡◌, ◌-◌, ◌^◌, arith}
+use Rattle.std.proofs.Common.{◌≡◌, ◌∙◌, ◌^◌, sym, subst, arith}
 use Rattle.std.proofs.lemmas.Int.{ints}
 use Rattle.std.specs.Int.{int_div_euclid}
-use lib.IntN.{pos, ◌+ℤ◌, ◌-ℤ◌, ◌*ℤ◌}
+use lib.IntN.{pos, ◌+ℤ◌, ◌*ℤ◌}
 use lib.Signed.{◌≤ℤ◌}
-use Rattle.geom.specs.Device.{pixel_of}
 use Rattle.scanfill.proofs.Words.{word}
 use Rattle.viewport.specs.View.{device_point, steepest}
-use Rattle.compose.specs.Grain.{AreGrains, row_at}
-use Rattle.compose.proofs.Graining.{coordinate-below, coordinate-held, flat-row, tested-row}
+use Rattle.viewport.specs.declared.heights.Heights.{Heights}
+use Rattle.viewport.specs.declared.heights.Heights.TheVariants as heights
+use Rattle.compose.specs.Grain.{AreGrains}
+use Rattle.compose.proofs.Graining.{flat-row}
 use Rattle.compose.proofs.grain.Grain.grain_at.Goals as goal
 
-pub more-north-requires-clause-number : goal.more-north-requires-clause-number
-more-north-requires-clause-number c = coordinate-held c.millionths-latitude.result c.get.result c.millionths-latitude.ensures c.get.ensures.limits
-
-pub returns-then-is_of_row-2-clause-row : goal.returns-then-is_of_row-2-clause-row
-returns-then-is_of_row-2-clause-row c =
-    let view = c.args.self.now in
-    let place = c.args.place in
-    let guess = c.about_grain-guess.result in
-    let row = (pixel_of c.args.at).j in
-    let are : AreGrains view c.self.inside.across c.self.inside.down = rw c.self.view_is at c.self.invariant in
-    let y : c.millionths-latitude.result ≡ place.y =
-    omega (arith, ints, c.millionths-latitude.ensures, c.get.ensures.value, c.y.ensures, c.get.ensures.limits) in
-    let held = coordinate-below c.millionths-latitude.result (rw c.millionths-latitude.ensures c.get.ensures.limits) in
-    let words-y = word (2 ^ 31) c.millionths-latitude.result (omega arith) held in
-    let words = word (2 ^ 31) guess (omega arith) c.about_grain-guess.ensures.most in
-    let south : c.less-south.result ≡ place.y -ℤ pos (15 - c.args.top) *ℤ guess = rw (words-y, words, y) at c.less-south.ensures.value in
-    let north : c.more-north.result ≡ place.y +ℤ pos c.args.top *ℤ guess = rw (words-y, words, y) at c.more-north.ensures.value in
-    let low : row_at view (place.y -ℤ pos (15 - c.args.top) *ℤ guess) ≡ row =
-    rw (word (2 ^ 40) c.less-south.result (omega arith) c.less-south.ensures.range, south) at (c.is_of_row.ensures c.if-is_of_row.true) in
-    let high : row_at view (place.y +ℤ pos c.args.top *ℤ guess) ≡ row =
-    rw (word (2 ^ 40) c.more-north.result (omega arith) c.more-north.ensures.range, north) at (c.is_of_row-then-is_of_row.ensures c.if-is_of_row-2.true) in
-    rw words (tested-row view (place.y -ℤ pos (15 - c.args.top) *ℤ guess) (place.y +ℤ pos c.args.top *ℤ guess) row are.area low high)
-
-pub returns-clause-row : goal.returns-clause-row
-returns-clause-row c =
+pub returns-in-Latitudes-clause-row : goal.returns-in-Latitudes-clause-row
+returns-in-Latitudes-clause-row c =
     let view = c.args.self.now in
     let place = c.args.place in
     let down = c.self.inside.down in
-    let flat = c.flattened.result in
     let are : AreGrains view c.self.inside.across down = rw c.self.view_is at c.self.invariant in
-    let words-down = word (2 ^ 31) down (omega arith) are.rows.most in
-    let fits : (pos (steepest view.heights) *ℤ flat) ≤ℤ down = rw (words-down, c.heights-heights.ensures, c.self.view_is) at c.flattened.ensures.fits in
+    let measured : c.heights.result ≡ view.heights = rw c.self.view_is at c.heights.ensures in
+    let latitudes : heights.Latitudes ≡ view.heights = sym c.in-Latitudes.is ∙ measured in
+    let fits : (pos (steepest view.heights) *ℤ down) ≤ℤ down = subst (λ (h : Heights). (pos (steepest h) *ℤ down) ≤ℤ down) latitudes (omega (arith, ints)) in
     let top : (device_point view place).y ≡ int_div_euclid (device_point view place).y (pos 16) *ℤ pos 16 +ℤ pos c.args.top =
     rw c.requires.at at c.requires.top in
-    rw (c.requires.at, word (2 ^ 31) flat (omega arith) c.flattened.ensures.most)
-    (flat-row view down flat place.y c.args.top are.area are.rows c.flattened.ensures.least fits c.requires.few top)
+    rw (c.requires.at, word (2 ^ 31) down (omega arith) are.rows.most)
+    (flat-row view down down place.y c.args.top are.area are.rows are.rows.least fits c.requires.few top)
