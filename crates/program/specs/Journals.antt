@@ -19,6 +19,8 @@ use Rattle.console.specs.declared.failure.Failure.{Failure}
 use Rattle.console.specs.declared.failure.Failure.TheVariants as failure
 use Rattle.program.specs.declared.keeping.JournalFault.{JournalFault}
 use Rattle.program.specs.declared.keeping.JournalFault.TheVariants as fault
+use Rattle.program.specs.declared.host.OpenFault.{OpenFault}
+use Rattle.program.specs.declared.host.OpenFault.TheVariants as log_fault
 
 -- the known properties of the journals of a host: which logs it gives for a path, whether they are reliable, their bytes, and the bytes that a crash
 -- may leave of them
@@ -55,18 +57,26 @@ fault_of (recover_fault.Header header_fault.NotAJournal) = fault.NotAJournal
 fault_of (recover_fault.Header header_fault.OtherMap) = fault.OtherMap
 fault_of (recover_fault.Damaged number) = fault.Damaged number
 fault_of (recover_fault.Refused number) = fault.Refused number
-fault_of recover_fault.NoMemory = fault.NoMemory
-fault_of (recover_fault.Failed cause) = fault.Unavailable
+fault_of recover_fault.NoMemory = fault.Log log_fault.NoMemory
+fault_of (recover_fault.Failed cause) = fault.Log log_fault.Failed
+
+-- the message on a log that can't be opened
+unfoldable pub log_message : OpenFault → List ℕ
+log_message log_fault.InUse = codes "another program has it"
+log_message log_fault.NotAllowed = codes "the program may not read and write it"
+log_message log_fault.ReadOnly = codes "its file system is read-only"
+log_message log_fault.Full = codes "its disk is full"
+log_message log_fault.NoTarget = codes "it is a link to a file that isn't there"
+log_message log_fault.Failed = codes "it can't be read or written"
+log_message log_fault.NoMemory = codes "out of memory"
 
 -- the message on a journal's fault, which a number may follow
 unfoldable pub fault_message : JournalFault → List ℕ
 fault_message fault.NotAJournal = codes "it is no journal"
 fault_message fault.OtherMap = codes "it is of another map"
-fault_message (fault.Damaged number) = codes "it is damaged behind record "
+fault_message (fault.Damaged number) = codes "it is damaged after record "
 fault_message (fault.Refused number) = codes "the map doesn't accept record "
-fault_message fault.InUse = codes "another program has it"
-fault_message fault.Unavailable = codes "it can't be read or written"
-fault_message fault.NoMemory = codes "out of memory"
+fault_message (fault.Log cause) = log_message cause
 
 -- the number of a record
 abbrev pub number_text : JournalFault → List ℕ
@@ -76,9 +86,8 @@ number_text other = []
 
 -- the failure with which the program ends for it
 abbrev pub failure_of : JournalFault → Failure
-failure_of fault.InUse = failure.JournalFailed
-failure_of fault.Unavailable = failure.JournalFailed
-failure_of fault.NoMemory = failure.NoMemory
+failure_of (fault.Log log_fault.NoMemory) = failure.NoMemory
+failure_of (fault.Log cause) = failure.JournalFailed
 failure_of other = failure.JournalFault
 
 -- the line that reports it, with the path of the journal
@@ -87,9 +96,7 @@ journal_fault path why = codes "fault journal " ++ (path ++ (codes ": " ++ (faul
 
 -- a host gave no log for a path, or memory was refused
 abbrev pub is_unopened : JournalFault → Type 0
-is_unopened fault.InUse = Unit {0}
-is_unopened fault.Unavailable = Unit {0}
-is_unopened fault.NoMemory = Unit {0}
+is_unopened (fault.Log cause) = Unit {0}
 is_unopened other = ⊥
 
 module _ {L : Type 0} (view : JournalView L) (path fingerprint : List ℕ) (first : State) where
@@ -112,5 +119,5 @@ module _ {L : Type 0} (view : JournalView L) (path fingerprint : List ℕ) (firs
 
 -- where the journal of a service failed, that is reported at its end
 abbrev pub ReportsEnd : List ℕ → Outcome → WriterState → WriterState → Type 0
-ReportsEnd path (Err failure.JournalFailed) old new = IsReported old new (journal_fault path fault.Unavailable)
+ReportsEnd path (Err failure.JournalFailed) old new = IsReported old new (journal_fault path (fault.Log log_fault.Failed))
 ReportsEnd path outcome old new = new ≡ old

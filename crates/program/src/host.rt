@@ -21,7 +21,19 @@ pub enum OpenFault {
     /// Another program has it.
     #[error("another program has the log")]
     InUse,
-    /// The system doesn't open or make it.
+    /// The system doesn't allow the program to read and write it.
+    #[error("the log may not be opened")]
+    NotAllowed,
+    /// Its file system can only be read.
+    #[error("the log's file system can only be read")]
+    ReadOnly,
+    /// There is no room for it on its disk.
+    #[error("the log's disk is full")]
+    Full,
+    /// Its path is a symbolic link to a file that isn't there, as on a disk that isn't mounted.
+    #[error("the log is a link to a file that isn't there")]
+    NoTarget,
+    /// The system gives another reason.
     #[error("the log can't be opened")]
     Failed,
     /// Memory was refused.
@@ -61,8 +73,8 @@ pub trait Host: Files + Network {
     fn listen(&self, number: u16) -> Result<Self::Port, ListenFailed>
         ensures { IfOk result (λ p. listens self.now number p) };
 
-    /// Opens the log of a path, which no other program has at the same time. Where there is none, one is made with these bytes: it has all
-    /// of them, or doesn't exist. Digests show which bytes of a reliable log a crash has garbled.
+    /// Opens the log of a path, which no other program has at the same time. Where nothing has that path, a log is made with these bytes: it has all
+    /// of them, or doesn't exist. Nothing that has the path is replaced. Digests show which bytes of a reliable log a crash has garbled.
     fn open_log(&self, path: &str, bytes: &[u8]) -> Result<Self::Log, OpenFault>
         ensures given { IfOk result (λ log. journal self.now path.now log) }
         ensures recognised { OnOk result (Self.Log.reliable → (fingerprint : List ℕ) → GarblesNoRecord Self.Log.garbled fingerprint) };

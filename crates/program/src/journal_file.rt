@@ -9,10 +9,16 @@ use std::fs::{self, File, OpenOptions, TryLockError};
 use std::io::{self, ErrorKind, Read, Seek, SeekFrom, Write};
 use subcommands::parent_of;
 
+// How many names are tried for a file that is to be a journal.
+const NAMES: u32 = 1000;
+
 impl From<io::Error> for OpenFault {
     fn from(error: io::Error) -> Self {
         match error.kind() {
             ErrorKind::OutOfMemory => OpenFault::NoMemory,
+            ErrorKind::PermissionDenied => OpenFault::NotAllowed,
+            ErrorKind::ReadOnlyFilesystem => OpenFault::ReadOnly,
+            ErrorKind::StorageFull | ErrorKind::QuotaExceeded => OpenFault::Full,
             _ => OpenFault::Failed,
         }
     }
@@ -27,12 +33,17 @@ fn lock(file: &File) -> Result<(), OpenFault> {
     }
 }
 
-// The file of a path, for reading and appending. It exists before, or is made, by `create`.
-fn open(rt: &HostRuntime, path: &str, create: bool) -> io::Result<File> {
+// The file of a path, for reading and appending, where there is one.
+fn open(rt: &HostRuntime, path: &str) -> io::Result<File> {
+    OpenOptions::new().read(true).append(true).open(rt, path)
+}
+
+// A new file of a path that nothing has, for reading and appending.
+fn open_new(rt: &HostRuntime, path: &str) -> io::Result<File> {
     OpenOptions::new()
         .read(true)
         .append(true)
-        .create(create)
+        .create_new(true)
         .open(rt, path)
 }
 
@@ -45,33 +56,83 @@ fn sync_folder(rt: &HostRuntime, path: &str) -> io::Result<()> {
     fs::open(rt, folder)?.sync_all()
 }
 
-// Makes the file of a path with these bytes: under another name first, so that the path has all of them or no file. The other name is locked
-// meanwhile, so that two programs don't make one file.
-fn make(rt: &HostRuntime, path: &str, bytes: &[u8]) -> Result<File, OpenFault> {
-    let Ok(other) = format!(in rt.alloc(); "{path}.new") else {
-        return Err(OpenFault::NoMemory);
-    };
-    let mut file = open(rt, other.as_str(), true)?;
-    lock(&file)?;
-    if open(rt, path, false).is_ok() {
-        return Err(OpenFault::InUse);
+// A new file beside a path, and its name, which nothing had before.
+fn open_beside(rt: &HostRuntime, path: &str) -> Result<(File, String), OpenFault> {
+    for number in 1..=NAMES {
+        let Ok(name) = format!(in rt.alloc(); "{path}.new-{number}") else {
+            return Err(OpenFault::NoMemory);
+        };
+        match open_new(rt, name.as_str()) {
+            Ok(file) => return Ok((file, name)),
+            Err(error) if error.kind() == ErrorKind::AlreadyExists => {}
+            Err(error) => return Err(OpenFault::from(error)),
+        }
     }
-    file.set_len(0)?;
-    file.write_all(bytes)?;
-    file.sync_all()?;
-    fs::rename(rt, other.as_str(), path)?;
-    sync_folder(rt, path)?;
-    Ok(file)
+    Err(OpenFault::Failed)
 }
 
-// The file of a journal, locked for this program. Where there is none, it is made with these bytes.
+// Locks a new file, and writes and syncs its bytes.
+fn fill(file: &mut File, bytes: &[u8]) -> Result<(), OpenFault> {
+    lock(file)?;
+    file.write_all(bytes)?;
+    file.sync_all()?;
+    Ok(())
+}
+
+// A file with these bytes at a path that nothing has, on a file system without a second name for a file. It is removed again where it can't be filled.
+fn make_in_place(rt: &HostRuntime, path: &str, bytes: &[u8]) -> Result<File, OpenFault> {
+    let mut file = open_new(rt, path)?;
+    match fill(&mut file, bytes) {
+        Ok(()) => Ok(file),
+        Err(fault) => {
+            let _ = fs::remove_file(rt, path);
+            Err(fault)
+        }
+    }
+}
+
+// Gives a file of another name the path too, if nothing has that. It returns whether the file system has second names for files.
+fn name_file(rt: &HostRuntime, other: &str, path: &str) -> Result<bool, OpenFault> {
+    match fs::hard_link(rt, other, path) {
+        Ok(()) => Ok(true),
+        Err(error) => match error.kind() {
+            ErrorKind::AlreadyExists => Err(OpenFault::InUse),
+            ErrorKind::Unsupported | ErrorKind::PermissionDenied => Ok(false),
+            _ => Err(OpenFault::from(error)),
+        },
+    }
+}
+
+// Makes the file of a path with these bytes: under another name first, so that the path has all of them or no file, and nothing that
+// has the path is replaced.
+fn make(rt: &HostRuntime, path: &str, bytes: &[u8]) -> Result<File, OpenFault> {
+    let (mut file, other) = open_beside(rt, path)?;
+    let is_named = match fill(&mut file, bytes) {
+        Ok(()) => name_file(rt, other.as_str(), path),
+        Err(fault) => Err(fault),
+    };
+    let _ = fs::remove_file(rt, other.as_str());
+    if is_named? {
+        Ok(file)
+    } else {
+        make_in_place(rt, path, bytes)
+    }
+}
+
+// The file of a path, locked for this program. Where nothing has the path, it is made with these bytes.
 fn open_or_make(rt: &HostRuntime, path: &str, bytes: &[u8]) -> Result<File, OpenFault> {
-    match open(rt, path, false) {
+    match open(rt, path) {
         Ok(file) => {
             lock(&file)?;
             Ok(file)
         }
-        Err(error) if error.kind() == ErrorKind::NotFound => make(rt, path, bytes),
+        Err(error) if error.kind() == ErrorKind::NotFound => {
+            match fs::symlink_metadata(rt, path) {
+                Ok(_) => Err(OpenFault::NoTarget),
+                Err(error) if error.kind() == ErrorKind::NotFound => make(rt, path, bytes),
+                Err(error) => Err(OpenFault::from(error)),
+            }
+        }
         Err(error) => Err(OpenFault::from(error)),
     }
 }
@@ -80,15 +141,34 @@ fn open_or_make(rt: &HostRuntime, path: &str, bytes: &[u8]) -> Result<File, Open
 /// the log isn't called reliable.
 #[derive(Drop)]
 pub struct JournalFile {
+    rt: HostRuntime,
+    path: String,
     file: File,
 }
 
 impl JournalFile {
-    /// The file of a path, locked for this program. Where there is none, it is made with these bytes.
+    /// The file of a path, locked for this program. Where nothing has that path, it is made with these bytes.
     pub(crate) fn open(rt: &HostRuntime, path: &str, bytes: &[u8]) -> Result<Self, OpenFault> {
+        let Ok(copied) = String::from_str(rt.alloc(), path) else {
+            return Err(OpenFault::NoMemory);
+        };
+        let file = open_or_make(rt, path, bytes)?;
+        // the start that made it may have been broken off before it synced the name
+        sync_folder(rt, path)?;
         Ok(JournalFile {
-            file: open_or_make(rt, path, bytes)?,
+            rt: *rt,
+            path: copied,
+            file,
         })
+    }
+
+    // An error where another file has the path, or none: a file that this program opened there is locked.
+    fn look_at_path(&self) -> io::Result<()> {
+        match open(&self.rt, self.path.as_str())?.try_lock() {
+            Err(TryLockError::WouldBlock) => Ok(()),
+            Err(TryLockError::Error(error)) => Err(error),
+            Ok(()) => Err(io::Error::from(ErrorKind::NotFound)),
+        }
     }
 }
 
@@ -123,7 +203,9 @@ impl Log for JournalFile {
         }
     }
 
+    // What is appended to a file that was removed or replaced would be lost with the program.
     fn append(&mut self, bytes: &[u8]) -> Result<(), io::Error> {
+        self.look_at_path()?;
         self.file.write_all(bytes)
     }
 

@@ -6,7 +6,7 @@ ghost use Rattle.console.specs.Console.{IsReported};
 ghost use Rattle.journal.specs.Fingerprint.{file_message};
 ghost use Rattle.journalfile.specs.Settled.{GarblesNoRecord};
 ghost use Rattle.subcommands.specs.Mapfiles.{TouchesNeither};
-ghost use Rattle.program.specs.Journals.{IsOpened, IsUnopened, ReportsEnd, failure_of, fault_of, fault_message, given_message, is_unopened, journal_fault, map_fingerprint, number_text};
+ghost use Rattle.program.specs.Journals.{IsOpened, IsUnopened, ReportsEnd, failure_of, fault_of, fault_message, given_message, is_unopened, journal_fault, log_message, map_fingerprint, number_text};
 
 use crate::host::{Files, Host, OpenFault};
 use console::{Failure, Writes, report};
@@ -31,12 +31,8 @@ pub enum JournalFault {
     Damaged(u64),
     /// The batch of the record of this number isn't accepted.
     Refused(u64),
-    /// Another program has it open.
-    InUse,
-    /// It can't be opened, made, read or written.
-    Unavailable,
-    /// Memory was refused.
-    NoMemory,
+    /// Its log can't be opened, made, read or written.
+    Log(OpenFault),
 }
 
 impl JournalFault {
@@ -50,8 +46,8 @@ impl JournalFault {
             | JournalFault::OtherMap
             | JournalFault::Damaged(_)
             | JournalFault::Refused(_) => Failure::JournalFault,
-            JournalFault::InUse | JournalFault::Unavailable => Failure::JournalFailed,
-            JournalFault::NoMemory => Failure::NoMemory,
+            JournalFault::Log(OpenFault::NoMemory) => Failure::NoMemory,
+            JournalFault::Log(_) => Failure::JournalFailed,
         }
     }
 
@@ -73,12 +69,26 @@ impl JournalFault {
         match self {
             JournalFault::NotAJournal => b"it is no journal",
             JournalFault::OtherMap => b"it is of another map",
-            JournalFault::Damaged(_) => b"it is damaged behind record ",
+            JournalFault::Damaged(_) => b"it is damaged after record ",
             JournalFault::Refused(_) => b"the map doesn't accept record ",
-            JournalFault::InUse => b"another program has it",
-            JournalFault::Unavailable => b"it can't be read or written",
-            JournalFault::NoMemory => b"out of memory",
+            JournalFault::Log(cause) => log_message(cause),
         }
+    }
+}
+
+// The message on a log that can't be opened.
+#[tactic(auto, unfolding(crate::specs::Journals::log_message))]
+fn log_message(cause: OpenFault) -> &'static [u8]
+    ensures { result.now ≡ log_message cause }
+{
+    match cause {
+        OpenFault::InUse => b"another program has it",
+        OpenFault::NotAllowed => b"the program may not read and write it",
+        OpenFault::ReadOnly => b"its file system is read-only",
+        OpenFault::Full => b"its disk is full",
+        OpenFault::NoTarget => b"it is a link to a file that isn't there",
+        OpenFault::Failed => b"it can't be read or written",
+        OpenFault::NoMemory => b"out of memory",
     }
 }
 
@@ -111,7 +121,7 @@ pub(crate) fn report_end<E: Sink>(errors: &mut E, path: &str, outcome: Result<()
     ensures { ReportsEnd path.now outcome (⟦<E as Writes>⟧.state errors.old) (⟦<E as Writes>⟧.state errors.new) }
 {
     if let Err(Failure::JournalFailed) = outcome {
-        report_journal_fault(errors, path, JournalFault::Unavailable);
+        report_journal_fault(errors, path, JournalFault::Log(OpenFault::Failed));
     }
 }
 
@@ -154,8 +164,8 @@ fn fault_of<F: Drop>(fault: RecoverFault<F>) -> JournalFault
         RecoverFault::Header(HeaderFault::OtherMap) => JournalFault::OtherMap,
         RecoverFault::Damaged(number) => JournalFault::Damaged(number),
         RecoverFault::Refused(number) => JournalFault::Refused(number),
-        RecoverFault::NoMemory => JournalFault::NoMemory,
-        RecoverFault::Failed(_) => JournalFault::Unavailable,
+        RecoverFault::NoMemory => JournalFault::Log(OpenFault::NoMemory),
+        RecoverFault::Failed(_) => JournalFault::Log(OpenFault::Failed),
     }
 }
 
@@ -171,13 +181,11 @@ fn log_of<H: Host>(
     ensures unopened { IfErr result is_unopened }
 {
     let Ok(header) = header_of(alloc, fingerprint) else {
-        return Err(JournalFault::NoMemory);
+        return Err(JournalFault::Log(OpenFault::NoMemory));
     };
     match host.open_log(path, &header) {
         Ok(log) => Ok(log),
-        Err(OpenFault::InUse) => Err(JournalFault::InUse),
-        Err(OpenFault::Failed) => Err(JournalFault::Unavailable),
-        Err(OpenFault::NoMemory) => Err(JournalFault::NoMemory),
+        Err(cause) => Err(JournalFault::Log(cause)),
     }
 }
 

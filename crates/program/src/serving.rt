@@ -6,7 +6,7 @@ ghost use Rattle.subcommands.specs.Session.{opened};
 ghost use Rattle.service.specs.Serving.{is_service_failure};
 
 use crate::ending::Ending;
-use crate::host::{Files, Host, ListenFailed};
+use crate::host::{Files, Host, ListenFailed, OpenFault};
 use crate::keeping::{
     JournalFault, JournalPlace, fingerprint_of_map, open_journal, report_end, report_journal_fault,
 };
@@ -154,11 +154,11 @@ impl<R: Runtime, H: Host> Program<'_, R, H> {
     {
         let alloc = self.rt.alloc();
         let Ok(fingerprint) = fingerprint_of_map(alloc, &read) else {
-            return Err(JournalFault::NoMemory);
+            return Err(JournalFault::Log(OpenFault::NoMemory));
         };
         let ReadMap { map, .. } = read;
         let Ok(mut machine) = Machine::open(alloc, map) else {
-            return Err(JournalFault::NoMemory);
+            return Err(JournalFault::Log(OpenFault::NoMemory));
         };
         let place = JournalPlace {
             host: self.host,

@@ -24,10 +24,14 @@ serve --explain a.map --port 81 --admin-port 82 --connections 1 --journal stuck.
 serve a.map --port 81 --admin-port 82 --journal none.journal||1 JournalFault 0 0 0 0||fault journal none.journal: it is no journal~
 serve a.map --port 81 --admin-port 82 --journal other.journal||1 JournalFault 0 0 0 0||fault journal other.journal: it is of another map~
 serve t.map --port 81 --admin-port 82 --journal kept.journal||1 JournalFault 0 0 0 0||fault journal kept.journal: it is of another map~
-serve a.map --port 81 --admin-port 82 --journal damaged.journal||1 JournalFault 0 0 0 0||fault journal damaged.journal: it is damaged behind record 0~
+serve a.map --port 81 --admin-port 82 --journal damaged.journal||1 JournalFault 0 0 0 0||fault journal damaged.journal: it is damaged after record 0~
 serve a.map --port 81 --admin-port 82 --journal refused.journal||1 JournalFault 0 0 0 0||fault journal refused.journal: the map doesn't accept record 1~
 serve a.map --port 81 --admin-port 82 --journal locked.journal||3 JournalFailed 0 0 0 0||fault journal locked.journal: another program has it~
 serve a.map --port 81 --admin-port 82 --journal folder||3 JournalFailed 0 0 0 0||fault journal folder: it can't be read or written~
+serve a.map --port 81 --admin-port 82 --journal denied.journal||3 JournalFailed 0 0 0 0||fault journal denied.journal: the program may not read and write it~
+serve a.map --port 81 --admin-port 82 --journal cd.journal||3 JournalFailed 0 0 0 0||fault journal cd.journal: its file system is read-only~
+serve a.map --port 81 --admin-port 82 --journal full.journal||3 JournalFailed 0 0 0 0||fault journal full.journal: its disk is full~
+serve a.map --port 81 --admin-port 82 --journal link.journal||3 JournalFailed 0 0 0 0||fault journal link.journal: it is a link to a file that isn't there~
 serve a.map --port 81 --admin-port 82 --journal small.journal||4 NoMemory 0 0 0 0||fault journal small.journal: out of memory~
 serve c.map --port 81 --admin-port 82 --journal none.journal||1 FileFailed 0 0 0 0||fault file c.map~
 serve a.map --port 80 --journal kept.journal||3 ListenFailed { port: 80, cause: NotAllowed } 0 0 0 0||";
@@ -60,5 +64,5 @@ fn is_ended<R: Runtime>(rt: &R, system: &HostRuntime, line: &str) -> Result<bool
 
 #[test]
 fn batches_are_kept_in_the_journal_that_is_named(rt: HostRuntime) -> Result<(), TableFault> {
-    check_all(rt.alloc(), JOURNALS, 18, |_, line| is_ended(&rt, &rt, line))
+    check_all(rt.alloc(), JOURNALS, 22, |_, line| is_ended(&rt, &rt, line))
 }

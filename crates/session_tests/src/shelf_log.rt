@@ -132,6 +132,10 @@ pub fn log_of(
     let mut held = Vec::new(alloc);
     match path {
         "locked.journal" => return Err(OpenFault::InUse),
+        "denied.journal" => return Err(OpenFault::NotAllowed),
+        "cd.journal" => return Err(OpenFault::ReadOnly),
+        "full.journal" => return Err(OpenFault::Full),
+        "link.journal" => return Err(OpenFault::NoTarget),
         "small.journal" => return Err(OpenFault::NoMemory),
         "fresh.journal" | "stuck.journal" => {
             if held.extend_from_slice(bytes).is_err() {

@@ -1,0 +1,226 @@
+#!/usr/bin/env python3
+"""Tries what `--journal` makes of paths: that nothing is written over, what is refused, and by which line. Usage: journal_paths.py PROGRAM
+
+Each row starts the program in a folder of its own. After it the folder must have the files that it had, each with its bytes, and the
+journal where one is expected. Rows of rights start it as nobody where the script runs as root, and a row of a full disk needs a
+file system that can be mounted: where it can't, the row is skipped by name. It ends with 1 where a row came out otherwise.
+"""
+import os
+import pathlib
+import shutil
+import subprocess
+import sys
+import tempfile
+
+from administration import Administrator
+from served import ports_of
+
+MAP = "MAP EXTENT 0 0 8 8 LAYER NAME a TYPE POINT STATUS ON CLASS STYLE COLOR 10 20 30 SIZE 1 END END END END\n"
+HEADER = b"KESMOCH JOURNAL 1\n"
+# A header, and the frame of a record that a batch is in.
+EMPTY, RECORD = len(HEADER) + 32, 42
+NOBODY = 65534
+TIMES = 40
+
+
+class Wrong(Exception):
+    pass
+
+
+def expect(what, found, expected):
+    if found != expected:
+        raise Wrong(f"{what}: {found!r}, and {expected!r} was expected")
+
+
+def words(program, journal):
+    return [program, "serve", "map.map", "--port", "0", "--admin-port", "0", "--workers", "1", "--journal", journal]
+
+
+class Server:
+    """A server that listens."""
+
+    def __init__(self, program, folder, journal="journal"):
+        self.process = subprocess.Popen(words(program, journal), cwd=folder, stdout=subprocess.PIPE, stderr=subprocess.PIPE)
+        ports = ports_of(self.process.stdout.readline())
+        if ports is None:
+            raise Wrong(f"no server: {self.process.stderr.read()}")
+        self.administration = ports[1]
+
+    def __enter__(self):
+        return self
+
+    def __exit__(self, *_):
+        self.process.kill()
+        self.process.communicate()
+
+    def submit(self):
+        with Administrator(("127.0.0.1", self.administration)) as administrator:
+            return administrator.batch(b"OFF a\n").word
+
+    def ended(self):
+        errors = self.process.communicate(timeout=30)[1]
+        return self.process.returncode, errors.decode()
+
+
+def refused(program, folder, message, journal="journal", user=None):
+    """That no server starts with a journal, and says why."""
+    done = subprocess.run(words(program, journal), cwd=folder, capture_output=True, timeout=30, user=user)
+    expect("how it ended", (done.returncode, done.stderr.decode()), (3, f"fault journal {journal}: {message}\n"))
+
+
+def files_of(folder):
+    return {path.name: os.readlink(path) if path.is_symlink() else path.read_bytes() for path in sorted(folder.iterdir()) if not path.is_dir()}
+
+
+def only_the_journal_is_made(program, folder):
+    with Server(program, folder) as server:
+        expect("the answer", server.submit(), "PUBLISHED")
+    made = folder / "journal"
+    expect("its size", made.stat().st_size, EMPTY + RECORD + len(b"OFF a\n"))
+    expect("its names", made.stat().st_nlink, 1)
+    made.unlink()
+
+
+def other_names_are_left(program, folder):
+    (folder / "journal.new").write_bytes(b"mine")
+    (folder / "journal.new-1").write_bytes(b"mine too")
+    (folder / "kept").write_bytes(b"kept")
+    (folder / "journal.new-2").symlink_to("kept")
+    before = files_of(folder)
+    with Server(program, folder):
+        pass
+    expect("the journal", (folder / "journal").read_bytes()[: len(HEADER)], HEADER)
+    (folder / "journal").unlink()
+    expect("the files", files_of(folder), before)
+
+
+def links_without_a_file_are_refused(program, folder):
+    (folder / "journal").symlink_to("unmounted/journal")
+    refused(program, folder, "it is a link to a file that isn't there")
+    expect("the link", os.readlink(folder / "journal"), "unmounted/journal")
+
+
+def links_to_a_journal_are_followed(program, folder):
+    (folder / "journal").symlink_to("elsewhere")
+    with Server(program, folder, "elsewhere"):
+        pass
+    with Server(program, folder) as server:
+        expect("the answer", server.submit(), "PUBLISHED")
+    expect("its size", (folder / "elsewhere").stat().st_size, EMPTY + RECORD + len(b"OFF a\n"))
+
+
+def an_empty_name_leaves_nothing(program, folder):
+    before = files_of(folder)
+    refused(program, folder, "it can't be read or written", journal="")
+    expect("the files", files_of(folder), before)
+
+
+def folders_that_are_missing_are_refused(program, folder):
+    refused(program, folder, "it can't be read or written", journal="missing/journal")
+
+
+def folders_are_refused(program, folder):
+    (folder / "journal").mkdir()
+    refused(program, folder, "it can't be read or written")
+
+
+def rights_are_said(program, folder):
+    (folder / "journal").write_bytes(b"")
+    (folder / "journal").chmod(0o400)
+    user = None
+    if os.geteuid() == 0:
+        user = NOBODY
+        copied = folder / "program"
+        shutil.copy(program, copied)
+        program = "./program"
+    refused(program, folder, "the program may not read and write it", user=user)
+    (folder / "shut").mkdir(0o555)
+    refused(program, folder, "the program may not read and write it", journal="shut/journal", user=user)
+
+
+def full_disks_are_said(program, folder):
+    disk = folder / "disk"
+    disk.mkdir()
+    if subprocess.run(["mount", "-t", "tmpfs", "-o", "size=4096,nr_inodes=8", "none", disk], capture_output=True).returncode != 0:
+        return "no file system can be mounted"
+    try:
+        (disk / "filled").write_bytes(bytes(4096))
+        refused(program, folder, "its disk is full", journal="disk/journal")
+        expect("the files", list(files_of(disk)), ["filled"])
+        subprocess.run(["mount", "-o", "remount,ro", disk], check=True)
+        refused(program, folder, "its file system is read-only", journal="disk/journal")
+    finally:
+        subprocess.run(["umount", disk], check=True)
+    return None
+
+
+def removed_journals_fail(program, folder):
+    with Server(program, folder) as server:
+        expect("the first answer", server.submit(), "PUBLISHED")
+        (folder / "journal").unlink()
+        expect("the answer", server.submit(), "FAILED")
+        expect("how it ended", server.ended(), (3, "fault journal journal: it can't be read or written\n"))
+
+
+def replaced_journals_fail(program, folder):
+    with Server(program, folder) as server:
+        expect("the first answer", server.submit(), "PUBLISHED")
+        shutil.copy(folder / "journal", folder / "other")
+        os.rename(folder / "other", folder / "journal")
+        expect("the answer", server.submit(), "FAILED")
+        expect("how it ended", server.ended(), (3, "fault journal journal: it can't be read or written\n"))
+
+
+def one_server_has_a_journal(program, folder):
+    with Server(program, folder) as server:
+        for _ in range(TIMES):
+            refused(program, folder, "another program has it")
+        expect("the answer", server.submit(), "PUBLISHED")
+    (folder / "journal").unlink()
+    started = [subprocess.Popen(words(program, "journal"), cwd=folder, stdout=subprocess.PIPE, stderr=subprocess.PIPE) for _ in range(8)]
+    listening = [process for process in started if ports_of(process.stdout.readline())]
+    expect("how many serve", len(listening), 1)
+    for process in started:
+        process.kill()
+        errors = process.communicate()[1]
+        expect("what is said", errors, b"" if process in listening else b"fault journal journal: another program has it\n")
+    expect("the files", sorted(files_of(folder)), ["journal", "map.map"])
+
+
+ROWS = [
+    only_the_journal_is_made,
+    other_names_are_left,
+    links_without_a_file_are_refused,
+    links_to_a_journal_are_followed,
+    an_empty_name_leaves_nothing,
+    folders_that_are_missing_are_refused,
+    folders_are_refused,
+    rights_are_said,
+    full_disks_are_said,
+    removed_journals_fail,
+    replaced_journals_fail,
+    one_server_has_a_journal,
+]
+
+
+def main():
+    if len(sys.argv) != 2:
+        sys.exit("usage: journal_paths.py PROGRAM")
+    program, failed = os.path.abspath(sys.argv[1]), False
+    for row in ROWS:
+        with tempfile.TemporaryDirectory(prefix="journal-") as name:
+            folder = pathlib.Path(name)
+            folder.chmod(0o755)
+            (folder / "map.map").write_text(MAP, encoding="utf-8")
+            title = row.__name__.replace("_", " ")
+            try:
+                skipped = row(program, folder)
+                print(f"{title}: {'skipped, ' + skipped if skipped else 'as expected'}")
+            except Wrong as wrong:
+                failed = True
+                print(f"{title}: {wrong}")
+    sys.exit(1 if failed else 0)
+
+
+if __name__ == "__main__":
+    main()
