@@ -14,7 +14,7 @@ use Rattle.turns.specs.declared.turn.Next.{Next}
 use Rattle.httpedge.specs.Exchange.{Said}
 use Rattle.turns.proofs.Runs.{run-none, run-step, run-then}
 use Rattle.turns.specs.Queue.{has, joined, joins}
-use Rattle.turns.specs.Runs.{Reason, Overdue, Unanswered, Yields, IsReason, Step, Opens, Wakes, Serves, Leaves, IsNew, IsTurnOf, Goes, Runs, HasRun, turns_of}
+use Rattle.turns.specs.Runs.{Reason, Overdue, Unanswered, Yields, IsReason, Step, Opens, Wakes, Serves, Leaves, IsNew, IsTurnOf, Goes, Steps, Runs, HasRun, turns_of}
 use Rattle.turns.specs.Slots.{at_slot, OthersStay}
 use Rattle.turns.specs.Table.{connections, ready_slots, waiting_slots, has_room, timeouts_of, KeepsReady, KeepsWaiting}
 use Rattle.turns.specs.declared.open_connection.OpenConnection.{OpenConnection}
@@ -114,6 +114,20 @@ made-room now old new None goes none stays first wanted closed others = elim non
 made-room now old new (Some one) goes none stays first wanted closed others = inr (inr (goes, inr (one.slot, first, wanted, closed.1, others)))
 
 module _ {A T : Type 0} (answers : A → List ℕ → Said → A → Type 0) (delivered accepted : T → Option (List ℕ)) (reads : T → ReadOutcome → T → Type 0) (writes : T → WriteOutcome → T → Type 0) (shuts : T → T → Type 0) where
+  -- no step changes the times
+  step-times : (step : Step T) (old new : ConnectionTable T) (a b : A) → Steps answers delivered accepted reads writes shuts old a step new b → timeouts_of new ≡ timeouts_of old
+  step-times (Opens slot connection) old new a b (same, fresh, there, others, ready, goes) = goes.keeps.timeouts
+  step-times (Wakes slot) old new a b (same, stay, goes) = goes.keeps.timeouts
+  step-times (Serves slot next now) old new a b is = is.keeps.timeouts
+  step-times (Leaves slot why) old new a b (same, reason, gone, others, goes) = goes.keeps.timeouts
+
+  runs-times : (steps : List (Step T)) (old new : ConnectionTable T) (a b : A) → Runs answers delivered accepted reads writes shuts old a steps new b → timeouts_of new ≡ timeouts_of old
+  runs-times [] old new a b (same, asks) = ap timeouts_of same
+  runs-times (step ∷ steps) old new a b (table, other, first, rest) = runs-times steps table new other b rest ∙ step-times step old table a other first
+
+  pub run-times : (old new : ConnectionTable T) (a b : A) → HasRun answers delivered accepted reads writes shuts old a new b → timeouts_of new ≡ timeouts_of old
+  run-times old new a b (steps, runs) = runs-times steps old new a b runs
+
   pub wakes-run : (slot : ℕ) (old new : ConnectionTable T) (asks : A) → connections new ≡ connections old → ((slots : List ℕ) × (ready_slots new ≡ joins (ready_slots old) slots)) → KeepsWaiting old new
       → HasRun answers delivered accepted reads writes shuts old asks new asks
   wakes-run slot old new asks same joins keeps = run-step answers delivered accepted reads writes shuts (Wakes slot) old new asks asks (refl, same, record { keeps = keeps; joins = joins })

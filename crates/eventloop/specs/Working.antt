@@ -15,6 +15,10 @@ use Rattle.turns.specs.declared.pressure.Pressure.{Pressure}
 use Rattle.turns.specs.declared.pressure.Pressure.TheVariants as pressure
 use Rattle.turns.specs.declared.table.ConnectionTable.{ConnectionTable}
 use Rattle.turns.specs.declared.times.Phase.TheVariants.{Opened}
+use Rattle.turns.specs.declared.times.Timeouts.{Timeouts}
+use Rattle.std.specs.declared.thread.PromisedHandle.{PromisedHandle}
+use Rattle.eventloop.specs.declared.worker.Worker.{Worker}
+use Rattle.eventloop.specs.declared.worker_threads.HasServed.{HasServed}
 
 -- a connection was opened at this moment at a slot, or none was
 abbrev pub HasOpened : {T : Type 0} → ℕ → ℕ → ConnectionTable T → ConnectionTable T → Type 0
@@ -67,3 +71,7 @@ pub record HasBeen {A T : Type 0} (answers : A → List ℕ → Said → A → T
   pub asker : A
   pub free : (slot : ℕ) → at_slot (connections start) slot ≡ None
   pub ran : HasRun answers delivered accepted reads writes shuts start asker table asks
+
+-- the workers of these threads began with these times
+abbrev pub BeganWith : {A T P : Type 0} → Timeouts → List (PromisedHandle (Worker A T P) (HasServed A T P)) → Type 0
+BeganWith times threads = All (λ thread. timeouts_of thread.promise.begun.value.table ≡ times) threads

@@ -1,8 +1,9 @@
-ghost use Rattle.std.specs.Prelude.{◌≡◌, ℕ, None, IfSome};
+ghost use Rattle.std.specs.Prelude.{◌≡◌, ℕ, None, IfOk, IfSome};
 ghost use Rattle.std.specs.List.{All};
-ghost use Rattle.eventloop.specs.Working.{HasBeen};
+ghost use Rattle.eventloop.specs.Working.{BeganWith, HasBeen};
 ghost use Rattle.turns.specs.Slots.{at_slot};
-ghost use Rattle.turns.specs.Table.{connections};
+ghost use Rattle.turns.specs.Table.{connections, timeouts_of};
+ghost use Rattle.turns.specs.declared.times.Timeouts.{Timeouts};
 
 use crate::handover::{Ending, Handover, WAITING};
 use crate::poller::{Poller, Wakes};
@@ -12,6 +13,7 @@ use accesslog::EndsEarly;
 use httpedge::Asks;
 use std::alloc::{AllocError, Global};
 use std::rt::Clock;
+use std::snapshot::Snapshot;
 use std::sync::{Arc, Wait};
 use std::thread::{self, Promise, PromisedHandle, Threads, join_promised};
 use thiserror::Error;
@@ -22,19 +24,22 @@ use turns::Transport;
 #[error("a worker can't be started")]
 pub struct WorkerStartError;
 
-/// The promise of a worker's thread: the worker that it gives back has answered its connections, from none on.
-#[derive(Clone, Copy)]
-pub struct HasServed;
+/// The promise of a worker's thread: the worker that it gives back has answered its connections, from none on, within the times with
+/// which it began.
+#[derive(Drop)]
+pub struct HasServed<A, T: Drop, P> {
+    begun: Snapshot<Worker<A, T, P>>,
+}
 
-impl<A: Asks, T: Transport + Drop, P> Promise<Worker<A, T, P>> for HasServed {
-    ghost kept_by = { λ promise left. HasBeen A.answers T.delivered T.accepted T.reads T.writes T.shuts left.table left.asks };
+impl<A: Asks, T: Transport + Drop, P> Promise<Worker<A, T, P>> for HasServed<A, T, P> {
+    ghost kept_by = { λ promise left. HasBeen A.answers T.delivered T.accepted T.reads T.writes T.shuts left.table left.asks × (timeouts_of left.table ≡ timeouts_of promise.begun.value.table) };
 }
 
 /// Workers that were started, to which connections are handed over in turn.
 #[derive(Drop)]
 pub struct WorkerThreads<A: Asks, T: Transport + Drop, P, W: Drop> {
     handovers: Vec<Arc<Handover<T, W>, Global>>,
-    threads: Vec<PromisedHandle<Worker<A, T, P>, HasServed>>,
+    threads: Vec<PromisedHandle<Worker<A, T, P>, HasServed<A, T, P>>>,
     // How many connections were handed over.
     count: u64,
     // How often a connection needed a descriptor.
@@ -48,7 +53,9 @@ impl<A: Asks + Drop, T: Transport + EndsEarly + Drop, P: Drop, W: Wakes + Drop> 
     W,
 > {
     /// No workers yet, with room for so many. Its error is that memory was refused.
-    pub fn new(alloc: Global, count: usize) -> Result<Self, AllocError> {
+    pub fn new(alloc: Global, count: usize) -> Result<Self, AllocError>
+        ensures began { (times : Timeouts) → IfOk result (λ workers. BeganWith times workers.threads.items) }
+    {
         Ok(WorkerThreads {
             handovers: Vec::with_capacity(alloc, count)?,
             threads: Vec::with_capacity(alloc, count)?,
@@ -68,7 +75,9 @@ impl<A: Asks + Drop, T: Transport + EndsEarly + Drop, P: Drop, W: Wakes + Drop> 
 
     /// Hands over the next connection, without a wait: connection c to worker c mod N, of N, counted from 1. Where memory is
     /// refused its client gets the answer that the server is busy.
-    pub fn hand_over<R: Wait>(&mut self, rt: &R, transport: T) {
+    pub fn hand_over<R: Wait>(&mut self, rt: &R, transport: T)
+        ensures threads { self.new.threads ≡ self.old.threads }
+    {
         self.count = self.count.saturating_add(1);
         let Some(worker) = self.worker(self.count) else {
             return;
@@ -79,7 +88,9 @@ impl<A: Asks + Drop, T: Transport + EndsEarly + Drop, P: Drop, W: Wakes + Drop> 
     }
 
     /// A further connection needs a descriptor: of one worker, the next each time, a connection gives way, if one may.
-    pub fn press<R: Wait>(&mut self, rt: &R) {
+    pub fn press<R: Wait>(&mut self, rt: &R)
+        ensures threads { self.new.threads ≡ self.old.threads }
+    {
         self.pressed = self.pressed.saturating_add(1);
         if let Some(worker) = self.worker(self.pressed) {
             worker.press(rt);
@@ -108,6 +119,7 @@ impl<A: Asks + Drop, T: Transport + EndsEarly + Drop, P: Drop, W: Wakes + Drop> 
     /// Has each worker end, in one way or the other, waits until it has, and gives all back, if there is memory for them.
     pub fn end<R: Wait + Threads>(self, rt: &R, ending: Ending) -> Option<Vec<Worker<A, T, P>>>
         ensures served { IfSome result (λ workers. All (λ worker. HasBeen A.answers T.delivered T.accepted T.reads T.writes T.shuts worker.table worker.asks) workers.items) }
+        ensures times { (times : Timeouts) → BeganWith times self.threads.items → IfSome result (λ workers. All (λ worker. timeouts_of worker.table ≡ times) workers.items) }
     {
         let WorkerThreads {
             handovers,
@@ -148,7 +160,8 @@ where
     T: Transport + EndsEarly + Drop,
     P: Poller<T> + Drop,
     W: Wakes,
-    ensures { HasBeen A.answers T.delivered T.accepted T.reads T.writes T.shuts result.table result.asks }
+    ensures been { HasBeen A.answers T.delivered T.accepted T.reads T.writes T.shuts result.table result.asks }
+    ensures times { timeouts_of result.table ≡ timeouts_of fresh.worker.table }
 {
     let Fresh { worker } = fresh;
     run(rt, worker, handover)
@@ -167,6 +180,7 @@ where
     T: Transport + EndsEarly + Send + Drop + 'static,
     P: Poller<T> + Send + Drop + 'static,
     requires free { (slot : ℕ) → at_slot (connections worker.table) slot ≡ None }
+    ensures began { (times : Timeouts) → BeganWith times workers.old.threads.items → timeouts_of worker.table ≡ times → BeganWith times workers.new.threads.items }
 {
     let Some(waker) = worker.waker() else {
         return Err(WorkerStartError);
@@ -178,8 +192,11 @@ where
         return Err(WorkerStartError);
     }
     let handle = *rt;
+    let promise = HasServed {
+        begun: Snapshot::of(&worker),
+    };
     let fresh = Fresh { worker };
-    match thread::spawn_with(rt, HasServed, move || run_whole(&handle, fresh, &theirs)) {
+    match thread::spawn_with(rt, promise, move || run_whole(&handle, fresh, &theirs)) {
         Ok(thread) => match workers.threads.push(thread) {
             Ok(()) => Ok(()),
             Err(_) => Err(WorkerStartError),
