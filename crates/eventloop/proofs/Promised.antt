@@ -17,6 +17,6 @@ pub all-kept-by : {T Q : Type 0} (g : Promise.Ghosts Q T) (O : PromisedHandle T 
 all-kept-by g O P gives n hs [] len whole all each = search rules
 all-kept-by g O P gives n hs (x ∷ xs) len whole all each =
     All-from_get_or P (x ∷ xs) x (λ i less.
-      let k = (each i x (rw len at less)).1 in
-      let within : i < length hs = rw (len, whole) at less in
-      gives k.handle _ (subst O (sym k.handle_is) (All-get_or O hs i k.handle within all)) k.kept)
+    let k = (each i x (rw len at less)).1 in
+    let within : i < length hs = rw (len, whole) at less in
+    gives k.handle _ (subst O (sym k.handle_is) (All-get_or O hs i k.handle within all)) k.kept)

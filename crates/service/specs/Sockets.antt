@@ -13,7 +13,7 @@ use Rattle.turns.specs.declared.outcomes.WriteOutcome.TheVariants as write
 abbrev pub unread_by : ErrorKind → Option ReadOutcome
 unread_by Interrupted = None
 unread_by WouldBlock = Some read.WouldBlock
-unread_by other = Some read.Failed
+unread_by kind = Some read.Failed
 
 -- what a read came to: so many bytes, or with none the client's end; none where it is made again
 abbrev pub read_outcome : Result ℕ Error → Option ReadOutcome
@@ -25,7 +25,7 @@ read_outcome (Err error) = unread_by (error_kind error)
 abbrev pub unwritten_by : ErrorKind → Option WriteOutcome
 unwritten_by Interrupted = None
 unwritten_by WouldBlock = Some write.WouldBlock
-unwritten_by other = Some write.Failed
+unwritten_by kind = Some write.Failed
 
 -- what a write came to: so many bytes were taken; none where it is made again. A socket that takes nothing has failed
 abbrev pub write_outcome : Result ℕ Error → Option WriteOutcome

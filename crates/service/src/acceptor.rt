@@ -28,7 +28,8 @@ impl Press {
         T: Transport + EndsEarly + Drop,
         P: Drop,
         W: Wakes + Drop,
-        ensures { result ≡ self.is_last }
+        ensures last { result ≡ self.is_last }
+        ensures threads { workers.new.threads ≡ workers.old.threads }
     {
         let Press { is_last } = self;
         workers.press(rt);

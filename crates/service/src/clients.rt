@@ -1,9 +1,12 @@
 ghost use Rattle.std.specs.List.{All};
-ghost use Rattle.std.specs.Prelude.{◌≡◌, List, IfErr, IfSome, MatchOption, Ok, true};
-ghost use Rattle.eventloop.specs.Working.{HasBeen};
+ghost use Rattle.std.specs.Prelude.{◌≡◌, List, IfErr, IfOk, IfSome, MatchOption, Ok, true};
+ghost use Rattle.eventloop.specs.Working.{BeganWith, HasBeen};
 ghost use Rattle.mapshare.specs.Answerer.{reader_answers};
 ghost use Rattle.service.specs.Ports.{HasAccepted, HasCalled, PortEvent};
 ghost use Rattle.service.specs.Serving.{GoesOnAfter, is_service_failure};
+ghost use Rattle.service.specs.Times.{IsTimed};
+ghost use Rattle.turns.specs.Table.{timeouts_of as times_of};
+ghost use Rattle.turns.specs.declared.times.Timeouts.{Timeouts as Times};
 
 use crate::accepting::Accepting;
 use crate::acceptor::{Acceptor, Plan};
@@ -21,14 +24,21 @@ use mapshare::{Reader, Sharing};
 use std::sync::atomic::{AtomicBool, Ordering};
 use std::thread;
 use std::time::Duration;
-use turns::Transport;
+use turns::{Timeouts, Transport};
+
+// How many connections a worker has at most, and how long these may take.
+#[derive(Clone, Copy)]
+struct Limits {
+    slots: usize,
+    times: Timeouts,
+}
 
 // Starts a worker for a reader.
 fn start_one<S, R, T, Q>(
     rt: &R,
     workers: &mut WorkerThreads<Reader<S>, LoggedTransport<T, R>, LoggedPoller<Q>, Q::Waker>,
     asked: (Reader<S>, Q),
-    service: Service,
+    limits: Limits,
 ) -> Result<(), Failure>
 where
     S: Sharing + Send + Sync + 'static,
@@ -36,10 +46,11 @@ where
     T: Transport + Send + Drop + 'static,
     Q: Poller<T> + Send + Drop + 'static,
     ensures failed { IfErr result (λ failure. is_service_failure failure ≡ true) }
+    ensures began { BeganWith limits.times workers.old.threads.items → BeganWith limits.times workers.new.threads.items }
 {
     let (reader, poller) = asked;
     let poller = LoggedPoller { inner: poller };
-    let places = (slots_of(service), timeouts_of(service));
+    let places = (limits.slots, limits.times);
     let Ok(worker) = Worker::new(rt.alloc(), reader, poller, places) else {
         return Err(Failure::NoMemory);
     };
@@ -54,7 +65,7 @@ fn start_all<S, R, T, Q>(
     rt: &R,
     workers: &mut WorkerThreads<Reader<S>, LoggedTransport<T, R>, LoggedPoller<Q>, Q::Waker>,
     asked: (Vec<Reader<S>>, Vec<Q>),
-    service: Service,
+    limits: Limits,
 ) -> Result<(), Failure>
 where
     S: Sharing + Send + Sync + 'static,
@@ -62,13 +73,14 @@ where
     T: Transport + Send + Drop + 'static,
     Q: Poller<T> + Send + Drop + 'static,
     ensures failed { IfErr result (λ failure. is_service_failure failure ≡ true) }
+    ensures began { BeganWith limits.times workers.old.threads.items → BeganWith limits.times workers.new.threads.items }
 {
     let (readers, mut pollers) = asked;
     for reader in readers {
         let Some(poller) = pollers.pop() else {
             return Err(Failure::SocketFailed);
         };
-        start_one::<S, R, T, Q>(rt, workers, (reader, poller), service)?;
+        start_one::<S, R, T, Q>(rt, workers, (reader, poller), limits)?;
     }
     Ok(())
 }
@@ -102,6 +114,7 @@ where
     C: IntoTransport<T>,
     T: Transport + Drop,
     W: Wakes + Drop,
+    ensures threads { workers.new.threads ≡ workers.old.threads }
 {
     if let Some(transport) = connection.into_transport() {
         let Noted { number, queue } = noted;
@@ -153,6 +166,7 @@ where
     W: Wakes + Drop,
     ensures accepted { (events : List PortEvent) × HasAccepted (P.log port.old.port.port) (P.log port.new.port.port) port.old.remaining port.new.remaining events }
     ensures failed { IfErr result (λ failure. is_service_failure failure ≡ true) }
+    ensures threads { workers.new.threads ≡ workers.old.threads }
 {
     let (is_stopped, log) = asked;
     let mut acceptor = Acceptor::new();
@@ -206,7 +220,12 @@ where
     T: Transport + Send + Drop + 'static,
     Q: Poller<T> + Send + Drop + 'static,
     ensures failed { IfErr result (λ failure. is_service_failure failure ≡ true) }
+    ensures began { IfOk result (λ workers. (times : Times) × IsTimed service times × BeganWith times workers.threads.items) }
 {
+    let limits = Limits {
+        slots: slots_of(service),
+        times: timeouts_of(service),
+    };
     let Ok(mut workers) = WorkerThreads::<
         Reader<S>,
         LoggedTransport<T, R>,
@@ -215,7 +234,7 @@ where
     >::new(rt.alloc(), asked.0.len()) else {
         return Err(Failure::NoMemory);
     };
-    match start_all::<S, R, T, Q>(rt, &mut workers, asked, service) {
+    match start_all::<S, R, T, Q>(rt, &mut workers, asked, limits) {
         Ok(()) => Ok(workers),
         Err(failure) => {
             let _ = workers.end(rt, Ending::Stops);
@@ -226,7 +245,7 @@ where
 
 /// Answers the connections of clients by a worker for each reader, up to the last. Those that came are answered to their end. Where the thread has to
 /// stop, those that are being answered get their answers, and the others are closed. It tells whether the workers were started, and gives them back:
-/// each answered its connections, from none on, as a reader of the map that was opened.
+/// each answered its connections, from none on, as a reader of the map that was opened, within the times of the service's options.
 pub(crate) fn serve_clients<S, R, C, T, P, Q>(
     rt: &R,
     readers: Vec<Reader<S>>,
@@ -246,6 +265,7 @@ where
     ensures ends { GoesOnAfter (Ok tt) result.0 }
     ensures answered { IfSome result.1 (λ workers. All (λ worker. HasBeen (reader_answers S.opening) (λ t. T.delivered t.inner) (λ t. T.accepted t.inner)
         (λ old outcome new. T.reads old.inner outcome new.inner) (λ old outcome new. T.writes old.inner outcome new.inner) (λ old new. T.shuts old.inner new.inner) worker.table worker.asks) workers.items) }
+    ensures timed { IfSome result.1 (λ workers. All (λ worker. IsTimed side.service (times_of worker.table)) workers.items) }
 {
     let (starting, is_stopped) = signals;
     let ClientSide {
