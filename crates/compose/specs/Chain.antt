@@ -1,4 +1,4 @@
--- Chains of vertices: blocks of a part, which may be skipped (docs/ARCHITECTURE.md, "Blocks of vertices").
+-- Chains of vertices: blocks of a part, which may be skipped (docs/developers/WALKS.md, "Blocks of vertices").
 use Rattle.std.specs.Prelude.{ℕ, Bool, int_le, int_lt, List, [], ◌∷◌, map}
 use Rattle.std.specs.List.{AllByRecursion}
 use Rattle.geom.specs.Device.{DevicePoint}

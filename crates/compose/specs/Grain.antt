@@ -1,4 +1,4 @@
--- Places that surely lie in one pixel (docs/ARCHITECTURE.md, "The way of one line").
+-- Places that surely lie in one pixel (docs/developers/WALKS.md, "The way of one line").
 use Rattle.std.specs.Prelude.{◌≡◌, ℕ, ◌*◌, ◌^◌, ℤ, pos, ◌-ℤ◌, ◌*ℤ◌, ◌≤ℤ◌, true}
 use Rattle.std.specs.Int.{int_div_euclid}
 use Rattle.geom.specs.Device.{PixelValue, pixel_of}

@@ -1,4 +1,4 @@
--- The effect of the calls of a log on its bytes, and the bytes that a crash may leave (docs/VERIFICATION.md, "The file of a journal").
+-- The effect of the calls of a log on its bytes, and the bytes that a crash may leave (docs/developers/VERIFICATION.md, "The file of a journal").
 use Rattle.std.specs.Prelude.{◌≡◌, ◌⊎◌, ℕ, ◌≤◌, List, ◌++◌, length, min}
 use mathlib.Core.List.{IsPrefix}
 
