@@ -17,4 +17,6 @@ mod stopping;
 #[cfg(test)]
 mod times;
 #[cfg(test)]
+mod waking;
+#[cfg(test)]
 mod ways_out;
