@@ -112,6 +112,29 @@ class Labels(unittest.TestCase):
         self.assertEqual(self.report.losses, 3)
 
 
+class Layers(unittest.TestCase):
+    def blocks(self, name, taken, *styles):
+        """The names of the layers that one layer of lines becomes, each with the styles that it has."""
+        writer = layers.LayerWriter.__new__(layers.LayerWriter)
+        writer.kind, writer.report, writer.node = "LINE", Report(), Node(("m.map", 7))
+        kind = SimpleNamespace(number=0, given=None)
+        writer.written, writer.styled = lambda: [(0, kind, 0, None, None)], SimpleNamespace(of=lambda *_: list(styles))
+        writer.class_blocks, writer.whole = lambda chosen, has_labels: (chosen(0, 0), has_labels), lambda name, blocks, is_top: (*blocks, is_top)
+        return writer.blocks(name, taken)
+
+    def test_outer_styles_of_lines_are_layers_below(self):
+        self.assertEqual(self.blocks("roads", {"roads"}, "outer", "middle", "inner"), [
+            ("roads_below1", (["outer"], False, False)), ("roads_below2", (["middle"], False, False)), ("roads", (["inner"], True, True)),
+        ])
+        self.assertEqual(self.blocks("roads", {"roads"}, "one"), [("roads", (["one"], True, True))])
+
+    def test_their_names_are_none_of_other_layers(self):
+        taken = {"roads", "roads_below1"}
+        self.assertEqual([name for name, _ in self.blocks("roads", taken, "outer", "middle", "inner")], ["roads_below1_", "roads_below2", "roads"])
+        # and later layers see them
+        self.assertEqual(taken, {"roads", "roads_below1", "roads_below1_", "roads_below2"})
+
+
 class Names(unittest.TestCase):
     def name(self, given, taken):
         return convert.name_of(SimpleNamespace(name=given), 4, taken, Report(), ("m.map", 7))

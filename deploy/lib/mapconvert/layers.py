@@ -16,6 +16,14 @@ def some(names):
     return ", ".join(names[:10]) + (f" and {len(names) - 10} more" if len(names) > 10 else "")
 
 
+def free_name(name, taken):
+    """A name that isn't taken, and is from now on."""
+    while name in taken:
+        name += "_"
+    taken.add(name)
+    return name
+
+
 class LayerWriter:
     """Writes what one layer of MapServer's becomes: a LAYER, and further ones below it for the outer STYLEs of lines."""
 
@@ -226,13 +234,13 @@ class LayerWriter:
             lines.append(f"    TOLERANCE {min(int(layer.tolerance + 0.5), 64)}")
         return lines + blocks + list(self.feature_blocks(items, is_top)) + ["  END"]
 
-    def blocks(self, name):
-        """The LAYER blocks, the lowest first, each with its name."""
+    def blocks(self, name, taken):
+        """The LAYER blocks, the lowest first, each with its name; those of other layers are taken."""
         styles = {(at, part): self.styled.of(kind.number, kind.given, part) for at, kind, part, _, _ in self.written()}
         passes = max(map(len, styles.values()), default=0) if self.kind == "LINE" else 1
         made = []
         for step in range(passes - 1):
-            below = f"{name}_below{step + 1}"
+            below = free_name(f"{name}_below{step + 1}", taken)
             made.append((below, self.whole(below, self.class_blocks(lambda *one: styles[one][step : step + 1], False), False)))
         if passes > 1:
             self.report.changed(self.place(), f"{passes} layers, as MapServer paints the outer STYLEs of all lines first: ask for {','.join(one for one, _ in made)},{name}")
