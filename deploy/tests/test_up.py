@@ -35,6 +35,26 @@ class Configurations(unittest.TestCase):
         self.assertEqual([self.written(8000, 1, 2, offers)[2] for offers in (False, True)], [False, True])
 
 
+class Formats(unittest.TestCase):
+    def started(self, sleeping, patience):
+        """What clients are sent to where formats is a process that listens on nothing, and what became of that."""
+        with tempfile.TemporaryDirectory() as folder, mock.patch.object(up, "HERE", pathlib.Path(folder)), mock.patch.object(up, "PATIENCE", patience), \
+                mock.patch.object(up.shutil, "which", lambda name: name), mock.patch("sys.stderr"):
+            path = pathlib.Path(folder, "formats")
+            path.write_text(f"#!/bin/sh\nexec sleep {sleeping}\n", encoding="ascii")
+            path.chmod(0o755)
+            one, started = up.Up(None, pathlib.Path(folder)), []
+            start = one.start
+            with mock.patch.object(one, "start", lambda *given, **more: started.append(start(*given, **more)) or started[0]):
+                return one.start_formats(40001), one.running, started[0].wait(10)
+
+    def test_formats_that_do_not_listen_are_ended(self):
+        self.assertEqual(self.started(30, 0.3), (40001, [], -15))
+
+    def test_formats_that_ended_are_left_out(self):
+        self.assertEqual(self.started(0, 20), (40001, [], 0))
+
+
 class Checks(unittest.TestCase):
     def test_a_program_that_is_not_built_is_missing(self):
         with tempfile.TemporaryDirectory() as folder:
