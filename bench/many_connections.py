@@ -6,21 +6,29 @@ how many kept connections, the answers a second, the median, the 99th of 100 and
 microseconds of processor that an answer took. wrk asks, by two threads, for so many SECONDS (4 where it isn't given).
 
 A line of the second has what one client waits that asks for the tile again and again on a connection of its own, in milliseconds, the
-median and the 99th of 100: alone, beside 1,000 connections that send nothing, beside 64 that send a byte a second, and
-beside 64 that asked for pictures of 6 MB two seconds ago and don't read them. At last the memory of the server with the 1,000, in MB,
-and the processor time that it takes in 5 seconds in which they are silent, in milliseconds.
+median, the 99th of 100 and the slowest: alone, and beside
 
-Needs wrk (Debian has it) and 1,100 descriptors. The server has 4 workers.
+- 1,000 connections that send nothing, and 64 that send a byte a second;
+- 1,500 that each send half a head, and again as soon as they are closed;
+- 64 that asked for pictures of 6 MB two seconds ago and don't read them;
+- one and 16 that ask again and again for a dear picture, which has 2,048 by 1,024 pixels and names its layers 64 times.
+
+What a connection costs that was closed meanwhile, with the next one, counts as a part of the wait. At last the memory of the server with
+the 1,000, in MB, and the processor time that it takes in 5 seconds in which they are silent, in milliseconds.
+
+Needs wrk (Debian has it) and 1,600 descriptors. The server has 4 workers.
 """
+import contextlib
+import multiprocessing
 import os
 import re
 import resource
+import selectors
 import shutil
 import socket
 import subprocess
 import sys
 import tempfile
-import threading
 import time
 
 from served import ports_of
@@ -30,6 +38,8 @@ PICTURE = "/wms?VERSION=1.3.0&REQUEST=GetMap&LAYERS=countries,borders&STYLES=&CR
 TILE = PICTURE + "&BBOX=0,40,11.25,51.25&WIDTH=256&HEIGHT=256"
 WHOLE = PICTURE + "&BBOX=-180,-90,180,90&WIDTH=1024&HEIGHT=512"
 LARGE = PICTURE + "&BBOX=-180,-90,180,90&WIDTH=2048&HEIGHT=1024"
+DEAR = LARGE.replace("LAYERS=countries,borders", "LAYERS=" + ",".join(["countries,borders"] * 32))
+HALF = b"GET /wms HTTP/1.1\r\nHost: "
 ASKED = [("tile", TILE), ("exception", "/wms?REQUEST=GetMap"), ("whole picture", WHOLE)]
 CONNECTIONS = [4, 16, 64, 256]
 
@@ -93,12 +103,31 @@ def connected(port):
 def answer_of(stream, rest):
     """Reads one answer, and returns what came behind it."""
     while b"\r\n\r\n" not in rest:
-        rest += stream.recv(65_536)
+        rest += received(stream, 65_536)
     head, _, rest = rest.partition(b"\r\n\r\n")
     length = int(re.search(rb"Content-Length: (\d+)", head)[1])
     while len(rest) < length:
-        rest += stream.recv(1_048_576)
+        rest += received(stream, 1_048_576)
     return rest[length:]
+
+
+def received(stream, most):
+    piece = stream.recv(most)
+    if not piece:
+        raise ConnectionError("closed")
+    return piece
+
+
+def ask(port, stream, target):
+    """The connection after an answer on it, or on others where one is closed."""
+    for _ in range(100):
+        with contextlib.suppress(OSError):
+            stream = stream or connected(port)
+            stream.sendall(f"GET {target} HTTP/1.1\r\n\r\n".encode())
+            answer_of(stream, b"")
+            return stream
+        stream = stream and stream.close()
+    sys.exit("a hundred connections in turn were closed without an answer")
 
 
 def waits_of(port, seconds):
@@ -106,12 +135,7 @@ def waits_of(port, seconds):
     waits, stream, until = [], connected(port), time.time() + seconds
     while time.time() < until:
         began = time.perf_counter()
-        try:
-            stream.sendall(f"GET {TILE} HTTP/1.1\r\n\r\n".encode())
-            answer_of(stream, b"")
-        except OSError:
-            stream = connected(port)
-            continue
+        stream = ask(port, stream, TILE)
         waits.append(1000 * (time.perf_counter() - began))
         if len(waits) % 999 == 0:
             stream = connected(port)
@@ -128,21 +152,45 @@ def silent(port):
     return [connected(port) for _ in range(1_000)]
 
 
+def wait_beside(port):
+    streams = silent(port)
+    time.sleep(1_000)
+    del streams
+
+
 def by_the_second(port):
-    """Connections that send a byte of a head each second, for as long as their list stands."""
+    """Connections that send a byte of a head each second."""
     streams = [connected(port) for _ in range(64)]
+    for at in range(60):
+        for stream in streams:
+            stream.sendall(b"GET /wms?REQUEST=GetMap HTTP/1.1\r\nHost: a-name-of-some-length\r\n"[at : at + 1])
+        time.sleep(1)
 
-    def send():
-        for at in range(60):
-            for stream in streams:
-                try:
-                    stream.sendall(b"GET /wms?REQUEST=GetMap HTTP/1.1\r\nHost: a-name-of-some-length\r\n"[at : at + 1])
-                except OSError:
-                    return
-            time.sleep(1)
 
-    threading.Thread(target=send, daemon=True).start()
-    return streams
+def half_heads(port):
+    """Connections that each send half a head; where one is closed, another one does."""
+    selector = selectors.DefaultSelector()
+
+    def begin():
+        stream = socket.socket()
+        stream.setblocking(False)
+        stream.connect_ex(("127.0.0.1", port))
+        selector.register(stream, selectors.EVENT_WRITE)
+
+    for _ in range(1_500):
+        begin()
+    while True:
+        for key, events in selector.select():
+            with contextlib.suppress(OSError):
+                if events & selectors.EVENT_WRITE:
+                    key.fileobj.send(HALF)
+                    selector.modify(key.fileobj, selectors.EVENT_READ)
+                    continue
+                if key.fileobj.recv(65_536):
+                    continue
+            selector.unregister(key.fileobj)
+            key.fileobj.close()
+            begin()
 
 
 def unread(port):
@@ -153,8 +201,39 @@ def unread(port):
         stream.connect(("127.0.0.1", port))
         stream.sendall(f"GET {LARGE} HTTP/1.1\r\n\r\n".encode())
         streams.append(stream)
-    time.sleep(2)
-    return streams
+    time.sleep(1_000)
+
+
+def dear(port):
+    stream = None
+    while True:
+        stream = ask(port, stream, DEAR)
+
+
+BESIDE = [
+    ("alone", wait_beside, 0),
+    ("beside 1,000 silent", wait_beside, 1),
+    ("beside 64 of a byte a second", by_the_second, 1),
+    ("beside 1,500 half heads", half_heads, 1),
+    ("beside 64 that don't read", unread, 1),
+    ("beside one with dear pictures", dear, 1),
+    ("beside 16 with dear pictures", dear, 16),
+]
+
+
+@contextlib.contextmanager
+def lingering(port, work, count):
+    """So many processes whose clients linger, which have begun two seconds ago."""
+    processes = [multiprocessing.Process(target=work, args=(port,), daemon=True) for _ in range(count)]
+    for process in processes:
+        process.start()
+    time.sleep(2 if count else 0)
+    try:
+        yield
+    finally:
+        for process in processes:
+            process.kill()
+            process.join()
 
 
 def main():
@@ -166,11 +245,9 @@ def main():
                 with Server(program, folder) as server:
                     rate, median, most, slowest, each = asked_by_wrk(server, target, count, seconds)
                     print(f"{name:14} {count:4} {rate:10.0f} {median:9.3f} {most:9.3f} {slowest:9.1f} {each:9.0f}", flush=True)
-        for name, linger in (("alone", lambda port: []), ("beside 1,000 silent", silent), ("beside 64 of a byte a second", by_the_second), ("beside 64 that don't read", unread)):
-            with Server(program, folder) as server:
-                streams = linger(server.port)
+        for name, work, count in BESIDE:
+            with Server(program, folder) as server, lingering(server.port, work, count):
                 show(name, waits_of(server.port, seconds))
-                del streams
         with Server(program, folder) as server:
             alone = resident(server.pid)
             streams = silent(server.port)
