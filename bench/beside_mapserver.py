@@ -117,7 +117,7 @@ def main():
         sys.exit(__doc__.split("\n")[2])
     world = pathlib.Path(sys.argv[2] if len(sys.argv) > 2 else DEMO / "world.map").read_text()
     wanted = tuple(sys.argv[3:]) or ("",)
-    with both(sys.argv[1], world) as (ours, theirs):
+    with both(sys.argv[1], world, [layer.name for layer in LAYERS]) as (ours, theirs):
         print("| Scenario | Ours, ms | MapServer, ms | Ours to MapServer's | Ours as PNG | MapServer's | One to the other | Bytes |")
         print("|---|---|---|---|---|---|---|---|", flush=True)
         for title, queries in [*pictures(), *projected(world), *others()]:

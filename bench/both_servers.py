@@ -102,17 +102,18 @@ def coasts():
             yield [(x / 1e6, y / 1e6) for x, y in winding(ring, 234)]
 
 
-def data_of(world):
-    """The features of each kind of data: the geometry of GeoJSON, and their item."""
+def data_of(world, wanted):
+    """The features of each kind of data that is wanted: the geometry of GeoJSON, and their item."""
     places = [((x / 1e6, y / 1e6), text, rank) for (x, y), text, rank in random_labels(43_645)]
-    return {
-        "countries": [("MultiPolygon", [[closed(ring)] for ring in rings], ("name", f"c{k}")) for k, rings in enumerate(countries_of(world))],
-        "lines": [("LineString", part, ("name", f"l{k}")) for k, part in enumerate(scattered_lines(20_000))],
-        "squares": [("Point", part[0], ("name", f"p{k}")) for k, part in enumerate(scattered_points(20_000))],
-        "labels": [("Point", place, ("name", text)) for place, text, _ in places[:2_000]],
-        "ranked": [("Point", place, ("rank", str(rank))) for place, _, rank in places],
-        "coasts": [("MultiPolygon", [[closed(ring)]], ("name", f"r{k}")) for k, ring in enumerate(coasts())],
+    all_of_it = {
+        "countries": (("MultiPolygon", [[closed(ring)] for ring in rings], ("name", f"c{k}")) for k, rings in enumerate(countries_of(world))),
+        "lines": (("LineString", part, ("name", f"l{k}")) for k, part in enumerate(scattered_lines(20_000))),
+        "squares": (("Point", part[0], ("name", f"p{k}")) for k, part in enumerate(scattered_points(20_000))),
+        "labels": (("Point", place, ("name", text)) for place, text, _ in places[:2_000]),
+        "ranked": (("Point", place, ("rank", str(rank))) for place, _, rank in places),
+        "coasts": (("MultiPolygon", [[closed(ring)]], ("name", f"r{k}")) for k, ring in enumerate(coasts())),
     }
+    return {name: list(features) for name, features in all_of_it.items() if name in wanted}
 
 
 def write_shapefiles(folder, data):
@@ -146,15 +147,16 @@ def layer_block(layer, body, classes):
 
 
 def write_mapfiles(folder, data):
-    """Both mapfiles, and what they need beside them."""
+    """Both mapfiles, of the layers whose data are there, and what they need beside them."""
+    layers = [layer for layer in LAYERS if layer.data in data]
     head = f'MAP NAME "bench" EXTENT -180 -90 180 90\n{SERVICE}'
     service = 'METADATA "wms_title" "a" "gml_include_items" "all" "wms_include_items" "all" END PROJECTION "init=epsg:4326" END\n'
-    theirs = "".join(layer_block(layer, f'DATA "{layer.data}"\n{service}', layer.theirs) for layer in LAYERS)
+    theirs = "".join(layer_block(layer, f'DATA "{layer.data}"\n{service}', layer.theirs) for layer in layers)
     (folder / "bench.map").write_text(f"{head}{MAPSERVER}{theirs}END\n")
     (folder / "fonts.list").write_text("mono /usr/share/fonts/truetype/dejavu/DejaVuSansMono.ttf\n")
     with open(folder / "ours.map", "w") as file:
         file.write(f"{head}{OURS}")
-        for layer in LAYERS:
+        for layer in layers:
             features = data[layer.data]
             file.write(layer_block(layer, f'PROCESSING "ITEMS={features[0][2][0]}"\n' + "".join(inline(features)), layer.ours))
         file.write("END\n")
@@ -236,11 +238,11 @@ def start_ours(program, folder):
 
 
 @contextlib.contextmanager
-def both(program, world):
-    """Both servers with the countries of a mapfile, and the features that are made by rule."""
+def both(program, world, names):
+    """Both servers with the layers of these names, whose countries are those of a mapfile."""
     with tempfile.TemporaryDirectory() as name:
         folder = pathlib.Path(name)
-        data = data_of(world)
+        data = data_of(world, {layer.data for layer in LAYERS if layer.name in names})
         write_shapefiles(folder, data)
         write_mapfiles(folder, data)
         del data

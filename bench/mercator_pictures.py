@@ -11,8 +11,9 @@ MapServer smooths edges, so pixels are compared as deploy/convert --compare does
 - differing: no pixel of the 3 by 3 round it in the other picture is within 48 in each component;
 - beyond half-tones: it lies by more than 48 outside of what the 3 by 3 round it in the other picture have.
 
-The same parts of the world are compared in degrees beside it. Each difference of web mercator's is to be no more than twice the
-one in degrees and half a hundredth: else the script ends with 1. With FOLDER it writes both pictures of each tile and what differs there.
+The same parts of the world are compared in degrees beside it. The script ends with 1 where a layer's share of pixels that differ, or
+of those beyond half-tones, is more than twice that in degrees and 0.5 % of all. With FOLDER it writes both pictures of each tile and
+what differs there.
 """
 import io
 import pathlib
@@ -78,7 +79,7 @@ def main():
         folder.mkdir(exist_ok=True)
     those, wrong, size = tiles(world), [], (SIDE, SIDE)
     print("| Layer | System | Equal, % | Differing, % | Beyond half-tones, % | Most of a tile, % |\n|---|---|---|---|---|---|")
-    with both(sys.argv[1], world) as servers:
+    with both(sys.argv[1], world, NAMES) as servers:
         for name in NAMES:
             metres = compared(servers, {tile: picture(name, metres_of(tile), size, "EPSG:3857") for tile in those}, folder)
             degrees = compared(servers, {tile: picture(name, degrees_of(tile), size) for tile in those}, None)
