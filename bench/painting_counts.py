@@ -118,17 +118,17 @@ def workloads(world):
     yield "20,000 points as squares of 5 pixels", points, 2048, 1024
 
 
-def counted(program, mapfile, count, width, height):
+def counted(program, mapfile, count, *words):
     """The instructions of a run, and what it wrote."""
-    command = ["valgrind", "--tool=callgrind", "--callgrind-out-file=/dev/null", program, str(count), str(width), str(height)]
+    command = ["valgrind", "--tool=callgrind", "--callgrind-out-file=/dev/null", program, str(count), *map(str, words)]
     run = subprocess.run(command, input=mapfile.encode(), stdout=subprocess.PIPE, stderr=subprocess.PIPE, check=True)
     return int(re.search(rb"Collected : (\d+)", run.stderr)[1]), run.stdout
 
 
-def painted(program, mapfile, width, height):
-    """The instructions of one picture, and its bytes."""
-    one, picture = counted(program, mapfile, 1, width, height)
-    return (counted(program, mapfile, 6, width, height)[0] - one) / 5, picture
+def painted(program, mapfile, *words):
+    """The instructions of one picture by its sides, in web mercator with a third word, and its bytes."""
+    one, picture = counted(program, mapfile, 1, *words)
+    return (counted(program, mapfile, 6, *words)[0] - one) / 5, picture
 
 
 def main():
