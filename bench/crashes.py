@@ -4,10 +4,10 @@
 Usage: crashes.py PROGRAM [KILLS [CHANGES [SEED]]]
 
 Two clients submit batches by lot, and the server is killed at random moments, KILLS times, 1,000 where it isn't given.
-After half of the kills the bytes that no call has put away are lost, or others stand in their place, as after a loss of
+After half of the kills the bytes that no call has synced are lost, or others stand in their place, as after a loss of
 power. Then each call that the server makes on the journal is, in turn, not made or made by half, with the death of the
 server behind it, or fails; while the journal is made, while batches come, and while one with a torn end is opened. A
-library that is loaded before the C library, built here with cc, does that, and reports how much was put away.
+library that is loaded before the C library, built here with cc, does that, and reports how much was synced.
 
 After each the server is started again: its sequence, its pictures and the features that it lists have to be those of
 a list of batches that begins with all that was reported to a client, and that each was submitted. At last a byte of a journal
@@ -52,8 +52,8 @@ SHIM = r"""
 #include <sys/uio.h>
 #include <unistd.h>
 
-// what the script sees of it, also after the end: calls, and the bytes of the journal that are put away
-static struct { long calls, away; } *seen;
+// what the script sees of it, also after the end: calls, and the bytes of the journal that are synced
+static struct { long calls, synced; } *seen;
 static long at;
 static const char *how, *journal;
 
@@ -121,7 +121,7 @@ static int synced(long number, int file) {
         fstat(file, &size);
     }
     int result = real(number, file, 0, 0, 0);
-    if (is && result == 0 && S_ISREG(size.st_mode)) seen->away = size.st_size;
+    if (is && result == 0 && S_ISREG(size.st_mode)) seen->synced = size.st_size;
     return result;
 }
 int fsync(int file) { return synced(SYS_fsync, file); }
@@ -134,7 +134,7 @@ static int cut(int file, off_t size) {
         struct stat old;
         fstat(file, &old);
         if (what == 1) { real(SYS_ftruncate, file, (old.st_size + size) / 2, 0, 0); die(); }
-        if (size < seen->away) seen->away = size;
+        if (size < seen->synced) seen->synced = size;
     }
     return real(SYS_ftruncate, file, size, 0, 0);
 }
@@ -183,7 +183,7 @@ class Life:
 
     def __init__(self, bench, at=0, how="none"):
         self.bench, self.published = bench, []
-        bench.count(0, bench.away)
+        bench.count(0, bench.synced)
         words = [bench.program, "serve", "--explain", "map.map", "--port", "0", "--admin-port", "0", "--workers", "1", "--journal", str(bench.journal)]
         env = {"LD_PRELOAD": bench.shim, "SEEN": str(bench.seen), "JOURNAL": str(bench.journal), "AT": str(at), "HOW": how}
         self.process = subprocess.Popen(words, stdout=subprocess.PIPE, stderr=subprocess.PIPE, cwd=bench.folder, env=env)
@@ -224,15 +224,15 @@ class Bench:
         self.chance, self.kept, self.number = random.Random(seed), [], 0
         self.states = [State()]
 
-    def count(self, calls, away):
-        self.shared[:] = struct.pack("=qq", calls, away)
+    def count(self, calls, synced):
+        self.shared[:] = struct.pack("=qq", calls, synced)
 
     @property
     def calls(self):
         return struct.unpack("=qq", self.shared)[0]
 
     @property
-    def away(self):
+    def synced(self):
         return struct.unpack("=qq", self.shared)[1]
 
     def renew(self):
@@ -295,14 +295,14 @@ class Bench:
         raise Wrong(f"at sequence {sequence} the answers are those of no list of batches that was submitted: {found[1][-300:]!r}")
 
     def lose(self):
-        """What a loss of power may leave: a prefix of what wasn't put away, or other bytes in its place."""
-        data, away = self.journal.read_bytes(), self.away
-        if len(data) <= away:
+        """What a loss of power may leave: a prefix of what wasn't synced, or other bytes in its place."""
+        data, synced = self.journal.read_bytes(), self.synced
+        if len(data) <= synced:
             return False
-        tail = data[away : self.chance.randint(away, len(data))]
+        tail = data[synced : self.chance.randint(synced, len(data))]
         if self.chance.random() < 0.5:
             tail = self.chance.choice([bytes(len(tail)), self.chance.randbytes(len(tail))])
-        self.journal.write_bytes(data[:away] + tail)
+        self.journal.write_bytes(data[:synced] + tail)
         return True
 
     def must_start(self, at=0, how="none"):

@@ -2,7 +2,7 @@
 """Measures what a journal costs, and what a start with one costs. Usage: journal_times.py PROGRAM [SECONDS [FOLDER]]
 
 The journals stand in FOLDER, so on its disk; in a folder of the system's for files of a moment where it isn't given. First it
-measures what the disk takes to put away 4 KB at the end of a file (write and fsync, for so many SECONDS, 5 where it isn't given).
+measures what the disk takes to sync 4 KB at the end of a file (write and fsync, for so many SECONDS, 5 where it isn't given).
 Then a served map gets batches of one command without pause, with a journal and without: by one submitter on one connection, by one
 and by eight on a connection for each batch. A line has the batches a second, and the median and the 99th of 100 in milliseconds
 from the first byte that is sent to the answer. Another client asks for a tile of 256 by 256 pixels meanwhile, again and again on
@@ -82,8 +82,8 @@ def share(times, hundredth):
     return times[min(len(times) * hundredth // 100, len(times) - 1)] * 1_000 if times else float("nan")
 
 
-def put_away(folder, seconds):
-    """How long each 4 KB takes at the end of a file."""
+def sync_times(folder, seconds):
+    """How long it takes to write and sync each 4 KB at the end of a file."""
     times = []
     with tempfile.TemporaryFile(dir=folder, buffering=0) as file:
         until = time.monotonic() + seconds
@@ -170,8 +170,8 @@ def main():
     with tempfile.TemporaryDirectory(dir=sys.argv[3] if len(sys.argv) > 3 else None) as name:
         folder = pathlib.Path(name)
         make_map(folder)
-        times = put_away(folder, seconds)
-        print(f"4 KB put away: {share(times, 50):.2f} and {share(times, 99):.2f} ms, {len(times) / seconds:.0f} a second", flush=True)
+        times = sync_times(folder, seconds)
+        print(f"4 KB synced: {share(times, 50):.2f} and {share(times, 99):.2f} ms, {len(times) / seconds:.0f} a second", flush=True)
         beside_pictures(program, folder, seconds)
         with Server(program, folder) as server:
             print(f"a start without a journal: {server.started:.2f} s", flush=True)
