@@ -21,7 +21,7 @@ module _ (digest : List ℕ → List ℕ) (fingerprint : List ℕ) where
     pub whole : file ≡ journal_of digest fingerprint batches ++ tail
     pub longest : StartsWithNumber (length batches + 1) tail → ⊥
 
-  -- a tail is torn where it contains no whole record: an append that wasn't completed can have left it, and nothing is lost with it
+  -- a tail is torn where it contains no whole record: an append that wasn't completed can have left it
   abbrev pub IsTorn : List ℕ → Type 0
   IsTorn tail = ContainsRecord tail → ⊥
 

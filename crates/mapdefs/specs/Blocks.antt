@@ -1,4 +1,4 @@
--- Blocks of a part's vertices, and the box of each (docs/ARCHITECTURE.md, "Blocks of vertices").
+-- Blocks of a part's vertices, and the box of each (docs/developers/WALKS.md, "Blocks of vertices").
 use Rattle.std.specs.Prelude.{◌≡◌, ℕ, ◌+◌, ◌-◌, ◌*◌, ◌<◌, if◌then◌else◌, ℤ, pos, neg_ℤ, List, length, take, drop, fold, int_lt, slice_index_or}
 use Rattle.std.specs.Int.{div_ceil}
 use Rattle.geom.specs.declared.micro.TheConstants.{COORDINATE_LIMIT}
