@@ -7,10 +7,13 @@ file system that can be mounted: where it can't, the row is skipped by name. It 
 """
 import os
 import pathlib
+import resource
 import shutil
+import socket
 import subprocess
 import sys
 import tempfile
+import time
 
 from served import ports_of
 
@@ -22,6 +25,7 @@ HEADER = b"KESMOCH JOURNAL 1\n"
 EMPTY = len(HEADER) + 32
 NOBODY = 65534
 TIMES = 40
+DESCRIPTORS = 48
 
 
 class Wrong(Exception):
@@ -40,12 +44,12 @@ def words(program, journal):
 class Server:
     """A server that listens."""
 
-    def __init__(self, program, folder, journal="journal"):
-        self.process = subprocess.Popen(words(program, journal), cwd=folder, stdout=subprocess.PIPE, stderr=subprocess.PIPE)
+    def __init__(self, program, folder, journal="journal", bounded=None):
+        self.process = subprocess.Popen(words(program, journal), cwd=folder, stdout=subprocess.PIPE, stderr=subprocess.PIPE, preexec_fn=bounded)
         ports = ports_of(self.process.stdout.readline())
         if ports is None:
             raise Wrong(f"no server: {self.process.stderr.read()}")
-        self.administration = ports[1]
+        self.clients, self.administration = ports
 
     def __enter__(self):
         return self
@@ -190,6 +194,23 @@ def one_server_has_a_journal(program, folder):
     expect("the files", sorted(files_of(folder)), ["journal", "map.map"])
 
 
+def few_descriptors():
+    resource.setrlimit(resource.RLIMIT_NOFILE, (DESCRIPTORS, DESCRIPTORS))
+
+
+def batches_are_kept_where_clients_take_every_descriptor(program, folder):
+    with Server(program, folder, bounded=few_descriptors) as server:
+        held = [socket.create_connection(("127.0.0.1", server.clients)) for _ in range(2 * DESCRIPTORS)]
+        for connection in held:
+            connection.sendall(b"GET ")
+        time.sleep(1)
+        expect("how many descriptors it has", len(os.listdir(f"/proc/{server.process.pid}/fd")) >= DESCRIPTORS - 2, True)
+        for _ in range(3):
+            expect("the answer", server.submit(), "PUBLISHED")
+        for connection in held:
+            connection.close()
+
+
 ROWS = [
     only_the_journal_is_made,
     other_names_are_left,
@@ -203,6 +224,7 @@ ROWS = [
     removed_journals_fail,
     replaced_journals_fail,
     one_server_has_a_journal,
+    batches_are_kept_where_clients_take_every_descriptor,
 ]
 
 

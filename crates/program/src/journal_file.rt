@@ -162,12 +162,16 @@ impl JournalFile {
         })
     }
 
-    // An error where another file has the path, or none: a file that this program opened there is locked.
+    // An error where another file has the path, or none: a file that this program opened there is locked. Where the path can't be looked
+    // at, as without a free descriptor, nothing is known of it.
     fn look_at_path(&self) -> io::Result<()> {
-        match open(&self.rt, self.path.as_str())?.try_lock() {
-            Err(TryLockError::WouldBlock) => Ok(()),
-            Err(TryLockError::Error(error)) => Err(error),
-            Ok(()) => Err(io::Error::from(ErrorKind::NotFound)),
+        match open(&self.rt, self.path.as_str()) {
+            Ok(file) => match file.try_lock() {
+                Ok(()) => Err(io::Error::from(ErrorKind::NotFound)),
+                Err(_) => Ok(()),
+            },
+            Err(error) if error.kind() == ErrorKind::NotFound => Err(error),
+            Err(_) => Ok(()),
         }
     }
 }
