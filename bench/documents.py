@@ -17,7 +17,7 @@ bench/results/, which says what was, the links. Looked for are
 - each crate of crates.txt: what it depends on above it, and its line in crates/README.md below the same heading;
 - each cell of bench/rules.csv, and whether docs/developers/RULES.md is the page that it gives (rules.py).
 
-With --write that page is made anew, and nothing is looked for. The script prints each that isn't there, with the file and the
+With --write that page is made anew, and nothing is looked for. What a merge left in a document counts as one that isn't there. The script prints each that isn't there, with the file and the
 line of the document, and at the end how many names are there and how many aren't. It ends with 1 where one isn't.
 """
 import functools
@@ -268,6 +268,9 @@ def main():
     for document in [*documents, *results]:
         is_code = False
         for number, line in enumerate(document.read_text().splitlines(), 1):
+            if line.startswith(("<<<<<<< ", ">>>>>>> ")):
+                failed += 1
+                print(f"{document.relative_to(TOP)}:{number}: a merge left its mark here")
             is_code ^= line.startswith("```")
             if is_code or line.startswith("    "):
                 continue
