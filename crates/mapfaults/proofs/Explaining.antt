@@ -134,9 +134,9 @@ stopped-by s t left e line kind openings error at stop is_line is_kind is_open t
     stopped-here s t left e (record { is_refused = rw (is_line, is_kind) known.is_refused; still_open = is_open ∙ known.still_open }) token
 
 -- after the END of MAP the source may end
-pub sound-here : (s : Standing) (line end : ℕ) → (length s.openings == 0) ≡ true → IsWalked s (stopped line (Ends end)) finding.Sound
-sound-here s line end none = sound-in s.openings s.drafts none where
-  sound-in : (openings : List OpeningValue) (d : Drafts) → (length openings == 0) ≡ true → IsWalked (standing openings d) (stopped line (Ends end)) finding.Sound
+pub sound-here : (s : Standing) (end : ℕ) → (length s.openings == 0) ≡ true → IsWalked s (stopped (Ends end)) finding.Sound
+sound-here s end none = sound-in s.openings s.drafts none where
+  sound-in : (openings : List OpeningValue) (d : Drafts) → (length openings == 0) ≡ true → IsWalked (standing openings d) (stopped (Ends end)) finding.Sound
   sound-in [] d p = (d.map, refl)
   sound-in (o ∷ outer) d p =
       let some : (suc (length outer) == 0) ≡ false = grind (arith, nat_tests) in
@@ -147,16 +147,16 @@ open-ends tail [] d p = let no : ⊥ = cc in absurd no
 open-ends tail (o ∷ outer) d p = answer-open tail o.context (contexts outer) d
 
 -- inside a block it may not end, and it may break off nowhere
-pub ends-here : (s : Standing) (line end : ℕ) (e : Explained) → (length s.openings == 0) ≡ false → fault_in e ≡ missing (Ends end) →
-    e.openings ≡ s.openings → e.token ≡ None → IsWalked s (stopped line (Ends end)) (finding.Faulty e)
-ends-here s line end e some is same token = record {
+pub ends-here : (s : Standing) (end : ℕ) (e : Explained) → (length s.openings == 0) ≡ false → fault_in e ≡ missing (Ends end) →
+    e.openings ≡ s.openings → e.token ≡ None → IsWalked s (stopped (Ends end)) (finding.Faulty e)
+ends-here s end e some is same token = record {
   fault = open-ends (Ends end) s.openings s.drafts some ∙ ap (λ x. Err x) (sym is);
   position = rw token (open-here s e.openings same);
 }
 
-pub breaks-here : (s : Standing) (line : ℕ) (f : LexFault) (e : Explained) → fault_in e ≡ lexical f →
-    e.openings ≡ s.openings → e.token ≡ None → IsWalked s (stopped line (Breaks f)) (finding.Faulty e)
-breaks-here s line f e is same token = record {
+pub breaks-here : (s : Standing) (f : LexFault) (e : Explained) → fault_in e ≡ lexical f →
+    e.openings ≡ s.openings → e.token ≡ None → IsWalked s (stopped (Breaks f)) (finding.Faulty e)
+breaks-here s f e is same token = record {
   fault = answer-broken f (contexts s.openings) s.drafts ∙ ap (λ x. Err x) (sym is);
   position = rw token (open-here s e.openings same);
 }

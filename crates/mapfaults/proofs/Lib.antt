@@ -1,2 +1,3 @@
 mod Explaining
 mod Lacks
+mod Marks

@@ -1,5 +1,6 @@
 pub mod Explained
 pub mod Missing
+pub mod OnBytes
 pub mod Opening
 pub mod Unused
 pub mod Warning

@@ -1,5 +1,5 @@
 -- What in a layer has no effect, since something that it needs is missing (docs/MAPFILE.md, "Warnings").
-use Rattle.std.specs.Prelude.{◌==◌, ◌&&◌, ◌||◌, not, ℕ, Bool, true, false, List, length, Option, None, Some, is_none, is_some}
+use Rattle.std.specs.Prelude.{◌==◌, ◌&&◌, ◌||◌, not, ℕ, Bool, false, List, length, Option, None, Some, is_none, is_some}
 use Rattle.std.specs.List.{list_any}
 use Rattle.std.specs.Str.{str_eq_ignore_ascii_case}
 use Rattle.mapdefs.specs.declared.class.ClassFields.{ClassFields}

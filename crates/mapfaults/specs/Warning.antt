@@ -7,6 +7,7 @@ use Rattle.geom.specs.World.{Area}
 use Rattle.mapdefs.specs.declared.class.ClassFields.{ClassFields}
 use Rattle.mapdefs.specs.declared.map.MapFields.{MapFields}
 use Rattle.mapdefs.specs.declared.layer.LayerFields.{LayerFields}
+use Rattle.mapwords.specs.Rule.{is_comma}
 use Rattle.xmltext.specs.Characters.{has_forbidden}
 use Rattle.mapfaults.specs.Unused.{has_label, is_bare, is_unclassed, lacks_named, lacks_of_rule}
 use Rattle.mapfaults.specs.declared.warning.Concern.{Concern}
@@ -24,10 +25,6 @@ on_layer number c = record { layer = Some number; concern = c }
 abbrev pub warned : Bool → Warning → List Warning
 warned true w = w ∷ []
 warned false w = []
-
--- the byte is a comma
-abbrev pub is_comma : ℕ → Bool
-is_comma b = b == 44
 
 -- the address is the default one
 unfoldable pub is_default_address : List ℕ → Bool

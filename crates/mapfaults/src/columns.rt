@@ -1,3 +1,6 @@
+ghost use Rattle.std.specs.Prelude.{◌≡◌};
+ghost use Rattle.csv.specs.Reading.{is_bom, strip_bom};
+
 use crate::sentence::{SHOWN, cut};
 use csvpoints::{CsvError, CsvFault, CsvKind};
 use mapparse::Files;
@@ -43,16 +46,31 @@ fn lacks_column(alloc: Global, layer: &LayerTree, bytes: &[u8]) -> bool {
     )
 }
 
+// Whether three bytes are a byte order mark.
+fn is_mark(first: u8, second: u8, third: u8) -> bool
+    ensures { result ≡ is_bom first second third }
+{
+    first == 239 && second == 187 && third == 191
+}
+
+// The bytes of a table after its byte order mark, if it begins with one.
+fn after_mark(bytes: &[u8]) -> &[u8]
+    ensures { result.now ≡ strip_bom bytes.now }
+{
+    match bytes {
+        [first, second, third, ..] if is_mark(*first, *second, *third) => &bytes[3..],
+        _ => bytes,
+    }
+}
+
 // The first line of a table that isn't empty, as it is shown.
 fn header(alloc: Global, bytes: &[u8]) -> Result<String, AllocError> {
     let is_end = |byte: &u8| *byte == b'\n' || *byte == b'\r';
-    let line = bytes.split(is_end).find(|line| !line.is_empty());
+    let line = after_mark(bytes)
+        .split(is_end)
+        .find(|line| !line.is_empty());
     let text = str::from_utf8(line.unwrap_or(b"")).unwrap_or("");
-    cut(
-        alloc,
-        text.strip_prefix('\u{FEFF}').unwrap_or(text),
-        SHOWN_HEADER,
-    )
+    cut(alloc, text, SHOWN_HEADER)
 }
 
 // The columns that a layer looks for, and the header that lacks one.

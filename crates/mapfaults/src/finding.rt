@@ -1,10 +1,10 @@
-ghost use Rattle.std.specs.Prelude.{◌≡◌, ℕ, [], ◌∷◌, None, Some, Ok, IfOk, MatchResult};
+ghost use Rattle.std.specs.Prelude.{◌≡◌, [], ◌∷◌, None, Some, Ok, IfOk, MatchResult};
 ghost use Rattle.maplex.specs.Lexed.{lexed, stopped};
 ghost use Rattle.mapfaults.specs.Explained.{begun, stepped, IsStop, IsWalked, IsFinding, standing};
 
 use crate::openings::{Opening, go_on};
 use maplex::{Tail, Token, Tokens};
-use maptree::{Context, Drafts, Stack, next_token};
+use maptree::{Context, Drafts, Stack};
 use mapwords::{
     Block, Expected, Fault, Keyword, ParseFault, ParseKind, TextKeyword, fault_of, is_end, missing,
 };
@@ -150,7 +150,7 @@ impl<'a> Walker<'a> {
 
     // What is found after the last token.
     fn finish(&mut self, tail: Tail, alloc: Global) -> Finding<'a>
-        ensures { (line : ℕ) → IsWalked (standing self.old.openings self.old.drafts) (stopped line tail) result }
+        ensures { IsWalked (standing self.old.openings self.old.drafts) (stopped tail) result }
     {
         match tail {
             Tail::Ends(line) => {
@@ -171,7 +171,7 @@ fn walk<'a>(walker: &mut Walker<'a>, tokens: &mut Tokens<'a>, alloc: Global) -> 
     ensures { IsWalked (standing walker.old.openings walker.old.drafts) tokens.old result }
 {
     loop {
-        match next_token(tokens) {
+        match tokens.next() {
             Ok(token) => match walker.take(&token, alloc) {
                 Ok(()) => {}
                 Err(ParseFault::At { line, kind }) => {
@@ -212,7 +212,7 @@ pub fn explain<'a>(alloc: Global, source: &'a [u8]) -> Finding<'a>
     ensures { IsFinding (lexed source.now) result }
 {
     let mut tokens = Tokens::new(source);
-    match next_token(&mut tokens) {
+    match tokens.next() {
         Ok(token) if Keyword::Map.is_at(&token) => match Walker::new(&token, alloc) {
             Ok(mut walker) => {
                 let found = walk(&mut walker, &mut tokens, alloc);

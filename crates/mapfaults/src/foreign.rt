@@ -61,17 +61,3 @@ pub fn advice(alloc: Global, block: Block, word: &str) -> Result<Option<&'static
     }
     Ok(None)
 }
-
-/// Whether a logical expression has a `~` outside of the quoted parts in it.
-pub fn has_tilde(expression: &str) -> bool {
-    let mut quote = None;
-    for character in expression.chars() {
-        match (quote, character) {
-            (None, '~') => return true,
-            (None, '"' | '\'') => quote = Some(character),
-            (Some(begun), ended) if begun == ended => quote = None,
-            _ => {}
-        }
-    }
-    false
-}

@@ -4,8 +4,8 @@
 //! `explain` reads a source once more, up to its first fault, and keeps what is open there. Proved, by
 //! `IsFinding`: it has the line and the kind of the fault that the definition `tree_of` of `maptree` is for the
 //! source. It also has the token that is refused with that fault, and what is open before it. There is no token
-//! where the fault comes after the last one. The message, which `Explained::message` makes of that, is only
-//! tested.
+//! where the fault comes after the last one. Of the messages, which `Explained::message` makes of that, only the one
+//! on a bad byte is proved, by `IsOnSource`; the words of the others are tested.
 //!
 //! `warnings` gives the warnings on a map, and `warning_lines` their lines, byte by byte.
 //!

@@ -1,16 +1,19 @@
+ghost use Rattle.std.specs.Prelude.{◌≡◌, string_bytes, IfOk, IfSome};
+ghost use Rattle.maplex.specs.ByteFault.{byte_fault};
+ghost use Rattle.mapfaults.specs.OnBytes.{byte_message, IsOnKind, IsOnLex, IsOnSource};
+
 use crate::expected_text::expected_text;
 use crate::finding::{Explained, Finding, explain};
-use crate::foreign::{advice, has_tilde};
+use crate::foreign::advice;
 use crate::openings::Opening;
 use expressions::{ExprError, read};
 use mapdefs::{
     MAX_CLASSES, MAX_FEATURES, MAX_ITEMS, MAX_LAYERS, MAX_STYLES, MAX_SYMBOLS, MAX_VERTICES, Text,
 };
-use maplex::{LexKind, Shape, Token};
+use maplex::{ByteFault, LexKind, Shape, Token, byte_fault};
 use maptree::Context;
 use mapwords::{Block, Expected, Keyword, ParseKind};
 use std::alloc::{AllocError, Global};
-use std::str;
 
 /// The most characters that are shown of a word.
 pub const SHOWN: usize = 40;
@@ -136,14 +139,14 @@ fn no_expression(alloc: Global, token: &Token, shown: &str) -> Result<String, Al
             "{shown} is no expression: regular expressions are MapServer's and aren't supported"
         );
     }
-    if has_tilde(token.text) {
-        return format!(in alloc; "{shown} is no expression: ~ is MapServer's and isn't supported");
-    }
     let Some(rest) = unread(alloc, token.text) else {
         return format!(in alloc; "{shown} is no expression");
     };
     if rest.is_empty() {
         return format!(in alloc; "{shown} is no expression: it ends too early");
+    }
+    if rest.starts_with('~') {
+        return format!(in alloc; "{shown} is no expression: ~ is MapServer's and isn't supported");
     }
     let rest = cut(alloc, rest, SHOWN)?;
     format!(in alloc; "{shown} is no expression: nothing is read from {rest} on")
@@ -241,31 +244,29 @@ fn limit(alloc: Global, e: &Explained, inner: &Opening, word: &str) -> Result<St
     }
 }
 
-// A line of a source, counted from 1, without its end.
-fn line_at(source: &[u8], line: u64) -> &[u8] {
-    let mut rest = source;
-    for _ in 1..line {
-        let end = rest.iter().position(|byte| *byte == b'\n');
-        rest = match end {
-            Some(end) => &rest[end + 1..],
-            None => &[],
-        };
-    }
-    match rest.iter().position(|byte| *byte == b'\n') {
-        Some(end) => &rest[..end],
-        None => rest,
+// The message on a bad byte.
+#[tactic(auto, unfolding(crate::specs::OnBytes::byte_message))]
+fn on_byte(wrong: ByteFault) -> &'static str
+    ensures { result.now ≡ byte_message wrong }
+{
+    match wrong {
+        ByteFault::ClosesNothing => "a bracket that closes nothing",
+        ByteFault::Control => "a control character",
+        ByteFault::NotUtf8 => {
+            "a byte that is not UTF-8: convert the mapfile, as with iconv -f ISO-8859-1 -t UTF-8"
+        }
     }
 }
 
-// The message on a line with a byte that no token may have.
-fn bad_byte(line: &[u8]) -> &'static str {
-    let is_control = |byte: &u8| (*byte < 32 && !matches!(*byte, 9..=13)) || *byte == 127;
-    if str::from_utf8(line).is_err() {
-        "a byte that is not UTF-8: convert the mapfile, as with iconv -f ISO-8859-1 -t UTF-8"
-    } else if line.iter().any(is_control) {
-        "a control character"
-    } else {
-        "a bracket that closes nothing"
+// The message where the tokens of a source end with a fault of a kind.
+fn on_lex(alloc: Global, kind: LexKind, source: &[u8]) -> Result<String, AllocError>
+    ensures { IfOk result (λ message. IsOnLex (byte_fault source.now) kind (string_bytes message)) }
+{
+    match (kind, byte_fault(source)) {
+        (LexKind::BadByte, Some(wrong)) => String::from_str(alloc, on_byte(wrong)),
+        (LexKind::BadByte, None) | (LexKind::OpenString | LexKind::TooLong, _) => {
+            format!(in alloc; "{kind}")
+        }
     }
 }
 
@@ -300,27 +301,32 @@ impl<'a> Explained<'a> {
         format!(in alloc; "the mapfile ends inside {block}, which has no END")
     }
 
-    /// The message on the fault, which is one of this source: one sentence without a full stop, which shows no control
-    /// characters.
-    pub fn message(&self, alloc: Global, source: &[u8]) -> Result<String, AllocError> {
-        match self.kind {
-            ParseKind::Lex(LexKind::BadByte) => {
-                return String::from_str(alloc, bad_byte(line_at(source, self.line)));
-            }
-            ParseKind::Lex(kind) => return format!(in alloc; "{kind}"),
-            _ => {}
-        }
+    // The message on a fault at a token, or at the end of the mapfile.
+    fn message_in_words(&self, alloc: Global) -> Result<String, AllocError> {
         match (&self.token, self.openings.as_slice()) {
             (Some(token), [.., inner]) => self.message_inside(alloc, inner, token),
             (Some(token), []) => unknown_word(alloc, self, token),
             (None, _) => self.message_after(alloc),
         }
     }
+
+    /// The message on the fault, which is one of this source: one sentence without a full stop, which shows no control
+    /// characters. On a bad byte it says what is wrong with it.
+    pub fn message(&self, alloc: Global, source: &[u8]) -> Result<String, AllocError>
+        ensures { IfOk result (λ message. IsOnKind (byte_fault source.now) self.now.kind (string_bytes message)) }
+    {
+        match self.kind {
+            ParseKind::Lex(kind) => on_lex(alloc, kind, source),
+            _ => self.message_in_words(alloc),
+        }
+    }
 }
 
 /// The message on the first fault of what is written in a mapfile. There is none where it has no such fault, or where
 /// memory is refused.
-pub fn message_on_source(alloc: Global, source: &[u8]) -> Option<Text> {
+pub fn message_on_source(alloc: Global, source: &[u8]) -> Option<Text>
+    ensures { IfSome result (IsOnSource source.now) }
+{
     match explain(alloc, source) {
         Finding::Faulty(explained) => Some(Text::of(explained.message(alloc, source).ok()?)),
         Finding::Sound | Finding::NoMemory => None,

@@ -1,7 +1,8 @@
 ghost use Rattle.std.specs.Prelude.{◌≡◌, ◌++◌, IfOk, OnOk};
 ghost use Rattle.std.specs.List.{flat_map, list_any};
+ghost use Rattle.mapwords.specs.Rule.{is_comma};
 ghost use Rattle.mapfaults.specs.Unused.{is_bare, lacks_of_rule};
-ghost use Rattle.mapfaults.specs.Warning.{drawing_warnings, is_beyond_degrees, is_comma, is_default_address, item_warnings, layer_warnings, layers_warnings, marked, service_warnings, subject_of, text_warnings, warned, warning_line, warning_lines, warnings, message_of};
+ghost use Rattle.mapfaults.specs.Warning.{drawing_warnings, is_beyond_degrees, is_default_address, item_warnings, layer_warnings, layers_warnings, marked, service_warnings, subject_of, text_warnings, warned, warning_line, warning_lines, warnings, message_of};
 
 use crate::unused::{has_label, is_bare, is_unclassed, lacks_named, lacks_of_rule};
 use geom::{Micro, WorldBox};

@@ -4,11 +4,11 @@ use std::alloc::{AllocError, Global};
 use test_tables::{TableFault, check_rows};
 
 // The result for a source: its line and the message on its fault.
-fn explanation_of(alloc: Global, source: &str) -> Result<String, AllocError> {
-    match explain(alloc, source.as_bytes()) {
+fn explanation_of(alloc: Global, source: &[u8]) -> Result<String, AllocError> {
+    match explain(alloc, source) {
         Finding::Sound => String::from_str(alloc, "sound"),
         Finding::Faulty(fault) => {
-            let (line, message) = (fault.line, fault.message(alloc, source.as_bytes())?);
+            let (line, message) = (fault.line, fault.message(alloc, source)?);
             format!(in alloc; "{line}: {message}")
         }
         Finding::NoMemory => Err(AllocError),
@@ -20,7 +20,7 @@ fn explanation_of_row(alloc: Global, row: &str) -> Result<String, AllocError> {
     let lines = row.replace(alloc, '~', "\n")?;
     let lines = lines.replace(alloc, '^', "~")?;
     let source = repeated(alloc, lines.as_str())?;
-    explanation_of(alloc, source.as_str())
+    explanation_of(alloc, source.as_str().as_bytes())
 }
 
 // The results for sources, and the sources.
@@ -118,11 +118,16 @@ sound|MAP END
 2: /a/ is no expression: regular expressions are MapServer's and aren't supported|MAP LAYER CLASS EXPRESSION~/a/
 2: ('[a]' ~ 'b') is no expression: ~ is MapServer's and isn't supported|MAP LAYER CLASS EXPRESSION~('[a]' ^ 'b')
 2: ('[a]' ~* 'b') is no expression: ~ is MapServer's and isn't supported|MAP LAYER CLASS EXPRESSION~('[a]' ^* 'b')
-2: ('[a]' = \"'~\" = ) is no expression: nothing is read from = ) on|MAP LAYER CLASS EXPRESSION~('[a]' = \"'^\" = )";
+2: (1 = 2 OR '[a]' ~ 'b') is no expression: ~ is MapServer's and isn't supported|MAP LAYER CLASS EXPRESSION~(1 = 2 OR '[a]' ^ 'b')
+# a `~` in a quoted text, in the name of an item, and after the fault is not the fault
+2: ('[a]' = \"'~\" = ) is no expression: nothing is read from = ) on|MAP LAYER CLASS EXPRESSION~('[a]' = \"'^\" = )
+2: ([a~b] = ) is no expression: nothing is read from ) on|MAP LAYER CLASS EXPRESSION~([a^b] = )
+2: ([a~b] = 1 AND) is no expression: nothing is read from ) on|MAP LAYER CLASS EXPRESSION~([a^b] = 1 AND)
+2: ([a] = OR '[b]' ~ 'c') is no expression: nothing is read from OR '[b]' ~ 'c') on|MAP LAYER CLASS EXPRESSION~([a] = OR '[b]' ^ 'c')";
 
 #[test]
 fn faults_are_explained(rt: HostRuntime) -> Result<(), TableFault> {
-    check_rows(rt.alloc(), ROWS, '|', 93, explanation_of_row)
+    check_rows(rt.alloc(), ROWS, '|', 97, explanation_of_row)
 }
 
 // The result for sources with a block, a vertex or an item more than a map may have.
@@ -145,7 +150,7 @@ fn explanation_after_layers(alloc: Global, end: &str) -> Result<String, AllocErr
         write!(source, "LAYER NAME {i} TYPE LINE END\n")?;
     }
     source.push_str(end)?;
-    explanation_of(alloc, source.as_str())
+    explanation_of(alloc, source.as_str().as_bytes())
 }
 
 #[test]
@@ -154,21 +159,41 @@ fn a_layer_too_many_is_explained(rt: HostRuntime) -> Result<(), TableFault> {
     check_rows(rt.alloc(), ROW, '|', 1, explanation_after_layers)
 }
 
-// The message on a mapfile with a byte that isn't UTF-8 on its second line.
-fn explanation_of_bytes(alloc: Global, _row: &str) -> Result<String, AllocError> {
-    let source = b"MAP\nNAME 'caf\xE9'\nEND";
-    match explain(alloc, source) {
-        Finding::Faulty(fault) => {
-            let (line, message) = (fault.line, fault.message(alloc, source)?);
-            format!(in alloc; "{line}: {message}")
-        }
-        Finding::Sound | Finding::NoMemory => Err(AllocError),
+// The result for a source of letters, each the byte of its number, in which `~` stands for the end of a line.
+fn explanation_of_bytes(alloc: Global, letters: &str) -> Result<String, AllocError> {
+    let mut source = Vec::new(alloc);
+    for letter in letters.chars() {
+        let letter = if letter == '~' { '\n' } else { letter };
+        source.push(u8::try_from(u32::from(letter)).unwrap_or(b'?'))?;
     }
+    explanation_of(alloc, &source)
 }
 
+// Sources with bytes that no token may have.
+const BYTES: &str = "\
+2: a bracket that closes nothing|MAP~) # a
+2: a control character|MAP~NAME 'a\x7f'~END
+2: a byte that is not UTF-8: convert the mapfile, as with iconv -f ISO-8859-1 -t UTF-8|MAP~NAME 'caf\u{e9}'~END
+# a comment may have any bytes, after a fault on its line too
+2: a bracket that closes nothing|MAP~) # caf\u{e9}
+2: a bracket that closes nothing|MAP~} #\x01
+2: a control character|MAP~a\x01 # caf\u{e9}
+3: a bracket that closes nothing|MAP~# caf\u{e9} \x0b~)
+sound|MAP # caf\u{e9}\x01\x0b\x7f~END
+# a vertical tab is no separator, a form feed is one
+2: a control character|MAP~NAME\x0b'a'
+2: a control character|MAP~\x0b)
+2: a bracket that closes nothing|MAP~\x0c)
+# an e with an accent is two bytes of UTF-8
+sound|MAP NAME 'caf\u{c3}\u{a9}' END
+2: a bracket that closes nothing|MAP~NAME 'caf\u{c3}\u{a9}' )
+# the first of several, further down than its token begins
+3: a control character|MAP~NAME 'a~\x0b' )
+3: a control character|MAP~NAME 'a~\x0b~\u{e9}'
+3: a byte that is not UTF-8: convert the mapfile, as with iconv -f ISO-8859-1 -t UTF-8|MAP~NAME 'a~\u{e9}~\x0b'
+2: a control character|MAP~NAME a\x01\u{e9} )";
+
 #[test]
-fn bytes_that_are_no_text_are_named(rt: HostRuntime) -> Result<(), TableFault> {
-    let row =
-        "2: a byte that is not UTF-8: convert the mapfile, as with iconv -f ISO-8859-1 -t UTF-8|a";
-    check_rows(rt.alloc(), row, '|', 1, explanation_of_bytes)
+fn bytes_that_no_token_may_have_are_named(rt: HostRuntime) -> Result<(), TableFault> {
+    check_rows(rt.alloc(), BYTES, '|', 17, explanation_of_bytes)
 }

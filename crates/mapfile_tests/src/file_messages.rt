@@ -52,6 +52,11 @@ the file that DATA names is no table of points: row 1: no column of the coordina
 the file that DATA names is no table of points: row 1: no column of the coordinates: x and y are looked for in P6 1 1 255|a.csv=P6 1 1 255~abc|MAP SYMBOL NAME s TYPE PIXMAP IMAGE a.csv END~LAYER NAME a TYPE POINT DATA a.csv END END
 the file that IMAGE names is no pixmap in Netpbm's P6 format of at most 256 by 256 pixels|a.csv=x,y~1,2|MAP LAYER NAME a TYPE POINT DATA a.csv END~SYMBOL NAME s TYPE PIXMAP IMAGE a.csv END END
 the file that DATA names is no table of points: row 1: no column of the coordinates: x and y are looked for in \u{FEFF}x,y|a.csv=\u{FEFF}\u{FEFF}x,y|MAP LAYER NAME a TYPE POINT DATA a.csv END END
+# one byte order mark is dropped, at the beginning of the file alone
+the file that DATA names is no table of points: row 1: no column of the coordinates: x and y are looked for in x,b|a.csv=\u{FEFF}x,b|MAP LAYER NAME a TYPE POINT DATA a.csv END END
+the file that DATA names is no table of points: row 1: no column of the coordinates: x and y are looked for in x,b|a.csv=\u{FEFF}~~x,b|MAP LAYER NAME a TYPE POINT DATA a.csv END END
+the file that DATA names is no table of points: row 1: no column of the coordinates: x and y are looked for in \u{FEFF}x,y|a.csv=~\u{FEFF}x,y|MAP LAYER NAME a TYPE POINT DATA a.csv END END
+none|a.csv=\u{FEFF}~x,y~1,2|MAP LAYER NAME a TYPE POINT DATA a.csv END END
 # the messages on other faults name no columns
 the file that DATA names is no table of points: row 1: no header|a.csv=~|MAP LAYER NAME a TYPE POINT DATA a.csv END END
 the file that DATA names is no table of points: row 2: another count of fields than the header has|a.csv=x,y~1|MAP LAYER NAME a TYPE POINT DATA a.csv END END
@@ -59,5 +64,5 @@ the file that IMAGE names is no pixmap in Netpbm's P6 format of at most 256 by 2
 
 #[test]
 fn faults_of_files_have_messages(rt: HostRuntime) -> Result<(), TableFault> {
-    check_rows(rt.alloc(), ROWS, '|', 14, messages_of_row)
+    check_rows(rt.alloc(), ROWS, '|', 18, messages_of_row)
 }

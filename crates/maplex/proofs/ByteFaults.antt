@@ -8,14 +8,13 @@ use Rattle.maplex.specs.declared.bad_byte.ByteFault.TheVariants as wrong
 use Rattle.maplex.specs.declared.extent.Extent.{Extent}
 use Rattle.maplex.specs.declared.fault.LexKind.{LexKind}
 use Rattle.maplex.specs.declared.fault.LexKind.TheVariants.{OpenString, BadByte, TooLong}
-use Rattle.maplex.specs.declared.fault.Tail.TheVariants.{Ends}
 use Rattle.maplex.specs.declared.token.TheConstants.{TOKEN_LIMIT}
 use Rattle.maplex.specs.Byte.{is_control}
 use Rattle.maplex.specs.ByteFault.{byte_fault_in, byte_fault_of, byte_fault_within, is_at_bad_byte}
 use Rattle.maplex.specs.Lexed.{Lexed, lexed_within}
 use Rattle.maplex.specs.Position.{Position, after_blanks, line_ends}
 use Rattle.maplex.specs.Token.{TokenValue, Step, Stops, Reads, step, step_of, checked_at, unless, fault, extent_of, text_of, bad_at}
-use Rattle.maplex.proofs.Lexing.{after_step, lexed_within-suc, step-fits}
+use Rattle.maplex.proofs.Lexing.{after_step, lexed_within-suc}
 
 -- where a step stops, a byte fault is found if it stops at a bad byte
 abbrev pub Agrees : Option ByteFault → Step → Type 0
@@ -57,7 +56,7 @@ byte_fault_within-suc n p = elim (step (after_blanks p)) as (λ f. elim f [ Stop
 
 found_after-agrees : (n : ℕ) (p : Position) (f : Step) → Agrees (byte_fault_of p.rest) f →
     ((next : Position) → is_some (byte_fault_within n next) ≡ is_at_bad_byte (lexed_within n next).tail) →
-    is_some (found_after n p f) ≡ is_at_bad_byte (after_step n p.line f).tail
+    is_some (found_after n p f) ≡ is_at_bad_byte (after_step n f).tail
 found_after-agrees n p (Stops tail) agrees further = agrees
 found_after-agrees n p (Reads t next) agrees further = further next
 
@@ -78,10 +77,6 @@ stops-here n m p q f count at is =
     ∙ byte_fault_within-suc m p
     ∙ ap (λ r. found_after m r (step r)) (sym at)
     ∙ ap (found_after m q) is
-
--- at the end of the source no byte is bad
-pub none-at-end : (q : Position) (line : ℕ) → step q ≡ Stops (Ends line) → byte_fault_of q.rest ≡ None
-none-at-end q line is = let fits = rw is at (step-fits q) in ap byte_fault_of fits.1
 
 -- nothing is found in no step
 pub none-in-no-step : (n : ℕ) (p : Position) → n ≡ 0 → byte_fault_within n p ≡ None

@@ -255,11 +255,11 @@ line_after-append before more = omega (arith, sum_by-append (λ b. cond (b == 10
 step-is_reading : (n : ℕ) (before blanks : List ℕ) (p : Position) (s : Step) → p.line ≡ line_after (before ++ blanks) → AreBlanks p.rest blanks →
     length p.rest ≤ suc n → FitsPosition p s → StepFits p s →
     ((passed : List ℕ) (next : Position) → next.line ≡ line_after passed → length next.rest ≤ n → IsReading passed next.rest (lexed_within n next)) →
-    IsReading before (blanks ++ p.rest) (after_step n p.line s)
+    IsReading before (blanks ++ p.rest) (after_step n s)
 step-is_reading n before blanks p (Stops (Ends last)) line are room fits written others =
     rw (written.0, line, written.1, append-nil) (ends before blanks (subst (λ bytes. AreBlanks bytes blanks) written.1 are))
 step-is_reading n before blanks p (Stops (Breaks f)) line are room fits written others =
-    rw line (breaks before blanks p.rest f are (rw line at written))
+    breaks before blanks p.rest f are (rw line at written)
 step-is_reading n before blanks p (Reads t next) line are room fits (written, whole, is_written, good, t_line, next_line) others =
     let passed = before ++ (blanks ++ written) in
     let reached : next.line ≡ line_after passed =
@@ -280,7 +280,7 @@ is_reading (suc n) before p line room =
     let shorter : length q.rest ≤ length p.rest = omega (arith, length-drop count p.rest) in
     let found = step-is_reading n before (take count p.rest) q (step q) there (blanks-from false p.rest) (omega arith)
     (step-fits q) (step_of-fits q q.rest refl (blank_len-after_blanks p)) (λ passed next l r. is_reading n passed next l r) in
-    rw (lexed_within-suc n p) (subst (λ bytes. IsReading before bytes (after_step n q.line (step q))) (take-append-drop count p.rest) found)
+    rw (lexed_within-suc n p) (subst (λ bytes. IsReading before bytes (after_step n (step q))) (take-append-drop count p.rest) found)
 
 pub lexed-follows_grammar : LexedFollowsGrammar
 lexed-follows_grammar source = is_reading (length source) [] (start source) refl (omega arith)

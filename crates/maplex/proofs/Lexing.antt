@@ -12,7 +12,7 @@ use Rattle.maplex.specs.declared.token.Shape.TheVariants as shape
 use Rattle.maplex.specs.Logic.{opened, inner_len}
 use Rattle.maplex.specs.Position.{Position, start, further, blank_len, after_blanks}
 use Rattle.maplex.specs.Token.{TokenValue, Step, Stops, Reads, step, step_of, checked_at, unless, token_at, shape_of, extent_of, extent_by, closed_extent, border_len, token_len, text_fault, text_of}
-use Rattle.maplex.specs.Lexed.{Lexed, stopped, ended, with_token, lexed_within, lexed_from, HasEnded, BytesAreEnough}
+use Rattle.maplex.specs.Lexed.{Lexed, stopped, ended, with_token, lexed_within, lexed_from, BytesAreEnough}
 
 -- after blanks there is none
 blank_len-step : (b : ℕ) (bs : List ℕ) → blank_len false (drop (blank_len true bs) bs) ≡ 0 → blank_len false (drop (blank_len false bs) bs) ≡ 0 →
@@ -83,13 +83,13 @@ pub step-fits : (p : Position) → FitsPosition p (step p)
 step-fits p = step_of-fits p p.rest refl
 
 -- what is lexed by a step, and within so many steps after it
-abbrev pub after_step : ℕ → ℕ → Step → Lexed
-after_step n line (Stops tail) = stopped line tail
-after_step n line (Reads t next) = with_token t (lexed_within n next)
+abbrev pub after_step : ℕ → Step → Lexed
+after_step n (Stops tail) = stopped tail
+after_step n (Reads t next) = with_token t (lexed_within n next)
 
-pub lexed_within-suc : (n : ℕ) (p : Position) → lexed_within (suc n) p ≡ after_step n (after_blanks p).line (step (after_blanks p))
+pub lexed_within-suc : (n : ℕ) (p : Position) → lexed_within (suc n) p ≡ after_step n (step (after_blanks p))
 unfolding lexed_within
-lexed_within-suc n p = elim (step (after_blanks p)) as (λ f. elim f [ Stops tail ↦ stopped (after_blanks p).line tail | Reads t next ↦ with_token t (lexed_within n next) ] ≡ after_step n (after_blanks p).line f) [
+lexed_within-suc n p = elim (step (after_blanks p)) as (λ f. elim f [ Stops tail ↦ stopped tail | Reads t next ↦ with_token t (lexed_within n next) ] ≡ after_step n f) [
   | Stops tail ↦ refl
   | Reads t next ↦ refl
 ]
@@ -111,11 +111,11 @@ pub lexed_within-empty : (n : ℕ) (p : Position) → length p.rest ≤ 0 → le
 unfolding lexed_within
 lexed_within-empty zero p h = refl
 lexed_within-empty (suc n) p h =
-    lexed_within-suc n p ∙ ap (λ q. after_step n q.line (step q)) (after_blanks-none p (blank_len-empty p.rest h)) ∙ ap (after_step n p.line) (step_of-empty p p.rest h)
+    lexed_within-suc n p ∙ ap (λ q. after_step n (step q)) (after_blanks-none p (blank_len-empty p.rest h)) ∙ ap (after_step n) (step_of-empty p p.rest h)
 
 -- more than enough tokens change nothing
 after_step-same : (n m : ℕ) (p : Position) (f : Step) → FitsPosition p f → length p.rest ≤ suc n → length p.rest ≤ suc m →
-    ((next : Position) → length next.rest ≤ n → length next.rest ≤ m → lexed_within n next ≡ lexed_within m next) → after_step n p.line f ≡ after_step m p.line f
+    ((next : Position) → length next.rest ≤ n → length next.rest ≤ m → lexed_within n next ≡ lexed_within m next) → after_step n f ≡ after_step m f
 after_step-same n m p (Stops tail) fits h k same = refl
 after_step-same n m p (Reads t next) fits h k same = ap (with_token t) (same next (omega (arith, fits.1)) (omega (arith, fits.1)))
 
@@ -140,46 +140,39 @@ lexed_from-after_blanks p =
     let shorter : length q.rest ≤ n = omega (arith, length-drop (blank_len false p.rest) p.rest) in
     lexed_within-same (length q.rest) (suc n) q (omega arith) (omega arith)
     ∙ lexed_within-suc n q
-    ∙ ap (λ r. after_step n r.line (step r)) (after_blanks-none q (blank_len-after_blanks p))
+    ∙ ap (λ r. after_step n (step r)) (after_blanks-none q (blank_len-after_blanks p))
     ∙ sym (lexed_within-suc n p)
     ∙ lexed_within-same (suc n) n p (omega arith) (omega arith)
 
 -- what is lexed from a position with no blank is by the step there
-lexed_from-step : (p : Position) → blank_len false p.rest ≡ 0 → lexed_from p ≡ after_step (length p.rest) p.line (step p)
+lexed_from-step : (p : Position) → blank_len false p.rest ≡ 0 → lexed_from p ≡ after_step (length p.rest) (step p)
 lexed_from-step p no_blank =
     let n = length p.rest in
     lexed_within-same n (suc n) p (omega arith) (omega arith)
     ∙ lexed_within-suc n p
-    ∙ ap (λ q. after_step n q.line (step q)) (after_blanks-none p no_blank)
+    ∙ ap (λ q. after_step n (step q)) (after_blanks-none p no_blank)
 
-pub lexed_from-stops : (p : Position) (tail : Tail) → blank_len false p.rest ≡ 0 → step p ≡ Stops tail → lexed_from p ≡ stopped p.line tail
-lexed_from-stops p tail no_blank e = lexed_from-step p no_blank ∙ ap (after_step (length p.rest) p.line) e
+pub lexed_from-stops : (p : Position) (tail : Tail) → blank_len false p.rest ≡ 0 → step p ≡ Stops tail → lexed_from p ≡ stopped tail
+lexed_from-stops p tail no_blank e = lexed_from-step p no_blank ∙ ap (after_step (length p.rest)) e
 
 pub lexed_from-token : (p : Position) (t : TokenValue) (next : Position) → blank_len false p.rest ≡ 0 → step p ≡ Reads t next →
     lexed_from p ≡ with_token t (lexed_from next)
 lexed_from-token p t next no_blank e =
     let fits = rw e at (step-fits p) in
     lexed_from-step p no_blank
-    ∙ ap (after_step (length p.rest) p.line) e
+    ∙ ap (after_step (length p.rest)) e
     ∙ ap (with_token t) (lexed_within-same (length p.rest) (length next.rest) next (omega (arith, fits.1)) (omega arith))
 
 -- at a position where nothing is left, nothing is lexed but the end
 pub lexed_from-empty : (line : ℕ) → lexed_from (record { rest = []; line = line }) ≡ ended line
 lexed_from-empty line = lexed_within-empty 0 (record { rest = []; line = line }) (omega arith)
 
--- reading has reached the line of a position with no blank
-after_step-line : (n : ℕ) (p : Position) (f : Step) → FitsPosition p f → (after_step n p.line f).line ≡ p.line
-after_step-line n p (Stops tail) fits = refl
-after_step-line n p (Reads t next) fits = fits.0
+-- what is lexed where the step after blanks stops
+pub lexed_from-stopped : (p q : Position) (tail : Tail) → q ≡ after_blanks p → step q ≡ Stops tail → lexed_from p ≡ stopped tail
+lexed_from-stopped p q tail at e =
+    sym (lexed_from-after_blanks p) ∙ ap lexed_from (sym at) ∙ lexed_from-stops q tail (rw at (blank_len-after_blanks p)) e
 
-pub lexed_from-line : (p : Position) → blank_len false p.rest ≡ 0 → (lexed_from p).line ≡ p.line
-lexed_from-line p no_blank = ap (λ (left : Lexed). left.line) (lexed_from-step p no_blank) ∙ after_step-line (length p.rest) p (step p) (step-fits p)
-
--- what is left where the step stops
-pub stopped-here : (p : Position) (left : Lexed) (tail : Tail) → lexed_from p ≡ left → blank_len false p.rest ≡ 0 → step p ≡ Stops tail → left ≡ stopped left.line tail
-stopped-here p left tail seen no_blank e =
-    rw (← seen) (lexed_from-stops p tail no_blank e ∙ ap (λ n. stopped n tail) (sym (lexed_from-line p no_blank)))
-
--- what is left where the step stops at the end
-pub ended-here : (p : Position) (left : Lexed) → lexed_from p ≡ left → blank_len false p.rest ≡ 0 → step p ≡ Stops (Ends p.line) → HasEnded left
-ended-here p left seen no_blank e = rw (← seen) (lexed_from-stops p (Ends p.line) no_blank e ∙ ap ended (sym (lexed_from-line p no_blank)))
+-- what is lexed where the step after blanks reads a token
+pub lexed_from-read : (p q : Position) (t : TokenValue) (next : Position) → q ≡ after_blanks p → step q ≡ Reads t next → lexed_from p ≡ with_token t (lexed_from next)
+lexed_from-read p q t next at e =
+    sym (lexed_from-after_blanks p) ∙ ap lexed_from (sym at) ∙ lexed_from-token q t next (rw at (blank_len-after_blanks p)) e

@@ -112,7 +112,7 @@ line_after bytes = 1 + line_ends bytes
 pub data IsReading : List ℕ → List ℕ → Lexed → Type 0 where
   ends : (before blanks : List ℕ) → AreBlanks [] blanks → IsReading before blanks (ended (line_after (before ++ blanks)))
   breaks : (before blanks after : List ℕ) (f : LexFault) → AreBlanks after blanks → IsFault (line_after (before ++ blanks)) after f →
-      IsReading before (blanks ++ after) (stopped (line_after (before ++ blanks)) (Breaks f))
+      IsReading before (blanks ++ after) (stopped (Breaks f))
   reads : (before blanks written after : List ℕ) (t : TokenValue) (others : Lexed) →
       AreBlanks (written ++ after) blanks → IsWritten t.shape t.text written after → IsGoodText t.text → t.line ≡ line_after (before ++ blanks) →
       IsReading (before ++ (blanks ++ written)) after others → IsReading before (blanks ++ (written ++ after)) (with_token t others)

@@ -1,34 +1,37 @@
 -- The tokens of a source, and what ends them (docs/MAPFILE.md, "Tokens").
 use Rattle.std.specs.Prelude.{◌≡◌, ℕ, zero, suc, ◌+◌, ◌≤◌, List, [], ◌∷◌, length}
 use Rattle.maplex.specs.declared.fault.Tail.{Tail}
-use Rattle.maplex.specs.declared.fault.Tail.TheVariants.{Ends}
+use Rattle.maplex.specs.declared.fault.Tail.TheVariants.{Ends, Breaks}
 use Rattle.maplex.specs.Position.{Position, start, line_ends, after_blanks}
 use Rattle.maplex.specs.Token.{TokenValue, Stops, Reads, step}
 
--- What is lexed from a position on: the line that is reached there after blanks and comments, tokens, and what comes
--- after the last one. That is the end of the source or the first fault.
+-- what is lexed from a position on: tokens, and what comes after the last one, which is the end of the source or the first fault
 pub record Lexed : Type 0 where
-  pub line : ℕ
   pub tokens : List TokenValue
   pub tail : Tail
 
--- no token, but this tail; a fault may be further down than the line that is reached
-abbrev pub stopped : ℕ → Tail → Lexed
-stopped line tail = record { line = line; tokens = []; tail = tail }
+-- no token, but this tail
+abbrev pub stopped : Tail → Lexed
+stopped tail = record { tokens = []; tail = tail }
 
 -- the end of the source, on its line
 abbrev pub ended : ℕ → Lexed
-ended line = stopped line (Ends line)
+ended line = stopped (Ends line)
+
+-- the line of the end or of the fault
+abbrev pub line_of : Tail → ℕ
+line_of (Ends line) = line
+line_of (Breaks f) = f.line
 
 -- a token, and what comes after it
 abbrev pub with_token : TokenValue → Lexed → Lexed
-with_token t others = record { line = t.line; tokens = t ∷ others.tokens; tail = others.tail }
+with_token t others = record { tokens = t ∷ others.tokens; tail = others.tail }
 
 -- what is lexed from a position on, in so many steps: after blanks and comments comes the tail, or a token before the others
 unfoldable pub lexed_within : ℕ → Position → Lexed
 lexed_within zero p = ended p.line
 lexed_within (suc n) p = elim (step (after_blanks p)) [
-  | Stops tail ↦ stopped (after_blanks p).line tail
+  | Stops tail ↦ stopped tail
   | Reads t next ↦ with_token t (lexed_within n next)
 ]
 
@@ -39,10 +42,6 @@ lexed_from p = lexed_within (length p.rest) p
 -- what is lexed of a source
 abbrev pub lexed : List ℕ → Lexed
 lexed source = lexed_from (start source)
-
--- nothing is left, neither a token nor a fault
-abbrev pub HasEnded : Lexed → Type 0
-HasEnded left = left ≡ ended left.line
 
 -- the law that the end is on the last line
 abbrev pub EndIsOnLastLine : Type 0

@@ -57,9 +57,8 @@ pub fn byte_fault(source: &[u8]) -> Option<ByteFault>
     for _step in 0..source.len() {
         at.skip_blanks();
         match step(&at) {
-            Some(Ok((_, count))) => at.pass(count),
-            Some(Err(_)) => return byte_fault_of(at.rest()),
-            None => return None,
+            Ok((_, count)) => at.pass(count),
+            Err(_) => return byte_fault_of(at.rest()),
         }
     }
     None

@@ -1,3 +1,6 @@
+ghost use Rattle.std.specs.Prelude.{◌≡◌};
+ghost use Rattle.maplex.specs.Lexed.{line_of};
+
 use thiserror::Error;
 
 /// Why a source has no further token.
@@ -33,4 +36,16 @@ pub enum Tail {
     Ends(u64),
     /// The first fault.
     Breaks(LexFault),
+}
+
+impl Tail {
+    /// The line of the end or of the fault, counted from 1.
+    pub fn line(self) -> u64
+        ensures { result ≡ line_of self }
+    {
+        match self {
+            Tail::Ends(line) => line,
+            Tail::Breaks(fault) => fault.line,
+        }
+    }
 }

@@ -1,9 +1,9 @@
 //! Cuts the bytes of a mapfile into tokens.
 //!
 //! Proved: `Tokens::new` has the tokens and the tail that the definition `lexed` finds in the source.
-//! `Tokens::next` takes the first token that is left, by its clause `token`, or reports the fault that
-//! ends them, by `fault`. From then on it returns `None`. `laws` states that `lexed` finds the one
-//! reading of the source by its grammar, in which blanks, comments and tokens make up the source.
+//! `Tokens::next` takes the first token that is left, by its clause `token`, or reports what comes after the
+//! last one, by `tail`. From then on it reports an end on that line, by `after`. `laws` states that `lexed`
+//! finds the one reading of the source by its grammar, in which blanks, comments and tokens make up the source.
 //! `byte_fault` finds what is wrong with a bad byte where one is the first fault of a source.
 //!
 //! Terms: a *separator* is a space, tab, LF, CR or form feed. A *bare word* (`Shape::Word`) is a token

@@ -34,7 +34,7 @@ mod values;
 
 pub use context::{Context, Move};
 pub use draft::Drafts;
-pub use mapfile::{next_token, read};
+pub use mapfile::read;
 pub use mapwords::{Capped, ClassRule, Extent, Named, ParseFault, ParseKind};
 pub use parts::Parts;
 pub use stack::Stack;

@@ -1,5 +1,5 @@
 ghost use Rattle.std.specs.Prelude.{◌≡◌, Ok, Err, IfOk, IfErr, MatchResult};
-ghost use Rattle.maplex.specs.Lexed.{lexed, stopped, with_token};
+ghost use Rattle.maplex.specs.Lexed.{lexed};
 ghost use Rattle.mapwords.specs.Fault.{IsFaultOf};
 ghost use Rattle.maptree.specs.Answer.{answer};
 ghost use Rattle.maptree.specs.Pass.{map_body, pass_of};
@@ -7,22 +7,9 @@ ghost use Rattle.maptree.specs.Source.{tree_of};
 
 use crate::reader::Reader;
 use crate::tree::MapTree;
-use maplex::{Tail, Token, Tokens};
+use maplex::Tokens;
 use mapwords::{Fault, Keyword, ParseFault, ParseKind, fault_of, missing};
 use std::alloc::Global;
-
-/// The next token, or what comes after the last one.
-pub fn next_token<'a>(tokens: &mut Tokens<'a>) -> Result<Token<'a>, Tail>
-    ensures { MatchResult result
-        (λ token. tokens.old ≡ with_token token tokens.new)
-        (λ tail. tokens.old ≡ stopped tokens.old.line tail) }
-{
-    match tokens.next() {
-        Some(Ok(token)) => Ok(token),
-        Some(Err(fault)) => Err(Tail::Breaks(fault)),
-        None => Err(Tail::Ends(tokens.line())),
-    }
-}
 
 // Reads the keyword MAP.
 fn begin(tokens: &mut Tokens) -> Result<(), Fault>
@@ -30,7 +17,7 @@ fn begin(tokens: &mut Tokens) -> Result<(), Fault>
         (λ _. pass_of tokens.old ≡ map_body tokens.new.tail tokens.new.tokens)
         (λ fault. pass_of tokens.old ≡ Err fault) }
 {
-    match next_token(tokens) {
+    match tokens.next() {
         Ok(token) if Keyword::Map.is_at(&token) => Ok(()),
         Ok(token) => Err(fault_of(ParseKind::UnknownWord, &token)),
         Err(tail) => Err(missing(tail)),
@@ -48,7 +35,7 @@ fn read_tokens(
         (IsFaultOf (answer reader.old tokens.old.tokens tokens.old.tail)) }
 {
     loop {
-        match next_token(tokens) {
+        match tokens.next() {
             Ok(token) => reader.take(&token, alloc)?,
             Err(tail) => return Ok(reader.finish(tail, alloc)?),
         }

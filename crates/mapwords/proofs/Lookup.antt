@@ -1,5 +1,5 @@
 -- A keyword is found by its spelling in a table of both.
-use Rattle.std.proofs.Common.{◌≡◌, ℕ, Bool, true, false, List, [], ◌∷◌, refl, sym, ap, ◌∙◌, Bor, Option}
+use Rattle.std.proofs.Common.{◌≡◌, ℕ, Bool, true, false, List, [], ◌∷◌, refl, ap, ◌∙◌, Bor, Option}
 use Rattle.std.specs.Prelude.{find, map, option_map}
 use Rattle.std.specs.Str.{str_eq_ignore_ascii_case}
 use Rattle.mapwords.specs.declared.keyword.Keyword.{Keyword}

@@ -1,5 +1,5 @@
 -- Numbers, and counts within bounds (docs/MAPFILE.md, "Numbers" and "Labels").
-use Rattle.std.specs.Prelude.{ℕ, zero, suc, ◌==◌, ◌&&◌, nat_le, if◌then◌else◌, List, ℤ, pos, negsuc, Option, None, Some, option_map, option_and_then}
+use Rattle.std.specs.Prelude.{ℕ, zero, ◌==◌, ◌&&◌, nat_le, if◌then◌else◌, List, ℤ, pos, negsuc, Option, None, Some, option_map, option_and_then}
 use Rattle.std.specs.Result.{result_ok}
 use Rattle.geom.specs.declared.micro.TheConstants.{NUMBER_LIMIT}
 use Rattle.geom.specs.Decimal.{reading}

@@ -8,7 +8,6 @@ use Rattle.mapwords.specs.declared.role.Block.{Block}
 use Rattle.mapwords.specs.declared.role.Block.TheVariants as block
 use Rattle.mapwords.specs.declared.role.Expected.{Expected}
 use Rattle.mapwords.specs.declared.role.Expected.TheVariants as expected
-use Rattle.mapwords.specs.declared.named.Named.{Named}
 use Rattle.mapwords.specs.declared.table.TextKeyword.TheVariants as text
 use Rattle.mapwords.specs.declared.fault.Fault.{Fault}
 use Rattle.mapwords.specs.declared.fault.ParseKind.TheVariants.{Limit}

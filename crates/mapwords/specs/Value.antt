@@ -28,7 +28,8 @@ use Rattle.mapwords.specs.declared.fault.ParseKind.TheVariants.{WrongValue, BadE
 use Rattle.mapwords.specs.Fault.{fault_of, refused}
 use Rattle.mapwords.specs.Extent.{extent_of}
 use Rattle.mapwords.specs.Label.{position_of, flag_of}
-use Rattle.mapwords.specs.Offer.{png_of, mercator_of}
+use Rattle.mapwords.specs.declared.offer.Offer.TheVariants as offer
+use Rattle.mapwords.specs.Offer.{offered}
 use Rattle.mapwords.specs.Rule.{rule_of}
 use Rattle.mapwords.specs.Setting.{setting_step}
 use Rattle.mapwords.specs.Count.{read_count, number_in}
@@ -136,8 +137,8 @@ plain_step (expected.East x y) t = east_step x y (coordinate_of t.text)
 plain_step (expected.North x y east) t = north_step x y east (coordinate_of t.text)
 plain_step (expected.Only word) t = only_step word t.text
 plain_step expected.ConfigKey t = Some (config_step t.text)
-plain_step expected.Formats t = option_map (λ offered. Whole (value.Flag Png offered)) (png_of t.text)
-plain_step expected.Systems t = option_map (λ offered. Whole (value.Flag Mercator offered)) (mercator_of t.text)
+plain_step expected.Formats t = option_map (λ is_offered. Whole (value.Flag Png is_offered)) (offered offer.Png t.text)
+plain_step expected.Systems t = option_map (λ is_offered. Whole (value.Flag Mercator is_offered)) (offered offer.Mercator t.text)
 plain_step (expected.Unused more) t = Some (unused_step more)
 plain_step _ t = None
 

@@ -1,6 +1,15 @@
 ghost use Rattle.std.specs.Prelude.{◌≡◌};
 ghost use Rattle.std.specs.List.{list_all, slice_split};
-ghost use Rattle.mapwords.specs.Offer.{is_space, has_name, is_format, png_of, is_system, mercator_of};
+ghost use Rattle.mapwords.specs.Offer.{is_space, has_name, is_anyway, is_taken, name_of, offered};
+
+/// What a value of a CONFIG may offer.
+#[derive(Clone, Copy)]
+pub enum Offer {
+    /// Pictures as PNG, by the key WMS_FORMATS.
+    Png,
+    /// Web mercator, by the key WMS_CRS.
+    Mercator,
+}
 
 // Whether a text has this name, of those that stand apart by spaces.
 fn has_name(name: &str, text: &str) -> bool
@@ -9,55 +18,51 @@ fn has_name(name: &str, text: &str) -> bool
     text.split(' ').any(|part| name == part)
 }
 
-// Whether a name is that of a format that can be made. Between two spaces there may be none.
-fn is_format(name: &str) -> bool
-    ensures { result ≡ is_format name.now }
-{
-    name == ""
-        || name == "image/png"
-        || name == "image/x-portable-pixmap"
-        || name == "image/x-portable-arbitrarymap"
-}
-
-// Whether the names of a text are all those of formats that can be made.
-fn are_formats(text: &str) -> bool
-    ensures { result ≡ list_all is_format (slice_split is_space text.now) }
-{
-    text.split(' ').all(|name| is_format(name))
-}
-
-/// Whether PNG is offered by a value of WMS_FORMATS, if each of its names is that of a format that can be made.
-pub fn png_of(text: &str) -> Option<bool>
-    ensures { result ≡ png_of text.now }
-{
-    if are_formats(text) {
-        Some(has_name("image/png", text))
-    } else {
-        None
+impl Offer {
+    // The name by which a value offers it.
+    fn name(self) -> &'static str
+        ensures { result.now ≡ name_of self }
+    {
+        match self {
+            Offer::Png => "image/png",
+            Offer::Mercator => "EPSG:3857",
+        }
     }
-}
 
-// Whether a name is that of web mercator. Between two spaces there may be none.
-fn is_system(name: &str) -> bool
-    ensures { result ≡ is_system name.now }
-{
-    name == "" || name == "EPSG:3857"
-}
+    // Whether a name of the same kind is offered anyway.
+    fn is_anyway(self, name: &str) -> bool
+        ensures { result ≡ is_anyway self name.now }
+    {
+        match self {
+            Offer::Png => {
+                name == "image/x-portable-pixmap" || name == "image/x-portable-arbitrarymap"
+            }
+            Offer::Mercator => false,
+        }
+    }
 
-// Whether the names of a text are all that of web mercator.
-fn are_systems(text: &str) -> bool
-    ensures { result ≡ list_all is_system (slice_split is_space text.now) }
-{
-    text.split(' ').all(|name| is_system(name))
-}
+    // Whether its key takes a name. Between two spaces there may be none.
+    fn is_taken(self, name: &str) -> bool
+        ensures { result ≡ is_taken self name.now }
+    {
+        name == "" || name == self.name() || self.is_anyway(name)
+    }
 
-/// Whether web mercator is offered by a value of WMS_CRS, if it names no other system.
-pub fn mercator_of(text: &str) -> Option<bool>
-    ensures { result ≡ mercator_of text.now }
-{
-    if are_systems(text) {
-        Some(has_name("EPSG:3857", text))
-    } else {
-        None
+    // Whether its key takes each name of a text.
+    fn are_taken(self, text: &str) -> bool
+        ensures { result ≡ list_all (is_taken self) (slice_split is_space text.now) }
+    {
+        text.split(' ').all(|name| self.is_taken(name))
+    }
+
+    /// Whether it is offered by a value of its key, if that takes each of the value's names.
+    pub fn offered(self, text: &str) -> Option<bool>
+        ensures { result ≡ offered self text.now }
+    {
+        if self.are_taken(text) {
+            Some(has_name(self.name(), text))
+        } else {
+            None
+        }
     }
 }

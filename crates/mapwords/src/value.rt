@@ -13,7 +13,7 @@ use crate::fault::{ParseFault, ParseKind, fault_of};
 use crate::label::{flag_of, position_of};
 use crate::named::Named;
 use crate::number::read_number;
-use crate::offer::{mercator_of, png_of};
+use crate::offer::Offer;
 use crate::role::Expected;
 use crate::rule::{ClassRule, RuleError};
 use crate::setting::setting_step;
@@ -158,7 +158,7 @@ fn whole(value: Option<Value>) -> Option<ValueStep>
 }
 
 // The last step of what a CONFIG offers.
-fn offer(keyword: FlagKeyword, offered: Option<bool>) -> Option<ValueStep>
+fn offer_step(keyword: FlagKeyword, offered: Option<bool>) -> Option<ValueStep>
     ensures { result ≡ option_map (λ is. Whole (ValueTree.Flag keyword is)) offered }
 {
     whole(offered.map(|is| Value::Flag(keyword, is)))
@@ -265,8 +265,8 @@ fn plain_step(expected: Expected, token: &Token) -> Option<ValueStep>
         Expected::North(x, y, east) => north_step(x, y, east, Coordinate::read(text)),
         Expected::Only(word) => only_step(word, text),
         Expected::ConfigKey => Some(config_step(text)),
-        Expected::Formats => offer(FlagKeyword::Png, png_of(text)),
-        Expected::Systems => offer(FlagKeyword::Mercator, mercator_of(text)),
+        Expected::Formats => offer_step(FlagKeyword::Png, Offer::Png.offered(text)),
+        Expected::Systems => offer_step(FlagKeyword::Mercator, Offer::Mercator.offered(text)),
         Expected::Unused(more) => Some(unused_step(more)),
         // They are kept as texts.
         Expected::Text(_) | Expected::Table | Expected::Rule | Expected::Setting => None,

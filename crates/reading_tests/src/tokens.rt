@@ -1,40 +1,38 @@
 use maplex::Shape::{List, Logic, Text, Word};
-use maplex::{LexFault, LexKind, TOKEN_LIMIT, Tokens};
+use maplex::{LexFault, LexKind, TOKEN_LIMIT, Tail, Tokens};
 use std::alloc::{AllocError, Global};
 use test_tables::{TableFault, check_rows};
 
-// The first eight tokens of a source, each with its line and its shape, and its tail: `ends` and the last
-// line, or the line that is reached before the fault, the fault's kind and its line.
+fn write_tail(text: &mut String, tail: Tail) -> Result<(), AllocError> {
+    match tail {
+        Tail::Ends(line) => write!(text, "ends {line}"),
+        Tail::Breaks(LexFault { line, kind }) => write!(text, "{kind:?} {line}"),
+    }
+}
+
+fn ends_on(left: &mut Tokens, line: u64) -> bool {
+    matches!(left.next(), Err(Tail::Ends(end)) if end == line)
+}
+
+// The first eight tokens of a source, each with its line and its shape, and its tail: `ends` and the last line, or the
+// fault's kind and its line.
 fn tokens_of(alloc: Global, source: &[u8]) -> Result<String, AllocError> {
     let mut text = String::new(alloc);
     let mut left = Tokens::new(source);
-    let mut last = 0;
     for _ in 0..9 {
-        let reached = left.line();
         match left.next() {
-            Some(Ok(token)) => {
+            Ok(token) => {
                 let (line, shape) = (token.line, token.shape);
                 write!(text, "{line} {shape:?} {}, ", token.text)?;
-                if line != reached {
-                    text.push_str("which was not reached, ")?;
+            }
+            Err(tail) => {
+                write_tail(&mut text, tail)?;
+                // after the tail nothing is left but an end on its line
+                if !ends_on(&mut left, tail.line()) || !ends_on(&mut left, tail.line()) {
+                    text.push_str(", and more")?;
                 }
+                return Ok(text);
             }
-            Some(Err(LexFault { line, kind })) => {
-                write!(text, "{reached} {kind:?} {line}")?;
-                last = line;
-                break;
-            }
-            None => {
-                write!(text, "ends {reached}")?;
-                last = reached;
-                break;
-            }
-        }
-    }
-    // after the tail nothing is left
-    for _ in 0..2 {
-        if left.next().is_some() || left.line() != last {
-            text.push_str(", and more")?;
         }
     }
     Ok(text)
@@ -103,35 +101,35 @@ fn lines_are_counted_by_line_feeds(rt: HostRuntime) -> Result<(), TableFault> {
 }
 
 const FAULTS: &str = "\
-1 Word NAME, 1 OpenString 1~NAME \"a
-2 OpenString 2~| 'a||
-1 OpenString 1~\"it's
-1 Text a, 1 OpenString 1~'a' '
+1 Word NAME, OpenString 1~NAME \"a
+OpenString 2~| 'a||
+OpenString 1~\"it's
+1 Text a, OpenString 1~'a' '
 # a bracket that closes nothing
-2 BadByte 2~|)
-1 Text }, 1 BadByte 1~'}' }
-1 Word a, 1 BadByte 1~a) b
-1 Word a, 2 BadByte 2~a|b\x00c
-1 Word a, 1 BadByte 1~a \x7f b
+BadByte 2~|)
+1 Text }, BadByte 1~'}' }
+1 Word a, BadByte 1~a) b
+1 Word a, BadByte 2~a|b\x00c
+1 Word a, BadByte 1~a \x7f b
 # a vertical tab is no separator
-1 Word a, 1 BadByte 1~a \x0b b
-1 BadByte 1~\x1f
-1 BadByte 1~'\x00'
+1 Word a, BadByte 1~a \x0b b
+BadByte 1~\x1f
+BadByte 1~'\x00'
 # in a quoted text the line is that of the byte
-1 BadByte 3~'a||b\u{ff}c' d
-2 BadByte 3~|'a|\x7f|'
+BadByte 3~'a||b\u{ff}c' d
+BadByte 3~|'a|\x7f|'
 # a character that is cut short, one half of a pair of UTF-16, and a form that is too long
-1 BadByte 2~'a|\u{e2}\u{82}|'
-1 BadByte 1~\u{ed}\u{a0}\u{80}
-1 Word a, 1 BadByte 1~a \u{c0}\u{af}
+BadByte 2~'a|\u{e2}\u{82}|'
+BadByte 1~\u{ed}\u{a0}\u{80}
+1 Word a, BadByte 1~a \u{c0}\u{af}
 # of several bad bytes the first
-1 BadByte 2~'a|\x01|\u{ff}'
-1 BadByte 2~'a|\u{ff}|\x01'
+BadByte 2~'a|\x01|\u{ff}'
+BadByte 2~'a|\u{ff}|\x01'
 # an open text is reported before its bad bytes
-1 OpenString 1~'a|\x00
-2 OpenString 2~|'a|\u{ff}
+OpenString 1~'a|\x00
+OpenString 2~|'a|\u{ff}
 # a fault is reported before one further on
-1 BadByte 1~a\x00b 'c";
+BadByte 1~a\x00b 'c";
 
 #[test]
 fn faults_have_worked_lines(rt: HostRuntime) -> Result<(), TableFault> {
@@ -171,68 +169,54 @@ fn expressions_and_lists_are_cut(rt: HostRuntime) -> Result<(), TableFault> {
 }
 
 const BRACKET_FAULTS: &str = "\
-1 Logic (a), 1 BadByte 1~(a))
-1 List a, 1 BadByte 1~{a}}
-1 Logic ({), 1 BadByte 1~({)})
+1 Logic (a), BadByte 1~(a))
+1 List a, BadByte 1~{a}}
+1 Logic ({), BadByte 1~({)})
 # the source ends inside an expression or a list, or inside a quoted part
-1 Word FOO, 1 OpenString 1~FOO(
-3 OpenString 3~||{ a
-2 OpenString 2~|((a)|b
-1 Word a, 2 OpenString 2~a|{b|
-1 OpenString 1~(a|'))
-1 OpenString 1~([a\"] = 'b')
+1 Word FOO, OpenString 1~FOO(
+OpenString 3~||{ a
+OpenString 2~|((a)|b
+1 Word a, OpenString 2~a|{b|
+OpenString 1~(a|'))
+OpenString 1~([a\"] = 'b')
 # a quote in a list is ordinary, and the next one opens a text
-1 List \", 1 OpenString 1~{\"}\"}
+1 List \", OpenString 1~{\"}\"}
 # the line of a bad byte is its own; of several the first is reported
-1 BadByte 2~(a|\x00)
-1 BadByte 2~{|\u{ff}} b
-1 Word a, 2 BadByte 4~a|(b||'\x7f')
-1 BadByte 2~(|\u{ff}|\x01)
-1 BadByte 3~{||\x01|\u{ff}}
+BadByte 2~(a|\x00)
+BadByte 2~{|\u{ff}} b
+1 Word a, BadByte 4~a|(b||'\x7f')
+BadByte 2~(|\u{ff}|\x01)
+BadByte 3~{||\x01|\u{ff}}
 # an open expression or list is reported before its bad bytes
-1 OpenString 1~(a|\x00
-2 OpenString 2~|{a|\u{ff}";
+OpenString 1~(a|\x00
+OpenString 2~|{a|\u{ff}";
 
 #[test]
 fn expressions_and_lists_have_faults(rt: HostRuntime) -> Result<(), TableFault> {
     check_rows(rt.alloc(), BRACKET_FAULTS, '~', 17, tokens_of_letters)
 }
 
-// Bad bytes further down than their token begins, and others.
-const REACHED: &str = "\
-2 BadByte 4~|'a||\x7f'
-1 Word a, 3 BadByte 4~a #||'b|\u{ff}'
-1 Word a, 4 BadByte 4~a|||b\x00
-1 Word a, 1 Word b, 2 BadByte 2~a b|)
-1 Word a, 2 OpenString 2~a| 'b|
-5 BadByte 7~||||'a||\x1f' |";
-
-#[test]
-fn a_fault_is_reached_where_its_token_begins(rt: HostRuntime) -> Result<(), TableFault> {
-    check_rows(rt.alloc(), REACHED, '~', 6, tokens_of_letters)
-}
-
 // `*` stands for 65,534 letters. The first row has the limit itself.
 const LONG_TOKENS: &str = "\
 65536~TOKEN_LIMIT
 2 Text *aa, 2 Word b, ends 2~|'*aa' b
-2 TooLong 2~|'*aaa' b
+TooLong 2~|'*aaa' b
 2 Text *aa, 2 Word b, ends 2~|\"*aa\"b
-3 TooLong 3~||\"*aaa\"b
+TooLong 3~||\"*aaa\"b
 2 Word *aa, 2 Word b, ends 2~|*aa b
-2 TooLong 2~|*aaa b
+TooLong 2~|*aaa b
 # the text of an expression has its brackets, that of a list hasn't
 2 Logic (*), 2 Word b, ends 2~|(*)b
-2 TooLong 2~|(*a)b
+TooLong 2~|(*a)b
 2 List *aa, 2 Word b, ends 2~|{*aa}b
-2 TooLong 2~|{*aaa}b
+TooLong 2~|{*aaa}b
 # a bad byte is reported before the length, and an open token before both
-2 BadByte 3~|'*aaa|\x00'
-2 BadByte 3~|(*aaa|\x00)
-2 BadByte 3~|{*aaa|\x00}
-2 OpenString 2~|'*aaa|\x00
-2 OpenString 2~|(*aaa|\x00
-2 OpenString 2~|{*aaa|\x00";
+BadByte 3~|'*aaa|\x00'
+BadByte 3~|(*aaa|\x00)
+BadByte 3~|{*aaa|\x00}
+OpenString 2~|'*aaa|\x00
+OpenString 2~|(*aaa|\x00
+OpenString 2~|{*aaa|\x00";
 
 // The result for the source of letters with `*`.
 fn tokens_of_long(alloc: Global, letters: &str) -> Result<String, AllocError> {
@@ -257,9 +241,9 @@ fn texts_have_at_most_65536_bytes(rt: HostRuntime) -> Result<(), TableFault> {
 
 // `<` stands for 500,000 opening brackets, `>` for as many that close.
 const DEEP: &str = "\
-1 OpenString 1~<<
-1 OpenString 1~(<>
-1 TooLong 1~<>";
+OpenString 1~<<
+OpenString 1~(<>
+TooLong 1~<>";
 
 // The result for the source of letters with `<` and `>`.
 fn tokens_of_deep(alloc: Global, letters: &str) -> Result<String, AllocError> {

@@ -21,8 +21,8 @@ use std::alloc::Global;
 #[derive(Clone, Copy)]
 pub struct QueriedPixel {
     pub count: u32,
-    pub column: u32,
-    pub row: u32,
+    pub column: u16,
+    pub row: u16,
 }
 
 // The layers whose features are requested. `names` are the names that LAYERS lists.

@@ -42,9 +42,9 @@ pub struct InformationRequest {
     /// The most features of a layer in the answer.
     pub count: u32,
     /// The column of the pixel, counted from 0.
-    pub column: u32,
+    pub column: u16,
     /// The row of the pixel, counted from 0.
-    pub row: u32,
+    pub row: u16,
 }
 
 /// The request that a query makes.

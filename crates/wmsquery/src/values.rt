@@ -234,19 +234,19 @@ pub fn feature_count(text: Option<&str>) -> Result<u32, Code>
 }
 
 // The index of a pixel that a number means on a side of a picture.
-fn index_below(side: PictureSide, number: u128) -> Option<u32>
+fn index_below(side: PictureSide, number: u128) -> Option<u16>
     ensures value { result ≡ index_below side number }
     ensures within { IfSome result (λ index. index < side) }
 {
     if number < u128::from(side.pixels()) {
-        Some(number as u32)
+        Some(number as u16)
     } else {
         None
     }
 }
 
 /// The column that I means in a picture of that width, or the row that J means in one of that height.
-pub fn pixel(side: PictureSide, text: Option<&str>) -> Result<u32, Code>
+pub fn pixel(side: PictureSide, text: Option<&str>) -> Result<u16, Code>
     ensures value { result ≡ pixel_of side (option_copied text.entry) }
     ensures within { IfOk result (λ index. index < side) }
 {

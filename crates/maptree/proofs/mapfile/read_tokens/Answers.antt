@@ -5,5 +5,5 @@ use Rattle.maptree.proofs.mapfile.read_tokens.Goals as goal
 pub returns-in_err-take-in-Ok : goal.returns-in_err-take-in-Ok
 returns-in_err-take-in-Ok c =
     let p = err_from_is_err_and c.from_residual.result c.from_residual.ensures.1 in
-    rw (p.1, p.2, ← c.loop-token.invariant, c.in-Ok.ensures)
-    (step-fault c.loop-token.reader c.in-Ok.token c.next_token.new.tokens.tokens c.next_token.new.tokens.tail _ c.in_err-take-in-Ok.ensures.err)
+    rw (p.1, p.2, ← c.loop-token.invariant, c.in-Ok.ensures.token)
+    (step-fault c.loop-token.reader c.in-Ok.token c.next.new.self.tokens c.next.new.self.tail _ c.in_err-take-in-Ok.ensures.err)

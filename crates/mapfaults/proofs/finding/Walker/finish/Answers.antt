@@ -7,21 +7,21 @@ use Rattle.mapfaults.proofs.Explaining.{sound-here, ends-here, breaks-here}
 use Rattle.mapfaults.proofs.finding.Walker.finish.Goals as goal
 
 pub returns-then-is_empty : goal.returns-then-is_empty
-returns-then-is_empty c = λ line.
+returns-then-is_empty c =
     let s = standing c.args.self.now.openings c.args.self.now.drafts in
-    subst (λ tail. IsWalked s (stopped line tail) finding.Sound) (sym c.in-Ends.is)
-    (sound-here s line c.in-Ends.line (sym c.is_empty.ensures ∙ c.if-is_empty.true))
+    subst (λ tail. IsWalked s (stopped tail) finding.Sound) (sym c.in-Ends.is)
+    (sound-here s c.in-Ends.line (sym c.is_empty.ensures ∙ c.if-is_empty.true))
 
 pub returns-else-is_empty : goal.returns-else-is_empty
-returns-else-is_empty c = λ line.
+returns-else-is_empty c =
     let s = standing c.args.self.now.openings c.args.self.now.drafts in
-    subst (λ tail. IsWalked s (stopped line tail) (finding.Faulty c.stop.result)) (sym c.in-Ends.is)
-    (ends-here s line c.in-Ends.line c.stop.result (sym c.is_empty.ensures ∙ c.if-is_empty.false) (ap fault_in c.stop.ensures)
+    subst (λ tail. IsWalked s (stopped tail) (finding.Faulty c.stop.result)) (sym c.in-Ends.is)
+    (ends-here s c.in-Ends.line c.stop.result (sym c.is_empty.ensures ∙ c.if-is_empty.false) (ap fault_in c.stop.ensures)
     (ap (λ (e : Explained). e.openings) c.stop.ensures) (ap (λ (e : Explained). e.token) c.stop.ensures))
 
 pub returns-in-Breaks : goal.returns-in-Breaks
-returns-in-Breaks c = λ line.
+returns-in-Breaks c =
     let s = standing c.args.self.now.openings c.args.self.now.drafts in
-    subst (λ tail. IsWalked s (stopped line tail) (finding.Faulty c.stop-in-Breaks.result)) (sym c.in-Breaks.is)
-    (breaks-here s line c.in-Breaks.fault c.stop-in-Breaks.result (ap fault_in c.stop-in-Breaks.ensures)
+    subst (λ tail. IsWalked s (stopped tail) (finding.Faulty c.stop-in-Breaks.result)) (sym c.in-Breaks.is)
+    (breaks-here s c.in-Breaks.fault c.stop-in-Breaks.result (ap fault_in c.stop-in-Breaks.ensures)
     (ap (λ (e : Explained). e.openings) c.stop-in-Breaks.ensures) (ap (λ (e : Explained). e.token) c.stop-in-Breaks.ensures))
