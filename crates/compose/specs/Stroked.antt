@@ -53,6 +53,11 @@ pub record IsPen (pen : PenValue) (window_of_pen : Area) : Type 0 where
   pub rows : IsPictureSide pen.view.height
   pub window_is : window_of_pen ≡ window pen.view pen.width
 
+-- a view, and a margin of pixels round its picture
+pub record MarginWindowValue : Type 0 where
+  pub view : ViewValue
+  pub margin : ℕ
+
 -- the place lies in the box, or on its border
 abbrev pub has_place : Area → Place → Bool
 has_place box place = (int_le box.minx place.x && int_le place.x box.maxx) && (int_le box.miny place.y && int_le place.y box.maxy)

@@ -1,10 +1,13 @@
 ghost use Rattle.std.specs.Prelude.{◌≡◌, [], ◌*◌, ◌+◌, ◌≤◌, ◌<◌, ◌&&◌, All, Some, length, replicate, IfOk};
 ghost use Rattle.scanfill.specs.Runs.{has_column, is_in_spans};
+ghost use Rattle.viewport.specs.View.{window};
+ghost use Rattle.viewport.specs.declared.view.TheConstants.{MAX_MARGIN};
 ghost use Rattle.compose.specs.Painted.{HasRowsFilled, IsFilled};
 
 use crate::colouring::{ColouredSpans, Colouring, fill_box, fill_rows};
 use crate::latitudes::RowLatitudes;
-use geom::PictureSide;
+use crate::margin_window::MarginWindow;
+use geom::{PictureSide, WorldBox};
 use mapdefs::{Items, Picture, PictureFields, PixelColour, Rgb};
 use scanfill::{RowFlips, Span};
 use scene::Scene;
@@ -13,7 +16,7 @@ use std::marker::Model;
 use std::mem;
 use viewport::Projection;
 
-/// A picture while it is painted, with a table of the latitudes of its rows.
+/// A picture while it is painted, with a table of the latitudes of its rows, and the window that was asked for last.
 #[derive(Drop)]
 pub struct Canvas {
     width: PictureSide,
@@ -21,6 +24,7 @@ pub struct Canvas {
     pixels: Vec<PixelColour>,
     latitudes: RowLatitudes,
     flips: RowFlips,
+    window: MarginWindow,
 }
 
 impl Model for Canvas {
@@ -55,6 +59,7 @@ impl Canvas {
             pixels,
             latitudes: RowLatitudes::new(alloc, projection),
             flips: RowFlips::new(alloc, width, height),
+            window: MarginWindow::new(projection, 1),
         })
     }
 
@@ -77,6 +82,19 @@ impl Canvas {
     /// The table of the latitudes of the canvas's rows, which may have none yet.
     pub fn latitudes(&self) -> &RowLatitudes {
         &self.latitudes
+    }
+
+    /// The part of the world that a projection's picture shows, and `margin` pixels on each side of it. It isn't computed
+    /// anew where the same was asked for last.
+    pub fn window(&mut self, projection: &Projection, margin: u16) -> WorldBox
+        requires { margin ≤ MAX_MARGIN }
+        ensures same { self.new ≡ self.old }
+        ensures value { result ≡ window projection.now margin }
+    {
+        if !self.window.is_of(projection, margin) {
+            self.window = MarginWindow::new(projection, margin);
+        }
+        self.window.area()
     }
 
     /// An empty list of flips of the canvas's picture. It reuses the memory of the list that was taken back last.

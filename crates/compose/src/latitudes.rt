@@ -92,18 +92,19 @@ fn bands_of(alloc: Global, projection: &Projection) -> Result<Vec<Band>, AllocEr
 {
     let rows = projection.height().pixels();
     let mut bands = Vec::with_capacity(alloc, usize::from(rows) + 1)?;
+    let mut north = Coordinate::new(Micro::new(GREATEST_COORDINATE));
     for row in 0..rows + 1 {
-        bands.push(band_of(projection, row))?;
+        let south = about_south(projection, row);
+        bands.push(band_of(projection, row, south, north))?;
+        north = southward(south);
     }
     Ok(bands)
 }
 
-// The band of a row: the one that is guessed if both of its latitudes are of the row, else an empty one.
-fn band_of(projection: &Projection, row: u16) -> Band
+// The band of a row: the one between two guessed latitudes if both are of the row, else an empty one.
+fn band_of(projection: &Projection, row: u16, south: Coordinate, north: Coordinate) -> Band
     ensures { IsBand projection.now.heights projection.now.area.miny projection.now.area.maxy projection.now.height row result }
 {
-    let south = about_south(projection, row);
-    let north = about_north(projection, row);
     let rows = (row_at(projection, south), row_at(projection, north));
     if rows.0 == row && rows.1 == row {
         return Band { south, north };
@@ -128,19 +129,12 @@ pub fn row_at(projection: &Projection, latitude: Coordinate) -> u16
     first_row(projection.down(latitude), projection.height())
 }
 
-// A guess of the southernmost latitude of a row, and of the northernmost one, which is next to the row above it.
+// A guess of the southernmost latitude of a row. The northernmost one of the row below is next to it.
 fn about_south(projection: &Projection, row: u16) -> Coordinate {
     if row < projection.height().pixels() {
         projection.about_south(row)
     } else {
         Coordinate::new(Micro::new(LEAST_COORDINATE))
-    }
-}
-
-fn about_north(projection: &Projection, row: u16) -> Coordinate {
-    match row.checked_sub(1) {
-        Some(above) => southward(about_south(projection, above)),
-        None => Coordinate::new(Micro::new(GREATEST_COORDINATE)),
     }
 }
 

@@ -37,6 +37,7 @@ mod latitudes;
 pub mod laws;
 mod lines;
 mod margin;
+mod margin_window;
 mod paint;
 mod pen;
 mod points;

@@ -4,6 +4,7 @@ ghost use Rattle.mapdefs.specs.declared.limits.TheConstants.{MAX_LINE_WIDTH};
 ghost use Rattle.viewport.specs.View.{device_point};
 ghost use Rattle.compose.specs.Stroked.{IsQuiet, has_box, has_place};
 
+use crate::canvas::Canvas;
 use crate::grain::{Grain, box_of};
 use geom::{
     Device, GREATEST_COORDINATE as MOST, LEAST_COORDINATE as LEAST, Micro, World, WorldBox,
@@ -34,15 +35,19 @@ impl<'a> Model for Pen<'a> {
 }
 
 impl<'a> Pen<'a> {
-    /// The pen of a width, 1 to `MAX_LINE_WIDTH`, and a colour, on the picture of a scene.
-    pub fn new(scene: &'a Scene<'_>, width: u8, colour: Rgb) -> Self
+    /// The pen of a width, 1 to `MAX_LINE_WIDTH`, and a colour, on the picture of a scene. The canvas keeps its window.
+    pub fn new(canvas: &mut Canvas, scene: &'a Scene<'_>, width: u8, colour: Rgb) -> Self
         requires some { 1 ≤ width }
         requires most { width ≤ MAX_LINE_WIDTH }
-        ensures { result ≡ record { view = scene.now.view; width = width; colour = colour } }
+        ensures same { canvas.new ≡ canvas.old }
+        ensures value { result ≡ record { view = scene.now.view; width = width; colour = colour } }
     {
+        let projection = scene.projection();
+        let _area = projection.area();
+        let _sides = (projection.width().pixels(), projection.height().pixels());
         Pen {
-            grain: Grain::new(scene.projection()),
-            window: scene.window(u16::from(width)),
+            grain: Grain::new(projection),
+            window: canvas.window(projection, u16::from(width)),
             width,
             colour,
         }

@@ -120,5 +120,6 @@ fn paint_outline(
     let Some(colour) = style.outline else {
         return Ok(());
     };
-    paint_along_parts(canvas, &Pen::new(scene, style.width, colour), rings, true)
+    let pen = Pen::new(canvas, scene, style.width, colour);
+    paint_along_parts(canvas, &pen, rings, true)
 }

@@ -192,14 +192,13 @@ fn go_on(flips: &mut RowFlips, rows: &RowFinder<'_>, run: Run, to: World) -> Res
     ensures run { IfOk result (λ next. IsRun rows.now next) }
     ensures edge { OnOk result (AddsEdge rows.now flips.old.flips run.from to flips.new.flips) }
 {
-    let row = rows.row_of(to.y());
-    if row == run.row {
-        return Ok(rows.begin(to, row));
+    let corner = rows.corner(to);
+    if corner.row == run.row {
+        return Ok(rows.begin(to, corner.row));
     }
-    let projection = rows.projection();
-    let edge = Edge::new(projection.device(run.from), projection.device(to));
-    flips.add(edge, rows_between(run.row, row))?;
-    Ok(rows.begin(to, row))
+    let edge = Edge::new(rows.projection().device(run.from), corner.at);
+    flips.add(edge, rows_between(run.row, corner.row))?;
+    Ok(rows.begin(to, corner.row))
 }
 
 // The rows that an edge crosses, by the rows of its ends.

@@ -1,4 +1,4 @@
-ghost use Rattle.std.specs.Prelude.{◌≡◌, ◌<◌, ◌≤◌, ◌*◌, ◌^◌, pos, ◌-ℤ◌};
+ghost use Rattle.std.specs.Prelude.{◌≡◌, ◌<◌, ◌≤◌, ◌*◌, ◌^◌, pos, ◌-ℤ◌, IsTrue};
 ghost use Rattle.geom.specs.Device.{pixel_of};
 ghost use Rattle.geom.specs.Range.{IsBelow};
 ghost use Rattle.geom.specs.World.{IsCoordinate, IsExtent};
@@ -52,6 +52,20 @@ impl Projection {
                 span(area.miny(), area.maxy()),
             ),
         }
+    }
+
+    /// The view.
+    pub fn view(&self) -> View
+        ensures { result ≡ self.now }
+    {
+        self.view
+    }
+
+    /// Whether it is the projection of a view.
+    pub fn shows(&self, view: View) -> bool
+        ensures { IsTrue result → view ≡ self.now }
+    {
+        self.view.is_same(view)
     }
 
     /// The part of the world that the view shows.
@@ -160,6 +174,6 @@ fn guess(heights: Heights, height: i64) -> i64
 {
     match heights {
         Heights::Latitudes => height,
-        Heights::Mercator => heights.south(height) + 1,
+        Heights::Mercator => mercator::about_latitude(height),
     }
 }

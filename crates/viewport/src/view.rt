@@ -1,4 +1,4 @@
-ghost use Rattle.std.specs.Prelude.{◌≡◌, ◌≤◌, ◌<◌, ◌^◌, pos, ◌+ℤ◌, ◌-ℤ◌, ◌<ℤ◌, unsigned_abs};
+ghost use Rattle.std.specs.Prelude.{◌≡◌, ◌≤◌, ◌<◌, ◌^◌, pos, ◌+ℤ◌, ◌-ℤ◌, ◌<ℤ◌, unsigned_abs, IsTrue};
 ghost use Rattle.geom.specs.Device.{pixel_of};
 ghost use Rattle.geom.specs.Range.{IsBelow, IsWithin};
 ghost use Rattle.geom.specs.World.{IsCoordinate, IsExtent};
@@ -49,6 +49,16 @@ impl View {
             width,
             height,
         }
+    }
+
+    // Whether it shows the same part of the world by a picture with the same sides.
+    pub(crate) fn is_same(self, other: View) -> bool
+        ensures { IsTrue result → other ≡ self }
+    {
+        self.heights == other.heights
+            && are_same(self.area, other.area)
+            && self.width.pixels() == other.width.pixels()
+            && self.height.pixels() == other.height.pixels()
     }
 
     // What it measures from south to north.
@@ -143,6 +153,16 @@ impl View {
         let whole = difference(area.maxy(), area.miny());
         sixteenths(height, part, whole)
     }
+}
+
+// Whether two parts of the world have the same sides.
+fn are_same(a: WorldBox, b: WorldBox) -> bool
+    ensures { IsTrue result → b ≡ a }
+{
+    a.minx().millionths() == b.minx().millionths()
+        && a.miny().millionths() == b.miny().millionths()
+        && a.maxx().millionths() == b.maxx().millionths()
+        && a.maxy().millionths() == b.maxy().millionths()
 }
 
 // The difference of two coordinates, in millionths of a degree.
