@@ -1,4 +1,4 @@
-ghost use Rattle.std.specs.Prelude.{◌≡◌, ◌<◌, ◌≤◌, length, Ok, Err, OnOk, OnErr, IfErr};
+ghost use Rattle.std.specs.Prelude.{◌≡◌, ◌<◌, ◌≤◌, length, Ok, Err, OnOk, OnErr, IfErr, IfOk};
 ghost use Rattle.batches.specs.Batch.{IsErrorOf, IsBatchErrorOf, IsTableAt, at_index, batch, applied};
 ghost use Rattle.batches.specs.declared.command.Command.TheVariants.{Append};
 ghost use Rattle.batches.specs.declared.fault.TheConstants.{MAX_BATCH};
@@ -102,18 +102,27 @@ fn apply_commands(alloc: Global, draft: &mut Draft, bytes: &[u8]) -> Result<(), 
     Ok(())
 }
 
-/// Applies the commands of a batch, or gives its first fault. After an error the layers stay as they are.
+/// The layers after the commands of a batch, or its first fault.
 ///
 /// The commands change a draft, so that the list and the index of a layer are made once, however many of them
-/// change it.
+/// change it. The draft has a list of layers of its own, since the given ones stay as they are.
+pub fn after_batch(alloc: Global, layers: &Layers, bytes: &[u8]) -> Result<Layers, BatchError>
+    requires { length bytes.now ≤ MAX_BATCH }
+    ensures done { IfOk result (λ after. batch bytes.now layers.now ≡ Ok after) }
+    ensures failed { IfErr result (IsBatchErrorOf (batch bytes.now layers.now)) }
+{
+    let mut draft = Draft::of(alloc, layers.copy()?)?;
+    apply_commands(alloc, &mut draft, bytes)?;
+    Ok(draft.into_layers()?)
+}
+
+/// Applies the commands of a batch, or gives its first fault. After an error the layers stay as they are.
 pub fn apply_batch(alloc: Global, layers: &mut Layers, bytes: &[u8]) -> Result<(), BatchError>
     requires { length bytes.now ≤ MAX_BATCH }
     ensures done { OnOk result (batch bytes.now layers.old ≡ Ok layers.new) }
     ensures failed { IfErr result (IsBatchErrorOf (batch bytes.now layers.old)) }
     ensures kept { OnErr result (layers.new ≡ layers.old) }
 {
-    let mut draft = Draft::of(alloc, layers.copy()?)?;
-    apply_commands(alloc, &mut draft, bytes)?;
-    *layers = draft.into_layers()?;
+    *layers = after_batch(alloc, layers, bytes)?;
     Ok(())
 }

@@ -16,7 +16,7 @@ mod command;
 mod fault;
 pub mod laws;
 
-pub use applying::{apply_batch, apply_command};
+pub use applying::{after_batch, apply_batch, apply_command};
 pub use bytes::Bytes;
 pub use command::{Command, CommandFault, CommandLine, count_of, first_command, line_len};
 pub use fault::{BatchError, BatchFault, BatchKind, CommandError, MAX_BATCH};

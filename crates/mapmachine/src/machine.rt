@@ -5,7 +5,7 @@ ghost use Rattle.mapmachine.specs.Machine.{heights_of, IsWrittenPicture};
 
 use crate::reply::{Event, Reply};
 use answers::Answer;
-use batches::{BatchError, BatchFault, BatchKind, MAX_BATCH, apply_batch};
+use batches::{BatchError, BatchFault, BatchKind, MAX_BATCH, after_batch};
 use capabilities::document;
 use compose::draw;
 use crsaxes::Crs;
@@ -182,8 +182,8 @@ impl Machine {
     {
         let scene = self.scene(&request.map);
         let asked = PixelQuery {
-            column: request.column as u16,
-            row: request.row as u16,
+            column: request.column,
+            row: request.row,
             count: request.count,
         };
         let features = hits_in(self.alloc, &scene, &self.layers, layer, asked)?;
@@ -271,15 +271,14 @@ impl Machine {
         }
     }
 
-    /// Publishes a batch: applies all of its commands, counts it, and gives its number. The error is the first
-    /// fault of the batch, or that memory was refused; then nothing is changed.
+    /// The machine after a batch: all of its commands are applied, and it is counted. The error is the first fault of the
+    /// batch, or that memory was refused.
     ///
     /// A layer's list and its index are made once, however many commands change it, and the new ones share the
     /// features with the old ones.
-    pub fn batch(&mut self, bytes: &[u8]) -> Result<u64, BatchError>
-        ensures published { IfOk result (λ n. (batched bytes.now self.old ≡ Ok self.new) × (n ≡ self.new.sequence)) }
-        ensures refused { IfErr result (IsBatchErrorOf (batched bytes.now self.old)) }
-        ensures kept { OnErr result (self.new ≡ self.old) }
+    pub fn after(&self, bytes: &[u8]) -> Result<Self, BatchError>
+        ensures published { IfOk result (λ machine. batched bytes.now self.now ≡ Ok machine) }
+        ensures refused { IfErr result (IsBatchErrorOf (batched bytes.now self.now)) }
     {
         if bytes.len() > MAX_BATCH {
             let kind = BatchKind::TooLong;
@@ -289,8 +288,21 @@ impl Machine {
             let kind = BatchKind::SequenceEnd;
             return Err(BatchError::Fault(BatchFault { index: 0, kind }));
         }
-        apply_batch(self.alloc, &mut self.layers, bytes)?;
-        self.sequence += 1;
+        Ok(Machine {
+            alloc: self.alloc,
+            layers: after_batch(self.alloc, &self.layers, bytes)?,
+            sequence: self.sequence + 1,
+        })
+    }
+
+    /// Publishes a batch as `after` does, and gives its number. The error is the first fault of the batch, or that memory was
+    /// refused; then nothing is changed.
+    pub fn batch(&mut self, bytes: &[u8]) -> Result<u64, BatchError>
+        ensures published { IfOk result (λ n. (batched bytes.now self.old ≡ Ok self.new) × (n ≡ self.new.sequence)) }
+        ensures refused { IfErr result (IsBatchErrorOf (batched bytes.now self.old)) }
+        ensures kept { OnErr result (self.new ≡ self.old) }
+    {
+        *self = self.after(bytes)?;
         Ok(self.sequence)
     }
 

@@ -1,5 +1,5 @@
 -- Prefixes of which each has one batch more than the one before.
-use Rattle.std.specs.Prelude.{MatchBool, MatchResult, OnOk, option_and_then}
+use Rattle.std.specs.Prelude.{IfErr, IfOk, MatchBool, MatchResult, OnOk, option_and_then}
 use Rattle.std.proofs.Common.{arith, length, take, drop, ◌+◌, ◌≤◌, ◌≡◌, ◌∙◌, ℕ, Bool, true, false, Some, Result, Ok, Err, List, [], ◌∷◌, ◌++◌, fold, refl, sym, ap, subst, append_assoc}
 use Rattle.std.proofs.Math.Seq.{take-append_seam, take-length}
 use Rattle.std.proofs.lemmas.List.{append-nil, drop_all, drop-append-le, length-append, length-drop, length-take, take-append-drop, take-append-le}
@@ -89,6 +89,15 @@ last_all opening first replicas last b c = ap (λ z. z ++ b ∷ []) (chain_all o
 pub fault_of : (opening m : State) (batches : Batches) (b : List ℕ) (error : BatchError) → after accepted opening (all_of batches) ≡ Some m → IsBatchErrorOf (batched b m) error → IsFaultOf opening batches b error
 fault_of opening m batches b (batch_error.Fault fault) e h = (m, e, h)
 fault_of opening m batches b batch_error.NoMemory e h = tt
+
+-- a property of what was made, or of an error, gives another one
+pub made-gives : {T E : Type 0} (P Q : T → Type 0) → ((t : T) → P t → Q t) → (r : Result T E) → IfOk r P → IfOk r Q
+made-gives P Q gives (Ok t) p = gives t p
+made-gives P Q gives (Err e) p = tt
+
+pub error-gives : {T E : Type 0} (P Q : E → Type 0) → ((e : E) → P e → Q e) → (r : Result T E) → IfErr r P → IfErr r Q
+error-gives P Q gives (Ok t) p = tt
+error-gives P Q gives (Err e) p = gives e p
 
 pub ok_from : {T E : Type 0} (r : Result T E) (P : T → Type 0) (Q : E → Type 0) (Z : Type 0) → MatchResult r P Q → ((t : T) → P t → Z) → OnOk r Z
 ok_from (Ok t) P Q Z m f = f t m

@@ -188,22 +188,16 @@ impl<S: Sharing> Admin<S> {
         Receipt::new(self.published.copy(), self.checked.sequence())
     }
 
-    // The machine after all accepted batches and this one, if it has no fault there. The batch is applied to a copy, which
-    // shares the features.
+    // The machine after all accepted batches and this one, if it has no fault there. It shares features with the one before.
     fn after_batch(&self, batch: &Vec<u8>) -> Result<Machine, BatchError>
         ensures accepted { IfOk result (λ m. after accepted S.opening (all_of (with_batch batch.now.items self.now)) ≡ Some m) }
         ensures refused { IfErr result (IsFaultOf S.opening self.now batch.now.items) }
     {
-        let Ok(mut checked) = self.checked.copy() else {
-            return Err(BatchError::NoMemory);
-        };
-        match checked.batch(batch.as_slice()) {
-            Ok(_) => Ok(checked),
-            Err(error) => Err(error),
-        }
+        self.checked.after(batch.as_slice())
     }
 
-    // Keeps a batch, and returns the machine after all accepted batches and this one, twice. All memory is taken before.
+    // Keeps a batch, and returns the machine after all accepted batches and this one, twice: the next batch is checked in the one, and readers
+    // get the other. All memory is taken before.
     fn keep<K: Keeps>(
         &self,
         keeper: &mut K,

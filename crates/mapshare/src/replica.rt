@@ -24,7 +24,8 @@ pub struct Replica<J: Naming> {
     pub prefix: Prefix<J>,
 }
 
-/// A replica takes in a later one by becoming equal to it. The batch was applied once, when it was accepted.
+/// A replica takes in a later one by becoming equal to it. The batch was applied once, when it was accepted. The first of the two replicas that readers
+/// may have takes a copy of the later one, since the second gets that one itself.
 impl<J: Naming> Absorb<Replica<J>> for Replica<J> {
     type State = ReplicaValue;
 

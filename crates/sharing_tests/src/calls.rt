@@ -1,12 +1,12 @@
 use crate::maps::shown;
 use crate::memory::{Coming, Going};
+use blocking::{Connection, Streams, serve_connection};
 use httpedge::{Asks, EdgeFault, Outcome, respond};
 use std::alloc::{AllocError, Global};
 use std::collections::VecDeque;
 use std::io::{self, Write};
 use std::sync::{Arc, OnceLock};
 use streams::Flagged;
-use workers::{Connection, NothingLeft, Opens, Sides, Streams, serve_one};
 
 /// A head without a query, of 30 bytes.
 pub const HEAD: &[u8] = b"GET /wms HTTP/1.1\r\nHost: x\r\n\r\n";
@@ -55,48 +55,26 @@ pub struct Call {
     output: Output,
 }
 
-impl Opens for Call {
-    type Reader = Flagged<Coming>;
-
-    type Writer = Flagged<Output>;
-
-    type Closed = NothingLeft;
-
-    ghost opens = { λ _ _. Unit {0} };
-
-    ghost closes = { λ _ _ _ _. Unit {0} };
-
-    fn open(self, _alloc: Global) -> Option<Sides<Flagged<Coming>, Flagged<Output>>> {
-        let Call { coming, output } = self;
-        Some(Sides {
-            reader: Flagged::new(coming),
-            writer: Flagged::new(output),
-        })
-    }
-
-    fn close(
-        sides: Sides<Flagged<Coming>, Flagged<Output>>,
-        fault: Option<EdgeFault>,
-    ) -> NothingLeft
-        ensures { Unit {0} }
-    {
-        let Output { going, slot } = sides.writer.into_inner();
-        let held = going.held;
-        let _ = slot.try_set(Ended { held, fault });
-        NothingLeft
-    }
+// Stores the end of a connection.
+fn close(writer: Flagged<Output>, fault: Option<EdgeFault>) {
+    let Output { going, slot } = writer.into_inner();
+    let held = going.held;
+    let _ = slot.try_set(Ended { held, fault });
 }
 
 impl Connection for Call {
     fn serve<A: Asks>(self, alloc: Global, asks: &mut A) {
-        serve_one(alloc, asks, self);
+        let Call { coming, output } = self;
+        let mut reader = Flagged::new(coming);
+        let mut writer = Flagged::new(output);
+        let served = serve_connection(alloc, asks, &mut reader, &mut writer);
+        close(writer, served.err());
     }
 
-    fn turn_away(self, alloc: Global) {
-        if let Some(mut sides) = self.open(alloc) {
-            let _ = respond(&Outcome::Busy, true, &mut sides.writer);
-            Call::close(sides, None);
-        }
+    fn turn_away(self, _alloc: Global) {
+        let mut writer = Flagged::new(self.output);
+        let _ = respond(&Outcome::Busy, true, &mut writer);
+        close(writer, None);
     }
 }
 

@@ -1,5 +1,6 @@
 use crate::calls::{Call, Calls, HEAD};
 use crate::maps::machine;
+use blocking::{Gate, Streams, work};
 use mapmachine::Machine;
 use std::alloc::{AllocError, Global};
 use std::sync::atomic::{AtomicU64, Ordering};
@@ -7,7 +8,6 @@ use std::sync::{Arc, Wait};
 use std::thread::{self, Threads};
 use std::time::Duration;
 use test_tables::{TableFault, check_rows};
-use workers::{Gate, Streams, work};
 
 // A gate that holds each connection until all have come, for ten seconds at most.
 #[derive(Drop)]

@@ -2,6 +2,7 @@ ghost use Rattle.std.specs.Prelude.{◌≡◌};
 
 use crate::calls::{Calls, HEAD};
 use crate::maps::machine;
+use blocking::{Gate, work};
 use history::Blank;
 use mapmachine::Machine;
 use mapshare::{Sharing, open};
@@ -12,7 +13,6 @@ use std::sync::{Arc, Wait};
 use std::thread::{self, Threads};
 use std::time::Duration;
 use test_tables::{TableFault, check_rows};
-use workers::{Gate, work};
 
 // A gate that holds the first connection until the second is answered, for ten seconds at most.
 #[derive(Drop)]

@@ -1,5 +1,6 @@
 use crate::calls::{Calls, HEAD};
 use crate::maps::machine;
+use blocking::{OpenGate, work};
 use httpedge::{Asks, Busy};
 use mapmachine::{Answer, Machine};
 use std::alloc::{AllocError, Global};
@@ -7,7 +8,6 @@ use std::str;
 use std::sync::{Arc, Mutex, Wait};
 use std::thread::Threads;
 use test_tables::{TableFault, check_rows};
-use workers::{OpenGate, work};
 
 // Queries in brackets, in the order in which they came.
 type Queries = Arc<Mutex<String>, Global>;
