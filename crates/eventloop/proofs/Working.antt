@@ -1,10 +1,9 @@
 -- Steps of a worker's table, by what its calls ensure.
-use Rattle.std.proofs.Common.{◌≡◌, ◌∙◌, ◌⊎◌, inl, inr, ℕ, List, [], ◌∷◌, ◌++◌, Bool, true, false, ◌==◌, ◌||◌, ◌≤◌, ◌<◌, ◌+◌, length, get_or, Option, None, Some, refl, sym, ap, subst, arith}
+use Rattle.std.proofs.Common.{◌≡◌, ◌∙◌, ◌⊎◌, inl, inr, ℕ, List, [], ◌∷◌, ◌++◌, Bool, true, false, ◌==◌, ◌≤◌, ◌<◌, ◌+◌, length, get_or, Option, None, Some, refl, sym, ap, subst, arith}
 use Rattle.std.proofs.lemmas.Bool.{eqb-true, eqb-false}
-use Rattle.std.proofs.lemmas.List.Folds.{list_any-append}
 use Rattle.std.specs.Prelude.{IfNone, IfSome, MatchBool}
 use Rattle.eventloop.specs.Working.{HasGivenWay, HasMadeRoom, HasTurned, InTime}
-use Rattle.turns.proofs.Order.{joins-then}
+use Rattle.turns.proofs.Order.{has-joins, joins-then}
 use Rattle.turns.specs.Pressure.{IsFirst, IsWanted, NoneMay}
 use Rattle.turns.specs.Times.{deadline, is_unanswered}
 use Rattle.turns.specs.declared.pressure.Pressure.{Pressure}
@@ -12,8 +11,8 @@ use Rattle.turns.specs.declared.pressure.Pressure.TheVariants as pressure
 use Rattle.turns.specs.declared.times.Timeouts.{Timeouts}
 use Rattle.turns.specs.declared.turn.Next.{Next}
 use Rattle.httpedge.specs.Exchange.{Said}
-use Rattle.turns.proofs.Runs.{run-none, run-step, run-then}
-use Rattle.turns.specs.Queue.{has, joined, joins}
+use Rattle.turns.proofs.Runs.{run-none, run-step}
+use Rattle.turns.specs.Queue.{has, joins}
 use Rattle.turns.specs.Runs.{Reason, Overdue, Unanswered, Yields, IsReason, Step, Opens, Wakes, Serves, Leaves, IsNew, IsTurnOf, Goes, Steps, Runs, HasRun, turns_of}
 use Rattle.turns.specs.Slots.{at_slot, OthersStay}
 use Rattle.turns.specs.Table.{connections, ready_slots, waiting_slots, has_room, timeouts_of, KeepsReady, KeepsWaiting}
@@ -22,22 +21,6 @@ use Rattle.turns.specs.declared.outcomes.ReadOutcome.{ReadOutcome}
 use Rattle.turns.specs.declared.outcomes.WriteOutcome.{WriteOutcome}
 use Rattle.turns.specs.declared.served.Closed.{Closed}
 use Rattle.turns.specs.declared.table.ConnectionTable.{ConnectionTable}
-
--- a slot in a queue stays there while others come
-has-joined : (slot one : ℕ) (queue : List ℕ) → has slot queue ≡ true → has slot (joined queue one) ≡ true
-has-joined slot one queue there = go (has one queue) refl
-  where
-    first : (a b : Bool) → a ≡ true → (a || b) ≡ true
-    first true b is = refl
-    first false b is = absurd (cc is)
-
-    go : (b : Bool) → has one queue ≡ b → has slot (joined queue one) ≡ true
-    go true e = rw e there
-    go false e = rw e (list_any-append (λ x. x == slot) queue (one ∷ []) ∙ first (has slot queue) ((one == slot) || false) there)
-
-has-joins : (slot : ℕ) (queue ones : List ℕ) → has slot queue ≡ true → has slot (joins queue ones) ≡ true
-has-joins slot queue [] there = there
-has-joins slot queue (one ∷ ones) there = has-joins slot (joined queue one) ones (has-joined slot one queue there)
 
 turns-append : {T : Type 0} (some more : List (Step T)) → length (turns_of (some ++ more)) ≡ length (turns_of some) + length (turns_of more)
 turns-append [] more = omega arith

@@ -1,1 +1,2 @@
+pub mod HandingOver
 pub mod Working

@@ -14,6 +14,7 @@
 #![tactic(auto)]
 
 mod ending_early;
+mod handed_over;
 mod handover;
 pub mod laws;
 mod orders;
@@ -22,7 +23,8 @@ mod turning_away;
 mod worker;
 mod worker_threads;
 
-pub use handover::{Ending, Handover, WAITING};
+pub use handed_over::Ending;
+pub use handover::{Handover, WAITING};
 pub use orders::Orders;
 pub use poller::{Poller, Wakes};
 pub use turning_away::turn_away;

@@ -2,7 +2,7 @@ ghost use Rattle.std.specs.Prelude.{◌≡◌, MatchBool};
 ghost use Rattle.eventloop.specs.Working.{HasGivenWay};
 ghost use Rattle.turns.specs.declared.pressure.Pressure.TheVariants.{Slot};
 
-use crate::handover::Ending;
+use crate::handed_over::Ending;
 use turns::{Closed, ConnectionTable, Transport};
 
 /// What a worker is to do now. It can't be let go: it is obeyed.

@@ -9,7 +9,8 @@ ghost use Rattle.turns.specs.Times.{deadline};
 ghost use Rattle.turns.specs.declared.pressure.Pressure.TheVariants.{Slot};
 
 use crate::ending_early::early_end;
-use crate::handover::{Ending, Handover};
+use crate::handed_over::Ending;
+use crate::handover::Handover;
 use crate::orders::Orders;
 use crate::poller::{Poller, Wakes};
 use crate::turning_away::turn_away;

@@ -5,7 +5,8 @@ ghost use Rattle.turns.specs.Slots.{at_slot};
 ghost use Rattle.turns.specs.Table.{connections, timeouts_of};
 ghost use Rattle.turns.specs.declared.times.Timeouts.{Timeouts};
 
-use crate::handover::{Ending, Handover, WAITING};
+use crate::handed_over::Ending;
+use crate::handover::{Handover, WAITING};
 use crate::poller::{Poller, Wakes};
 use crate::turning_away::turn_away;
 use crate::worker::{Worker, run};
