@@ -35,7 +35,7 @@ cause_word Head = codes "head"
 cause_word Answer = codes "answer"
 cause_word Rate = codes "rate"
 cause_word Fault = codes "fault"
-cause_word GaveWay = codes "place"
+cause_word GaveWay = codes "evicted"
 cause_word Busy = codes "busy"
 cause_word Stopped = codes "stopped"
 

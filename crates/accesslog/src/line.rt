@@ -117,7 +117,7 @@ fn cause_word(cause: Cause) -> &'static [u8]
         Cause::Answer => b"answer",
         Cause::Rate => b"rate",
         Cause::Fault => b"fault",
-        Cause::GaveWay => b"place",
+        Cause::GaveWay => b"evicted",
         Cause::Busy => b"busy",
         Cause::Stopped => b"stopped",
     }

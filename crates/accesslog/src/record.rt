@@ -4,94 +4,25 @@ ghost use Rattle.std.specs.Prelude.{◌≡◌};
 
 use crate::line::{AnswerNote, answer_line};
 use std::alloc::Global;
+use turns::Answered;
 
-// How many bytes are noted that came and aren't answered yet, at most: a head, and one read after it.
-const NOTED_BYTES: usize = 20_480;
-
-// The position of the status in the first line of a response.
-const STATUS: usize = 9;
-
-// An answer that is being sent.
-#[derive(Drop)]
+// A response that is being sent: how many bytes it has, how many of them are left, and when the first byte of its request came.
+#[derive(Clone, Copy)]
 struct Sending {
-    target: Vec<u8>,
-    status: u16,
     bytes: u64,
     left: u64,
     since: u64,
 }
 
-/// The notes on a connection: the bytes that came and aren't answered yet, and the answer that is being sent.
+/// The notes on a connection: since when a request comes, and the response that is being sent.
 #[derive(Drop)]
 pub struct Record {
     alloc: Global,
     connection: u64,
-    came: Vec<u8>,
-    // When the first of these bytes came, and when the last read was.
-    since: u64,
+    // When the first byte of the request came that isn't answered yet, and when the last read was.
+    since: Option<u64>,
     read_at: u64,
-    // Bytes weren't noted, as memory was refused: no further target is known.
-    is_lost: bool,
     sending: Option<Sending>,
-}
-
-// The rest of some bytes after the ends of lines that they begin with.
-fn behind_newlines(bytes: &[u8]) -> &[u8] {
-    for index in 0..bytes.len() {
-        if bytes[index] != b'\r' && bytes[index] != b'\n' {
-            return &bytes[index..];
-        }
-    }
-    &[]
-}
-
-// How many bytes the head at the start of some bytes has: up to its first empty line after another, or all.
-fn head_len(bytes: &[u8]) -> usize {
-    let mut is_empty = true;
-    let mut has_text = false;
-    for index in 0..bytes.len() {
-        match bytes[index] {
-            b'\n' if is_empty && has_text => return index + 1,
-            b'\n' => is_empty = true,
-            b'\r' => {}
-            _ => {
-                is_empty = false;
-                has_text = true;
-            }
-        }
-    }
-    bytes.len()
-}
-
-// The target of a request with this head: the bytes between the first two spaces of its first line. It is empty where there are none.
-fn target_of(head: &[u8]) -> &[u8] {
-    let text = behind_newlines(head);
-    let line = match text
-        .iter()
-        .position(|byte| *byte == b'\n' || *byte == b'\r')
-    {
-        Some(end) => text.get(..end).unwrap_or(text),
-        None => text,
-    };
-    let Some(space) = line.iter().position(|byte| *byte == b' ') else {
-        return &[];
-    };
-    let rest = line.get(space..).unwrap_or(&[]).get(1..).unwrap_or(&[]);
-    match rest.iter().position(|byte| *byte == b' ') {
-        Some(end) => rest.get(..end).unwrap_or(rest),
-        None => rest,
-    }
-}
-
-// The status in the first line of a response, or 0.
-fn status_of(head: &[u8]) -> u16 {
-    let mut status: u16 = 0;
-    for digit in head.get(STATUS..).unwrap_or(&[]).iter().take(3) {
-        status = status
-            .saturating_mul(10)
-            .saturating_add(u16::from(digit.saturating_sub(b'0')));
-    }
-    status
 }
 
 impl Record {
@@ -102,10 +33,8 @@ impl Record {
         Record {
             alloc,
             connection,
-            came: Vec::new(alloc),
-            since: 0,
+            since: None,
             read_at: 0,
-            is_lost: false,
             sending: None,
         }
     }
@@ -115,83 +44,49 @@ impl Record {
         self.connection
     }
 
-    // No further target is known.
-    fn lose(&mut self) {
-        self.is_lost = true;
-        self.came = Vec::new(self.alloc);
-    }
-
-    /// Bytes came, at this millisecond. Where memory is refused for them, no target of the connection is known from then on.
-    pub fn came(&mut self, bytes: &[u8], now: u64) {
+    /// Bytes came, at this millisecond.
+    pub fn came(&mut self, now: u64) {
         self.read_at = now;
-        if self.came.is_empty() {
-            self.since = now;
-        }
-        let room = NOTED_BYTES.saturating_sub(self.came.len());
-        let noted = bytes.get(..room).unwrap_or(bytes);
-        if !self.is_lost && self.came.extend_from_slice(noted).is_err() {
-            self.lose();
+        if self.since.is_none() {
+            self.since = Some(now);
         }
     }
 
-    // The target of the request whose head came first, and the bytes after that head. There are none where memory is refused.
-    fn split(&self) -> Option<(Vec<u8>, Vec<u8>)> {
-        let len = head_len(&self.came);
-        let (head, rest) = self.came.split_at(len.min(self.came.len()));
-        match (
-            Vec::from_slice(self.alloc, target_of(head)),
-            Vec::from_slice(self.alloc, rest),
-        ) {
-            (Ok(target), Ok(rest)) => Some((target, rest)),
-            _ => None,
-        }
-    }
-
-    // An answer begins, to the request whose head came first. The bytes after that head came with the last read: no read is made
-    // while a whole head stands unanswered.
-    fn begin(&mut self, head: &[u8], bytes: u64) {
-        let target = match self.split() {
-            Some((target, rest)) => {
-                self.came = rest;
-                target
-            }
-            None => {
-                self.lose();
-                Vec::new(self.alloc)
-            }
+    // A response of so many bytes begins. The bytes of a further request came with the last read: none is made while a whole head
+    // stands unanswered.
+    fn begin(&mut self, bytes: u64, is_followed: bool) -> Sending {
+        let since = self.since.unwrap_or(self.read_at);
+        self.since = if is_followed {
+            Some(self.read_at)
+        } else {
+            None
         };
-        self.sending = Some(Sending {
-            target,
-            status: status_of(head),
+        Sending {
             bytes,
             left: bytes,
-            since: self.since,
-        });
-        self.since = self.read_at;
+            since,
+        }
     }
 
-    /// Bytes were sent, so many of those of an answer that were to be sent in two parts. Returns whether all of it was sent: then its
-    /// line is due.
-    pub fn went(&mut self, parts: (&[u8], &[u8]), count: usize) -> bool {
-        let (first, second) = parts;
-        if self.sending.is_none() {
-            let bytes = (first.len() as u64).saturating_add(second.len() as u64);
-            self.begin(first, bytes);
-        }
-        let Some(sending) = &mut self.sending else {
-            return false;
+    /// Bytes of a response were sent: so many of those that were left, of which there were `left`. Returns whether all of it was sent:
+    /// then its line is due.
+    pub fn went(&mut self, is_followed: bool, left: u64, count: usize) -> bool {
+        let mut sending = match self.sending {
+            Some(sending) => sending,
+            None => self.begin(left, is_followed),
         };
         sending.left = sending.left.saturating_sub(count as u64);
+        self.sending = Some(sending);
         sending.left == 0
     }
 
-    /// The line on the answer that was sent last, at this millisecond. There is none where memory is refused for it.
-    pub fn line(&mut self, now: u64) -> Option<Vec<u8>> {
+    /// The line on the response that was sent last, at this millisecond. There is none where memory is refused for it.
+    pub fn line(&mut self, answered: &Answered<'_>, now: u64) -> Option<Vec<u8>> {
         let sending = self.sending.take()?;
         let note = AnswerNote {
             connection: self.connection,
-            target: &sending.target,
-            status: sending.status,
+            target: answered.target,
+            status: answered.status,
             bytes: sending.bytes,
             millis: now.saturating_sub(sending.since),
         };

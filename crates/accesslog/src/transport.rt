@@ -10,7 +10,7 @@ use crate::record::Record;
 use std::alloc::Global;
 use std::rt::Clock;
 use std::sync::Wait;
-use turns::{ReadOutcome, Transport, WriteOutcome};
+use turns::{Answered, ReadOutcome, Transport, WriteOutcome};
 
 /// A connection that notes why it ends before its client had all of its answers.
 pub trait EndsEarly {
@@ -71,15 +71,25 @@ impl<T: Transport, R: Clock + Wait + Copy> Transport for LoggedTransport<T, R> {
     fn read(&mut self, room: &mut [u8]) -> ReadOutcome {
         let outcome = self.inner.read(room);
         if let Some(noted) = &mut self.noted {
-            note_read(noted, room, outcome);
+            note_read(noted, outcome);
         }
         outcome
     }
 
     fn write(&mut self, first: &[u8], second: &[u8]) -> WriteOutcome {
-        let outcome = self.inner.write(first, second);
+        self.inner.write(first, second)
+    }
+
+    fn write_answer(
+        &mut self,
+        answered: &Answered<'_>,
+        first: &[u8],
+        second: &[u8],
+    ) -> WriteOutcome {
+        let outcome = self.inner.write_answer(answered, first, second);
         if let Some(noted) = &mut self.noted {
-            note_write(noted, (first, second), outcome);
+            let left = (first.len() as u64).saturating_add(second.len() as u64);
+            note_write(noted, answered, left, outcome);
         }
         outcome
     }
@@ -89,25 +99,25 @@ impl<T: Transport, R: Clock + Wait + Copy> Transport for LoggedTransport<T, R> {
     }
 }
 
-// Notes the bytes that a read gave.
-fn note_read<R: Clock + Wait + Copy>(noted: &mut AnswerLog<R>, room: &[u8], outcome: ReadOutcome) {
-    if let ReadOutcome::Bytes(count) = outcome {
-        let bytes = room.get(..count).unwrap_or(room);
-        noted.record.came(bytes, noted.queue.now());
+// Notes that a read gave bytes.
+fn note_read<R: Clock + Wait + Copy>(noted: &mut AnswerLog<R>, outcome: ReadOutcome) {
+    if let ReadOutcome::Bytes(_) = outcome {
+        noted.record.came(noted.queue.now());
     }
 }
 
-// Notes the bytes that a write took, and puts the line on an answer that was sent whole.
+// Notes the bytes that a write took of those that were left, and puts the line on a response that was sent whole.
 fn note_write<R: Clock + Wait + Copy>(
     noted: &mut AnswerLog<R>,
-    parts: (&[u8], &[u8]),
+    answered: &Answered<'_>,
+    left: u64,
     outcome: WriteOutcome,
 ) {
     let WriteOutcome::Bytes(count) = outcome else {
         return;
     };
-    if noted.record.went(parts, count) {
-        let line = noted.record.line(noted.queue.now());
+    if noted.record.went(answered.is_followed, left, count) {
+        let line = noted.record.line(answered, noted.queue.now());
         noted.queue.put(line);
     }
 }

@@ -3,7 +3,8 @@ use Rattle.std.proofs.Common.{◌≡◌, ◌∙◌, ◌<◌, ◌≤◌, ◌+◌,
 use Rattle.std.proofs.lemmas.Bool.{ne_eqb}
 use Rattle.std.proofs.lemmas.Bool.Decides.{leb_tells}
 use Rattle.std.proofs.lemmas.List.{take_all}
-use Rattle.httpedge.specs.Connection.{Progress, Open, Decided, Course, LeavesOpen, Feeds, step_of, query_of, is_decided, is_closing, goes_on, forgotten, ends_by}
+use Rattle.httpedge.specs.Connection.{Progress, Open, Decided, Course, LeavesOpen, Feeds, step_of, target_of, is_decided, is_closing, goes_on, forgotten, ends_by}
+use Rattle.httpedge.specs.Head.{IsTargetOf}
 use Rattle.httpedge.specs.Exchange.{Said, IsReply, IsExchange, IsBegun}
 use Rattle.httpedge.specs.Meaning.{decision_meaning}
 use Rattle.httpedge.specs.Serving.{IsOpen, IsReading, HasCome, came_of, requests_left, missing}
@@ -20,7 +21,7 @@ nothing-open = (nothing-headless, omega arith)
 -- the bytes that came to an open one are fewer than a head may have
 pub open-short : (p : Progress) → IsOpen p → length (came_of p) < 16384
 open-short (Open came) opened = opened.1
-open-short (Decided closes decided query) opened = absurd opened
+open-short (Decided closes decided target) opened = absurd opened
 
 -- an option that isn't some is none
 pub none-by : {X : Type 0} (o : Option X) → ((x : X) → o ≡ Some x → ⊥) → o ≡ None
@@ -38,25 +39,31 @@ more-came answers n k read said piece first now (Open came) (Open bytes) taken o
     let all : came ++ take taken piece ≡ came ++ piece = ap (λ l. came ++ l) (take_all taken piece long) in
     let is : bytes ≡ came ++ piece = feeds.comes.0 ∙ all in
     (subst LeavesOpen (sym feeds.comes.0) feeds.comes.1, rw is (come-more answers n k read came piece said first now come))
-more-came answers n k read said piece first now (Open came) (Decided closes decided query) taken opened feeds step come = absurd (cc)
-more-came answers n k read said piece first now (Decided closes decided query) q taken opened feeds step come = absurd opened
+more-came answers n k read said piece first now (Open came) (Decided closes decided target) taken opened feeds step come = absurd (cc)
+more-came answers n k read said piece first now (Decided closes decided target) q taken opened feeds step come = absurd opened
 
 -- the bytes that were taken decide
 pub record IsDecided (came part : List ℕ) (d : Decision) (q : Progress) : Type 0 where
   pub closes : Bool
-  pub is : q ≡ Decided closes d (query_of q)
-  pub decides : Decides (came ++ part) closes (decision_meaning d (query_of q))
+  pub is : q ≡ Decided closes d (target_of q)
+  pub decides : Decides (came ++ part) closes (decision_meaning d (target_of q))
 
 pub decided-by : (p q : Progress) (piece : List ℕ) (taken : ℕ) (d : Decision) → IsOpen p → Feeds p piece taken q → step_of q ≡ Some d → IsDecided (came_of p) (take taken piece) d q
 decided-by (Open came) (Open bytes) piece taken d opened feeds step = absurd (cc)
-decided-by (Open came) (Decided closes decided query) piece taken d opened feeds step =
+decided-by (Open came) (Decided closes decided target) piece taken d opened feeds step =
     let same : decided ≡ d = cc in
     record {
       closes = closes;
-      is = ap (λ x. Decided closes x query) same;
-      decides = subst (λ (x : Decision). Decides (came ++ take taken piece) closes (decision_meaning x query)) same feeds.comes;
+      is = ap (λ x. Decided closes x target) same;
+      decides = subst (λ (x : Decision). Decides (came ++ take taken piece) closes (decision_meaning x target)) same feeds.comes.0;
     }
-decided-by (Decided closes decided query) q piece taken d opened feeds step = absurd opened
+decided-by (Decided closes decided target) q piece taken d opened feeds step = absurd opened
+
+-- and their target is found
+pub decided-target : (p q : Progress) (piece : List ℕ) (taken : ℕ) (d : Decision) → IsOpen p → Feeds p piece taken q → step_of q ≡ Some d → IsTargetOf (came_of p ++ take taken piece) (target_of q)
+decided-target (Open came) (Open bytes) piece taken d opened feeds step = absurd (cc)
+decided-target (Open came) (Decided closes decided target) piece taken d opened feeds step = feeds.comes.1
+decided-target (Decided closes decided target) q piece taken d opened feeds step = absurd opened
 
 -- neither holds
 neither : (a b : Bool) → not (a || b) ≡ true → (a ≡ false) × (b ≡ false)
@@ -80,10 +87,10 @@ is-last done below =
     ]
 
 -- there is a decision that ends the connection, or one that doesn't
-closing-is : (course : Course) (closes : Bool) (d : Decision) → course.progress ≡ Decided closes d (query_of course.progress) → is_closing course ≡ (closes || (course.done + 1 == REQUESTS))
+closing-is : (course : Course) (closes : Bool) (d : Decision) → course.progress ≡ Decided closes d (target_of course.progress) → is_closing course ≡ (closes || (course.done + 1 == REQUESTS))
 closing-is course closes d is = ap (ends_by (course.done + 1 == REQUESTS)) is
 
-going-is : (course : Course) (closes : Bool) (d : Decision) → course.progress ≡ Decided closes d (query_of course.progress) → goes_on course ≡ not (closes || (course.done + 1 == REQUESTS))
+going-is : (course : Course) (closes : Bool) (d : Decision) → course.progress ≡ Decided closes d (target_of course.progress) → goes_on course ≡ not (closes || (course.done + 1 == REQUESTS))
 going-is course closes d is = ap (λ q. is_decided q && not (ends_by (course.done + 1 == REQUESTS) q)) is
 
 -- so many fewer reads are needed
@@ -95,7 +102,7 @@ less-missing old new nothing less reading =
 -- a head was answered that goes on
 pub next-came : {A : Type 0} (answers : A → List ℕ → Said → A → Type 0) (n : ℕ) (read said rest reply : List ℕ) (first now between : A) (old fed new : Course) (taken : ℕ) (d : Decision) (on : Bool) →
     IsReading old → Feeds old.progress rest taken fed.progress → fed.done ≡ old.done → step_of fed.progress ≡ Some d →
-    IsReply answers (is_closing fed) (decision_meaning d (query_of fed.progress)) now reply between → on ≡ goes_on fed → on ≡ true → new ≡ (if goes_on fed then forgotten fed else fed) →
+    IsReply answers (is_closing fed) (decision_meaning d (target_of fed.progress)) now reply between → on ≡ goes_on fed → on ≡ true → new ≡ (if goes_on fed then forgotten fed else fed) →
     HasCome answers n read first said (requests_left old) (came_of old.progress) now →
     IsReading new × HasCome answers n (read ++ take taken rest) first (said ++ reply) (requests_left new) (came_of new.progress) between × (missing new < missing old)
 next-came answers n read said rest reply first now between old fed new taken d on reading feeds same step replies goes yes_on next come =
@@ -112,14 +119,14 @@ next-came answers n read said rest reply first now between old fed new taken d o
       | inr h ↦ omega (arith, h.1)
     ] in
     let c : HasCome answers n read first said (suc k) (came_of old.progress) now = subst (λ (m : ℕ). HasCome answers n read first said m (came_of old.progress) now) left come in
-    let r : IsReply answers false (decision_meaning d (query_of fed.progress)) now reply between = subst (λ (b : Bool). IsReply answers b (decision_meaning d (query_of fed.progress)) now reply between) open_still replies in
-    let decides : Decides (came_of old.progress ++ take taken rest) false (decision_meaning d (query_of fed.progress)) = subst (λ (b : Bool). Decides (came_of old.progress ++ take taken rest) b (decision_meaning d (query_of fed.progress))) free.0 decided.decides in
-    rw is (record { count = more; opened = nothing-open }, come-next answers n k read (came_of old.progress) (take taken rest) said reply first now between (decision_meaning d (query_of fed.progress)) c decides some r, less-missing old (forgotten fed) refl (omega (arith, left)) reading)
+    let r : IsReply answers false (decision_meaning d (target_of fed.progress)) now reply between = subst (λ (b : Bool). IsReply answers b (decision_meaning d (target_of fed.progress)) now reply between) open_still replies in
+    let decides : Decides (came_of old.progress ++ take taken rest) false (decision_meaning d (target_of fed.progress)) = subst (λ (b : Bool). Decides (came_of old.progress ++ take taken rest) b (decision_meaning d (target_of fed.progress))) free.0 decided.decides in
+    rw is (record { count = more; opened = nothing-open }, come-next answers n k read (came_of old.progress) (take taken rest) said reply first now between (decision_meaning d (target_of fed.progress)) c decides some r, less-missing old (forgotten fed) refl (omega (arith, left)) reading)
 
 -- a head was answered that ends the connection
 pub last-came : {A : Type 0} (answers : A → List ℕ → Said → A → Type 0) (n : ℕ) (read said rest reply : List ℕ) (first now last : A) (old fed : Course) (taken : ℕ) (d : Decision) (on : Bool) →
     IsReading old → Feeds old.progress rest taken fed.progress → fed.done ≡ old.done → step_of fed.progress ≡ Some d →
-    IsReply answers (is_closing fed) (decision_meaning d (query_of fed.progress)) now reply last → on ≡ goes_on fed → on ≡ false →
+    IsReply answers (is_closing fed) (decision_meaning d (target_of fed.progress)) now reply last → on ≡ goes_on fed → on ≡ false →
     HasCome answers n read first said (requests_left old) (came_of old.progress) now →
     (more : List ℕ) → IsExchange answers n ((read ++ take taken rest) ++ more) first (said ++ reply) last
 last-came answers n read said rest reply first now last old fed taken d on reading feeds same step replies goes off come =
@@ -131,13 +138,13 @@ last-came answers n read said rest reply first now last old fed taken d on readi
     let at_last : (decided.closes || (k == 0)) ≡ true = ap (λ (b : Bool). decided.closes || b) (sym (is-last fed.done (omega (arith, below, same)))) ∙ ends in
     let c : HasCome answers n read first said (suc k) (came_of old.progress) now = subst (λ (m : ℕ). HasCome answers n read first said m (came_of old.progress) now) left come in
     let closed : is_closing fed ≡ true = closing-is fed decided.closes d decided.is ∙ ends in
-    let r : IsReply answers true (decision_meaning d (query_of fed.progress)) now reply last = subst (λ (b : Bool). IsReply answers b (decision_meaning d (query_of fed.progress)) now reply last) closed replies in
-    come-last answers n k read (came_of old.progress) (take taken rest) said reply first now last decided.closes (decision_meaning d (query_of fed.progress)) c decided.decides at_last r
+    let r : IsReply answers true (decision_meaning d (target_of fed.progress)) now reply last = subst (λ (b : Bool). IsReply answers b (decision_meaning d (target_of fed.progress)) now reply last) closed replies in
+    come-last answers n k read (came_of old.progress) (take taken rest) said reply first now last decided.closes (decision_meaning d (target_of fed.progress)) c decided.decides at_last r
 
 -- the answer to a head was begun
 pub broken-came : {A : Type 0} (answers : A → List ℕ → Said → A → Type 0) (n : ℕ) (read said rest reply : List ℕ) (first now last : A) (old fed : Course) (taken : ℕ) (d : Decision) →
     IsReading old → Feeds old.progress rest taken fed.progress → fed.done ≡ old.done → step_of fed.progress ≡ Some d →
-    IsReply answers (is_closing fed) (decision_meaning d (query_of fed.progress)) now reply last →
+    IsReply answers (is_closing fed) (decision_meaning d (target_of fed.progress)) now reply last →
     HasCome answers n read first said (requests_left old) (came_of old.progress) now →
     (more : List ℕ) → IsBegun answers n ((read ++ take taken rest) ++ more) first (said ++ reply) last
 broken-came answers n read said rest reply first now last old fed taken d reading feeds same step replies come =
@@ -147,7 +154,7 @@ broken-came answers n read said rest reply first now last old fed taken d readin
     let left : requests_left old ≡ suc k = omega (arith, below, same) in
     let c : HasCome answers n read first said (suc k) (came_of old.progress) now = subst (λ (m : ℕ). HasCome answers n read first said m (came_of old.progress) now) left come in
     let closed : is_closing fed ≡ (decided.closes || (k == 0)) = closing-is fed decided.closes d decided.is ∙ ap (λ (b : Bool). decided.closes || b) (is-last fed.done (omega (arith, below, same))) in
-    come-broken answers n k read (came_of old.progress) (take taken rest) said reply first now last decided.closes (is_closing fed) (decision_meaning d (query_of fed.progress)) c decided.decides closed replies
+    come-broken answers n k read (came_of old.progress) (take taken rest) said reply first now last decided.closes (is_closing fed) (decision_meaning d (target_of fed.progress)) c decided.decides closed replies
 
 -- the bytes that were read of a piece, and those left of it, are the piece
 pub piece-parts : (came prefix rest piece more : List ℕ) (taken : ℕ) → prefix ++ rest ≡ piece → ((came ++ prefix) ++ take taken rest) ++ (drop taken rest ++ more) ≡ (came ++ piece) ++ more

@@ -3,16 +3,15 @@ use Rattle.std.proofs.Common.{◌≡◌, ◌∙◌, Bool, ℕ, ◌<◌, ◌≤�
 use Rattle.std.proofs.lemmas.Bool.Decides.{leb_tells}
 use Rattle.std.proofs.lemmas.List.{take-take, take_all, length-map, length-take}
 use Rattle.std.proofs.Math.Seq.{take-append_seam}
-use Rattle.std.specs.List.{list_any, after_first}
+use Rattle.std.specs.List.{list_any}
 use Rattle.httparse.specs.Grammar.{RequestHead, print_request}
 use Rattle.httparse.specs.Spans.{span_bytes, header_bytes, name_and_value, IsWithin, IsRequestAt, RequestOverflows}
 use Rattle.httparse.specs.declared.spans.HeaderSpan.{HeaderSpan}
 use Rattle.httparse.specs.declared.spans.RequestSpans.{RequestSpans}
-use Rattle.httparse.specs.declared.spans.Span.{Span}
 use Rattle.httparse.proofs.GrammarLemmas.{request_unique}
 use Rattle.httpedge.specs.Fields.{announces_body, closes, says_body, says_close}
 use Rattle.httpedge.specs.Head.{HasHead, HasNoHead}
-use Rattle.httpedge.specs.Meaning.{Refused, is_question_mark, head_meaning, request_meaning, decision_meaning}
+use Rattle.httpedge.specs.Meaning.{Refused, head_meaning, request_meaning, decision_meaning}
 use Rattle.httpedge.specs.Turn.{Further, AlwaysTurns}
 use Rattle.httpedge.specs.Verdict.{Decides, IsJudged}
 use Rattle.httpedge.specs.declared.decision.Decision.{Decision}
@@ -78,12 +77,13 @@ head-shortest bytes len head whole n bound none =
     ]
 
 -- where no head can come, all bytes decide
-pub never-judged : (bytes : List ℕ) (query : Span) → query.start ≡ 0 → query.end ≡ 0 → HasNoHead bytes → ((is-last : Bool) → AlwaysTurns is-last bytes true (Refused BadRequest)) →
-    IsJudged bytes (record { decision = Some (decision.Refused BadRequest); query = query; closes = true; len = length bytes })
-never-judged bytes query start end none always = record {
-  query = (omega (arith, start, end), omega (arith, end));
+pub never-judged : (bytes : List ℕ) → HasNoHead bytes → ((is-last : Bool) → AlwaysTurns is-last bytes true (Refused BadRequest)) →
+    IsJudged bytes (record { decision = Some (decision.Refused BadRequest); target = record { start = 0; end = 0 }; closes = true; len = length bytes })
+never-judged bytes none always = record {
+  target = (omega arith, omega arith);
   verdict = record {
     len = omega arith;
+    target = rw (take_all (length bytes) bytes (omega arith)) (inr (none, refl));
     decides = rw (take_all (length bytes) bytes (omega arith)) (record { turns = always; whole = λ head has. absurd (none head has) });
     shortest = λ n bound _. bound;
   };
@@ -94,40 +94,38 @@ same-test : (p : List ℕ × List ℕ → Bool) (bytes : List ℕ) (fields prefi
     list_any p (map (header_bytes bytes) prefix) ≡ list_any p (map name_and_value head.fields)
 same-test p bytes fields prefix r head found is = ap (λ l. list_any p (map (header_bytes bytes) l)) is ∙ ap (list_any p) found.fields
 
--- a query that lies in the target lies in the head
-query-within : (len : ℕ) (path query : Span) → IsWithin len path → IsWithin path.end query → IsWithin len query
-query-within len path query outer inner = (inner.0, omega (arith, inner.1, outer.1))
-
 -- a head that announces a body
-pub body-judged : (bytes : List ℕ) (fields prefix : List HeaderSpan) (r : RequestSpans) (head : RequestHead) (some : Bool) (query : Span) → IsRequestAt bytes fields r head → length fields ≤ 64 → length bytes ≤ 16384 → r.len ≤ length bytes →
-    IsWithin r.len r.path → IsWithin r.path.end query → prefix ≡ take r.headers fields → some ≡ list_any says_body (map (header_bytes bytes) prefix) → some ≡ true →
-    IsJudged bytes (record { decision = Some (decision.Refused BadRequest); query = query; closes = true; len = r.len })
-body-judged bytes fields prefix r head some query found room limit len within inner is some-is e =
+pub body-judged : (bytes : List ℕ) (fields prefix : List HeaderSpan) (r : RequestSpans) (head : RequestHead) (some : Bool) → IsRequestAt bytes fields r head → length fields ≤ 64 → length bytes ≤ 16384 → r.len ≤ length bytes →
+    IsWithin r.len r.path → prefix ≡ take r.headers fields → some ≡ list_any says_body (map (header_bytes bytes) prefix) → some ≡ true →
+    IsJudged bytes (record { decision = Some (decision.Refused BadRequest); target = r.path; closes = true; len = r.len })
+body-judged bytes fields prefix r head some found room limit len within is some-is e =
     let whole = parsed-whole bytes fields r head found room limit len in
     record {
-      query = query-within r.len r.path query within inner;
+      target = within;
       verdict = record {
         len = len;
+        target = inl (head, whole.has, found.path);
         decides = body-decides (take r.len bytes) head whole (sym (same-test says_body bytes fields prefix r head found is) ∙ sym some-is ∙ e);
         shortest = head-shortest bytes r.len head whole;
       };
     }
 
 -- one that announces none
-pub head-judged : (bytes : List ℕ) (fields prefix : List HeaderSpan) (r : RequestSpans) (head : RequestHead) (some ending : Bool) (decided : Decision) (query : Span) → IsRequestAt bytes fields r head → length fields ≤ 64 → length bytes ≤ 16384 →
-    r.len ≤ length bytes → IsWithin r.len r.path → IsWithin r.path.end query → prefix ≡ take r.headers fields → some ≡ list_any says_body (map (header_bytes bytes) prefix) → some ≡ false →
-    ending ≡ ((r.version == 0) || list_any says_close (map (header_bytes bytes) prefix)) → span_bytes bytes query ≡ after_first is_question_mark (span_bytes bytes r.path) →
-    decision_meaning decided (after_first is_question_mark (span_bytes bytes r.path)) ≡ request_meaning (span_bytes bytes r.method) (span_bytes bytes r.path) →
-    IsJudged bytes (record { decision = Some decided; query = query; closes = ending; len = r.len })
-head-judged bytes fields prefix r head some ending decided query found room limit len within inner is some-is e ends asked means =
+pub head-judged : (bytes : List ℕ) (fields prefix : List HeaderSpan) (r : RequestSpans) (head : RequestHead) (some ending : Bool) (decided : Decision) → IsRequestAt bytes fields r head → length fields ≤ 64 → length bytes ≤ 16384 →
+    r.len ≤ length bytes → IsWithin r.len r.path → prefix ≡ take r.headers fields → some ≡ list_any says_body (map (header_bytes bytes) prefix) → some ≡ false →
+    ending ≡ ((r.version == 0) || list_any says_close (map (header_bytes bytes) prefix)) →
+    decision_meaning decided (span_bytes bytes r.path) ≡ request_meaning (span_bytes bytes r.method) (span_bytes bytes r.path) →
+    IsJudged bytes (record { decision = Some decided; target = r.path; closes = ending; len = r.len })
+head-judged bytes fields prefix r head some ending decided found room limit len within is some-is e ends means =
     let whole = parsed-whole bytes fields r head found room limit len in
     let none : announces_body head ≡ false = sym (same-test says_body bytes fields prefix r head found is) ∙ sym some-is ∙ e in
     let closing : ending ≡ closes head = ends ∙ rw (same-test says_close bytes fields prefix r head found is, found.version) refl in
-    let meaning : decision_meaning decided (span_bytes bytes query) ≡ head_meaning head = ap (decision_meaning decided) asked ∙ means ∙ rw (found.method, found.path) refl in
+    let meaning : decision_meaning decided (span_bytes bytes r.path) ≡ head_meaning head = means ∙ rw (found.method, found.path) refl in
     record {
-      query = query-within r.len r.path query within inner;
+      target = within;
       verdict = record {
         len = len;
+        target = inl (head, whole.has, found.path);
         decides = rw (meaning, closing) (head-decides (take r.len bytes) head whole none);
         shortest = head-shortest bytes r.len head whole;
       };

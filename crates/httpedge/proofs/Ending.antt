@@ -4,7 +4,7 @@ use Rattle.std.specs.Io.KnownBytes.{Consumes, IsAtEnd}
 use Rattle.std.proofs.KnownBytes.{Consumes-whole}
 use Rattle.streams.specs.Sent.{IsSent, IsCutSomewhere}
 use Rattle.streams.proofs.Sending.{cut-at}
-use Rattle.httpedge.specs.Connection.{Progress, Open, Decided, LeavesOpen, Ends, ended, step_of, query_of, ends_by}
+use Rattle.httpedge.specs.Connection.{Progress, Open, Decided, LeavesOpen, Ends, ended, step_of, target_of, ends_by}
 use Rattle.httpedge.specs.Exchange.{Said, IsReply, IsExchange, IsBegun}
 use Rattle.httpedge.specs.Meaning.{meaning_of, decision_meaning}
 use Rattle.httpedge.specs.Serving.{IsOpen, HasCome, came_of}
@@ -19,8 +19,8 @@ use Rattle.httpedge.proofs.Serving.{begun-nothing}
 pub end-nothing : {A : Type 0} (answers : A → List ℕ → Said → A → Type 0) (n : ℕ) (p q : Progress) (now : A) → IsOpen p → Ends p q → step_of q ≡ None → IsExchange answers (suc n) (came_of p) now [] now
 unfolding IsExchange
 end-nothing answers n (Open came) q now opened ends none =
-    (Last (meaning_of None (query_of q)), subst (λ (o : Option Decision). IsTurn (n == 0) came (Last (meaning_of o (query_of q)))) none (ends.0 (n == 0)), (refl, refl))
-end-nothing answers n (Decided closes decided query) q now opened ends none = absurd opened
+    (Last (meaning_of None (target_of q)), subst (λ (o : Option Decision). IsTurn (n == 0) came (Last (meaning_of o (target_of q)))) none (ends.0 (n == 0)), (refl, refl))
+end-nothing answers n (Decided closes decided target) q now opened ends none = absurd opened
 
 -- what is decided at the end ends the connection
 end-closes : (came : List ℕ) (q : Progress) (d : Decision) (is-last : Bool) → q ≡ ended (Open came) → step_of q ≡ Some d → ends_by is-last q ≡ true
@@ -29,13 +29,13 @@ end-closes (byte ∷ bytes) q d is-last e some = rw e refl
 
 -- bytes without a head came
 pub end-replied : {A : Type 0} (answers : A → List ℕ → Said → A → Type 0) (n : ℕ) (p q : Progress) (d : Decision) (is-last : Bool) (now last : A) (text : List ℕ) → IsOpen p → Ends p q → step_of q ≡ Some d →
-    IsReply answers (ends_by is-last q) (decision_meaning d (query_of q)) now text last → IsExchange answers (suc n) (came_of p) now text last × IsBegun answers (suc n) (came_of p) now text last
+    IsReply answers (ends_by is-last q) (decision_meaning d (target_of q)) now text last → IsExchange answers (suc n) (came_of p) now text last × IsBegun answers (suc n) (came_of p) now text last
 unfolding IsExchange IsBegun
 end-replied answers n (Open came) q d is-last now last text opened ends some reply =
-    let turn : IsTurn (n == 0) came (Last (decision_meaning d (query_of q))) = subst (λ (o : Option Decision). IsTurn (n == 0) came (Last (meaning_of o (query_of q)))) some (ends.0 (n == 0)) in
-    let r : IsReply answers true (decision_meaning d (query_of q)) now text last = subst (λ (b : Bool). IsReply answers b (decision_meaning d (query_of q)) now text last) (end-closes came q d is-last ends.1 some) reply in
-    ((Last (decision_meaning d (query_of q)), turn, r), inr (Last (decision_meaning d (query_of q)), turn, r))
-end-replied answers n (Decided closes decided query) q d is-last now last text opened ends some reply = absurd opened
+    let turn : IsTurn (n == 0) came (Last (decision_meaning d (target_of q))) = subst (λ (o : Option Decision). IsTurn (n == 0) came (Last (meaning_of o (target_of q)))) some (ends.0 (n == 0)) in
+    let r : IsReply answers true (decision_meaning d (target_of q)) now text last = subst (λ (b : Bool). IsReply answers b (decision_meaning d (target_of q)) now text last) (end-closes came q d is-last ends.1 some) reply in
+    ((Last (decision_meaning d (target_of q)), turn, r), inr (Last (decision_meaning d (target_of q)), turn, r))
+end-replied answers n (Decided closes decided target) q d is-last now last text opened ends some reply = absurd opened
 
 -- a property that holds whatever follows the bytes read holds of the stream
 pub whatever-follows : (a b : Option (List ℕ)) (bytes : List ℕ) (P : List ℕ → Type 0) → Consumes a b bytes → ((more : List ℕ) → P (bytes ++ more)) → IfSome a P
@@ -57,7 +57,7 @@ come-ended P n k read came said text first now last leads ends =
 
 pub opened-leaves : (p : Progress) → IsOpen p → LeavesOpen (came_of p)
 opened-leaves (Open came) opened = opened
-opened-leaves (Decided closes decided query) opened = absurd opened
+opened-leaves (Decided closes decided target) opened = absurd opened
 
 -- the reader failed: the text sent so far was written
 pub read-stopped : {A S : Type 0} (answers : A → List ℕ → Said → A → Type 0) (held : S → Option (List ℕ)) (taken : S → ℕ) (a b : Option (List ℕ)) (read came text : List ℕ) (k : ℕ) (old new : A) (x y : S) (written : ℕ) →

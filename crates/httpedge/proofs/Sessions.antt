@@ -1,17 +1,24 @@
 -- How a session goes on: by bytes, by the end of its stream, and by bytes that were sent.
-use Rattle.std.proofs.Common.{◌≡◌, ◌∙◌, ◌≤◌, ◌+◌, ◌-◌, ℕ, suc, List, [], ◌∷◌, ◌++◌, Bool, true, false, not, ◌&&◌, ◌==◌, None, Some, Ok, Err, if◌then◌else◌, inl, inr, length, take, refl, sym, ap, subst, arith, append-nil}
+use Rattle.std.proofs.Common.{◌≡◌, ◌∙◌, ◌+◌, ◌-◌, ℕ, suc, List, [], ◌∷◌, ◌++◌, Bool, true, false, not, ◌&&◌, ◌==◌, None, Some, Ok, Err, if◌then◌else◌, inl, inr, length, take, refl, sym, ap, subst, arith, append-nil}
 use Rattle.std.proofs.lemmas.Bool.{ne_eqb}
 use Rattle.std.proofs.lemmas.Bool.Decides.{leb_tells}
 use Rattle.std.proofs.lemmas.List.{take_all}
-use Rattle.httpedge.specs.Connection.{Progress, Open, Decided, Course, Feeds, Ends, step_of, query_of, is_closing, goes_on, forgotten, ends_by}
+use Rattle.std.specs.Prelude.{codes}
+use Rattle.std.specs.Fmt.{decimal, digits}
+use Rattle.operations.specs.Mime.{mime_text}
+use Rattle.httpedge.specs.Connection.{Progress, Open, Decided, Course, Feeds, Ends, step_of, target_of, is_decided, is_closing, goes_on, forgotten, settled, ends_by}
 use Rattle.httpedge.specs.Exchange.{Said, IsReply, IsExchange, IsBegun}
-use Rattle.httpedge.specs.Response.{body_text, refusal_lines, busy_lines, refusal_text}
+use Rattle.httpedge.specs.Head.{IsTargetOf}
+use Rattle.httpedge.specs.Response.{HasStatus, body_text, head_end, outcome_status, refusal_lines, busy_lines, refusal_text, response}
 use Rattle.httpedge.specs.Meaning.{Meaning, Nothing, Refused, Asks, decision_meaning}
 use Rattle.httpedge.specs.Serving.{IsOpen, IsReading, HasCome, came_of, requests_left}
-use Rattle.httpedge.specs.Session.{SessionState, HasResponded, HasRespondedAt, HasRespondedWith, QueryOutcome, HasAsked, says_as_listed, wants, ReadsOn, is_reading, is_done, new_session}
+use Rattle.httpedge.specs.Session.{SessionState, HasResponded, HasRespondedAt, HasRespondedWith, QueryOutcome, HasAsked, says_as_listed, wants, ReadsOn, is_reading, stage_after, is_done, new_session}
 use Rattle.httpedge.specs.declared.conn.TheConstants.{REQUESTS}
 use Rattle.httpedge.specs.declared.decision.Decision.{Decision}
 use Rattle.httpedge.specs.declared.decision.Decision.TheVariants as decision
+use Rattle.httpedge.specs.declared.outcome.Outcome.{Outcome}
+use Rattle.httpedge.specs.declared.outcome.Outcome.TheVariants.{Answered}
+use Rattle.httpedge.specs.declared.outcome.Outcome.TheVariants as outcome
 use Rattle.httpedge.specs.declared.refusal.Refusal.TheVariants.{BadRequest, NotFound, MethodNotAllowed}
 use Rattle.httpedge.specs.declared.stage.Stage.{Stage}
 use Rattle.httpedge.specs.declared.stage.Stage.TheVariants.{Reading, Closed, Ended}
@@ -33,86 +40,105 @@ feeds-all (Open came) (Open bytes) piece taken opened feeds step =
       | inl h ↦ omega (arith, h.1, feeds.bound)
       | inr h ↦ absurd (let e : false ≡ true = feeds.cut (omega (arith, h.1)) in cc)
     ]
-feeds-all (Open came) (Decided closes decided query) piece taken opened feeds step = absurd (cc)
-feeds-all (Decided closes decided query) q piece taken opened feeds step = absurd opened
+feeds-all (Open came) (Decided closes decided target) piece taken opened feeds step = absurd (cc)
+feeds-all (Decided closes decided target) q piece taken opened feeds step = absurd opened
 
--- the response of a connection to a decision, and its course after that
-pub record HasReplied {A : Type 0} (answers : A → List ℕ → Said → A → Type 0) (piece : List ℕ) (taken : ℕ) (old fed new : Course) (now : A) (reply : List ℕ) (between : A) (on : Bool) : Type 0 where
+-- the response of a connection to a decision
+pub record HasReplied {A : Type 0} (answers : A → List ℕ → Said → A → Type 0) (piece : List ℕ) (taken : ℕ) (old fed : Course) (now : A) (reply : List ℕ) (between : A) : Type 0 where
   pub decision : Decision
   pub reading : IsReading old
   pub feeds : Feeds old.progress piece taken fed.progress
   pub done : fed.done ≡ old.done
   pub step : step_of fed.progress ≡ Some decision
-  pub replies : IsReply answers (is_closing fed) (decision_meaning decision (query_of fed.progress)) now reply between
-  pub goes : on ≡ goes_on fed
-  pub next : new ≡ (if goes_on fed then forgotten fed else fed)
+  pub replies : IsReply answers (is_closing fed) (decision_meaning decision (target_of fed.progress)) now reply between
 
--- a head was answered that goes on
-replied-on : {A : Type 0} (answers : A → List ℕ → Said → A → Type 0) (piece : List ℕ) (taken : ℕ) (old fed new : Course) (now between : A) (reply : List ℕ) (on : Bool) →
-    HasReplied answers piece taken old fed new now reply between on → on ≡ true → (read said : List ℕ) (first : A) → HasCome answers REQUESTS read first said (requests_left old) (came_of old.progress) now →
-    IsReading new × HasCome answers REQUESTS (read ++ take taken piece) first (said ++ reply) (requests_left new) (came_of new.progress) between
-replied-on answers piece taken old fed new now between reply on r goes_further read said first come =
-    let (reading, further, less) = next-came answers REQUESTS read said piece reply first now between old fed new taken r.decision on r.reading r.feeds r.done r.step r.replies r.goes goes_further r.next come in
-    (reading, further)
+-- a decision that ends the connection, and one that doesn't
+stops : (p : Progress) (closing : Bool) → true ≡ closing → (is_decided p && not closing) ≡ false
+stops (Open came) closing e = refl
+stops (Decided closes decided target) true e = refl
+stops (Decided closes decided target) false e = absurd (cc)
 
--- a connection needs a further read after a head that goes on
-pub reading-next : {A : Type 0} (answers : A → List ℕ → Said → A → Type 0) (piece : List ℕ) (taken : ℕ) (old fed new : Course) (now between : A) (reply : List ℕ) (on : Bool) →
-    HasReplied answers piece taken old fed new now reply between on → on ≡ true → IsReading new
-reading-next answers piece taken old fed new now between reply on r goes_further =
-    let (reading, further, less) = next-came answers (requests_left old) (came_of old.progress ++ []) [] piece reply now now between old fed new taken r.decision on r.reading r.feeds r.done r.step r.replies r.goes goes_further r.next
-    (come-first answers (requests_left old) (came_of old.progress) now) in
-    reading
+goes-further : (p : Progress) (d : Decision) (closing : Bool) → step_of p ≡ Some d → false ≡ closing → (is_decided p && not closing) ≡ true
+goes-further (Open came) d closing step e = absurd (cc)
+goes-further (Decided closes decided target) d true step e = absurd (cc)
+goes-further (Decided closes decided target) d false step e = refl
 
--- the same where nothing is decided
-pub reading-more : (piece : List ℕ) (taken : ℕ) (old fed : Course) → IsReading old → Feeds old.progress piece taken fed.progress → fed.done ≡ old.done → step_of fed.progress ≡ None → IsReading fed
-reading-more piece taken old fed reading feeds done step =
-    let (opened, come) = more-came says_as_listed (requests_left old) (requests_left old) (came_of old.progress ++ []) [] piece [] [] old.progress fed.progress taken reading.opened feeds step
-    (come-first says_as_listed (requests_left old) (came_of old.progress) []) in
-    record { count = rw done reading.count; opened = opened }
+-- where nothing is decided, no head is forgotten
+settled-open : (course : Course) → step_of course.progress ≡ None → settled course ≡ course
+settled-open course step = ap (λ (b : Bool). if b then forgotten course else course) (go course.progress (not (is_closing course)) step)
+  where
+    go : (p : Progress) (b : Bool) → step_of p ≡ None → (is_decided p && b) ≡ false
+    go (Open came) b step = refl
+    go (Decided closes decided target) b step = absurd (cc)
+
+-- a session takes further bytes, and the last head is forgotten
+pub record IsOpened (s : SessionState) (old : Course) : Type 0 where
+  pub at : s.course ≡ old
+  pub wanted : wants s ≡ true
+  pub reading : IsReading old
+
+pub opened-by : (s : SessionState) (inside old : Course) (out : List ℕ) (stage : Stage) (status : ℕ)
+    → ◌≡◌ {A = SessionState} (record { course = settled inside; outgoing = out; stage = stage; target = target_of inside.progress; status = status }) s
+    → old ≡ settled inside → wants s ≡ true → ReadsOn stage (settled inside) → IsOpened s old
+opened-by s inside old out stage status view forgets wanted reads = record {
+  at = sym (forgets ∙ ap (λ (t : SessionState). t.course) view);
+  wanted = wanted;
+  reading = rw forgets (subst (λ (t : Stage). ReadsOn t (settled inside)) (ap (λ (t : SessionState). t.stage) view ∙ (wants-reads s.stage s.outgoing wanted).0) reads);
+}
 
 -- the bytes that came while heads were read and nothing was to be sent
-reading-came : {A : Type 0} (answers : A → List ℕ → Said → A → Type 0) (s : SessionState) (old : Course) (out : List ℕ) (stage : Stage) (v : ◌≡◌ {A = SessionState} (record { course = old; outgoing = out; stage = stage }) s) →
-    wants s ≡ true → (read written : List ℕ) (first now : A) → HasResponded answers read first written s now → (stage ≡ Reading) × (out ≡ []) × HasCome answers REQUESTS read first written (requests_left old) (came_of old.progress) now
-reading-came answers s old out stage v wanted read written first now responded =
-    let w : (is_reading stage && (length out == 0)) ≡ true = ap wants v ∙ wanted in
-    let (reads, quiet) = wants-reads stage out w in
-    let here : HasRespondedAt stage answers read first (written ++ out) old now = subst (λ (t : SessionState). HasResponded answers read first written t now) (sym v) responded in
-    let open_still : HasRespondedAt Reading answers read first (written ++ out) old now = subst (λ (t : Stage). HasRespondedAt t answers read first (written ++ out) old now) reads here in
-    let all : written ++ out ≡ written = ap (λ l. written ++ l) quiet ∙ append-nil written in
-    (reads, quiet, subst (λ (l : List ℕ). HasCome answers REQUESTS read first l (requests_left old) (came_of old.progress) now) all open_still)
+reading-came : {A : Type 0} (answers : A → List ℕ → Said → A → Type 0) (s : SessionState) (old : Course) → IsOpened s old → (read written : List ℕ) (first now : A) → HasResponded answers read first written s now →
+    HasCome answers REQUESTS read first written (requests_left old) (came_of old.progress) now
+reading-came answers s old opened read written first now responded =
+    let (reads, quiet) = wants-reads s.stage s.outgoing opened.wanted in
+    let open_still : HasRespondedAt Reading answers read first (written ++ s.outgoing) s.course now = subst (λ (t : Stage). HasRespondedAt t answers read first (written ++ s.outgoing) s.course now) reads responded in
+    let all : written ++ s.outgoing ≡ written = ap (λ l. written ++ l) quiet ∙ append-nil written in
+    let here : HasCome answers REQUESTS read first written (requests_left s.course) (came_of s.course.progress) now =
+    subst (λ (l : List ℕ). HasCome answers REQUESTS read first l (requests_left s.course) (came_of s.course.progress) now) all open_still in
+    subst (λ (c : Course). HasCome answers REQUESTS read first written (requests_left c) (came_of c.progress) now) opened.at here
 
--- what holds of a session after a head that goes on
-pub responded-on : {A : Type 0} (answers : A → List ℕ → Said → A → Type 0) (s : SessionState) (old : Course) (out : List ℕ) (stage : Stage) (v : ◌≡◌ {A = SessionState} (record { course = old; outgoing = out; stage = stage }) s) →
-    wants s ≡ true → (piece : List ℕ) (taken : ℕ) (fed new : Course) (now between : A) (reply : List ℕ) (on : Bool) → HasReplied answers piece taken old fed new now reply between on → on ≡ true →
-    (read written : List ℕ) (first : A) → HasResponded answers read first written s now → HasRespondedAt stage answers (read ++ take taken piece) first (written ++ reply) new between
-responded-on answers s old out stage v wanted piece taken fed new now between reply on r goes_further read written first responded =
-    let (reads, quiet, come) = reading-came answers s old out stage v wanted read written first now responded in
-    let (reading, further) = replied-on answers piece taken old fed new now between reply on r goes_further read written first come in
-    subst (λ (t : Stage). HasRespondedAt t answers (read ++ take taken piece) first (written ++ reply) new between) (sym reads) further
+-- what holds of a session after a head that was answered
+pub responded-by : {A : Type 0} (answers : A → List ℕ → Said → A → Type 0) (s : SessionState) (old fed : Course) → IsOpened s old → (piece : List ℕ) (taken : ℕ) (now between : A) (reply : List ℕ) → HasReplied answers piece taken old fed now reply between →
+    (closing : Bool) (stage : Stage) → closing ≡ is_closing fed → stage ≡ stage_after closing →
+    (read written : List ℕ) (first : A) → HasResponded answers read first written s now → HasRespondedAt stage answers (read ++ take taken piece) first (written ++ reply) (settled fed) between
+responded-by answers s old fed opened piece taken now between reply r true stage e is read written first responded =
+    rw is (last-came answers REQUESTS read written piece reply first now between old fed taken r.decision (goes_on fed) r.reading r.feeds r.done r.step r.replies refl (stops fed.progress (is_closing fed) e)
+    (reading-came answers s old opened read written first now responded))
+responded-by answers s old fed opened piece taken now between reply r false stage e is read written first responded =
+    let (reading, further, less) = next-came answers REQUESTS read written piece reply first now between old fed (settled fed) taken r.decision (goes_on fed) r.reading r.feeds r.done r.step r.replies refl
+    (goes-further fed.progress r.decision (is_closing fed) r.step e) refl (reading-came answers s old opened read written first now responded) in
+    rw is further
 
--- the same after a head that ends the connection
-pub responded-closed : {A : Type 0} (answers : A → List ℕ → Said → A → Type 0) (s : SessionState) (old : Course) (out : List ℕ) (stage : Stage) (v : ◌≡◌ {A = SessionState} (record { course = old; outgoing = out; stage = stage }) s) →
-    wants s ≡ true → (piece : List ℕ) (taken : ℕ) (fed new : Course) (now between : A) (reply : List ℕ) (on : Bool) → HasReplied answers piece taken old fed new now reply between on → on ≡ false →
-    (read written : List ℕ) (first : A) → HasResponded answers read first written s now → HasRespondedAt Closed answers (read ++ take taken piece) first (written ++ reply) new between
-responded-closed answers s old out stage v wanted piece taken fed new now between reply on r no_more read written first responded =
-    let (reads, quiet, come) = reading-came answers s old out stage v wanted read written first now responded in
-    last-came answers REQUESTS read written piece reply first now between old fed taken r.decision on r.reading r.feeds r.done r.step r.replies r.goes no_more come
+-- a session reads on after a head that doesn't end its connection
+pub reads-by : {A : Type 0} (answers : A → List ℕ → Said → A → Type 0) (piece : List ℕ) (taken : ℕ) (old fed : Course) (now between : A) (reply : List ℕ) → HasReplied answers piece taken old fed now reply between →
+    (closing : Bool) (stage : Stage) → closing ≡ is_closing fed → stage ≡ stage_after closing → ReadsOn stage (settled fed)
+reads-by answers piece taken old fed now between reply r true stage e is = rw is search
+reads-by answers piece taken old fed now between reply r false stage e is =
+    let (reading, further, less) = next-came answers (requests_left old) (came_of old.progress ++ []) [] piece reply now now between old fed (settled fed) taken r.decision (goes_on fed) r.reading r.feeds r.done r.step r.replies refl
+    (goes-further fed.progress r.decision (is_closing fed) r.step e) refl (come-first answers (requests_left old) (came_of old.progress) now) in
+    rw is reading
 
 -- the same where nothing is decided
-pub responded-more : {A : Type 0} (answers : A → List ℕ → Said → A → Type 0) (s : SessionState) (old : Course) (out : List ℕ) (stage : Stage) (v : ◌≡◌ {A = SessionState} (record { course = old; outgoing = out; stage = stage }) s) →
-    wants s ≡ true → (piece : List ℕ) (taken : ℕ) (fed : Course) (now : A) → IsReading old → Feeds old.progress piece taken fed.progress → fed.done ≡ old.done → step_of fed.progress ≡ None →
-    (read written : List ℕ) (first : A) → HasResponded answers read first written s now → HasRespondedAt stage answers (read ++ take taken piece) first (written ++ out) fed now
-responded-more answers s old out stage v wanted piece taken fed now reading feeds done step read written first responded =
-    let (reads, quiet, come) = reading-came answers s old out stage v wanted read written first now responded in
-    let all : take taken piece ≡ piece = take_all taken piece (omega (arith, feeds-all old.progress fed.progress piece taken reading.opened feeds step)) in
-    let (opened, further) = more-came answers REQUESTS (requests_left old) read written piece first now old.progress fed.progress taken reading.opened feeds step come in
-    let nothing : written ≡ written ++ out = sym (ap (λ l. written ++ l) quiet ∙ append-nil written) in
-    let left : HasCome answers REQUESTS (read ++ piece) first (written ++ out) (requests_left old) (came_of fed.progress) now =
-    subst (λ (l : List ℕ). HasCome answers REQUESTS (read ++ piece) first l (requests_left old) (came_of fed.progress) now) nothing further in
-    let counted : HasCome answers REQUESTS (read ++ piece) first (written ++ out) (requests_left fed) (came_of fed.progress) now =
-    subst (λ (d : ℕ). HasCome answers REQUESTS (read ++ piece) first (written ++ out) (REQUESTS - d) (came_of fed.progress) now) (sym done) left in
-    subst (λ (t : Stage). HasRespondedAt t answers (read ++ take taken piece) first (written ++ out) fed now) (sym reads)
-    (subst (λ (l : List ℕ). HasCome answers REQUESTS (read ++ l) first (written ++ out) (requests_left fed) (came_of fed.progress) now) (sym all) counted)
+pub reads-more : (s : SessionState) (old fed : Course) → IsOpened s old → (piece : List ℕ) (taken : ℕ) (stage : Stage) → stage ≡ s.stage → Feeds old.progress piece taken fed.progress → fed.done ≡ old.done → step_of fed.progress ≡ None →
+    ReadsOn stage (settled fed)
+reads-more s old fed opened piece taken stage same feeds done step =
+    let (leaves, come) = more-came says_as_listed (requests_left old) (requests_left old) (came_of old.progress ++ []) [] piece [] [] old.progress fed.progress taken opened.reading.opened feeds step
+    (come-first says_as_listed (requests_left old) (came_of old.progress) []) in
+    let still : IsReading fed = record { count = rw done opened.reading.count; opened = leaves } in
+    rw (settled-open fed step, same, (wants-reads s.stage s.outgoing opened.wanted).0) still
+
+pub responded-more : {A : Type 0} (answers : A → List ℕ → Said → A → Type 0) (s : SessionState) (old fed : Course) → IsOpened s old → (piece : List ℕ) (taken : ℕ) (stage : Stage) (out : List ℕ) (now : A) →
+    stage ≡ s.stage → out ≡ s.outgoing → Feeds old.progress piece taken fed.progress → fed.done ≡ old.done → step_of fed.progress ≡ None →
+    (read written : List ℕ) (first : A) → HasResponded answers read first written s now → HasRespondedAt stage answers (read ++ take taken piece) first (written ++ out) (settled fed) now
+responded-more answers s old fed opened piece taken stage out now stages outs feeds done step read written first responded =
+    let (reads, quiet) = wants-reads s.stage s.outgoing opened.wanted in
+    let come = reading-came answers s old opened read written first now responded in
+    let all : take taken piece ≡ piece = take_all taken piece (omega (arith, feeds-all old.progress fed.progress piece taken opened.reading.opened feeds step)) in
+    let (leaves, further) = more-came answers REQUESTS (requests_left old) read written piece first now old.progress fed.progress taken opened.reading.opened feeds step come in
+    let nothing : written ++ out ≡ written = ap (λ l. written ++ l) (outs ∙ quiet) ∙ append-nil written in
+    let counted : HasCome answers REQUESTS (read ++ piece) first written (requests_left fed) (came_of fed.progress) now =
+    subst (λ (d : ℕ). HasCome answers REQUESTS (read ++ piece) first written (REQUESTS - d) (came_of fed.progress) now) (sym done) further in
+    rw (settled-open fed step, stages, reads, all, nothing) counted
 
 -- the queries that the answerer got
 reply-queries : {A : Type 0} (answers : A → List ℕ → Said → A → Type 0) (closing : Bool) (meaning : Meaning) (old : A) (text : List ℕ) (new : A) → IsReply answers closing meaning old text new →
@@ -122,10 +148,10 @@ reply-queries answers closing (Refused refusal) old text new (e, same) = ([], in
 reply-queries answers closing (Asks query) old text new (said, answer, e) =
     (record { query = query; said = said } ∷ [], inr (record { query = query; said = said }, refl, answer), λ later. (said, refl, e))
 
-pub replied-queries : {A : Type 0} (answers : A → List ℕ → Said → A → Type 0) (piece : List ℕ) (taken : ℕ) (old fed new : Course) (now between : A) (reply : List ℕ) (on : Bool) → HasReplied answers piece taken old fed new now reply between on →
-    (queries : List QueryOutcome) × HasAsked answers now queries between × ((later : List QueryOutcome) → HasReplied says_as_listed piece taken old fed new (queries ++ later) reply later on)
-replied-queries answers piece taken old fed new now between reply on r =
-    let (queries, asked, replied) = reply-queries answers (is_closing fed) (decision_meaning r.decision (query_of fed.progress)) now reply between r.replies in (
+pub replied-queries : {A : Type 0} (answers : A → List ℕ → Said → A → Type 0) (piece : List ℕ) (taken : ℕ) (old fed : Course) (now between : A) (reply : List ℕ) → HasReplied answers piece taken old fed now reply between →
+    (queries : List QueryOutcome) × HasAsked answers now queries between × ((later : List QueryOutcome) → HasReplied says_as_listed piece taken old fed (queries ++ later) reply later)
+replied-queries answers piece taken old fed now between reply r =
+    let (queries, asked, replied) = reply-queries answers (is_closing fed) (decision_meaning r.decision (target_of fed.progress)) now reply between r.replies in (
       queries,
       asked,
       λ later. record {
@@ -135,26 +161,24 @@ replied-queries answers piece taken old fed new now between reply on r =
         done = r.done;
         step = r.step;
         replies = replied later;
-        goes = r.goes;
-        next = r.next;
       },
     )
 
 -- each decision has a response
-reply-some : {A : Type 0} (answers : A → List ℕ → Said → A → Type 0) (closing : Bool) (d : Decision) (query : List ℕ) (old : A) (text : List ℕ) (new : A) → IsReply answers closing (decision_meaning d query) old text new → text ≡ [] → ⊥
+reply-some : {A : Type 0} (answers : A → List ℕ → Said → A → Type 0) (closing : Bool) (d : Decision) (target : List ℕ) (old : A) (text : List ℕ) (new : A) → IsReply answers closing (decision_meaning d target) old text new → text ≡ [] → ⊥
 unfolding body_text refusal_lines busy_lines
-reply-some answers closing decision.Ask query old text new (Ok answer, _, e) nothing = absurd (cc)
-reply-some answers closing decision.Ask query old text new (Err busy, _, e) nothing = absurd (cc)
-reply-some answers closing (decision.Refused BadRequest) query old text new (e, _) nothing = absurd (cc)
-reply-some answers closing (decision.Refused NotFound) query old text new (e, _) nothing = absurd (cc)
-reply-some answers closing (decision.Refused MethodNotAllowed) query old text new (e, _) nothing = absurd (cc)
+reply-some answers closing decision.Ask target old text new (Ok answer, _, e) nothing = absurd (cc)
+reply-some answers closing decision.Ask target old text new (Err busy, _, e) nothing = absurd (cc)
+reply-some answers closing (decision.Refused BadRequest) target old text new (e, _) nothing = absurd (cc)
+reply-some answers closing (decision.Refused NotFound) target old text new (e, _) nothing = absurd (cc)
+reply-some answers closing (decision.Refused MethodNotAllowed) target old text new (e, _) nothing = absurd (cc)
 
 -- so the session takes no further bytes then
-pub replied-some : {A : Type 0} (answers : A → List ℕ → Said → A → Type 0) (piece : List ℕ) (taken : ℕ) (old fed new : Course) (now between : A) (reply : List ℕ) (on : Bool) → HasReplied answers piece taken old fed new now reply between on →
+pub replied-some : {A : Type 0} (answers : A → List ℕ → Said → A → Type 0) (piece : List ℕ) (taken : ℕ) (old fed : Course) (now between : A) (reply : List ℕ) → HasReplied answers piece taken old fed now reply between →
     (stage : Stage) → (is_reading stage && (length reply == 0)) ≡ true → ⊥
-replied-some answers piece taken old fed new now between reply on r stage wanted =
+replied-some answers piece taken old fed now between reply r stage wanted =
     let (reads, quiet) = wants-reads stage reply wanted in
-    reply-some answers (is_closing fed) r.decision (query_of fed.progress) now reply between r.replies quiet
+    reply-some answers (is_closing fed) r.decision (target_of fed.progress) now reply between r.replies quiet
 
 -- the response at the end of a stream
 pub end-said : {A : Type 0} (answers : A → List ℕ → Said → A → Type 0) (old : Course) (q : Progress) (d : Decision) (now : A) → IsReading old → Ends old.progress q → step_of q ≡ Some d →
@@ -169,11 +193,11 @@ end-said answers old q d now reading ends step =
     go answers n (Open []) q d now opened ends step = absurd (let e : step_of q ≡ None = ap step_of ends.1 in cc)
     go answers n (Open (byte ∷ bytes)) q d now opened ends step =
         let same : d ≡ decision.Refused BadRequest = let e : step_of q ≡ Some (decision.Refused BadRequest) = ap step_of ends.1 in cc in
-        let replies : IsReply answers (ends_by true q) (decision_meaning d (query_of q)) now (refusal_text BadRequest true) now =
-        subst (λ (x : Progress). IsReply answers (ends_by true x) (decision_meaning d (query_of x)) now (refusal_text BadRequest true) now) (sym ends.1)
+        let replies : IsReply answers (ends_by true q) (decision_meaning d (target_of q)) now (refusal_text BadRequest true) now =
+        subst (λ (x : Progress). IsReply answers (ends_by true x) (decision_meaning d (target_of x)) now (refusal_text BadRequest true) now) (sym ends.1)
         (subst (λ (x : Decision). IsReply answers true (decision_meaning x []) now (refusal_text BadRequest true) now) (sym same) (refl, refl)) in
         (end-replied answers n (Open (byte ∷ bytes)) q d true now now (refusal_text BadRequest true) opened ends step replies).0
-    go answers n (Decided closes decided query) q d now opened ends step = absurd opened
+    go answers n (Decided closes decided target) q d now opened ends step = absurd opened
 
 pub end-silent : {A : Type 0} (answers : A → List ℕ → Said → A → Type 0) (old : Course) (q : Progress) (now : A) → IsReading old → Ends old.progress q → step_of q ≡ None →
     IsExchange answers (requests_left old) (came_of old.progress) now [] now
@@ -182,18 +206,27 @@ end-silent answers old q now reading ends step =
     subst (λ (m : ℕ). IsExchange answers m (came_of old.progress) now [] now) (sym left) (end-nothing answers (REQUESTS - (old.done + 1)) old.progress q now reading.opened ends step)
 
 -- what holds of a session whose stream ended
-pub responded-ended : (s : SessionState) (old : Course) (out : List ℕ) (stage : Stage) (v : ◌≡◌ {A = SessionState} (record { course = old; outgoing = out; stage = stage }) s) → wants s ≡ true →
-    (text : List ℕ) → ((later : List QueryOutcome) → IsExchange says_as_listed (requests_left old) (came_of old.progress) later text later) →
-    (read written : List ℕ) (queries : List QueryOutcome) → HasRespondedWith read queries written s → (later : List QueryOutcome) → IsExchange says_as_listed REQUESTS read (queries ++ later) (written ++ text) later
-responded-ended s old out stage v wanted text ends read written queries responded later =
-    let (reads, quiet, come) = reading-came says_as_listed s old out stage v wanted read written (queries ++ later) later (responded later) in
+pub responded-ended : (s : SessionState) (old new : Course) → IsOpened s old → (text : List ℕ) → ((later : List QueryOutcome) → IsExchange says_as_listed (requests_left old) (came_of old.progress) later text later) →
+    (read written : List ℕ) (queries : List QueryOutcome) → HasRespondedWith read queries written s → (later : List QueryOutcome) → HasRespondedAt Ended says_as_listed read (queries ++ later) (written ++ text) new later
+responded-ended s old new opened text ends read written queries responded later =
+    let come = reading-came says_as_listed s old opened read written (queries ++ later) later (responded later) in
     come-ended (IsExchange says_as_listed) REQUESTS (requests_left old) read (came_of old.progress) written text (queries ++ later) later later come.answered (ends later)
 
--- a session reads heads where it takes further bytes
-pub wanted-reading : (s : SessionState) (old : Course) (out : List ℕ) (stage : Stage) (v : ◌≡◌ {A = SessionState} (record { course = old; outgoing = out; stage = stage }) s) → wants s ≡ true → ReadsOn stage old → IsReading old
-wanted-reading s old out stage v wanted reads =
-    let w : (is_reading stage && (length out == 0)) ≡ true = ap wants v ∙ wanted in
-    subst (λ (t : Stage). ReadsOn t old) (wants-reads stage out w).0 reads
+-- bytes without a head have no target
+pub end-target : (p q : Progress) → IsOpen p → Ends p q → IsTargetOf (came_of p) (target_of q)
+end-target (Open []) q opened ends = inr (opened.0, ap target_of ends.1)
+end-target (Open (byte ∷ bytes)) q opened ends = inr (opened.0, ap target_of ends.1)
+end-target (Decided closes decided target) q opened ends = absurd opened
+
+-- each response has the status of its outcome
+pub has-status : (said : Outcome) (closing : Bool) → HasStatus (response said closing) (outcome_status said)
+unfolding digits body_text refusal_lines busy_lines
+has-status (Answered answer) closing =
+    (codes " OK\r\nContent-Type: " ++ (mime_text answer.mime ++ (codes "\r\nContent-Length: " ++ (decimal (length answer.body) ++ (codes "\r\n" ++ (head_end closing ++ answer.body))))), refl)
+has-status (outcome.Refused BadRequest) closing = (codes " Bad Request\r\nContent-Length: 0\r\n" ++ head_end closing, refl)
+has-status (outcome.Refused NotFound) closing = (codes " Not Found\r\nContent-Length: 0\r\n" ++ head_end closing, refl)
+has-status (outcome.Refused MethodNotAllowed) closing = (codes " Method Not Allowed\r\nAllow: GET\r\nContent-Length: 0\r\n" ++ head_end closing, refl)
+has-status outcome.Busy closing = (codes " Service Unavailable\r\nContent-Length: 0\r\n" ++ head_end closing, refl)
 
 -- the laws of sessions
 pub law-starts : HasRespondedWith [] [] [] new_session

@@ -9,8 +9,8 @@ use Rattle.httpedge.specs.declared.decision.Decision.TheVariants as decision
 use Rattle.httpedge.specs.declared.refusal.Refusal.TheVariants.{BadRequest}
 use Rattle.httpedge.proofs.Heads.{nothing-headless}
 use Rattle.httpedge.specs.Head.{HasNoHead}
-use Rattle.httpedge.specs.Meaning.{Meaning, decision_meaning}
-use Rattle.httpedge.specs.Verdict.{Decides, IsDecision, IsJudgedAs}
+use Rattle.httpedge.specs.Meaning.{Meaning}
+use Rattle.httpedge.specs.Verdict.{IsDecision, IsJudgedAs}
 use Rattle.httpedge.specs.declared.decision.Decision.{Decision}
 use Rattle.httpedge.specs.declared.verdict.Judged.{Judged}
 
@@ -43,7 +43,7 @@ old-first old prefix all judged (Some decided) none e judges = from-old old pref
 
 -- what the prefix of the piece decides
 pub taken : (old piece prefix all new : List ℕ) (count : ℕ) (judged : Judged) (d : Option Decision) → length old < 16384 → count ≡ min (length piece) (16384 - length old) → prefix ≡ take count piece →
-    all ≡ old ++ prefix → new ≡ take judged.len all → HasNoHead old → IsWithin judged.len judged.query → IsJudgedAs all judged d → Takes old piece (judged.len - length old) (progress_by d judged.closes (span_bytes new judged.query) new)
+    all ≡ old ++ prefix → new ≡ take judged.len all → HasNoHead old → IsWithin judged.len judged.target → IsJudgedAs all judged d → Takes old piece (judged.len - length old) (progress_by d judged.closes (span_bytes new judged.target) new)
 taken old piece prefix all new count judged None room is part e kept none within judges =
     let size : length all ≡ length old + length prefix = ap length e ∙ length-append old prefix in
     let m : length prefix ≡ min count (length piece) = ap length part ∙ length-take count piece in
@@ -55,12 +55,12 @@ taken old piece prefix all new count judged None room is part e kept none within
       cut = λ short. absurd (omega (arith, whole, short));
     }
 taken old piece prefix all new count judged (Some decided) room is part e kept none within judges =
-    let query = judged.query in
+    let target = judged.target in
     let from = from-old old prefix all judged _ none e judges in
     let bytes : take judged.len all ≡ old ++ take (judged.len - length old) piece = cut old piece prefix all count judged.len part (omega (arith, is)) e from judges.len in
-    let same : span_bytes all query ≡ span_bytes new query = sym (rw kept (range-prefix all judged.len query.start query.end within.0 within.1 judges.len)) in
+    let same : span_bytes all target ≡ span_bytes new target = sym (rw kept (range-prefix all judged.len target.start target.end within.0 within.1 judges.len)) in
     record {
-      comes = subst (λ l. Decides l judged.closes (decision_meaning decided (span_bytes new query))) bytes (subst (λ q. Decides (take judged.len all) judged.closes (decision_meaning decided q)) same judges.decides);
+      comes = rw (← bytes, ← same) (judges.decides, judges.target);
       bound = omega (arith, is, ap length e, length-append old prefix, ap length part, length-take count piece, judges.len);
       cut = λ short. refl;
     }
@@ -83,21 +83,21 @@ within-all all judged None judges = omega (arith, judges.2)
 within-all all judged (Some decided) judges = judges.len
 
 -- an empty piece changes nothing
-pub empty-feeds : (bytes piece query : List ℕ) (closes : Bool) (d : Option Decision) (empty : Bool) → d ≡ None → empty ≡ (length piece == 0) → empty ≡ true → HasNoHead bytes → length bytes < 16384 →
-    Feeds (progress_by d closes query bytes) piece 0 (progress_by d closes query bytes)
-empty-feeds bytes [] query closes d empty e is n none below =
+pub empty-feeds : (bytes piece target : List ℕ) (closes : Bool) (d : Option Decision) (empty : Bool) → d ≡ None → empty ≡ (length piece == 0) → empty ≡ true → HasNoHead bytes → length bytes < 16384 →
+    Feeds (progress_by d closes target bytes) piece 0 (progress_by d closes target bytes)
+empty-feeds bytes [] target closes d empty e is n none below =
     let all : bytes ≡ bytes ++ [] = sym (append-nil bytes) in
     rw e (record { comes = (all, (subst HasNoHead all none, subst (λ (l : List ℕ). length l < 16384) all below)); bound = omega arith; cut = λ short. absurd (omega (arith, short)) })
-empty-feeds bytes (p ∷ ps) query closes d empty e is n none below = absurd (omega (arith, eqb-true (suc (length ps)) 0 (sym is ∙ n)))
+empty-feeds bytes (p ∷ ps) target closes d empty e is n none below = absurd (omega (arith, eqb-true (suc (length ps)) 0 (sym is ∙ n)))
 
 -- the end of what has no head
-pub end-refused : (bytes query : List ℕ) (count : ℕ) (closes : Bool) (d : Option Decision) (empty : Bool) → d ≡ None → count ≡ length bytes → empty ≡ (count == 0) → empty ≡ false →
-    HasNoHead bytes → Ends (progress_by d closes query bytes) (Decided true (decision.Refused BadRequest) [])
-end-refused [] query count closes d empty is e counts some headless = absurd (cc)
-end-refused (byte ∷ bytes) query count closes d empty is e counts some headless = rw is ((λ is-last. inr (headless, refl)), refl)
+pub end-refused : (bytes target : List ℕ) (count : ℕ) (closes : Bool) (d : Option Decision) (empty : Bool) → d ≡ None → count ≡ length bytes → empty ≡ (count == 0) → empty ≡ false →
+    HasNoHead bytes → Ends (progress_by d closes target bytes) (Decided true (decision.Refused BadRequest) [])
+end-refused [] target count closes d empty is e counts some headless = absurd (cc)
+end-refused (byte ∷ bytes) target count closes d empty is e counts some headless = rw is ((λ is-last. inr (headless, refl)), refl)
 
 -- the end of nothing
-pub end-kept : (bytes query : List ℕ) (count : ℕ) (closes : Bool) (d : Option Decision) (empty : Bool) → d ≡ None → count ≡ length bytes → empty ≡ (count == 0) → empty ≡ true →
-    Ends (progress_by d closes query bytes) (progress_by d closes query bytes)
-end-kept [] query count closes d empty is e counts none = rw is ((λ is-last. inr (nothing-headless, refl)), refl)
-end-kept (byte ∷ bytes) query count closes d empty is e counts none = absurd (omega (arith, e, eqb-true count 0 (sym counts ∙ none)))
+pub end-kept : (bytes target : List ℕ) (count : ℕ) (closes : Bool) (d : Option Decision) (empty : Bool) → d ≡ None → count ≡ length bytes → empty ≡ (count == 0) → empty ≡ true →
+    Ends (progress_by d closes target bytes) (progress_by d closes target bytes)
+end-kept [] target count closes d empty is e counts none = rw is ((λ is-last. inr (nothing-headless, refl)), refl)
+end-kept (byte ∷ bytes) target count closes d empty is e counts none = absurd (omega (arith, e, eqb-true count 0 (sym counts ∙ none)))

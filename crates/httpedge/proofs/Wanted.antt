@@ -1,11 +1,11 @@
 -- Reads that are needed.
-use Rattle.std.proofs.Common.{◌≡◌, ◌∙◌, ℕ, ◌<◌, ◌≤◌, zero, suc, inl, inr, Bool, true, false, ◌||◌, ◌==◌, if◌then◌else◌, List, [], ◌∷◌, ◌++◌, length, Option, None, Some, refl, sym, ap, subst, arith, length-append, append-nil}
+use Rattle.std.proofs.Common.{◌≡◌, ◌∙◌, ℕ, ◌<◌, ◌≤◌, zero, suc, inl, inr, Bool, true, false, ◌||◌, ◌==◌, if◌then◌else◌, List, [], ◌∷◌, ◌++◌, length, Option, Some, refl, sym, ap, subst, arith, length-append, append-nil}
 use Rattle.std.specs.List.{All, FoldsTo, concat}
 use Rattle.std.proofs.lemmas.List.Elements.{All-nil, All-append}
 use Rattle.std.proofs.lemmas.List.Folds.{concat-append}
 use Rattle.std.proofs.lemmas.Fn.{FoldsTo-push}
-use Rattle.std.specs.Io.KnownBytes.{Consumes, Keeps}
-use Rattle.std.proofs.KnownBytes.{Consumes-nil, Consumes-trans, Consumes-kept}
+use Rattle.std.specs.Io.KnownBytes.{Consumes}
+use Rattle.std.proofs.KnownBytes.{Consumes-nil, Consumes-trans}
 use Rattle.httpedge.specs.Connection.{LeavesOpen}
 use Rattle.std.proofs.lemmas.Bool.Decides.{leb_tells}
 use Rattle.httparse.specs.Grammar.{print_request}
@@ -13,7 +13,7 @@ use Rattle.httparse.proofs.GrammarLemmas.{ReadsRequest-append, request_unique}
 use Rattle.httpedge.specs.Exchange.{Said}
 use Rattle.httpedge.specs.Fields.{announces_body, closes}
 use Rattle.httpedge.specs.Meaning.{Meaning, Refused, head_meaning}
-use Rattle.httpedge.specs.Reads.{Wants, WantsMore, ReadsTo, ReadsToPiece}
+use Rattle.httpedge.specs.Reads.{Wants, WantsMore}
 use Rattle.httpedge.specs.Serving.{HasCome}
 use Rattle.httpedge.specs.Turn.{Turn, Last, Further, headless_turn}
 use Rattle.httpedge.specs.declared.conn.TheConstants.{REQUESTS}

@@ -1,7 +1,7 @@
 -- How far a connection has come, by the bytes that came since the last forgotten head (docs/WMS.md, "HTTP").
-use Rattle.std.specs.Prelude.{◌≡◌, ℕ, ◌+◌, ◌<◌, ◌≤◌, List, [], ◌∷◌, ◌++◌, length, take, Bool, true, false, not, ◌&&◌, ◌||◌, ◌==◌, Option, None, Some}
+use Rattle.std.specs.Prelude.{◌≡◌, ℕ, ◌+◌, ◌<◌, ◌≤◌, List, [], ◌∷◌, ◌++◌, length, take, Bool, true, false, not, ◌&&◌, ◌||◌, ◌==◌, Option, None, Some, if◌then◌else◌}
 use Rattle.httparse.specs.Spans.{span_bytes}
-use Rattle.httpedge.specs.Head.{HasNoHead}
+use Rattle.httpedge.specs.Head.{HasNoHead, IsTargetOf}
 use Rattle.httpedge.specs.Meaning.{decision_meaning, meaning_of}
 use Rattle.httpedge.specs.Turn.{IsTurn, Last}
 use Rattle.httpedge.specs.Verdict.{Decides}
@@ -12,33 +12,33 @@ use Rattle.httpedge.specs.declared.received.Received.{Received}
 use Rattle.httpedge.specs.declared.refusal.Refusal.TheVariants.{BadRequest}
 
 -- these bytes came and nothing is decided; or there is a decision: whether it closes the connection, what it is, and the
--- query
+-- target of its head
 pub data Progress : Type 0 where
   Open : List ℕ → Progress
   Decided : Bool → Decision → List ℕ → Progress
 
 -- the received bytes as progress
 abbrev pub progress_by : Option Decision → Bool → List ℕ → List ℕ → Progress
-progress_by None closes query bytes = Open bytes
-progress_by (Some decided) closes query bytes = Decided closes decided query
+progress_by None closes target bytes = Open bytes
+progress_by (Some decided) closes target bytes = Decided closes decided target
 
 abbrev pub progress : Received → Progress
-progress received = progress_by received.decision received.closes (span_bytes received.bytes.items received.query) received.bytes.items
+progress received = progress_by received.decision received.closes (span_bytes received.bytes.items received.target) received.bytes.items
 
 -- there is a decision
 abbrev pub is_decided : Progress → Bool
 is_decided (Open came) = false
-is_decided (Decided closes decided query) = true
+is_decided (Decided closes decided target) = true
 
 -- what is decided, if anything is
 abbrev pub step_of : Progress → Option Decision
 step_of (Open came) = None
-step_of (Decided closes decided query) = Some decided
+step_of (Decided closes decided target) = Some decided
 
--- the query of a decision
-abbrev pub query_of : Progress → List ℕ
-query_of (Open came) = []
-query_of (Decided closes decided query) = query
+-- the target of the head that decided
+abbrev pub target_of : Progress → List ℕ
+target_of (Open came) = []
+target_of (Decided closes decided target) = target
 
 -- the bytes begin with no head, and are fewer than a head may have
 abbrev pub LeavesOpen : List ℕ → Type 0
@@ -47,7 +47,7 @@ LeavesOpen came = HasNoHead came × (length came < 16384)
 -- these bytes came: they have no head yet and may get one, or they decide
 abbrev pub Comes : List ℕ → Progress → Type 0
 Comes came (Open bytes) = (bytes ≡ came) × LeavesOpen came
-Comes came (Decided closes decided query) = Decides came closes (decision_meaning decided query)
+Comes came (Decided closes decided target) = Decides came closes (decision_meaning decided target) × IsTargetOf came target
 
 -- the first bytes of a piece were taken: all of them, or those that decide
 pub record Takes (came piece : List ℕ) (taken : ℕ) (new : Progress) : Type 0 where
@@ -58,19 +58,19 @@ pub record Takes (came piece : List ℕ) (taken : ℕ) (new : Progress) : Type 0
 -- a further piece came. Where there is a decision, nothing of it is taken
 abbrev pub Feeds : Progress → List ℕ → ℕ → Progress → Type 0
 Feeds (Open came) piece taken new = Takes came piece taken new
-Feeds (Decided closes decided query) piece taken new = (taken ≡ 0) × (new ≡ Decided closes decided query)
+Feeds (Decided closes decided target) piece taken new = (taken ≡ 0) × (new ≡ Decided closes decided target)
 
 -- the progress of a connection at the end of its stream: bytes without a head are refused; where nothing came nothing is
 -- decided
 abbrev pub ended : Progress → Progress
 ended (Open []) = Open []
 ended (Open (byte ∷ bytes)) = Decided true (decision.Refused BadRequest) []
-ended (Decided closes decided query) = Decided closes decided query
+ended (Decided closes decided target) = Decided closes decided target
 
 -- the stream ended: the bytes that came are the last, and they mean this; a decision that was there stays
 abbrev pub Ends : Progress → Progress → Type 0
-Ends (Open came) new = ((is_last : Bool) → IsTurn is_last came (Last (meaning_of (step_of new) (query_of new)))) × (new ≡ ended (Open came))
-Ends (Decided closes decided query) new = new ≡ Decided closes decided query
+Ends (Open came) new = ((is_last : Bool) → IsTurn is_last came (Last (meaning_of (step_of new) (target_of new)))) × (new ≡ ended (Open came))
+Ends (Decided closes decided target) new = new ≡ Decided closes decided target
 
 -- how many heads were forgotten, and the progress of the next one
 pub record Course : Type 0 where
@@ -80,7 +80,7 @@ pub record Course : Type 0 where
 -- a decision ends the connection: by its head, or as the last
 abbrev pub ends_by : Bool → Progress → Bool
 ends_by is_last (Open came) = false
-ends_by is_last (Decided closes decided query) = closes || is_last
+ends_by is_last (Decided closes decided target) = closes || is_last
 
 -- there is a decision that ends the connection
 abbrev pub is_closing : Course → Bool
@@ -93,3 +93,7 @@ goes_on course = is_decided course.progress && not (is_closing course)
 -- the head of the decision is forgotten
 abbrev pub forgotten : Course → Course
 forgotten course = record { done = course.done + 1; progress = Open [] }
+
+-- the head of a decision that doesn't end the connection is forgotten; the others stay
+abbrev pub settled : Course → Course
+settled course = if goes_on course then forgotten course else course

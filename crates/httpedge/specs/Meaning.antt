@@ -35,12 +35,12 @@ request_meaning method target = if bytes_eq method (codes "GET") then target_mea
 abbrev pub head_meaning : RequestHead → Meaning
 head_meaning head = request_meaning head.method head.target
 
--- the meaning of a decision, with the query of its target
+-- the meaning of a decision, by the target of its head
 abbrev pub decision_meaning : Decision → List ℕ → Meaning
-decision_meaning decision.Ask query = Asks query
-decision_meaning (decision.Refused refusal) query = Refused refusal
+decision_meaning decision.Ask target = Asks (after_first is_question_mark target)
+decision_meaning (decision.Refused refusal) target = Refused refusal
 
 -- the meaning of a decision, if there is one
 abbrev pub meaning_of : Option Decision → List ℕ → Meaning
-meaning_of None query = Nothing
-meaning_of (Some decided) query = decision_meaning decided query
+meaning_of None target = Nothing
+meaning_of (Some decided) target = decision_meaning decided target

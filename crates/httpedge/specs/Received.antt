@@ -14,12 +14,12 @@ is_line_feed byte = byte == 10
 abbrev pub is_newline : ℕ → Bool
 is_newline byte = (byte == 13) || (byte == 10)
 
--- there is room for a head, and the query lies within the bytes. Where nothing is decided, text is noted, and the bytes have no head
+-- there is room for a head, and the target lies within the bytes. Where nothing is decided, text is noted, and the bytes have no head
 -- and are fewer than a head may have. So many of these bytes were parsed that all of them are at most twice as many
 pub record IsReceived (received : Received) : Type 0 where
   pub room : 16384 ≤ vec_capacity received.bytes
   pub limit : length received.bytes.items ≤ 16384
-  pub query : IsWithin (length received.bytes.items) received.query
+  pub target : IsWithin (length received.bytes.items) received.target
   pub blank : received.decision ≡ None → received.has_text ≡ false → list_all is_newline received.bytes.items ≡ true
   pub no_head : received.decision ≡ None → HasNoHead received.bytes.items
   pub below : received.decision ≡ None → length received.bytes.items < 16384

@@ -1,5 +1,5 @@
 -- The bytes of responses (RFC 9112; docs/WMS.md, "HTTP").
-use Rattle.std.specs.Prelude.{ℕ, List, ◌++◌, length, codes, Bool, true, false}
+use Rattle.std.specs.Prelude.{◌≡◌, ℕ, List, ◌++◌, length, codes, Bool, true, false}
 use Rattle.std.specs.Fmt.{decimal}
 use Rattle.answers.specs.declared.answer.Answer.{Answer}
 use Rattle.operations.specs.Mime.{mime_text}
@@ -50,3 +50,13 @@ abbrev pub status_of : Refusal → ℕ
 status_of BadRequest = 400
 status_of NotFound = 404
 status_of MethodNotAllowed = 405
+
+-- the first line of a response has this status
+abbrev pub HasStatus : List ℕ → ℕ → Type 0
+HasStatus text status = (rest : List ℕ) × (text ≡ codes "HTTP/1.1 " ++ (decimal status ++ rest))
+
+-- the status of a response
+abbrev pub outcome_status : Outcome → ℕ
+outcome_status (Answered answer) = 200
+outcome_status (Refused refusal) = status_of refusal
+outcome_status Busy = 503

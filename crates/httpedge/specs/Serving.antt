@@ -12,12 +12,12 @@ requests_left course = REQUESTS - course.done
 -- the bytes that came of the next head
 abbrev pub came_of : Progress → List ℕ
 came_of (Open came) = came
-came_of (Decided closes decided query) = []
+came_of (Decided closes decided target) = []
 
 -- nothing is decided, and the bytes that came may still get a meaning
 abbrev pub IsOpen : Progress → Type 0
 IsOpen (Open came) = LeavesOpen came
-IsOpen (Decided closes decided query) = ⊥
+IsOpen (Decided closes decided target) = ⊥
 
 -- the connection needs a further read
 pub record IsReading (course : Course) : Type 0 where

@@ -2,16 +2,21 @@
 use Rattle.std.specs.Prelude.{◌≡◌, ◌⊎◌, ℕ, List, [], ◌∷◌, ◌++◌, length, Bool, true, false, not, ◌&&◌, ◌==◌}
 use Rattle.httpedge.specs.Connection.{Course, Open}
 use Rattle.httpedge.specs.Exchange.{Said, IsExchange}
+use Rattle.httpedge.specs.Head.{IsTargetOf}
+use Rattle.httpedge.specs.Response.{HasStatus}
 use Rattle.httpedge.specs.Serving.{IsReading, HasCome, requests_left, came_of}
 use Rattle.httpedge.specs.declared.conn.TheConstants.{REQUESTS}
 use Rattle.httpedge.specs.declared.stage.Stage.{Stage}
 use Rattle.httpedge.specs.declared.stage.Stage.TheVariants.{Reading, Closed, Ended}
 
--- the progress of its heads, the bytes that are to be sent, and whether heads are read
+-- the progress of its heads, the bytes that are to be sent, and whether heads are read; the target of the request that was answered last, and
+-- the status of its response
 pub record SessionState : Type 0 where
   pub course : Course
   pub outgoing : List ℕ
   pub stage : Stage
+  pub target : List ℕ
+  pub status : ℕ
 
 -- heads are read
 abbrev pub is_reading : Stage → Bool
@@ -31,6 +36,11 @@ wants state = is_reading state.stage && owes_nothing state
 abbrev pub is_done : SessionState → Bool
 is_done state = not (is_reading state.stage) && owes_nothing state
 
+-- after a head that ends the connection, or another one
+abbrev pub stage_after : Bool → Stage
+stage_after true = Closed
+stage_after false = Reading
+
 -- while heads are read, nothing is decided, and a request is left
 abbrev pub ReadsOn : Stage → Course → Type 0
 ReadsOn Reading course = IsReading course
@@ -46,6 +56,10 @@ HasRespondedAt Ended answers read first said course now = IsExchange answers REQ
 -- the bytes `read` were taken, and `written` was sent: `written` and the bytes that are to be sent answer them
 abbrev pub HasResponded : {A : Type 0} → (A → List ℕ → Said → A → Type 0) → List ℕ → A → List ℕ → SessionState → A → Type 0
 HasResponded answers read first written state now = HasRespondedAt state.stage answers read first (written ++ state.outgoing) state.course now
+
+-- the response that is to be sent has this status, and the request that it answers, of which these bytes came, this target
+abbrev pub HasNamed : List ℕ → SessionState → Type 0
+HasNamed came state = owes_nothing state ≡ false → IsTargetOf came state.target × HasStatus state.outgoing state.status
 
 -- a query and its outcome
 pub record QueryOutcome : Type 0 where
@@ -68,4 +82,4 @@ HasAsked answers old queries new =
 
 -- a session to which nothing came
 abbrev pub new_session : SessionState
-new_session = record { course = record { done = 0; progress = Open [] }; outgoing = []; stage = Reading }
+new_session = record { course = record { done = 0; progress = Open [] }; outgoing = []; stage = Reading; target = []; status = 0 }

@@ -1,8 +1,11 @@
-ghost use Rattle.std.specs.Prelude.{◌≡◌, IfOk, [], if◌then◌else◌, true};
-ghost use Rattle.httpedge.specs.Connection.{Open, Feeds, Ends, step_of, query_of, is_decided, is_closing, goes_on, forgotten};
+ghost use Rattle.std.specs.Prelude.{◌≡◌, IfOk, []};
+ghost use Rattle.std.specs.List.{after_first};
+ghost use Rattle.httpedge.specs.Connection.{Open, Feeds, Ends, step_of, target_of, is_closing, goes_on, settled};
+ghost use Rattle.httpedge.specs.Meaning.{is_question_mark};
 
 use crate::Decision;
 use crate::received::Received;
+use crate::verdict::query_of;
 use std::alloc::{AllocError, Global};
 use std::marker::Model;
 
@@ -73,12 +76,21 @@ impl Conn {
         self.received.decision
     }
 
-    /// The query of the head that decided.
-    pub fn query(&self) -> &[u8]
-        requires decided { is_decided self.now.progress ≡ true }
-        ensures { result.now ≡ query_of self.now.progress }
+    /// The target of the head that decided, as it was sent. It is empty where nothing is decided, or no head came.
+    pub fn target(&self) -> &[u8]
+        ensures { result.now ≡ target_of self.now.progress }
     {
-        self.received.query.of(&self.received.bytes)
+        match self.received.decision {
+            Some(_) => self.received.target.of(&self.received.bytes),
+            None => &[],
+        }
+    }
+
+    /// The query of that target.
+    pub fn query(&self) -> &[u8]
+        ensures { result.now ≡ after_first is_question_mark (target_of self.now.progress) }
+    {
+        query_of(self.target())
     }
 
     /// Whether there is a decision that ends the connection.
@@ -91,7 +103,7 @@ impl Conn {
     /// Forgets the head of a decision that doesn't end the connection, and returns whether there was one.
     pub fn next(&mut self) -> bool
         ensures was { result ≡ goes_on self.old }
-        ensures forgets { self.new ≡ (if goes_on self.old then forgotten self.old else self.old) }
+        ensures forgets { self.new ≡ settled self.old }
     {
         if self.received.decision.is_none() || self.closing() {
             return false;

@@ -1,8 +1,8 @@
-ghost use Rattle.std.specs.Prelude.{◌≡◌, ◌||◌, ◌+◌, ◌<◌, ◌≤◌, ◌++◌, ℕ, List, [], Bool, Some, not, if◌then◌else◌, length, OnOk, OnErr, IfOk, IfErr, IfSome, MatchResult, Result, true};
+ghost use Rattle.std.specs.Prelude.{◌≡◌, ◌||◌, ◌+◌, ◌<◌, ◌≤◌, ◌++◌, ℕ, List, [], Bool, Some, not, length, OnOk, OnErr, IfOk, IfErr, IfSome, MatchResult, Result, true};
 ghost use Rattle.std.specs.Io.KnownBytes.{Consumes};
 ghost use Rattle.streams.specs.Sent.{IsSent, IsCutSomewhere};
 ghost use Rattle.answers.specs.declared.answer.Answer.{Answer};
-ghost use Rattle.httpedge.specs.Connection.{Open, step_of, query_of, is_closing, goes_on, forgotten};
+ghost use Rattle.httpedge.specs.Connection.{Open, step_of, target_of, is_closing, goes_on, settled};
 ghost use Rattle.httpedge.specs.Exchange.{IsReply, IsExchange, IsBegun, said_text};
 ghost use Rattle.httpedge.specs.Meaning.{decision_meaning};
 ghost use Rattle.httpedge.specs.Reads.{ReadsToPiece, ReadsToFault};
@@ -49,7 +49,7 @@ fn ask<A: Asks>(asks: &mut A, query: &[u8]) -> Outcome
 /// The response to a decision.
 pub(crate) fn outcome<A: Asks>(conn: &Conn, decision: Decision, asks: &mut A) -> Outcome
     requires decided { step_of conn.now.progress ≡ Some decision }
-    ensures { (closing : Bool) → IsReply A.answers closing (decision_meaning decision (query_of conn.now.progress)) asks.old (response result closing) asks.new }
+    ensures { (closing : Bool) → IsReply A.answers closing (decision_meaning decision (target_of conn.now.progress)) asks.old (response result closing) asks.new }
 {
     match decision {
         Decision::Ask => ask(asks, conn.query()),
@@ -66,17 +66,17 @@ fn answer<W: Sink, A: Asks>(
 ) -> Result<bool, PutFailed>
     requires decided { step_of conn.old.progress ≡ Some decision }
     ensures sent { OnOk result ((text : List ℕ) × IsSent W.held W.taken writer.old text writer.new
-        × IsReply A.answers (is_closing conn.old) (decision_meaning decision (query_of conn.old.progress)) asks.old text asks.new) }
+        × IsReply A.answers (is_closing conn.old) (decision_meaning decision (target_of conn.old.progress)) asks.old text asks.new) }
     ensures cut { OnErr result ((text : List ℕ) × IsCutSomewhere W.held W.taken writer.old text writer.new
-        × IsReply A.answers (is_closing conn.old) (decision_meaning decision (query_of conn.old.progress)) asks.old text asks.new) }
+        × IsReply A.answers (is_closing conn.old) (decision_meaning decision (target_of conn.old.progress)) asks.old text asks.new) }
     ensures next { IfOk result (λ on. on ≡ goes_on conn.old) }
-    ensures forgets { OnOk result (conn.new ≡ (if goes_on conn.old then forgotten conn.old else conn.old)) }
+    ensures forgets { OnOk result (conn.new ≡ settled conn.old) }
     ensures flag { MatchResult result (λ _. W.put_failed writer.new ≡ W.put_failed writer.old) (λ _. W.put_failed writer.new ≡ true) }
 {
-    let (outgoing, goes_on) = reply(conn, decision, asks);
+    let (outgoing, _) = reply(conn, decision, asks);
     let (head, body) = outgoing.parts();
     put_pieces(writer, &[head, body])?;
-    Ok(goes_on)
+    Ok(conn.next())
 }
 
 // Answers the heads that end in a piece, one after the other, and returns whether the connection goes on.

@@ -17,8 +17,8 @@ pub struct Received {
     pub bytes: Vec<u8>,
     /// What they decide, if they do.
     pub decision: Option<Decision>,
-    /// The position of the query of their target.
-    pub query: Span,
+    /// The position of the target of their head.
+    pub target: Span,
     /// Whether their head ends the connection.
     pub closes: bool,
     /// Whether one of the bytes is neither CR nor LF.
@@ -69,7 +69,7 @@ impl Received {
         Ok(Received {
             bytes: Vec::with_capacity(alloc, HEAD_BYTES)?,
             decision: None,
-            query: NOWHERE,
+            target: NOWHERE,
             closes: false,
             has_text: false,
             parsed: 0,
@@ -127,7 +127,7 @@ impl Received {
         let judged = judge(&self.bytes, is_due);
         self.bytes.truncate(judged.len);
         self.decision = judged.decision;
-        self.query = judged.query;
+        self.target = judged.target;
         self.closes = judged.closes;
         judged.len - before
     }
@@ -153,7 +153,7 @@ impl Received {
         match self.decision {
             None if !self.bytes.is_empty() => {
                 self.decision = Some(Decision::Refused(Refusal::BadRequest));
-                self.query = NOWHERE;
+                self.target = NOWHERE;
                 self.closes = true;
             }
             _ => {}
@@ -168,7 +168,7 @@ impl Received {
     {
         self.bytes.truncate(0);
         self.decision = None;
-        self.query = NOWHERE;
+        self.target = NOWHERE;
         self.closes = false;
         self.has_text = false;
         self.parsed = 0;

@@ -1,8 +1,10 @@
-ghost use Rattle.std.specs.Prelude.{◌≡◌, ◌≤◌, ◌++◌, [], ℕ, List, Bool, Some, true, false, if◌then◌else◌, length, take, drop, IfOk, OnOk};
-ghost use Rattle.httpedge.specs.Connection.{step_of, query_of, is_closing, goes_on, forgotten};
+ghost use Rattle.std.specs.Prelude.{◌≡◌, ◌≤◌, ◌++◌, [], ℕ, List, Bool, Some, true, false, ◌==◌, length, take, drop, IfOk, OnOk};
+ghost use Rattle.httpedge.specs.Connection.{step_of, target_of, is_closing};
 ghost use Rattle.httpedge.specs.Exchange.{Said, IsReply, IsExchange};
+ghost use Rattle.httpedge.specs.Head.{IsTargetOf};
 ghost use Rattle.httpedge.specs.Meaning.{decision_meaning};
-ghost use Rattle.httpedge.specs.Session.{new_session, wants, is_done, HasResponded, HasRespondedWith, QueryOutcome, HasAsked, says_as_listed};
+ghost use Rattle.httpedge.specs.Session.{new_session, stage_after, wants, is_done, HasNamed, HasResponded, HasRespondedWith, QueryOutcome, HasAsked, says_as_listed};
+ghost use Rattle.httpedge.specs.Response.{HasStatus};
 ghost use Rattle.httpedge.specs.Serving.{IsReading, requests_left, came_of};
 ghost use Rattle.httpedge.specs.declared.stage.Stage.TheVariants.{Ended};
 
@@ -13,26 +15,38 @@ use crate::{Asks, Conn, Decision, Outcome, Refusal};
 use std::alloc::{AllocError, Global};
 use std::marker::Model;
 
-/// The response to a decision, and whether the connection goes on. Then the head is forgotten.
-pub(crate) fn reply<A: Asks>(conn: &mut Conn, decision: Decision, asks: &mut A) -> (Outgoing, bool)
-    requires decided { step_of conn.old.progress ≡ Some decision }
-    ensures replies { IsReply A.answers (is_closing conn.old) (decision_meaning decision (query_of conn.old.progress)) asks.old result.0 asks.new }
-    ensures next { result.1 ≡ goes_on conn.old }
-    ensures forgets { conn.new ≡ (if goes_on conn.old then forgotten conn.old else conn.old) }
+/// The response to a decision, and its status.
+pub(crate) fn reply<A: Asks>(conn: &Conn, decision: Decision, asks: &mut A) -> (Outgoing, u16)
+    requires decided { step_of conn.now.progress ≡ Some decision }
+    ensures replies { IsReply A.answers (is_closing conn.now) (decision_meaning decision (target_of conn.now.progress)) asks.old result.0 asks.new }
+    ensures status { HasStatus result.0 result.1 }
 {
     let outcome = outcome(conn, decision, asks);
-    let outgoing = Outgoing::of(outcome, conn.closing());
-    (outgoing, conn.next())
+    let status = outcome.status();
+    (Outgoing::of(outcome, conn.closing()), status)
 }
 
 // The response at the end of a stream: bytes without a head are refused.
 fn end_reply(conn: &mut Conn) -> Outgoing
     requires reading { IsReading conn.old }
-    ensures { (later : List QueryOutcome) → IsExchange says_as_listed (requests_left conn.old) (came_of conn.old.progress) later result later }
+    ensures answers { (later : List QueryOutcome) → IsExchange says_as_listed (requests_left conn.old) (came_of conn.old.progress) later result later }
+    ensures status { (length result == 0) ≡ false → HasStatus result 400 }
+    ensures target { IsTargetOf (came_of conn.old.progress) (target_of conn.new.progress) }
 {
     match conn.end() {
         None => Outgoing::nothing(),
         Some(_) => Outgoing::of(Outcome::Refused(Refusal::BadRequest), true),
+    }
+}
+
+// Whether heads are read after one that ends the connection or doesn't.
+fn stage_after(closing: bool) -> Stage
+    ensures { result ≡ stage_after closing }
+{
+    if closing {
+        Stage::Closed
+    } else {
+        Stage::Reading
     }
 }
 
@@ -46,16 +60,19 @@ pub struct Session {
     conn: Conn,
     outgoing: Outgoing,
     stage: Stage,
+    status: u16,
 }
 
+// The head that is answered stays with the connection until the next bytes come, for its target.
 impl Model for Session {
+    ghost use Rattle.httpedge.specs.Connection.{settled, target_of};
     ghost use Rattle.httpedge.specs.Session.{SessionState, ReadsOn};
 
     ghost Value = { SessionState };
 
-    ghost view = { λ s. record { course = s.conn; outgoing = s.outgoing; stage = s.stage } };
+    ghost view = { λ s. record { course = settled s.conn; outgoing = s.outgoing; stage = s.stage; target = target_of s.conn.progress; status = s.status } };
 
-    ghost invariant = { λ s. ReadsOn s.stage s.conn };
+    ghost invariant = { λ s. ReadsOn s.stage (settled s.conn) };
 }
 
 impl Session {
@@ -67,6 +84,7 @@ impl Session {
             conn: Conn::new(alloc)?,
             outgoing: Outgoing::nothing(),
             stage: Stage::Reading,
+            status: 0,
         })
     }
 
@@ -91,6 +109,7 @@ impl Session {
         ensures all { wants self.new ≡ true → wants self.old ≡ true → result ≡ length piece.now }
         ensures none { wants self.old ≡ false → (result ≡ 0) × (self.new ≡ self.old) × (asks.new ≡ asks.old) }
         ensures quiet { wants self.new ≡ true → asks.new ≡ asks.old }
+        ensures named { wants self.old ≡ true → HasNamed (came_of self.old.course.progress ++ take result piece.now) self.new }
         ensures goes_on { self.new.stage ≡ Ended → self.old.stage ≡ Ended }
         ensures responded { (read written : List ℕ) (first : A) → HasResponded A.answers read first written self.old asks.old
             → HasResponded A.answers (read ++ take result piece.now) first written self.new asks.new }
@@ -100,13 +119,13 @@ impl Session {
         if !self.wants_more() {
             return 0;
         }
+        self.conn.next();
         let fed = self.conn.feed(piece);
         if let Some(decision) = fed.step {
-            let (outgoing, goes_on) = reply(&mut self.conn, decision, asks);
+            let (outgoing, status) = reply(&self.conn, decision, asks);
             self.outgoing = outgoing;
-            if !goes_on {
-                self.stage = Stage::Closed;
-            }
+            self.status = status;
+            self.stage = stage_after(self.conn.closing());
         }
         fed.taken
     }
@@ -115,9 +134,12 @@ impl Session {
     pub fn end(&mut self)
         requires wanted { wants self.old ≡ true }
         ensures ended { self.new.stage ≡ Ended }
+        ensures named { HasNamed (came_of self.old.course.progress) self.new }
         ensures said { (read written : List ℕ) (queries : List QueryOutcome) → HasRespondedWith read queries written self.old → HasRespondedWith read queries written self.new }
     {
+        self.conn.next();
         self.outgoing = end_reply(&mut self.conn);
+        self.status = Refusal::BadRequest.status().as_u16();
         self.stage = Stage::Ended;
     }
 
@@ -126,6 +148,20 @@ impl Session {
         ensures { result.0.now ++ result.1.now ≡ self.now.outgoing }
     {
         self.outgoing.parts()
+    }
+
+    /// The target of the request that was answered last, as it was sent. It is empty where no head came.
+    pub fn target(&self) -> &[u8]
+        ensures { result.now ≡ self.now.target }
+    {
+        self.conn.target()
+    }
+
+    /// The status of the response to that request.
+    pub fn status(&self) -> u16
+        ensures { result ≡ self.now.status }
+    {
+        self.status
     }
 
     /// Notes that the first so many of the bytes that are to be sent were sent. The memory of a body is freed with its last

@@ -27,8 +27,8 @@ pub const HEAD_FIELDS: usize = 64;
 pub struct Judged {
     /// The decision, if there is one.
     pub decision: Option<Decision>,
-    /// The position of the query of their target.
-    pub query: Span,
+    /// The position of the target of their head.
+    pub target: Span,
     /// Whether the decision ends the connection.
     pub closes: bool,
     /// How many bytes were judged: a whole head, or all.
@@ -53,21 +53,17 @@ fn is_served(path: &[u8]) -> bool
     path == b"/".as_slice() || path == b"/wms".as_slice()
 }
 
-// The position of the query of a target: after its first question mark.
-fn query_of(bytes: &[u8], target: Span) -> Span
-    requires within { IsWithin (length bytes.now) target }
-    ensures within { IsWithin target.end result }
-    ensures query { span_bytes bytes.now result ≡ after_first is_question_mark (span_bytes bytes.now target) }
+/// The query of a target: after its first question mark.
+pub fn query_of(target: &[u8]) -> &[u8]
+    ensures { result.now ≡ after_first is_question_mark target.now }
 {
-    Span {
-        start: (target.start + path_len(target.of(bytes)) + 1).min(target.end),
-        end: target.end,
-    }
+    let (_, query) = target.split_at((path_len(target) + 1).min(target.len()));
+    query
 }
 
 // What a target decides.
 fn decide_target(target: &[u8]) -> Decision
-    ensures { decision_meaning result (after_first is_question_mark target.now) ≡ target_meaning target.now }
+    ensures { decision_meaning result target.now ≡ target_meaning target.now }
 {
     let (path, _) = target.split_at(path_len(target));
     if is_served(path) {
@@ -79,7 +75,7 @@ fn decide_target(target: &[u8]) -> Decision
 
 // What a method and a target decide.
 fn decide(method: &[u8], target: &[u8]) -> Decision
-    ensures { decision_meaning result (after_first is_question_mark target.now) ≡ request_meaning method.now target.now }
+    ensures { decision_meaning result target.now ≡ request_meaning method.now target.now }
 {
     if method == b"GET".as_slice() {
         decide_target(target)
@@ -105,18 +101,17 @@ fn judge_head(bytes: &[u8], fields: &[HeaderSpan], head: RequestSpans) -> Judged
     ensures { IsJudged bytes.now result }
 {
     let (fields, _) = fields.split_at(head.headers);
-    let query = query_of(bytes, head.path);
     if has_body(bytes, fields) {
         return Judged {
             decision: Some(Decision::Refused(Refusal::BadRequest)),
-            query,
+            target: head.path,
             closes: true,
             len: head.len,
         };
     }
     Judged {
         decision: Some(decide(head.method.of(bytes), head.path.of(bytes))),
-        query,
+        target: head.path,
         closes: ends(bytes, fields, head.version),
         len: head.len,
     }
@@ -130,7 +125,7 @@ fn judge_hopeless(bytes: &[u8]) -> Judged
 {
     Judged {
         decision: Some(Decision::Refused(Refusal::BadRequest)),
-        query: NOWHERE,
+        target: NOWHERE,
         closes: true,
         len: bytes.len(),
     }
@@ -147,7 +142,7 @@ fn judge_headless(bytes: &[u8]) -> Judged
     }
     Judged {
         decision: None,
-        query: NOWHERE,
+        target: NOWHERE,
         closes: false,
         len: bytes.len(),
     }

@@ -1,6 +1,6 @@
 use crate::exchanges::{WHOLE, exchanged};
 use crate::narrow::holding_nothing;
-use httpedge::{Asks, Busy, Conn, Outcome, Refusal, exchange, respond};
+use httpedge::{Asks, Busy, Conn, Outcome, Refusal, Session, exchange, respond};
 use mapdefs::Items;
 use mapmachine::{Answer, Mime};
 use std::alloc::{AllocError, Global};
@@ -212,4 +212,50 @@ fn rows_of_responses(alloc: Global, row: &str) -> Result<String, AllocError> {
 #[test]
 fn pictures_and_refusals_are_written_with_their_status(rt: HostRuntime) -> Result<(), TableFault> {
     check_rows(rt.alloc(), RESPONSES, '|', 4, rows_of_responses)
+}
+
+// The statuses and the targets of the responses to a stream, `|` and the stream. LF is written `~`.
+const NAMED: &str = "\
+503 /wms?a=b |GET /wms?a=b HTTP/1.1~~
+404 /a?b 503 / |~GET /a?b HTTP/1.1~~GET / HTTP/1.1~~
+405 /c |BREW /c HTTP/1.0~~GET / HTTP/1.1~~
+404 * 404 http://x/wms?a |GET * HTTP/1.1~~GET http://x/wms?a HTTP/1.1~~
+# a head that announces a body has a target
+400 /wms?q |GET /wms?q HTTP/1.1~Content-Length: 1~~
+# bytes that are no head have none
+400  |GET /wms?q HTTP/3.0~~
+400  |GET /a b HTTP/1.1~~
+503 /?q 400  |GET /?q HTTP/1.1~~GET /wms?q";
+
+// Adds the status and the target of the response that a session has to send, and sends it.
+fn name(alloc: Global, text: String, session: &mut Session) -> Result<String, AllocError> {
+    let (head, body) = session.outgoing();
+    let count = head.len().saturating_add(body.len());
+    if count == 0 {
+        return Ok(text);
+    }
+    let target = str::from_utf8(session.target()).unwrap_or("?");
+    let text = format!(in alloc; "{}{} {target} ", text.as_str(), session.status())?;
+    session.sent(count);
+    Ok(text)
+}
+
+fn rows_of_named(alloc: Global, row: &str) -> Result<String, AllocError> {
+    let stream = row.replace(alloc, '~', "\n")?;
+    let mut asks = Closed { queries: 0 };
+    let mut session = Session::new(alloc)?;
+    let mut text = String::new(alloc);
+    for byte in stream.as_bytes().chunks(1) {
+        session.feed(byte, &mut asks);
+        text = name(alloc, text, &mut session)?;
+    }
+    if session.wants_more() {
+        session.end();
+    }
+    name(alloc, text, &mut session)
+}
+
+#[test]
+fn responses_name_the_targets_of_their_requests(rt: HostRuntime) -> Result<(), TableFault> {
+    check_rows(rt.alloc(), NAMED, '|', 8, rows_of_named)
 }

@@ -1,9 +1,9 @@
 -- How a connection goes on, step after step.
-use Rattle.std.proofs.Common.{◌≡◌, ◌∙◌, ℕ, List, [], ◌∷◌, ◌++◌, Option, inl, inr, take, drop, refl, sym, ap, subst, arith, append_assoc, append-nil, take-append-drop, length-append}
+use Rattle.std.proofs.Common.{◌≡◌, ◌∙◌, ℕ, List, [], ◌++◌, Option, inl, take, drop, refl, sym, ap, arith, append_assoc, append-nil, take-append-drop, length-append}
 use Rattle.std.proofs.KnownBytes.{Appends-nil, Appends-trans}
 use Rattle.std.specs.Io.KnownBytes.{Appends}
 use Rattle.httpedge.specs.Exchange.{Said}
-use Rattle.httpedge.specs.Session.{QueryOutcome, HasAsked}
+use Rattle.httpedge.specs.Session.{QueryOutcome}
 use Rattle.turns.specs.Advancing.{HasServed, Advances, Sends, Receives}
 use Rattle.turns.specs.declared.buffered_session.BufferedSession.{BufferedSession}
 

@@ -142,6 +142,22 @@ add-joins old new slot comes stays = elim (cases_lt slot old.slots) [
   | inr past ↦ ([], ap (λ (q : Queue). q.order) (stays past))
 ]
 
+-- a slot in a queue stays there while others come
+pub has-joined : (slot one : ℕ) (queue : List ℕ) → has slot queue ≡ true → has slot (joined queue one) ≡ true
+has-joined slot one queue there = go (has one queue) refl
+  where
+    first : (a b : Bool) → a ≡ true → (a || b) ≡ true
+    first true b is = refl
+    first false b is = absurd (cc is)
+
+    go : (b : Bool) → has one queue ≡ b → has slot (joined queue one) ≡ true
+    go true e = rw e there
+    go false e = rw e (list_any-append (λ x. x == slot) queue (one ∷ []) ∙ first (has slot queue) ((one == slot) || false) there)
+
+pub has-joins : (slot : ℕ) (queue ones : List ℕ) → has slot queue ≡ true → has slot (joins queue ones) ≡ true
+has-joins slot queue [] there = there
+has-joins slot queue (one ∷ ones) there = has-joins slot (joined queue one) ones (has-joined slot one queue there)
+
 joins-append : (queue ones others : List ℕ) → joins (joins queue ones) others ≡ joins queue (ones ++ others)
 joins-append queue [] others = refl
 joins-append queue (one ∷ ones) others = joins-append (joined queue one) ones others

@@ -1,11 +1,10 @@
 -- The slots of a worker: how many bytes they are owed, and which gives way first.
-use Rattle.std.proofs.Common.{◌≡◌, ◌∙◌, ◌<◌, ◌≤◌, ◌+◌, ◌⊎◌, ℕ, suc, zero, List, [], ◌∷◌, ◌++◌, Option, None, Some, Bool, true, false, ◌||◌, inl, inr, length, get_or, unwrap_or, nat_lt, refl, sym, ap, subst, arith, if◌then◌else◌}
+use Rattle.std.proofs.Common.{◌≡◌, ◌∙◌, ◌<◌, ◌≤◌, ◌+◌, ℕ, suc, zero, List, [], ◌∷◌, ◌++◌, Option, None, Some, Bool, true, false, ◌||◌, inl, inr, length, get_or, nat_lt, refl, sym, ap, subst, arith, if◌then◌else◌}
 use Rattle.std.proofs.lemmas.Bool.{cases_lt, ltb-true, ltb-false}
 use Rattle.std.proofs.lemmas.List.{get_or_past}
 use Rattle.turns.specs.Pressure.{first_of, rank_at, rank_of, IsFoundIn, IsFirst, NoneMay, YieldsWithoutTurn}
 use Rattle.turns.specs.Queue.{has}
 use Rattle.turns.specs.Table.{connections, ready_slots, waiting_slots}
-use Rattle.turns.specs.declared.open_connection.OpenConnection.{OpenConnection}
 use Rattle.turns.specs.declared.pressure.Pressure.{Pressure}
 use Rattle.turns.specs.declared.table.ConnectionTable.{ConnectionTable}
 

@@ -1,21 +1,19 @@
 -- Runs of a table of connections.
-use Rattle.std.proofs.Common.{◌≡◌, ◌≢◌, ◌∙◌, ◌⊎◌, inl, inr, ℕ, List, [], ◌∷◌, ◌++◌, Bool, true, false, ◌==◌, ◌||◌, Option, None, Some, option_map, ◌<◌, suc, length, arith, refl, sym, ap, subst, append_assoc, append-nil}
+use Rattle.std.proofs.Common.{◌≡◌, ◌∙◌, ◌⊎◌, inl, inr, ℕ, List, [], ◌∷◌, ◌++◌, Bool, true, false, ◌==◌, Option, None, Some, option_map, ◌<◌, suc, length, arith, refl, sym, ap, subst, append_assoc, append-nil}
 use Rattle.std.proofs.KnownBytes.{Appends-nil, Appends-trans}
-use Rattle.std.proofs.lemmas.Bool.{eqb-true, eqb-false, eq-eqb, ne_eqb}
-use Rattle.std.proofs.lemmas.List.Folds.{list_any-append}
-use Rattle.std.specs.Prelude.{IfNone, IfSome, nat_lt, if◌then◌else◌, not}
-use Rattle.std.specs.Io.KnownBytes.{Appends}
+use Rattle.std.proofs.lemmas.Bool.{eqb-true, eqb-false, ne_eqb}
+use Rattle.std.specs.Prelude.{IfNone, IfSome, nat_lt, if◌then◌else◌}
 use Rattle.httpedge.specs.Exchange.{Said}
 use Rattle.httpedge.specs.Session.{QueryOutcome, HasAsked, HasRespondedWith, SessionState, new_session}
-use Rattle.httpedge.specs.declared.stage.Stage.TheVariants.{Ended}
 use Rattle.turns.specs.Advancing.{IsNext, HasServed}
-use Rattle.turns.specs.Connection.{IsTurn, IsServed, IsDrained, next_by, owed_by}
+use Rattle.turns.specs.Connection.{IsTurn, next_by}
 use Rattle.turns.specs.Drain.{next_drained, phase_drained}
+use Rattle.turns.proofs.Order.{has-joined, has-joins}
 use Rattle.turns.specs.Queue.{has, joined, joins, before}
-use Rattle.turns.specs.Runs.{Step, Opens, Wakes, Serves, Leaves, Goes, IsNew, Turned, IsTurnOf, Steps, Runs, comes, all_come, AreSaid, IsAnswered, IsQuiet, IsKept, RunsAnswer, RunsServe, TurnsStay, HasRun, turns_of}
-use Rattle.turns.specs.Slots.{at_slot, OthersStay, HasTurn}
+use Rattle.turns.specs.Runs.{Step, Opens, Wakes, Serves, Leaves, Goes, IsNew, Turned, Steps, Runs, comes, all_come, AreSaid, IsAnswered, IsQuiet, IsKept, RunsAnswer, RunsServe, TurnsStay, HasRun, turns_of}
+use Rattle.turns.specs.Slots.{at_slot, HasTurn}
 use Rattle.turns.specs.Table.{connections, ready_slots, waiting_slots, has_room, KeepsWaiting}
-use Rattle.turns.specs.Times.{is_over, is_draining, phase_after}
+use Rattle.turns.specs.Times.{is_over, is_draining}
 use Rattle.turns.specs.declared.open_connection.OpenConnection.{OpenConnection}
 use Rattle.turns.specs.declared.outcomes.ReadOutcome.{ReadOutcome}
 use Rattle.turns.specs.declared.outcomes.ReadOutcome.TheVariants as read
@@ -26,23 +24,7 @@ use Rattle.turns.specs.declared.turn.Next.{Next}
 use Rattle.turns.specs.declared.turn.TurnResult.{TurnResult}
 use Rattle.turns.specs.declared.turn.Next.TheVariants as next
 
--- a slot in a queue stays there while others come
-has-joined : (slot one : ℕ) (queue : List ℕ) → has slot queue ≡ true → has slot (joined queue one) ≡ true
-has-joined slot one queue there = go (has one queue) refl
-  where
-    first : (a b : Bool) → a ≡ true → (a || b) ≡ true
-    first true b is = refl
-    first false b is = absurd (cc is)
-
-    go : (b : Bool) → has one queue ≡ b → has slot (joined queue one) ≡ true
-    go true e = rw e there
-    go false e = rw e (list_any-append (λ x. x == slot) queue (one ∷ []) ∙ first (has slot queue) ((one == slot) || false) there)
-
-has-joins : (slot : ℕ) (queue ones : List ℕ) → has slot queue ≡ true → has slot (joins queue ones) ≡ true
-has-joins slot queue [] there = there
-has-joins slot queue (one ∷ ones) there = has-joins slot (joined queue one) ones (has-joined slot one queue there)
-
--- and those before it are the same
+-- the slots before one in a queue are the same while others come
 before-more : (slot : ℕ) (queue more : List ℕ) → has slot queue ≡ true → before slot (queue ++ more) ≡ before slot queue
 before-more slot [] more there = absurd (cc there)
 before-more slot (x ∷ xs) more there = go (λ h. before-more slot xs more h) (x == slot) refl

@@ -1,5 +1,5 @@
 -- Which connection is closed before its time is over (docs/WMS.md, "HTTP").
-use Rattle.std.specs.Prelude.{◌≡◌, ◌≢◌, ◌≤◌, ◌<◌, ℕ, ◌+◌, ◌-◌, ◌/◌, ◌^◌, ◌||◌, ◌&&◌, List, [], false, Option, None, Some, nat_lt, if◌then◌else◌}
+use Rattle.std.specs.Prelude.{◌≡◌, ◌≢◌, ◌≤◌, ◌<◌, ℕ, ◌+◌, ◌-◌, ◌/◌, ◌^◌, ◌||◌, ◌&&◌, [], false, Option, None, Some, nat_lt, if◌then◌else◌}
 use Rattle.turns.specs.Queue.{has}
 use Rattle.turns.specs.Slots.{at_slot}
 use Rattle.turns.specs.Table.{connections, ready_slots, waiting_slots, has_room}

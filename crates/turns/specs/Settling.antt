@@ -1,5 +1,5 @@
 -- Which connections wait for room (docs/WMS.md, "HTTP").
-use Rattle.std.specs.Prelude.{◌≡◌, ◌⊎◌, ℕ, List, Option, None, Some}
+use Rattle.std.specs.Prelude.{◌≡◌, ◌⊎◌, ℕ, List, Option, Some}
 use Rattle.turns.specs.Queue.{joined}
 use Rattle.turns.specs.declared.turn.Next.{Next}
 use Rattle.turns.specs.declared.turn.Next.TheVariants.{Room}

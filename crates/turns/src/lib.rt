@@ -45,5 +45,5 @@ pub use ready_queue::ReadyQueue;
 pub use served::{Closed, Served};
 pub use table::ConnectionTable;
 pub use times::{Phase, Timeouts};
-pub use transport::{ReadOutcome, Transport, WriteOutcome};
+pub use transport::{Answered, ReadOutcome, Transport, WriteOutcome};
 pub use turn::{Next, TurnResult, serve_turn};

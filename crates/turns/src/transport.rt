@@ -4,6 +4,17 @@ ghost use Rattle.turns.specs.Transport.{HasRead, HasWritten};
 
 pub use crate::outcomes::{ReadOutcome, WriteOutcome};
 
+/// A response that is being sent.
+#[derive(Clone, Copy, Debug)]
+pub struct Answered<'a> {
+    /// The target of its request, as it was sent. It is empty where no head came.
+    pub target: &'a [u8],
+    /// Its status.
+    pub status: u16,
+    /// Whether bytes of a further request have been read.
+    pub is_followed: bool,
+}
+
 /// The connection to a client, by calls that never wait.
 pub trait Transport {
     ghost use Rattle.std.specs.Prelude.{ℕ, List, Option};
@@ -36,6 +47,20 @@ pub trait Transport {
         ensures bytes { HasWritten (accepted self.old) (accepted self.new) (first.now ++ second.now) result }
         ensures delivered { Appends (delivered self.old) (delivered self.new) [] }
         ensures writes { writes self.old result self.new };
+
+    /// Takes some first bytes of what is left of a response. A transport that notes responses learns here which it is.
+    fn write_answer(
+        &mut self,
+        _answered: &Answered<'_>,
+        first: &[u8],
+        second: &[u8],
+    ) -> WriteOutcome
+        ensures bytes { HasWritten (accepted self.old) (accepted self.new) (first.now ++ second.now) result }
+        ensures delivered { Appends (delivered self.old) (delivered self.new) [] }
+        ensures writes { writes self.old result self.new }
+    {
+        self.write(first, second)
+    }
 
     /// Closes the sending side: the client reads its end.
     fn shut_down(&mut self)

@@ -8,7 +8,7 @@ ghost use Rattle.turns.specs.declared.outcomes.WriteOutcome.TheVariants as write
 ghost use Rattle.turns.specs.declared.outcomes.ReadOutcome.TheVariants as read;
 ghost use Rattle.turns.specs.declared.turn.Next.TheVariants.{Turn};
 
-use crate::{BufferedSession, ReadOutcome, Transport, WriteOutcome};
+use crate::{Answered, BufferedSession, ReadOutcome, Transport, WriteOutcome};
 use httpedge::Asks;
 
 /// What a connection waits for after its turn.
@@ -60,8 +60,13 @@ fn send<T: Transport>(exchange: &mut BufferedSession, transport: &mut T) -> Writ
     ensures waits { result ≡ write.WouldBlock → exchange.new ≡ exchange.old }
     ensures less { length exchange.new.session.outgoing ≤ length exchange.old.session.outgoing }
 {
+    let answered = Answered {
+        target: exchange.session.target(),
+        status: exchange.session.status(),
+        is_followed: !exchange.buffer.is_empty(),
+    };
     let (first, second) = exchange.session.outgoing();
-    let outcome = transport.write(first, second);
+    let outcome = transport.write_answer(&answered, first, second);
     if let WriteOutcome::Bytes(count) = outcome {
         exchange.session.sent(count);
     }

@@ -1,6 +1,5 @@
-use Rattle.std.proofs.Common.{refl}
 use Rattle.httpedge.proofs.Decisions.{never-judged}
 use Rattle.httpedge.proofs.verdict.judge_hopeless.Goals as goal
 
 pub returns : goal.returns
-returns c = never-judged c.args.bytes.now _ refl refl c.requires.headless c.requires.always
+returns c = never-judged c.args.bytes.now c.requires.headless c.requires.always

@@ -1,7 +1,6 @@
-use Rattle.httpedge.proofs.Targets.{query-at}
+use Rattle.std.proofs.Common.{◌∙◌}
+use Rattle.httpedge.proofs.Targets.{query-after}
 use Rattle.httpedge.proofs.verdict.query_of.Goals as goal
 
-pub returns-clause-query : goal.returns-clause-query
-returns-clause-query c =
-    query-at c.args.bytes.now c.args.target.start c.args.target.end c.min.result c.of.result.now c.path_len.result
-    c.requires.within.0 c.requires.within.1 c.of.ensures c.path_len.ensures.value c.min.ensures
+pub returns : goal.returns
+returns c = c.split_at.ensures.back ∙ query-after c.args.target.now c.path_len.result c.min.result c.path_len.ensures.value c.min.ensures

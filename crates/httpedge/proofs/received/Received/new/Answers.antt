@@ -14,5 +14,5 @@ returns-clause-received c =
       no_head = λ e. rw none nothing-headless;
       below = λ e. omega (arith, ap length none);
       recent = λ e. (omega arith, omega (arith, ap length none));
-      query = (omega arith, omega arith);
+      target = (omega arith, omega arith);
     }

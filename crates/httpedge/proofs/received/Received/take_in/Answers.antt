@@ -38,7 +38,7 @@ returns-clause-received c =
       no_head = λ o. subst HasNoHead (sym (open-is o)) (open-headless all c.judge-judged.result _ j.verdict o);
       below = λ o. subst (λ (l : List ℕ). length l < 16384) (sym (open-is o)) (open-below all c.judge-judged.result _ j.verdict o);
       recent = λ o. (omega (arith, ap length (open-is o), c.len.ensures, c.last_parsed-self.ensures.these), omega (arith, ap length (open-is o), c.len.ensures, c.last_parsed-self.ensures.recent));
-      query = (j.query.0, omega (arith, j.query.1, ap length kept, length-take-le c.judge-judged.result.len all (within-all all c.judge-judged.result _ j.verdict)));
+      target = (j.target.0, omega (arith, j.target.1, ap length kept, length-take-le c.judge-judged.result.len all (within-all all c.judge-judged.result _ j.verdict)));
     }
 
 pub returns-clause-takes : goal.returns-clause-takes
@@ -47,4 +47,4 @@ returns-clause-takes c =
     let j : IsJudged c.add.new.bytes.items c.judge-judged.result = subst (λ (l : List ℕ). IsJudged l c.judge-judged.result) c.deref.ensures.value c.judge-judged.ensures in
     rw n
     (taken c.args.self.now.bytes.items c.args.piece.now c.split_at.result.0.now c.add.new.bytes.items c.truncate.new.self.items c.min.result c.judge-judged.result _
-    (c.requires.received.below c.requires.open) (c.min.ensures ∙ ap (λ m. min (length c.args.piece.now) (16384 - m)) n) c.split_at.ensures.front c.add.ensures.items c.truncate.ensures.items (c.requires.received.no_head c.requires.open) j.query j.verdict)
+    (c.requires.received.below c.requires.open) (c.min.ensures ∙ ap (λ m. min (length c.args.piece.now) (16384 - m)) n) c.split_at.ensures.front c.add.ensures.items c.truncate.ensures.items (c.requires.received.no_head c.requires.open) j.target j.verdict)

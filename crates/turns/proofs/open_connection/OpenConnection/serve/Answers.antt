@@ -1,6 +1,5 @@
 use Rattle.std.proofs.Common.{◌≡◌, ◌∙◌, refl, sym, rules}
 use Rattle.turns.proofs.Advancing.{then-nothing}
-use Rattle.turns.specs.declared.turn.Next.{Next}
 use Rattle.turns.specs.declared.turn.Next.TheVariants as next
 use Rattle.turns.proofs.open_connection.OpenConnection.serve.Goals as goal
 

@@ -1,4 +1,4 @@
-use Rattle.std.proofs.Common.{◌≤◌, length, Option, ℕ, None, subst, arith}
+use Rattle.std.proofs.Common.{◌≤◌, length, Option, ℕ, subst, arith}
 use Rattle.turns.specs.Pressure.{IsFoundIn}
 use Rattle.turns.specs.Table.{connections}
 use Rattle.turns.proofs.Ranks.{found-first, found-next, none-found}

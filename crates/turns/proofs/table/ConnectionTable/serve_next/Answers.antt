@@ -15,29 +15,10 @@ returns-clause-once g c =
     turned-asks g.A.Asks.answers g.T.Transport.delivered g.T.Transport.accepted g.T.Transport.reads g.T.Transport.writes g.T.Transport.shuts c.args.self.now c.turn-turned.new.self.items.items c.args.asks.now c.turn-turned.new.asks c.in_ok-slot.slot _ c.args.now
     (turned-by g.A.Asks.answers g.T.Transport.delivered g.T.Transport.accepted g.T.Transport.reads g.T.Transport.writes g.T.Transport.shuts c.args.self.now c.turn-turned.new.self.items.items c.args.asks.now c.turn-turned.new.asks c.in_ok-slot.slot c.turn-turned.result c.args.now c.turn-turned.ensures.nobody c.turn-turned.ensures.empty c.turn-turned.ensures.own)
 
-pub returns-clause-run : goal.returns-clause-run
-returns-clause-run g c =
-    let (rest, slots, first, later) = served-joins c.args.self.now.ready.order c.next.new.self.order c.admit.new.ready.order c.in_ok-slot.slot c.in_ok-slot.ensures.first
-    (joins-then c.next.new.self.order c.settle.new.ready.order c.admit.new.ready.order c.settle.ensures.joins c.admit.ensures.joins) in
-    run-step g.A.Asks.answers g.T.Transport.delivered g.T.Transport.accepted g.T.Transport.reads g.T.Transport.writes g.T.Transport.shuts (Serves c.in_ok-slot.slot c.next_of-next.result c.args.now) _ _ _ _
-    (record {
-      rest = rest;
-      slots = slots;
-      first = first;
-      later = later;
-      own = subst (λ (o : Option Next). Turned g.A.Asks.answers g.T.Transport.delivered g.T.Transport.accepted g.T.Transport.reads g.T.Transport.writes g.T.Transport.shuts c.args.self.now c.args.asks.now c.in_ok-slot.slot o c.args.now c.turn-turned.new.self.items.items c.turn-turned.new.asks) (sym c.next_of-next.ensures)
-          (turned-by g.A.Asks.answers g.T.Transport.delivered g.T.Transport.accepted g.T.Transport.reads g.T.Transport.writes g.T.Transport.shuts c.args.self.now c.turn-turned.new.self.items.items c.args.asks.now c.turn-turned.new.asks c.in_ok-slot.slot c.turn-turned.result c.args.now c.turn-turned.ensures.nobody c.turn-turned.ensures.empty c.turn-turned.ensures.own);
-      others = c.turn-turned.ensures.others;
-      turns = search rules;
-      waits = search rules;
-      keeps = search rules;
-    })
-
 pub returns-clause-step : goal.returns-clause-step
 returns-clause-step g c =
-    let (rest, slots, first, later) = served-joins c.args.self.now.ready.order c.next.new.self.order c.admit.new.ready.order c.in_ok-slot.slot c.in_ok-slot.ensures.first
-    (joins-then c.next.new.self.order c.settle.new.ready.order c.admit.new.ready.order c.settle.ensures.joins c.admit.ensures.joins) in
-    (record {
+    let (rest, slots, first, later) = returns-clause-first g c in
+    record {
       rest = rest;
       slots = slots;
       first = first;
@@ -48,4 +29,8 @@ returns-clause-step g c =
       turns = search rules;
       waits = search rules;
       keeps = search rules;
-    })
+    }
+
+pub returns-clause-run : goal.returns-clause-run
+returns-clause-run g c =
+    run-step g.A.Asks.answers g.T.Transport.delivered g.T.Transport.accepted g.T.Transport.reads g.T.Transport.writes g.T.Transport.shuts (Serves c.in_ok-slot.slot c.next_of-next.result c.args.now) _ _ _ _ (returns-clause-step g c)
