@@ -1,7 +1,8 @@
+use answers::Answer;
 use eventloop::Wakes;
 use httpedge::{Asks, Busy};
 use mapdefs::Items;
-use mapmachine::{Answer, Mime};
+use operations::Mime;
 use std::alloc::{AllocError, Global};
 use turns::{
     ConnectionTable, Next, OpenConnection, ReadOutcome, Timeouts, Transport, WriteOutcome,

@@ -1,71 +1,20 @@
 //! Workers that serve connections in memory.
 
 use crate::clients::{Client, NoWaker, TIMEOUTS};
-use eventloop::{
-    EVENTS, Ending, Poller, ROOM, WAITING, Worker, WorkerThreads, start_worker, turn_away,
-};
-use httpedge::{Asks, Busy};
-use mapdefs::Items;
-use mapmachine::{Answer, Mime};
+use crate::fakes::{Notes, Noting, Reporting};
+use eventloop::{EVENTS, Ending, ROOM, WAITING, Worker, WorkerThreads, start_worker, turn_away};
 use std::alloc::{AllocError, Global};
 use std::rt::Clock;
 use std::str;
 use std::sync::{Arc, Mutex, Wait};
 use std::test::Fail;
-use std::thread::{self, Threads};
-use std::time::Duration;
-
-// Queries in brackets, in the order in which they came.
-type Queries = Arc<Mutex<String>, Global>;
-
-// An answerer that notes its queries, and answers each with nothing.
-#[derive(Drop)]
-struct Noting<R: Wait + Drop> {
-    rt: R,
-    alloc: Global,
-    queries: Queries,
-}
-
-impl<R: Wait + Drop> Asks for Noting<R> {
-    ghost answers = { λ _ _ _ _. Unit {0} };
-
-    fn answer(&mut self, query: &[u8]) -> Result<Answer, Busy> {
-        let mut queries = self.queries.lock(&self.rt);
-        let noted = queries.push_str(str::from_utf8(query).unwrap_or("?"));
-        if noted.is_err() || queries.push(' ').is_err() {
-            return Err(Busy);
-        }
-        Ok(Answer {
-            mime: Mime::Plain,
-            body: Items::of(Vec::new(self.alloc)),
-        })
-    }
-}
+use std::thread::Threads;
 
 // Clients in memory never have to wait: there is nothing to report.
-#[derive(Drop)]
-struct Idle {
-    rt: HostRuntime,
-}
-
-impl Poller<Client> for Idle {
-    ghost reported = { λ _ _ _. Unit {0} };
-
-    type Waker = NoWaker;
-
-    fn waker(&self) -> Option<NoWaker> {
-        Some(NoWaker)
-    }
-
-    fn register(&mut self, _transport: &mut Client, _slot: usize) -> bool {
-        true
-    }
-
-    fn wait(&mut self, at_most: Duration, _room: &mut [usize]) -> usize {
-        if !at_most.is_zero() {
-            thread::sleep(&self.rt, Duration::from_millis(1));
-        }
-        0
+fn unreported(system: &HostRuntime) -> Reporting {
+    Reporting {
+        rt: *system,
+        slots: 0,
     }
 }
 
@@ -75,8 +24,8 @@ fn three_workers<R: AllocGlobal + Clock + Wait + Threads + Send + Copy + Drop + 
     system: &HostRuntime,
 ) -> Result<
     (
-        WorkerThreads<Noting<R>, Client, Idle, NoWaker>,
-        Vec<Queries>,
+        WorkerThreads<Noting<R>, Client, Reporting, NoWaker>,
+        Vec<Notes>,
     ),
     Fail,
 > {
@@ -84,13 +33,13 @@ fn three_workers<R: AllocGlobal + Clock + Wait + Threads + Send + Copy + Drop + 
     let mut workers = WorkerThreads::new(alloc, 3)?;
     let mut all = Vec::new(alloc);
     for _ in 0..3 {
-        let queries = Arc::new(alloc, Mutex::new(String::new(alloc)))?;
+        let queries = Arc::new(alloc, Mutex::new(Vec::new(alloc)))?;
         let noting = Noting {
             rt: *rt,
             alloc,
             queries: Arc::try_clone(&queries)?,
         };
-        let worker = Worker::new(alloc, noting, Idle { rt: *system }, (4, TIMEOUTS))?;
+        let worker = Worker::new(alloc, noting, unreported(system), (4, TIMEOUTS))?;
         start_worker(rt, alloc, &mut workers, worker)?;
         all.push(queries)?;
     }
@@ -104,11 +53,11 @@ fn asking(alloc: Global, number: u64) -> Result<Client, AllocError> {
 }
 
 // The queries of each, with bars after them.
-fn queries_text<R: AllocGlobal + Wait>(rt: &R, all: &[Queries]) -> Result<String, AllocError> {
+fn queries_text<R: AllocGlobal + Wait>(rt: &R, all: &[Notes]) -> Result<String, AllocError> {
     let mut text = String::new(rt.alloc());
     for queries in all {
         let queries = queries.lock(rt);
-        text = format!(in rt.alloc(); "{text}{}| ", queries.as_str())?;
+        text = format!(in rt.alloc(); "{text}{}|", str::from_utf8(&queries).unwrap_or("?"))?;
     }
     Ok(text)
 }
@@ -130,7 +79,7 @@ fn queries_of<R: AllocGlobal + Clock + Wait + Threads + Send + Copy + Drop + 'st
 #[test]
 fn connections_go_to_their_workers(rt: HostRuntime) -> Result<(), Fail> {
     let text = queries_of(&rt, &rt)?;
-    assert_eq!(rt; text.as_str(), "3 6 | 1 4 7 | 2 5 | ");
+    assert_eq!(rt; text.as_str(), "36|147|25|");
     Ok(())
 }
 

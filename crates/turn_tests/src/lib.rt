@@ -11,6 +11,8 @@ mod event_loop;
 #[cfg(test)]
 mod fairness;
 #[cfg(test)]
+mod fakes;
+#[cfg(test)]
 mod logs;
 #[cfg(test)]
 mod stopping;

@@ -1,18 +1,18 @@
 //! The log of connections in memory.
 
-use crate::clients::{Client, Echo, NoWaker};
+use crate::clients::{Client, Echo, TIMEOUTS};
+use crate::fakes::Reporting;
 use accesslog::{
     Cause, EndsEarly, LINES, LogQueue, LoggedTransport, Record, command_line, end_line,
 };
-use eventloop::{Ending, Poller, Worker, WorkerThreads, start_worker};
+use eventloop::{Ending, Worker, WorkerThreads, start_worker};
 use std::alloc::{AllocError, Global};
 use std::rt::Clock;
 use std::str;
 use std::sync::Wait;
 use std::test::Fail;
-use std::thread::{self, Threads};
-use std::time::Duration;
-use turns::Timeouts;
+use std::thread::Threads;
+use turns::{Answered, Timeouts};
 
 // A client whose early end isn't noted.
 impl EndsEarly for Client {
@@ -27,39 +27,35 @@ fn add(text: &mut String, line: Option<Vec<u8>>) -> Result<(), AllocError> {
     }
 }
 
-// Two heads that came at once, in the fifth millisecond: the log of their answers, in the twelfth and in the twentieth.
-fn logged_of_two(alloc: Global) -> Result<String, AllocError> {
-    let mut record = Record::new(alloc, 7);
-    let mut text = String::new(alloc);
-    record.came(
-        b"\r\nGET /a?b=\"1\\\x7f HTTP/1.1\r\nHost: h\r\n\r\nBREW /c HTTP/1.0\n\n",
-        5,
-    );
-    let head = b"HTTP/1.1 200 OK\r\n\r\n".as_slice();
-    let is_whole = record.went((head, b"body"), 10);
-    text.push_str(if is_whole { "whole " } else { "part " })?;
-    let is_whole = record.went((&head[10..], b"body"), 13);
-    text.push_str(if is_whole { "whole " } else { "part " })?;
-    let line = record.line(12);
-    add(&mut text, line)?;
-    record.went((b"HTTP/1.1 405 Method Not Allowed\r\n\r\n", b""), 35);
-    let line = record.line(20);
-    add(&mut text, line)?;
-    Ok(text)
+// The line on a response of so many bytes, which was sent at once at this millisecond.
+fn answered(record: &mut Record, facts: &Answered<'_>, bytes: u64, now: u64) -> Option<Vec<u8>> {
+    if record.went(facts.is_followed, bytes, bytes as usize) {
+        record.line(facts, now)
+    } else {
+        None
+    }
 }
 
-// A head in two pieces, and another one behind its second piece: the log of their answers.
+// A head in two pieces, and another one behind its second piece: the log of their answers, and of one to a head that came later.
 fn logged_of_pieces(alloc: Global) -> Result<String, AllocError> {
     let mut record = Record::new(alloc, 3);
     let mut text = String::new(alloc);
-    record.came(b"GET /a HT", 5);
-    record.came(b"TP/1.1\r\n\r\nGET /b HTTP/1.1\r\n\r\n", 2_000);
-    record.went((b"HTTP/1.1 200 OK\r\n\r\n", b""), 19);
-    let line = record.line(2_001);
-    add(&mut text, line)?;
-    record.went((b"HTTP/1.1 404 Not Found\r\n\r\n", b""), 26);
-    let line = record.line(2_010);
-    add(&mut text, line)?;
+    let facts = Answered {
+        target: b"/a",
+        status: 200,
+        is_followed: true,
+    };
+    record.came(5);
+    record.came(2_000);
+    add(&mut text, answered(&mut record, &facts, 19, 2_001))?;
+    let facts = Answered {
+        target: b"/b",
+        status: 404,
+        is_followed: false,
+    };
+    add(&mut text, answered(&mut record, &facts, 26, 2_010))?;
+    record.came(3_000);
+    add(&mut text, answered(&mut record, &facts, 26, 3_001))?;
     Ok(text)
 }
 
@@ -68,17 +64,28 @@ fn a_request_is_timed_from_its_own_first_byte(rt: HostRuntime) -> Result<(), Fai
     let text = logged_of_pieces(rt.alloc())?;
     assert_eq!(rt;
         text.as_str(),
-        "answer 3 \"/a\" 200 19 1996\nanswer 3 \"/b\" 404 26 10\n"
+        "answer 3 \"/a\" 200 19 1996\nanswer 3 \"/b\" 404 26 10\nanswer 3 \"/b\" 404 26 1\n"
     );
     Ok(())
 }
 
+// An answer of 23 bytes that is sent in two parts, in the twelfth millisecond after a request of the fifth.
 #[test]
-fn answers_are_logged_with_their_requests(rt: HostRuntime) -> Result<(), Fail> {
-    let text = logged_of_two(rt.alloc())?;
+fn an_answer_has_its_line_once_it_was_sent_whole(rt: HostRuntime) -> Result<(), Fail> {
+    let mut record = Record::new(rt.alloc(), 7);
+    let facts = Answered {
+        target: b"/a?b=\"1\\\x7f",
+        status: 200,
+        is_followed: false,
+    };
+    record.came(5);
+    assert!(rt; !record.went(false, 23, 10));
+    assert!(rt; record.went(false, 13, 13));
+    let mut text = String::new(rt.alloc());
+    add(&mut text, record.line(&facts, 12))?;
     assert_eq!(rt;
         text.as_str(),
-        "part whole answer 7 \"/a?b=\\x221\\x5c\\x7f\" 200 23 7\nanswer 7 \"/c\" 405 35 15\n"
+        "answer 7 \"/a?b=\\x221\\x5c\\x7f\" 200 23 7\n"
     );
     Ok(())
 }
@@ -142,33 +149,6 @@ fn lines_without_room_are_dropped_and_counted(rt: HostRuntime) -> Result<(), Fai
     Ok(())
 }
 
-// A poller of clients in memory, which waits only for time to pass.
-#[derive(Drop)]
-struct Passing {
-    rt: HostRuntime,
-}
-
-impl<R> Poller<LoggedTransport<Client, R>> for Passing {
-    ghost reported = { λ _ _ _. Unit {0} };
-
-    type Waker = NoWaker;
-
-    fn waker(&self) -> Option<NoWaker> {
-        Some(NoWaker)
-    }
-
-    fn register(&mut self, _transport: &mut LoggedTransport<Client, R>, _slot: usize) -> bool {
-        true
-    }
-
-    fn wait(&mut self, at_most: Duration, _room: &mut [usize]) -> usize {
-        if !at_most.is_zero() {
-            thread::sleep(&self.rt, Duration::from_millis(1));
-        }
-        0
-    }
-}
-
 // A connection is given up after a millisecond in each state but one: a whole answer has as long as its bytes.
 const SHORT: Timeouts = Timeouts {
     idle: 1,
@@ -203,7 +183,11 @@ fn logged_of<R: AllocGlobal + Clock + Wait + Threads + Send + Copy + Drop + 'sta
     };
     let mut workers = WorkerThreads::new(alloc, 1)?;
     let asks = Echo { alloc, dots: 5 };
-    let worker = Worker::new(alloc, asks, Passing { rt: *system }, (1, timeouts))?;
+    let poller = Reporting {
+        rt: *system,
+        slots: 0,
+    };
+    let worker = Worker::new(alloc, asks, poller, (1, timeouts))?;
     start_worker(rt, alloc, &mut workers, worker)?;
     let logged = LoggedTransport::new(alloc, client, 9, queue.share().ok());
     workers.hand_over(rt, logged);
@@ -231,5 +215,39 @@ fn early_ends_are_logged_by_their_causes(rt: HostRuntime) -> Result<(), Fail> {
     let slow = Client::new(alloc, HEAD, false)?.paced(&[4_096], &[1, 0]);
     let text = logged_of(&rt, &rt, slow, SLOW)?;
     assert_eq!(rt; text.as_str(), "end 9 rate\n");
+    Ok(())
+}
+
+// The lines of a log without their milliseconds.
+fn without_millis(alloc: Global, text: &str) -> Result<String, AllocError> {
+    let mut lines = String::new(alloc);
+    for line in text.lines() {
+        let end = line.rfind(' ').unwrap_or(0);
+        lines.push_str(line.get(..end).unwrap_or("?"))?;
+        lines.push('\n')?;
+    }
+    Ok(lines)
+}
+
+#[test]
+fn lines_have_the_targets_and_the_statuses_of_their_requests(rt: HostRuntime) -> Result<(), Fail> {
+    let alloc = rt.alloc();
+    let sends =
+        b"\r\nGET /wms?b=\"1\\\xc3\xa9 HTTP/1.1\r\nHost: h\r\n\r\nGET /a?q HTTP/1.1\r\n\r\nBREW /c HTTP/1.0\n\n";
+    let client = Client::new(alloc, sends, true)?.paced(&[7, 4_096], &[5, 1_000]);
+    let text = logged_of(&rt, &rt, client, TIMEOUTS)?;
+    let lines = without_millis(alloc, text.as_str())?;
+    assert_eq!(rt;
+        lines.as_str(),
+        "answer 9 \"/wms?b=\\x221\\x5c\\xc3\\xa9\" 200 77\nanswer 9 \"/a?q\" 404 45\nanswer 9 \"/c\" 405 85\n"
+    );
+    let body = b"GET /wms?q HTTP/1.1\r\nContent-Length: 1\r\n\r\n";
+    let text = logged_of(&rt, &rt, Client::new(alloc, body, true)?, TIMEOUTS)?;
+    let lines = without_millis(alloc, text.as_str())?;
+    assert_eq!(rt; lines.as_str(), "answer 9 \"/wms?q\" 400 66\n");
+    let cut = b"GET /wms?q HTT";
+    let text = logged_of(&rt, &rt, Client::new(alloc, cut, true)?, TIMEOUTS)?;
+    let lines = without_millis(alloc, text.as_str())?;
+    assert_eq!(rt; lines.as_str(), "answer 9 \"\" 400 66\n");
     Ok(())
 }
