@@ -1,58 +1,16 @@
-ghost use Rattle.std.specs.Prelude.{◌≡◌, ◌⊎◌, ◌||◌, ◌+◌, ◌≤◌, ℕ, List, not, OnOk, None, IfErr, IfSome, MatchOption, MatchResult, true};
+ghost use Rattle.std.specs.Prelude.{◌≡◌, ◌⊎◌, ◌||◌, ◌+◌, ◌≤◌, ℕ, List, not, OnOk, IfErr, IfSome, MatchResult, true};
 ghost use Rattle.std.specs.Io.KnownBytes.{Consumes};
 ghost use Rattle.httpedge.specs.Reads.{ReadsToPiece, ReadsToFault};
 ghost use Rattle.httpedge.specs.Stopped.{HasKeptUp, is_read, written_of};
-ghost use Rattle.workers.specs.Connections.{Exchanges, HasServed, HasLeft, IsServedOne};
+ghost use Rattle.blocking.specs.Connections.{HasServed, HasLeft};
 
 use httpedge::{Asks, Conn, EdgeFault, Outcome, exchange, respond};
 use std::alloc::Global;
 use streams::{Sink, Source, WriteFault};
 
-/// The two sides of a connection.
-#[derive(Drop)]
-pub struct Sides<R, W> {
-    /// Where the bytes of the client come from.
-    pub reader: R,
-    /// Where the bytes for the client go.
-    pub writer: W,
-}
-
-/// Stands for a closed connection, of which nothing is kept.
-#[derive(Clone, Copy)]
-pub struct NothingLeft;
-
-/// A connection whose two sides can be opened.
-pub trait Opens {
-    ghost use Rattle.std.specs.Prelude.{Option, option_map};
-    ghost use Rattle.httpedge.specs.declared.edge.EdgeFault.{EdgeFault};
-
-    /// Where the bytes of a client come from.
-    type Reader: Source + Drop;
-
-    /// Where the answers for a client go.
-    type Writer: Sink + Drop;
-
-    /// The rest of it once it is closed.
-    type Closed: Drop;
-
-    // What opening it may give: its two sides, or none.
-    ghost opens: { Self → Option (Self.Reader × Self.Writer) → Type 0 };
-
-    // What closing its two sides with a fault, or none, may leave.
-    ghost closes: { Self.Reader → Self.Writer → Option EdgeFault → Self.Closed → Type 0 };
-
-    /// Opens it for serving, in the thread that serves it. Where that fails there are no sides, and it is dropped.
-    fn open(self, alloc: Global) -> Option<Sides<Self::Reader, Self::Writer>>
-        ensures { opens self (option_map (λ sides. (sides.reader, sides.writer)) result) };
-
-    /// Closes it, with its fault or none.
-    fn close(sides: Sides<Self::Reader, Self::Writer>, fault: Option<EdgeFault>) -> Self::Closed
-        ensures { closes sides.reader sides.writer fault result };
-}
-
 /// A connection that waits for a worker. Its sides are hidden: they are opened and closed in the worker's thread.
 pub trait Connection {
-    /// Answers it by an answerer, and ends it. [`serve_one`] does so for one that can be opened.
+    /// Answers it by an answerer, as [`serve_connection`] does for its sides, and ends it.
     fn serve<A: Asks>(self, alloc: Global, asks: &mut A);
 
     /// Answers that the server is busy, and ends it, without waiting for its client.
@@ -86,15 +44,4 @@ pub fn serve_connection<R: Source, W: Sink, A: Asks>(
             Err(WriteFault { written }) => Err(EdgeFault::Write { written }),
         },
     }
-}
-
-/// Opens a connection, answers it by an answerer as [`serve_connection`] does, and closes it with the fault of that, if it
-/// had one. A connection that can't be opened gives none.
-pub fn serve_one<C: Opens, A: Asks>(alloc: Global, asks: &mut A, connection: C) -> Option<C::Closed>
-    ensures { MatchOption result (C.opens connection None × (asks.new ≡ asks.old))
-        (λ closed. IsServedOne C.opens C.closes (Exchanges A.answers C.Reader.Source.left C.Writer.Sink.held) connection asks.old asks.new closed) }
-{
-    let mut sides = connection.open(alloc)?;
-    let served = serve_connection(alloc, asks, &mut sides.reader, &mut sides.writer);
-    Some(C::close(sides, served.err()))
 }

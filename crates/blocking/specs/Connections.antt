@@ -1,5 +1,5 @@
 -- One connection that is answered (docs/WMS.md, "HTTP").
-use Rattle.std.specs.Prelude.{◌≡◌, ◌⊎◌, ℕ, ◌<◌, List, length, take, Option, None, Some, IfSome, true}
+use Rattle.std.specs.Prelude.{◌≡◌, ◌⊎◌, ℕ, ◌<◌, List, length, take, Option, true}
 use Rattle.std.specs.Io.KnownBytes.{Appends}
 use Rattle.httpedge.specs.Exchange.{Said, IsExchange, IsBegun}
 use Rattle.httpedge.specs.Response.{busy_text}
@@ -37,25 +37,3 @@ HasLeft (Read written) answers stream old new before after = HasAnsweredFirst an
 HasLeft (Write written) answers stream old new before after =
     HasBrokenOff answers stream old new before after written
     ⊎ (new ≡ old) × (written < length (busy_text true)) × Appends before after (take written (busy_text true))
-
--- the two sides of a connection, and its answerer
-pub record Attended (R W A : Type 0) : Type 0 where
-  pub reader : R
-  pub writer : W
-  pub asked : A
-
--- a stream was answered, up to a fault if there was one. `left` is the bytes that a reader has left, `held` those that a writer holds
-abbrev pub Exchanges : {R W A : Type 0} → (A → List ℕ → Said → A → Type 0) → (R → Option (List ℕ)) → (W → Option (List ℕ)) → Option EdgeFault → Attended R W A → Attended R W A → Type 0
-Exchanges answers left held None old new = IfSome (left old.reader) (λ stream. HasServed answers stream old.asked new.asked (held old.writer) (held new.writer))
-Exchanges answers left held (Some fault) old new = IfSome (left old.reader) (λ stream. HasLeft fault answers stream old.asked new.asked (held old.writer) (held new.writer))
-
--- a connection was opened, its client was served, and the connection was closed with the fault of the exchange, if there was one
-pub record IsServedOne {C R W D A : Type 0} (opens : C → Option (R × W) → Type 0) (closes : R → W → Option EdgeFault → D → Type 0) (serves : Option EdgeFault → Attended R W A → Attended R W A → Type 0) (connection : C) (old new : A) (closed : D) : Type 0 where
-  pub reader : R
-  pub writer : W
-  pub opened : opens connection (Some (reader, writer))
-  pub fault : Option EdgeFault
-  pub rest : R
-  pub got : W
-  pub served : serves fault (record { reader = reader; writer = writer; asked = old }) (record { reader = rest; writer = got; asked = new })
-  pub ended : closes rest got fault closed

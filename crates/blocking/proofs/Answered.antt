@@ -4,7 +4,7 @@ use Rattle.httpedge.specs.Exchange.{Said}
 use Rattle.httpedge.specs.Stopped.{HasExchanged, HasStopped}
 use Rattle.httpedge.specs.declared.edge.EdgeFault.{EdgeFault}
 use Rattle.httpedge.specs.declared.edge.EdgeFault.TheVariants.{Read, Write}
-use Rattle.workers.specs.Connections.{HasServed, HasLeft}
+use Rattle.blocking.specs.Connections.{HasServed, HasLeft}
 
 whole : {A S : Type 0} (answers : A → List ℕ → Said → A → Type 0) (held : S → Option (List ℕ)) (taken : S → ℕ) (left : Option (List ℕ)) (old new : A) (a b : S) →
     IfSome left (λ stream. HasExchanged answers held taken stream old new a b) → IfSome left (λ stream. HasServed answers stream old new (held a) (held b))

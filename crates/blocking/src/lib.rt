@@ -1,4 +1,4 @@
-//! Workers: threads that each answer connections, one after the other.
+//! Connections by calls that wait, for programs whose calls wait: `mapservd` serves its clients otherwise, in turns (`eventloop`).
 //!
 //! Proved: `serve_connection` answers one connection by an answerer (`served`, `left`): it sends what the definition says
 //! for all bytes that the client sent, however the reads cut them. `work` returns once no more connections come
@@ -15,6 +15,6 @@ mod queue;
 mod worker;
 mod working;
 
-pub use connection::{Connection, NothingLeft, Opens, Sides, serve_connection, serve_one};
+pub use connection::{Connection, serve_connection};
 pub use gate::{Gate, OpenGate};
 pub use working::{StartError, Streams, work};

@@ -1,5 +1,5 @@
-use Rattle.workers.proofs.Answered.{all-served, part-served}
-use Rattle.workers.proofs.connection.serve_connection.Goals as goal
+use Rattle.blocking.proofs.Answered.{all-served, part-served}
+use Rattle.blocking.proofs.connection.serve_connection.Goals as goal
 
 pub returns-in-Ok-clause-served : goal.returns-in-Ok-clause-served
 returns-in-Ok-clause-served g c = all-served g.A.Asks.answers g.W.Sink.held g.W.Sink.taken _ _ _ _ _ c.exchange.result c.exchange.ensures.exchanged
